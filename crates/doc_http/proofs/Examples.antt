@@ -1,0 +1,175 @@
+-- Worked examples: the definitions on literal requests and replies.
+use Rattle.std.proofs.Common.{◌≡◌, [], ◌∷◌, true, false, codes, refl}
+use Rattle.std.specs.Prelude.{Some, None}
+use Rattle.std.specs.Fmt.{digits}
+use Rattle.httparse.specs.Grammar.{crlf, trim_ows}
+use Rattle.doc_http.specs.declared.head.HeadSpan.TheVariants.{Unfinished, At}
+use Rattle.doc_http.specs.declared.request.Next.TheVariants as next
+use Rattle.doc_http.specs.declared.reply.Allow.TheVariants.{Page}
+use Rattle.doc_http.specs.Bearers.{bearer_in}
+use Rattle.doc_http.specs.Fields.{lists_close}
+use Rattle.doc_http.specs.Heads.{head_limit, head_span_of, has_bare_line_feed}
+use Rattle.doc_http.specs.Replies.{reason_of, field_line, reply_head, reply_bytes}
+use Rattle.doc_http.specs.Requests.{next_behind, request_of}
+use Rattle.doc_page.specs.Tokens.{is_token}
+
+-- one name to unfold where an example computes
+unfoldable computing : Unit {0}
+unfolding digits trim_ows head_limit head_span_of next_behind is_token reason_of field_line reply_head reply_bytes
+computing = tt
+
+-- ---- heads
+
+span_of_a_request : head_span_of (codes "GET /page/a.md HTTP/1.1\r\nHost: docs\r\nAuthorization: Bearer tok-ann\r\n\r\n") ≡ At 0 70
+unfolding computing
+span_of_a_request = refl
+
+span_behind_empty_lines : head_span_of (codes "\r\n\r\nGET / HTTP/1.1\r\n\r\nGET") ≡ At 4 22
+unfolding computing
+span_behind_empty_lines = refl
+
+span_unfinished : head_span_of (codes "GET / HTTP/1.1\r\nHost: x\n\n") ≡ Unfinished
+unfolding computing
+span_unfinished = refl
+
+bare_line_feed : has_bare_line_feed (codes "GET / HTTP/1.1\nHost: x\r\n\r\n") ≡ true
+unfolding computing
+bare_line_feed = refl
+
+no_bare_line_feed : has_bare_line_feed (codes "GET / HTTP/1.1\r\nHost: x\r\n\r\n") ≡ false
+unfolding computing
+no_bare_line_feed = refl
+
+listed_close : lists_close (codes "keep-alive, Close") ≡ true
+unfolding computing
+listed_close = refl
+
+close_with_a_parameter : lists_close (codes "close;q=1") ≡ false
+unfolding computing
+close_with_a_parameter = refl
+
+-- ---- requests
+
+a_request : request_of (codes "GET /page/a.md HTTP/1.1\r\nHost: docs\r\nAuthorization: Bearer tok-ann\r\n\r\n") (Some (record { blank = []; method = codes "GET"; target = codes "/page/a.md"; minor = 1; line_end = crlf; fields = record { name = codes "Host"; raw = codes " docs"; end = crlf } ∷ record { name = codes "Authorization"; raw = codes " Bearer tok-ann"; end = crlf } ∷ []; last = crlf })) ≡ next.Request 70 (record { method = codes "GET"; target = codes "/page/a.md"; authorization = Some (codes "Bearer tok-ann"); close = false; body = [] })
+unfolding computing
+a_request = refl
+
+a_request_and_more : request_of (codes "GET /page/a.md HTTP/1.1\r\nHost: docs\r\nAuthorization: Bearer tok-ann\r\n\r\nGET /") (Some (record { blank = []; method = codes "GET"; target = codes "/page/a.md"; minor = 1; line_end = crlf; fields = record { name = codes "Host"; raw = codes " docs"; end = crlf } ∷ record { name = codes "Authorization"; raw = codes " Bearer tok-ann"; end = crlf } ∷ []; last = crlf })) ≡ next.Request 70 (record { method = codes "GET"; target = codes "/page/a.md"; authorization = Some (codes "Bearer tok-ann"); close = false; body = [] })
+unfolding computing
+a_request_and_more = refl
+
+without_authorization : request_of (codes "GET /page/a.md HTTP/1.1\r\nHost: docs\r\n\r\n") (Some (record { blank = []; method = codes "GET"; target = codes "/page/a.md"; minor = 1; line_end = crlf; fields = record { name = codes "Host"; raw = codes " docs"; end = crlf } ∷ []; last = crlf })) ≡ next.Request 39 (record { method = codes "GET"; target = codes "/page/a.md"; authorization = None; close = false; body = [] })
+unfolding computing
+without_authorization = refl
+
+two_authorization_fields : request_of (codes "GET /page/a.md HTTP/1.1\r\nHost: docs\r\nAuthorization: Bearer tok-ann\r\nAuthorization: Bearer tok-ann\r\n\r\n") (Some (record { blank = []; method = codes "GET"; target = codes "/page/a.md"; minor = 1; line_end = crlf; fields = record { name = codes "Host"; raw = codes " docs"; end = crlf } ∷ record { name = codes "Authorization"; raw = codes " Bearer tok-ann"; end = crlf } ∷ record { name = codes "Authorization"; raw = codes " Bearer tok-ann"; end = crlf } ∷ []; last = crlf })) ≡ next.Fault 400 false
+unfolding computing
+two_authorization_fields = refl
+
+without_host : request_of (codes "GET /page/a.md HTTP/1.1\r\nAuthorization: Bearer tok-ann\r\n\r\n") (Some (record { blank = []; method = codes "GET"; target = codes "/page/a.md"; minor = 1; line_end = crlf; fields = record { name = codes "Authorization"; raw = codes " Bearer tok-ann"; end = crlf } ∷ []; last = crlf })) ≡ next.Fault 400 false
+unfolding computing
+without_host = refl
+
+two_hosts : request_of (codes "GET / HTTP/1.1\r\nHost: docs\r\nhost:docs\r\n\r\n") (Some (record { blank = []; method = codes "GET"; target = codes "/"; minor = 1; line_end = crlf; fields = record { name = codes "Host"; raw = codes " docs"; end = crlf } ∷ record { name = codes "host"; raw = codes "docs"; end = crlf } ∷ []; last = crlf })) ≡ next.Fault 400 false
+unfolding computing
+two_hosts = refl
+
+the_older_version : request_of (codes "GET /page/a.md HTTP/1.0\r\nAuthorization: Bearer tok-ann\r\n\r\n") (Some (record { blank = []; method = codes "GET"; target = codes "/page/a.md"; minor = 0; line_end = crlf; fields = record { name = codes "Authorization"; raw = codes " Bearer tok-ann"; end = crlf } ∷ []; last = crlf })) ≡ next.Request 58 (record { method = codes "GET"; target = codes "/page/a.md"; authorization = Some (codes "Bearer tok-ann"); close = true; body = [] })
+unfolding computing
+the_older_version = refl
+
+close_asked : request_of (codes "GET / HTTP/1.1\r\nHost: docs\r\nCONNECTION: keep-alive,\tClose \r\n\r\n") (Some (record { blank = []; method = codes "GET"; target = codes "/"; minor = 1; line_end = crlf; fields = record { name = codes "Host"; raw = codes " docs"; end = crlf } ∷ record { name = codes "CONNECTION"; raw = codes " keep-alive,\tClose "; end = crlf } ∷ []; last = crlf })) ≡ next.Request 62 (record { method = codes "GET"; target = codes "/"; authorization = None; close = true; body = [] })
+unfolding computing
+close_asked = refl
+
+a_length : request_of (codes "PUT /page/a.md HTTP/1.1\r\nHost: docs\r\nContent-Length: 1\r\n\r\nx") (Some (record { blank = []; method = codes "PUT"; target = codes "/page/a.md"; minor = 1; line_end = crlf; fields = record { name = codes "Host"; raw = codes " docs"; end = crlf } ∷ record { name = codes "Content-Length"; raw = codes " 1"; end = crlf } ∷ []; last = crlf })) ≡ next.Fault 501 false
+unfolding computing
+a_length = refl
+
+a_coding : request_of (codes "PUT /page/a.md HTTP/1.1\r\nHost: docs\r\nTransfer-Encoding: chunked\r\n\r\n") (Some (record { blank = []; method = codes "PUT"; target = codes "/page/a.md"; minor = 1; line_end = crlf; fields = record { name = codes "Host"; raw = codes " docs"; end = crlf } ∷ record { name = codes "Transfer-Encoding"; raw = codes " chunked"; end = crlf } ∷ []; last = crlf })) ≡ next.Fault 501 false
+unfolding computing
+a_coding = refl
+
+no_head : request_of (codes "GET /\r\n\r\n") None ≡ next.Fault 400 false
+unfolding computing
+no_head = refl
+
+no_end : request_of (codes "GET / HTTP/1.1\r\n") None ≡ next.More
+unfolding computing
+no_end = refl
+
+-- ---- tokens
+
+a_token : bearer_in (Some (codes "Bearer tok-ann")) ≡ Some (codes "tok-ann")
+unfolding computing
+a_token = refl
+
+padding_and_spaces : bearer_in (Some (codes "bearer  x==")) ≡ Some (codes "x==")
+unfolding computing
+padding_and_spaces = refl
+
+padding_inside : bearer_in (Some (codes "Bearer a=b")) ≡ None
+unfolding computing
+padding_inside = refl
+
+padding_alone : bearer_in (Some (codes "Bearer =")) ≡ None
+unfolding computing
+padding_alone = refl
+
+two_words : bearer_in (Some (codes "Bearer a b")) ≡ None
+unfolding computing
+two_words = refl
+
+another_scheme : bearer_in (Some (codes "Basic x")) ≡ None
+unfolding computing
+another_scheme = refl
+
+a_tab : bearer_in (Some (codes "Bearer\tx")) ≡ None
+unfolding computing
+a_tab = refl
+
+a_scheme_alone : bearer_in (Some (codes "Bearer")) ≡ None
+unfolding computing
+a_scheme_alone = refl
+
+no_value : bearer_in None ≡ None
+unfolding computing
+no_value = refl
+
+-- ---- replies
+
+a_page : reply_bytes (record { code = 200; html = true; allow = None; body = codes "<!DOCTYPE html>\n<title>a.md</title>\n<p>Hello</p>\n" }) false false ≡ codes "HTTP/1.1 200 OK\r\nContent-Type: text/html; charset=utf-8\r\nContent-Length: 49\r\n\r\n<!DOCTYPE html>\n<title>a.md</title>\n<p>Hello</p>\n"
+unfolding computing
+a_page = refl
+
+a_page_by_its_head : reply_bytes (record { code = 200; html = true; allow = None; body = codes "<!DOCTYPE html>\n<title>a.md</title>\n<p>Hello</p>\n" }) true false ≡ codes "HTTP/1.1 200 OK\r\nContent-Type: text/html; charset=utf-8\r\nContent-Length: 49\r\n\r\n"
+unfolding computing
+a_page_by_its_head = refl
+
+plain_text : reply_bytes (record { code = 200; html = false; allow = None; body = codes "1\ta.md\n" }) false true ≡ codes "HTTP/1.1 200 OK\r\nContent-Type: text/plain; charset=utf-8\r\nContent-Length: 7\r\nConnection: close\r\n\r\n1\ta.md\n"
+unfolding computing
+plain_text = refl
+
+no_reader : reply_bytes (record { code = 401; html = false; allow = None; body = [] }) false false ≡ codes "HTTP/1.1 401 Unauthorized\r\nContent-Type: text/plain; charset=utf-8\r\nContent-Length: 17\r\nWWW-Authenticate: Bearer realm=\"docs\"\r\n\r\n401 Unauthorized\n"
+unfolding computing
+no_reader = refl
+
+a_bad_request : reply_bytes (record { code = 400; html = false; allow = None; body = [] }) false true ≡ codes "HTTP/1.1 400 Bad Request\r\nContent-Type: text/plain; charset=utf-8\r\nContent-Length: 16\r\nConnection: close\r\n\r\n400 Bad Request\n"
+unfolding computing
+a_bad_request = refl
+
+not_found : reply_bytes (record { code = 404; html = false; allow = None; body = [] }) false false ≡ codes "HTTP/1.1 404 Not Found\r\nContent-Type: text/plain; charset=utf-8\r\nContent-Length: 14\r\n\r\n404 Not Found\n"
+unfolding computing
+not_found = refl
+
+no_content : reply_bytes (record { code = 204; html = false; allow = None; body = [] }) false false ≡ codes "HTTP/1.1 204 No Content\r\n\r\n"
+unfolding computing
+no_content = refl
+
+too_long_a_head : reply_bytes (record { code = 431; html = false; allow = None; body = [] }) false true ≡ codes "HTTP/1.1 431 Request Header Fields Too Large\r\nContent-Type: text/plain; charset=utf-8\r\nContent-Length: 36\r\nConnection: close\r\n\r\n431 Request Header Fields Too Large\n"
+unfolding computing
+too_long_a_head = refl
+
+another_method : reply_bytes (record { code = 405; html = false; allow = Some Page; body = [] }) false false ≡ codes "HTTP/1.1 405 Method Not Allowed\r\nContent-Type: text/plain; charset=utf-8\r\nContent-Length: 23\r\nAllow: GET\r\n\r\n405 Method Not Allowed\n"
+unfolding computing
+another_method = refl

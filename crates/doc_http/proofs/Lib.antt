@@ -1,0 +1,9 @@
+mod Examples
+pub mod FaultLemmas
+mod HeadLemmas
+pub mod LawLemmas
+mod ReadLemmas
+mod ReplyLemmas
+mod SkipLemmas
+mod SpanLemmas
+mod TokenLemmas

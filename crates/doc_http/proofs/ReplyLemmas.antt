@@ -1,0 +1,43 @@
+-- How long the content of a reply is.
+use Rattle.std.proofs.Common.{◌≡◌, ◌≢◌, ℕ, ◌+◌, ◌/◌, ◌%◌, ◌<◌, ◌≤◌, ◌==◌, true, false, List, [], ◌∷◌, ◌++◌, length, codes, refl, ap, ◌∙◌, sym, arith, length-append}
+use Rattle.std.specs.Prelude.{decimal, if◌then◌else◌}
+use Rattle.std.proofs.lemmas.Bool.Decides.{nat_tests}
+use Rattle.std.proofs.lemmas.List.{append_assoc}
+use Rattle.std.proofs.lemmas.Fmt.{decimal_digit, decimal_step}
+use Rattle.doc_http.specs.declared.reply.Reply.{Reply}
+use Rattle.doc_http.specs.Replies.{is_reply_code, reason_of, status_of, content_of, content_type, content_lines, field_line}
+
+one_longer : (n : ℕ) → 10 ≤ n → n < 1000 → length (decimal n) ≡ length (decimal (n / 10)) + 1
+one_longer n low high =
+    ap length (decimal_step n low (omega (arith, high))) ∙ length-append (decimal (n / 10)) ((48 + n % 10) ∷ [])
+
+-- a number from 100 to 999 has three digits
+three_digits : (n : ℕ) → 100 ≤ n → n < 1000 → length (decimal n) ≡ 3
+three_digits n low high =
+    let tens = one_longer n (omega arith) high in
+    let hundreds = one_longer (n / 10) (omega arith) (omega arith) in
+    let first = ap length (decimal_digit (n / 10 / 10) (omega arith)) in
+    omega arith
+
+in_range : (code : ℕ) → is_reply_code code ≡ true → (100 ≤ code) × (code < 1000)
+in_range code known = (grind (arith, nat_tests), grind (arith, nat_tests))
+
+-- the code, a space, the reason and a line feed
+length_of_line : (code : ℕ) → is_reply_code code ≡ true → length (reason_of code) + 5 ≡ length (status_of code ++ codes "\n")
+length_of_line code known =
+    let range = in_range code known in
+    let digits = three_digits code range.0 range.1 in
+    omega (arith, length-append (status_of code) (codes "\n"), length-append (decimal code ++ codes " ") (reason_of code), length-append (decimal code) (codes " "))
+
+pub length_of_content : (reply : Reply) → is_reply_code reply.code ≡ true → reply.code ≢ 200 → length (reason_of reply.code) + 5 ≡ length (content_of reply)
+length_of_content reply known other =
+    let test : (reply.code == 200) ≡ false = grind (arith, nat_tests) in
+    length_of_line reply.code known ∙ ap (λ t. length (if t then reply.body else status_of reply.code ++ codes "\n")) (sym test)
+
+-- what is said of a content, one line after the other
+pub content_lines_after : (reply : Reply) (start typed kind : List ℕ) (len : ℕ) → reply.code ≢ 204
+    → kind ≡ content_type reply.html → typed ≡ start ++ field_line (codes "Content-Type") kind → len ≡ length (content_of reply)
+    → typed ++ field_line (codes "Content-Length") (decimal len) ≡ start ++ content_lines reply
+content_lines_after reply start typed kind len other kind_is typed_is len_is =
+    let test : (reply.code == 204) ≡ false = grind (arith, nat_tests) in
+    rw (test, typed_is, kind_is, len_is, append_assoc) refl

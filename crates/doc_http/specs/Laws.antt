@@ -1,0 +1,25 @@
+-- Laws of requests.
+use Rattle.std.specs.Prelude.{IsTrue, Bool, ◌||◌, ◌==◌, ◌≡◌, ℕ, ◌≤◌, List, ◌++◌, length}
+use Rattle.doc_http.specs.declared.request.Next.{Next}
+use Rattle.doc_http.specs.declared.request.Next.TheVariants as next
+use Rattle.doc_http.specs.Requests.{IsNext}
+
+-- the bytes begin with one thing
+abbrev pub IsReadInOneWay : Type 0
+IsReadInOneWay = (bytes : List ℕ) (a b : Next) → IsNext bytes a → IsNext bytes b → a ≡ b
+
+-- once the bytes begin with a request or a fault, more bytes don't change it
+abbrev pub StaysDecided : Type 0
+StaysDecided = (bytes more : List ℕ) (a : Next) → ¬ (a ≡ next.More) → IsNext bytes a → IsNext (bytes ++ more) a
+
+-- 16,384 bytes begin with a request or a fault
+abbrev pub IsDecidedWithin : ℕ → Type 0
+IsDecidedWithin limit = (bytes : List ℕ) (a : Next) → limit ≤ length bytes → IsNext bytes a → ¬ (a ≡ next.More)
+
+-- the codes of faults (RFC 9110, sections 15.5.1 and 15.6.2; RFC 6585, section 5)
+abbrev pub is_fault_code : ℕ → Bool
+is_fault_code code = (code == 400) || (code == 431) || (code == 501)
+
+-- a fault has one of these codes
+abbrev pub FaultsHaveCodes : Type 0
+FaultsHaveCodes = (bytes : List ℕ) (code : ℕ) (bare : Bool) → IsNext bytes (next.Fault code bare) → IsTrue (is_fault_code code)

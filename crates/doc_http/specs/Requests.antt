@@ -1,0 +1,73 @@
+-- What the unread bytes of a connection begin with.
+use Rattle.std.specs.Prelude.{◌≡◌, ◌≤◌, ⊤, ℕ, ◌+◌, ◌==◌, ◌||◌, ◌&&◌, not, false, List, Option, Some, None, length, take, drop, slice_range, codes, nat_lt, if◌then◌else◌}
+use Rattle.httparse.specs.Grammar.{RequestHead}
+use Rattle.doc_http.specs.declared.head.HeadSpan.{HeadSpan}
+use Rattle.doc_http.specs.declared.head.HeadSpan.TheVariants.{Unfinished, TooLong, At}
+use Rattle.doc_http.specs.declared.request.Framing.{Framing}
+use Rattle.doc_http.specs.declared.request.Framing.TheVariants.{Sized, Unsupported}
+use Rattle.doc_http.specs.declared.request.Request.{Request}
+use Rattle.doc_http.specs.declared.request.Next.{Next}
+use Rattle.doc_http.specs.declared.request.Next.TheVariants as next
+use Rattle.doc_http.specs.Fields.{Fields, fields_of, count_named, value_named, has_good_counts, asks_close}
+use Rattle.doc_http.specs.Heads.{head_span_of, IsRead, has_bare_line_feed}
+
+-- how a body is framed (RFC 9112, section 6): bodies are not read yet
+abbrev pub framing_of : Fields → Framing
+framing_of fields =
+    if count_named (codes "content-length") fields == 0 && count_named (codes "transfer-encoding") fields == 0
+    then Sized 0 else Unsupported
+
+-- the request with these parts of its head, and this body (RFC 9112, section 2.1)
+abbrev pub request_with : List ℕ → List ℕ → ℕ → Fields → List ℕ → Request
+request_with method target minor fields body = record {
+  method = method;
+  target = target;
+  authorization = value_named (codes "authorization") fields;
+  close = asks_close minor fields;
+  body = body;
+}
+
+-- the head ends at `end`; behind it stand the bytes `rest`, of which a request takes its body
+abbrev pub next_framed : (List ℕ → Request) → ℕ → List ℕ → Framing → Next
+next_framed request end rest Unsupported = next.Fault 501 false
+next_framed request end rest (Sized len) =
+    if nat_lt (length rest) len then next.More else next.Request (end + len) (request (take len rest))
+
+-- the same of a request with these parts of its head
+abbrev pub next_with : List ℕ → List ℕ → ℕ → Fields → ℕ → List ℕ → Next
+next_with method target minor fields end rest =
+    next_framed (λ body. request_with method target minor fields body) end rest (framing_of fields)
+
+-- by the text of the head, which ends at `end`, and the head that was read of it
+unfoldable pub next_behind : List ℕ → Option RequestHead → ℕ → List ℕ → Next
+next_behind text None end rest = next.Fault 400 false
+next_behind text (Some head) end rest =
+    if has_bare_line_feed text || not (has_good_counts head.minor (fields_of head)) then next.Fault 400 false
+    else next_with head.method head.target head.minor (fields_of head) end rest
+
+-- by where the head lies, and the head that was read there
+abbrev pub next_at : List ℕ → HeadSpan → Option RequestHead → Next
+next_at bytes Unfinished read = next.More
+next_at bytes TooLong read = next.Fault 431 false
+next_at bytes (At start end) read = next_behind (slice_range bytes start end) read end (drop end bytes)
+
+-- a whole request, a fault, or neither yet: by the bytes and the head that was read at their front (RFC 9112, section 2; RFC 6585, section 5)
+abbrev pub request_of : List ℕ → Option RequestHead → Next
+request_of bytes read = next_at bytes (head_span_of bytes) read
+
+-- what is read where the head lies: nothing where none ends
+abbrev pub IsReadAt : List ℕ → HeadSpan → Option RequestHead → Type 0
+IsReadAt bytes Unfinished read = read ≡ None
+IsReadAt bytes TooLong read = read ≡ None
+IsReadAt bytes (At start end) read = IsRead (slice_range bytes start end) read
+
+-- what the bytes begin with, when their head is read by the grammar of RFC 9112
+abbrev pub IsNext : List ℕ → Next → Type 0
+IsNext bytes found =
+    (read : Option RequestHead) × IsReadAt bytes (head_span_of bytes) read × (found ≡ request_of bytes read)
+
+-- a request takes at most n bytes
+abbrev pub UsesAtMost : ℕ → Next → Type 0
+UsesAtMost n next.More = ⊤
+UsesAtMost n (next.Fault code bare) = ⊤
+UsesAtMost n (next.Request used request) = used ≤ n

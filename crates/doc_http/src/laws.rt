@@ -1,0 +1,23 @@
+//! Laws of what unread bytes begin with. A call of one does nothing; its contract is the law.
+
+ghost use Rattle.doc_http.specs.Laws.{IsReadInOneWay, StaysDecided, IsDecidedWithin, FaultsHaveCodes};
+
+/// Bytes begin with one thing.
+pub fn bytes_are_read_in_one_way()
+    ensures { IsReadInOneWay }
+{}
+
+/// Once bytes begin with a request or a fault, more bytes don't change it.
+pub fn a_decided_request_stays_decided()
+    ensures { StaysDecided }
+{}
+
+/// As many bytes as a head may take decide what they begin with.
+pub fn a_request_is_decided_within_the_limit()
+    ensures { IsDecidedWithin 16384 }
+{}
+
+/// A fault has the code 400, 431 or 501.
+pub fn a_fault_has_its_code()
+    ensures { FaultsHaveCodes }
+{}

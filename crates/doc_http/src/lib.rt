@@ -1,0 +1,12 @@
+//! Requests and replies of HTTP/1.1 as bytes (RFC 9112): what the unread bytes of a connection begin
+//! with, the token that a request carries, and the bytes of a reply.
+#![tactic(auto)]
+
+pub mod bearer;
+mod fields;
+mod head;
+pub mod laws;
+pub mod reply;
+pub mod request;
+#[cfg(test)]
+mod testing;

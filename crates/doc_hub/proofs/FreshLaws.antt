@@ -1,0 +1,36 @@
+-- In any run, each reply is that of a fresh server.
+use Rattle.std.proofs.Common.{◌≡◌, ℕ, List, false, true, refl, ap, sym, ◌∙◌, subst}
+use Rattle.std.specs.Prelude.{Option, Some, Result, Ok, Err}
+use Rattle.std.specs.FinMap as map
+use Rattle.std.proofs.lemmas.List.Elements.{All-nil, All-cons}
+use Rattle.doc_page.specs.Refusals.{Gives}
+use Rattle.doc_http.specs.Requests.{IsNext}
+use Rattle.doc_http.specs.declared.request.Next.{Next}
+use Rattle.doc_http.proofs.LawLemmas.{read_in_one_way}
+use Rattle.doc_hub.specs.declared.connection.Connection.{Connection}
+use Rattle.doc_hub.specs.declared.event.Step.{Step}
+use Rattle.doc_hub.specs.declared.refusal.StepError.{StepError}
+use Rattle.doc_hub.specs.Replies.{Renders}
+use Rattle.doc_hub.specs.Worlds.{World, StepsAt, stepped_by}
+use Rattle.doc_hub.specs.Runs.{Event, step, Outcome, stepping, Happens, Happened, Runs, nothing, first}
+use Rattle.doc_hub.specs.Laws.{SendsAsFresh, RepliesAsFresh, open_with, fresh_for}
+use Rattle.doc_hub.proofs.StepLaws.{as_fresh}
+
+-- what an open connection's step answered is the definition's, by whatever its bytes begin with
+said_by : (render : Renders) (w v : World) (c : ℕ) (unread : List ℕ) (next : Next) (said : Step) → IsNext unread next → StepsAt render w c v (Ok said) (Some (open_with unread)) → (stepped_by render w c (open_with unread) next).1 ≡ Ok said
+said_by render w v c unread next said is (other, also, gives) =
+    ap (λ n. (stepped_by render w c (open_with unread) n).1) (read_in_one_way unread next other is also)
+    ∙ ap (λ (p : World × Result Step StepError). p.1) gives
+
+sends_as_fresh : (render : Renders) (w v : World) (event : Event) (outcome : Outcome) → Happens render w event v outcome → SendsAsFresh render (record { world = w; event = event; outcome = outcome })
+sends_as_fresh render w v event outcome happens c unread next said is_step opened is answered =
+    let P : Event → Type 0 = λ e. Happens render w e v outcome in
+    let Q : Outcome → Type 0 = λ o. Happens render w (step c) v o in
+    let R : Option Connection → Type 0 = λ k. StepsAt render w c v (Ok said) k in
+    let here : StepsAt render w c v (Ok said) (Some (open_with unread)) = subst R opened (subst Q answered (subst P is_step happens)) in
+    sym (as_fresh render w c (open_with unread) unread next) ∙ said_by render w v c unread next said is here
+
+pub replies_as_fresh : RepliesAsFresh
+replies_as_fresh render w v run (nothing x) = All-nil (SendsAsFresh render)
+replies_as_fresh render w v run (first x y z event outcome rest happens runs) =
+    All-cons (SendsAsFresh render) (record { world = x; event = event; outcome = outcome }) rest (sends_as_fresh render x y event outcome happens) (replies_as_fresh render y z rest runs)

@@ -1,0 +1,13 @@
+mod ConnectionSteps
+mod FreshLaws
+mod FrontSteps
+mod NextLaws
+mod OriginParts
+mod PathLaws
+mod PathSteps
+mod Routing
+mod RunLaws
+mod StepLaws
+mod TargetExamples
+mod TargetSteps
+mod ViewSteps

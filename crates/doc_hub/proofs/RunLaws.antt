@@ -1,0 +1,221 @@
+-- Run noninterference: what is sent on a connection depends on its own events and on what its readers may see.
+use Rattle.std.proofs.Common.{◌≡◌, ℕ, ◌+◌, ◌≤◌, List, [], ◌∷◌, ◌++◌, Bool, true, false, cond, T, refl, ap, sym, ◌∙◌, subst, arith, ◌==◌, length}
+use Rattle.std.specs.Prelude.{All, Option, Some, None, Result, Ok, Err, nat_lt, if◌then◌else◌, flat_map, MatchBool, ⊤}
+use Rattle.std.specs.FinMap as map
+use Rattle.std.specs.Cmp.{unsigned_tied}
+use Rattle.std.proofs.lemmas.Cmp.{nat_cmp_total}
+use Rattle.std.proofs.Math.Facts.{eqb_yes}
+use Rattle.std.proofs.lemmas.List.Elements.{All-head, All-tail}
+use Rattle.doc_store.specs.Pages.{Page}
+use Rattle.doc_store.specs.Store.{put_by, fits}
+use Rattle.doc_store.specs.declared.store.EditError.{EditError}
+use Rattle.doc_http.specs.Requests.{IsNext}
+use Rattle.doc_http.specs.declared.request.Next.{Next as Front}
+use Rattle.doc_http.specs.declared.request.Next.TheVariants as nexts
+use Rattle.doc_http.proofs.LawLemmas.{read_in_one_way}
+use Rattle.doc_hub.specs.Connections.{new_connection, backlog_limit, pushed_onto, with_pushed, pushed_at, finished}
+use Rattle.doc_hub.specs.declared.connection.Connection.{Connection}
+use Rattle.doc_hub.specs.declared.event.ConnId.{ConnId}
+use Rattle.doc_hub.specs.declared.event.Step.{Step}
+use Rattle.doc_hub.specs.declared.event.Step.TheVariants as steps
+use Rattle.doc_hub.specs.declared.refusal.ConnectError.{ConnectError}
+use Rattle.doc_hub.specs.declared.refusal.ConnectError.TheVariants as connect_errors
+use Rattle.doc_hub.specs.declared.refusal.PushError.{PushError}
+use Rattle.doc_hub.specs.declared.refusal.StepError.TheVariants as step_errors
+use Rattle.doc_hub.specs.Replies.{Renders}
+use Rattle.doc_hub.specs.declared.reply.Answer.{Answer}
+use Rattle.doc_hub.specs.Worlds.{World, connected, world_pushed, world_put, with_finished, answer_in, step_said, stepped_by, last_id}
+use Rattle.doc_hub.specs.Runs.{Event, connect, push, step, put, Outcome, connecting, pushing, stepping, putting, IsOutOfMemory, Happened, Runs, nothing, first, sent_by, is_on, events_on}
+use Rattle.doc_hub.specs.Laws.{AgreeOn, AgreeAt, Matched, RunsAlike, connection}
+use Rattle.doc_hub.proofs.StepLaws.{same_answer}
+use Rattle.doc_hub.proofs.NextLaws.{Is, shown, Next, NextStep, next_of}
+
+-- one connection changes
+put_at : (w : World) (id : ℕ) (k : Connection) (c : ℕ) (b : Bool) → (c == id) ≡ b → map.get (map.insert w.connections id k) c ≡ cond b (Some k) (connection c w)
+put_at w id k c b e =
+    map.get-insert nat_cmp_total w.connections id k c ∙ ap (λ t. cond t (Some k) (connection c w)) (unsigned_tied c id ∙ e)
+
+first_is : (x : World × Outcome) (v : World) (o : Outcome) (P : World → Type 0) → x ≡ (v, o) → P x.0 → P v
+first_is x v o P is p = subst P (ap (λ (q : World × Outcome). q.0) is) p
+
+module _ (render : Renders) (c : ℕ) where
+  -- ---- numbers are never taken back
+
+  abbrev AtLeast : World → Type 0
+  AtLeast v = c ≤ v.given
+
+  front_given : (w : World) (id : ℕ) (k : Connection) (f : Front) → AtLeast w → AtLeast (stepped_by render w id k f).0
+  front_given w id k nexts.More le = le
+  front_given w id k (nexts.Fault code bare) le = le
+  front_given w id k (nexts.Request used request) le = le
+
+  open_given : (w v : World) (o : Outcome) (id : ℕ) (k : Connection) (t : Bool) → AtLeast w → MatchBool t (Is (w, stepping (Ok steps.Closed)) v o) ((f : Front) × IsNext k.unread f × Is (shown stepping (stepped_by render w id k f)) v o) → AtLeast v
+  open_given w v o id k true le h = first_is (w, stepping (Ok steps.Closed)) v o AtLeast h le
+  open_given w v o id k false le (f, is, h) = first_is (shown stepping (stepped_by render w id k f)) v o AtLeast h (front_given w id k f le)
+
+  step_given : (w v : World) (o : Outcome) (id : ℕ) (k : Option Connection) → AtLeast w → NextStep render w id k v o → AtLeast v
+  step_given w v o id None le h = first_is (w, stepping (Err step_errors.NoConnection)) v o AtLeast h le
+  step_given w v o id (Some k) le h = open_given w v o id k k.closed le h
+
+  abbrev Leaves : {X E : Type 0} → (World → Type 0) → World × Result X E → Type 0
+  Leaves P given = P given.0
+
+  abbrev connected_if : World → Bool → World × Result ConnId ConnectError
+  connected_if w t = if t then (record w { given = w.given + 1; connections = map.insert w.connections (w.given + 1) new_connection }, Ok (record { 0 = w.given + 1 })) else (w, Err connect_errors.NoIds)
+
+  connect_given : (w : World) (t : Bool) → AtLeast w → Leaves AtLeast (connected_if w t)
+  connect_given w true le = omega arith
+  connect_given w false le = le
+
+  given_after : (w : World) (e : Event) (v : World) (o : Outcome) → AtLeast w → Next render w e v o → AtLeast v
+  given_after w connect v o le h = first_is _ v o AtLeast h (connect_given w (nat_lt w.given last_id) le)
+  given_after w (push id bytes) v o le h = first_is _ v o AtLeast h le
+  given_after w (step id) v o le h = step_given w v o id (map.get w.connections id) le h
+  given_after w (put path page) v o le h = first_is _ v o AtLeast h le
+
+  -- ---- events elsewhere
+
+  abbrev Kept : World → World → Type 0
+  Kept w v = connection c v ≡ connection c w
+
+  front_elsewhere : (w : World) (id : ℕ) (k : Connection) (f : Front) → (c == id) ≡ false → Kept w (stepped_by render w id k f).0
+  front_elsewhere w id k nexts.More off = refl
+  front_elsewhere w id k (nexts.Fault code bare) off = put_at w id (finished k 0 true) c false off
+  front_elsewhere w id k (nexts.Request used request) off = put_at w id (finished k used (answer_in render w request).closes) c false off
+
+  open_elsewhere : (w v : World) (o : Outcome) (id : ℕ) (k : Connection) (t : Bool) → (c == id) ≡ false → MatchBool t (Is (w, stepping (Ok steps.Closed)) v o) ((f : Front) × IsNext k.unread f × Is (shown stepping (stepped_by render w id k f)) v o) → Kept w v
+  open_elsewhere w v o id k true off h = first_is (w, stepping (Ok steps.Closed)) v o (Kept w) h refl
+  open_elsewhere w v o id k false off (f, is, h) = first_is (shown stepping (stepped_by render w id k f)) v o (Kept w) h (front_elsewhere w id k f off)
+
+  step_elsewhere : (w v : World) (o : Outcome) (id : ℕ) (k : Option Connection) → (c == id) ≡ false → NextStep render w id k v o → Kept w v
+  step_elsewhere w v o id None off h = first_is (w, stepping (Err step_errors.NoConnection)) v o (Kept w) h refl
+  step_elsewhere w v o id (Some k) off h = open_elsewhere w v o id k k.closed off h
+
+  apart : (n : ℕ) → c ≤ n → (c == (n + 1)) ≡ false
+  apart n le = grind (arith)
+
+  connect_elsewhere : (w : World) (t : Bool) → AtLeast w → Leaves (Kept w) (connected_if w t)
+  connect_elsewhere w true le = put_at w (w.given + 1) new_connection c false (apart w.given le)
+  connect_elsewhere w false le = refl
+
+  with_pushed_elsewhere : (w : World) (id : ℕ) (k : Connection) (r : Result (Unit {0}) PushError) → (c == id) ≡ false → map.get (with_pushed w.connections id k r).0 c ≡ connection c w
+  with_pushed_elsewhere w id k (Ok x) off = put_at w id k c false off
+  with_pushed_elsewhere w id k (Err e) off = refl
+
+  push_elsewhere : (w : World) (id : ℕ) (bytes : List ℕ) (k : Option Connection) → (c == id) ≡ false → map.get (pushed_at w.connections id bytes k).0 c ≡ connection c w
+  push_elsewhere w id bytes None off = refl
+  push_elsewhere w id bytes (Some k) off = with_pushed_elsewhere w id _ _ off
+
+  elsewhere : (w : World) (e : Event) (v : World) (o : Outcome) → AtLeast w → is_on c e ≡ false → Next render w e v o → Kept w v
+  elsewhere w connect v o le off h = first_is _ v o (Kept w) h (connect_elsewhere w (nat_lt w.given last_id) le)
+  elsewhere w (push id bytes) v o le off h = first_is _ v o (Kept w) h (push_elsewhere w id bytes (map.get w.connections id) off)
+  elsewhere w (step id) v o le off h = step_elsewhere w v o id (map.get w.connections id) off h
+  elsewhere w (put path page) v o le off h = first_is _ v o (Kept w) h refl
+
+  -- ---- the events of c, each with the connection as it finds it
+
+  abbrev Chain : Option Connection → List Happened → Type 0
+  Chain k [] = ⊤
+  Chain k (h ∷ hs) = (v : World) × (is_on c h.event ≡ true) × (connection c h.world ≡ k) × Next render h.world h.event v h.outcome × Chain (connection c v) hs
+
+  abbrev Enough : Happened → Type 0
+  Enough h = ¬ (IsOutOfMemory h.outcome)
+
+  chain_of : (w : World) (run : List Happened) (u : World) → AtLeast w → Runs render w run u → All Enough run → Chain (connection c w) (events_on c run)
+  chain_of w run u le (nothing x) enough = tt
+  chain_of w run u le (first x v y e o rest happens runs) enough =
+      let next : Next render x e v o = next_of render x e v o (All-head Enough (record { world = x; event = e; outcome = o }) rest enough) happens in
+      either next (chain_of v rest y (given_after x e v o le next) runs (All-tail Enough (record { world = x; event = e; outcome = o }) rest enough)) (is_on c e) refl
+    where
+      either : Next render x e v o → Chain (connection c v) (events_on c rest) → (t : Bool) → is_on c e ≡ t → Chain (connection c x) (cond t (record { world = x; event = e; outcome = o } ∷ events_on c rest) (events_on c rest))
+      either next chain true on = (v, on, refl, next, chain)
+      either next chain false off = subst (λ k. Chain k (events_on c rest)) (elsewhere x e v o le off next) chain
+
+  -- ---- one event of c, in two worlds
+
+  abbrev Same : World → World → Outcome → Outcome → Type 0
+  Same v u o p = (sent_by o ≡ sent_by p) × (connection c v ≡ connection c u)
+
+  -- what an event leaves and sends, through two equations
+  same_by : (x y : World × Outcome) (v u : World) (o p : Outcome) → x ≡ (v, o) → y ≡ (u, p) → Same x.0 y.0 x.1 y.1 → Same v u o p
+  same_by x y v u o p is this h = (
+    sym (ap (λ (q : World × Outcome). sent_by q.1) is) ∙ h.0 ∙ ap (λ (q : World × Outcome). sent_by q.1) this,
+    sym (ap (λ (q : World × Outcome). connection c q.0) is) ∙ h.1 ∙ ap (λ (q : World × Outcome). connection c q.0) this,
+  )
+
+  -- the connection after a push, by how it was
+  abbrev pushed_by : Option Connection → Connection → Result (Unit {0}) PushError → Option Connection
+  pushed_by before k (Ok x) = Some k
+  pushed_by before k (Err e) = before
+
+  abbrev push_result : List ℕ → Option Connection → Option Connection
+  push_result bytes None = None
+  push_result bytes (Some k) = let r = pushed_onto k bytes in pushed_by (Some k) r.0 r.1
+
+  with_pushed_here : (w : World) (k new : Connection) (r : Result (Unit {0}) PushError) → (c == c) ≡ true → connection c w ≡ Some k → map.get (with_pushed w.connections c new r).0 c ≡ pushed_by (Some k) new r
+  with_pushed_here w k new (Ok x) on is = put_at w c new c true on
+  with_pushed_here w k new (Err e) on is = is
+
+  pushed_here : (w : World) (bytes : List ℕ) (k : Option Connection) → (c == c) ≡ true → connection c w ≡ k → map.get (pushed_at w.connections c bytes k).0 c ≡ push_result bytes k
+  pushed_here w bytes None on is = is
+  pushed_here w bytes (Some k) on is = with_pushed_here w k _ _ on is
+
+  -- the connection after an answer
+  front_same : (w v : World) (k : Connection) (f : Front) → (c == c) ≡ true → connection c w ≡ connection c v → AgreeOn w v f → Same (stepped_by render w c k f).0 (stepped_by render v c k f).0 (stepping (stepped_by render w c k f).1) (stepping (stepped_by render v c k f).1)
+  front_same w v k nexts.More on alike agree = (refl, alike)
+  front_same w v k (nexts.Fault code bare) on alike agree = (refl, put_at w c (finished k 0 true) c true on ∙ sym (put_at v c (finished k 0 true) c true on))
+  front_same w v k (nexts.Request used request) on alike agree =
+      let a = answer_in render w request in
+      let b = answer_in render v request in
+      let same : answer_in render w request ≡ answer_in render v request = same_answer render w v request agree in (
+        ap (λ (x : Answer). sent_by (stepping (Ok (step_said x.closes x.bytes)))) same,
+        put_at w c (finished k used a.closes) c true on
+            ∙ ap (λ (x : Answer). Some (finished k used x.closes)) same
+            ∙ sym (put_at v c (finished k used b.closes) c true on),
+      )
+
+  open_same : (w v w' v' : World) (o p : Outcome) (k : Connection) (t : Bool) → (c == c) ≡ true → connection c w ≡ connection c v → ((f : Front) → IsNext k.unread f → AgreeOn w v f)
+      → MatchBool t (Is (w, stepping (Ok steps.Closed)) w' o) ((f : Front) × IsNext k.unread f × Is (shown stepping (stepped_by render w c k f)) w' o)
+      → MatchBool t (Is (v, stepping (Ok steps.Closed)) v' p) ((f : Front) × IsNext k.unread f × Is (shown stepping (stepped_by render v c k f)) v' p)
+      → Same w' v' o p
+  open_same w v w' v' o p k true on alike agree h g = same_by (w, stepping (Ok steps.Closed)) (v, stepping (Ok steps.Closed)) w' v' o p h g (refl, alike)
+  open_same w v w' v' o p k false on alike agree (f, is_f, h) (d, is_d, g) =
+      let P : Front → Type 0 = λ x. Is (shown stepping (stepped_by render v c k x)) v' p in
+      same_by (shown stepping (stepped_by render w c k f)) (shown stepping (stepped_by render v c k f)) w' v' o p
+      h (subst P (read_in_one_way k.unread d f is_d is_f) g) (front_same w v k f on alike (agree f is_f))
+
+  step_same : (w v w' v' : World) (o p : Outcome) (k : Option Connection) → (c == c) ≡ true → connection c w ≡ k → connection c v ≡ k → AgreeAt c w v (step c) → NextStep render w c k w' o → NextStep render v c k v' p → Same w' v' o p
+  step_same w v w' v' o p None on here there agree h g = same_by (w, stepping (Err step_errors.NoConnection)) (v, stepping (Err step_errors.NoConnection)) w' v' o p h g (refl, here ∙ sym there)
+  step_same w v w' v' o p (Some k) on here there agree h g = open_same w v w' v' o p k k.closed on (here ∙ sym there) (agree k here) h g
+
+  itself : (c == c) ≡ true
+  itself = grind (arith)
+
+  same_event : (w v w' v' : World) (e : Event) (o p : Outcome) → is_on c e ≡ true → connection c w ≡ connection c v → AgreeAt c w v e → Next render w e w' o → Next render v e v' p → Same w' v' o p
+  same_event w v w' v' connect o p on alike agree h g = absurd (subst T (sym on) tt)
+  same_event w v w' v' (push id bytes) o p on alike agree h g = at id (eqb_yes (subst T (sym on) tt)) h g
+    where
+      at : (n : ℕ) → c ≡ n → Next render w (push n bytes) w' o → Next render v (push n bytes) v' p → Same w' v' o p
+      at n is = subst (λ m. Next render w (push m bytes) w' o → Next render v (push m bytes) v' p → Same w' v' o p) is (λ h g.
+          same_by _ _ w' v' o p h g (
+            refl,
+            pushed_here w bytes (connection c w) itself refl ∙ ap (push_result bytes) alike ∙ sym (pushed_here v bytes (connection c v) itself refl),
+          ))
+  same_event w v w' v' (step id) o p on alike agree h g = at id (eqb_yes (subst T (sym on) tt)) agree h g
+    where
+      at : (n : ℕ) → c ≡ n → AgreeAt c w v (step n) → Next render w (step n) w' o → Next render v (step n) v' p → Same w' v' o p
+      at n is = subst (λ m. AgreeAt c w v (step m) → Next render w (step m) w' o → Next render v (step m) v' p → Same w' v' o p) is (λ agree h g.
+          step_same w v w' v' o p (connection c w) itself refl (sym alike) agree h (subst (λ k. NextStep render v c k v' p) (sym alike) g))
+  same_event w v w' v' (put path page) o p on alike agree h g = absurd (subst T (sym on) tt)
+
+  same_sent : (hs gs : List Happened) (k j : Option Connection) → k ≡ j → Chain k hs → Chain j gs → Matched c hs gs → flat_map (λ h. sent_by h.outcome) hs ≡ flat_map (λ h. sent_by h.outcome) gs
+  same_sent [] [] k j alike a b m = refl
+  same_sent (h ∷ hs) [] k j alike a b m = absurd m
+  same_sent [] (g ∷ gs) k j alike a b m = absurd m
+  same_sent (h ∷ hs) (g ∷ gs) k j alike (v, on, at, next, chain) (u, on', at', next', chain') (same, agree, m) =
+      let both = same_event h.world g.world v u h.event h.outcome g.outcome on (at ∙ alike ∙ sym at') agree next (subst (λ e. Next render g.world e u g.outcome) (sym same) next') in
+      λ i. both.0 i ++ same_sent hs gs (connection c v) (connection c u) both.1 chain chain' m i
+
+pub runs_alike : RunsAlike
+runs_alike render c w v w' v' run other alike le le' runs runs' enough enough' m =
+    same_sent render c (events_on c run) (events_on c other) (connection c w) (connection c v) alike (chain_of render c w run w' le runs enough) (chain_of render c v other v' le' runs' enough') m

@@ -1,0 +1,13 @@
+use Rattle.std.proofs.Common.{sym, ◌∙◌, ap}
+use Rattle.std.specs.Prelude.{cond, Some, None}
+use Rattle.doc_hub.proofs.ViewSteps.{no_page, hidden_page, seen_page}
+use Rattle.doc_hub.proofs.reply.visible_page.Goals as goal
+
+pub returns-in_default : goal.returns-in_default
+returns-in_default c = no_page c.args.store.now.site c.args.reader.now c.args.path.now (sym c.in_default.ensures)
+
+pub returns-then-not-may_see : goal.returns-then-not-may_see
+returns-then-not-may_see c = hidden_page c.args.store.now.site c.args.reader.now c.args.path.now c.in-Some.page.now _ (sym c.in-Some.ensures) c.may_see.ensures c.if-not-may_see.true
+
+pub returns : goal.returns
+returns c = seen_page c.args.store.now.site c.args.reader.now c.args.path.now c.in-Some.page.now _ (sym c.in-Some.ensures) c.may_see.ensures c.if-not-may_see.false

@@ -1,0 +1,60 @@
+-- The target of a request (RFC 9112, section 3.2), and the page that it names.
+use Rattle.std.specs.Prelude.{ℕ, List, [], ◌∷◌, take, drop, Bool, ◌==◌, ◌||◌, codes, Option, Some, None, option_and_then, if◌then◌else◌}
+use Rattle.std.specs.List.{position_or_len, before_first}
+use Rattle.std.specs.Str.{str_eq_ignore_ascii_case}
+
+-- `/`, `?` or `#`, which ends an authority (RFC 3986, section 3.2)
+abbrev pub ends_authority : ℕ → Bool
+ends_authority b = b == 47 || b == 63 || b == 35
+
+-- what follows the authority that a text begins with (RFC 3986, section 3.2)
+abbrev pub after_authority : List ℕ → List ℕ
+after_authority text = drop (position_or_len ends_authority text) text
+
+-- what follows `http://`, which is read without case (RFC 3986, section 3.1; RFC 9110, section 4.2.1)
+abbrev pub after_http : List ℕ → Option (List ℕ)
+after_http target =
+    if str_eq_ignore_ascii_case (take 7 target) (codes "http://") then Some (drop 7 target) else None
+
+-- the text with `/` before it, where it has none there (RFC 9112, section 3.2.1)
+abbrev pub with_slash : List ℕ → List ℕ
+with_slash [] = codes "/"
+with_slash (b ∷ rest) = if b == 47 then b ∷ rest else 47 ∷ b ∷ rest
+
+-- the text, where it begins with `/`
+abbrev pub if_rooted : List ℕ → Option (List ℕ)
+if_rooted [] = None
+if_rooted (b ∷ rest) = if b == 47 then Some (b ∷ rest) else None
+
+-- the origin form of a target of which `after_http` is known
+abbrev pub origin_form_by : List ℕ → Option (List ℕ) → Option (List ℕ)
+origin_form_by target None = if_rooted target
+origin_form_by target (Some rest) = Some (with_slash (after_authority rest))
+
+-- the origin form of a target (RFC 9112, section 3.2.1), or of one in absolute form (section 3.2.2); a target in any other form has none
+unfoldable pub origin_form : List ℕ → Option (List ℕ)
+origin_form target = origin_form_by target (after_http target)
+
+-- the absolute path of an origin form: what stands before its query (RFC 9112, section 3.2.1)
+abbrev pub path_part : List ℕ → List ℕ
+path_part target = before_first (λ b. b == 63) target
+
+-- what follows the prefix, where the text has it
+abbrev pub after : List ℕ → List ℕ → Option (List ℕ)
+after [] text = Some text
+after (x ∷ prefix) [] = None
+after (x ∷ prefix) (b ∷ text) = if x == b then after prefix text else None
+
+-- the text, where it isn't empty
+abbrev pub if_not_empty : Option (List ℕ) → Option (List ℕ)
+if_not_empty None = None
+if_not_empty (Some []) = None
+if_not_empty (Some (b ∷ rest)) = Some (b ∷ rest)
+
+-- the rest of a path `/page/REST`, which isn't empty; no other path has a route (this project's choice)
+abbrev pub route_of : List ℕ → Option (List ℕ)
+route_of path = if_not_empty (after (codes "/page/") path)
+
+-- the rest of a target that names a page, as it is written in the target
+unfoldable pub page_rest : List ℕ → Option (List ℕ)
+page_rest target = option_and_then (λ form. route_of (path_part form)) (origin_form target)

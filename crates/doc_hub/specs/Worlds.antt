@@ -1,0 +1,118 @@
+-- The world that a hub stands for, and one function of it for each call.
+use Rattle.std.specs.Prelude.{◌≡◌, ℕ, List, ◌+◌, ◌^◌, ◌-◌, Bool, true, false, nat_lt, nat_le, ◌&&◌, MatchBool, Option, Some, None, option_and_then, Result, Ok, Err, if◌then◌else◌, refl}
+use Rattle.std.specs.Coded.{Coded, code_by, coded×, coded_ℕ, coded_bool}
+use Rattle.std.specs.FinMap as map
+use Rattle.doc_store.specs.Pages.{Page}
+use Rattle.doc_store.specs.declared.reader.Reader.{Reader}
+use Rattle.doc_store.specs.Sites.{view_of}
+use Rattle.doc_store.specs.Readers.{ReaderTable}
+use Rattle.doc_store.specs.Store.{StoreState, empty_store, put_into}
+use Rattle.doc_store.specs.declared.store.EditError.{EditError}
+use Rattle.doc_store.specs.declared.store.Put.{Put}
+use Rattle.doc_http.specs.Bearers.{bearer_of}
+use Rattle.doc_http.specs.Requests.{IsNext}
+use Rattle.doc_http.specs.declared.request.Request.{Request}
+use Rattle.doc_http.specs.declared.request.Next.{Next}
+use Rattle.doc_http.specs.declared.request.Next.TheVariants as nexts
+use Rattle.doc_hub.specs.Connections.{Connections, new_connection, pushed, finished}
+use Rattle.doc_hub.specs.Replies.{Renders, answer_of, fault_bytes}
+use Rattle.doc_hub.specs.declared.reply.Answer.{Answer}
+use Rattle.doc_hub.specs.declared.connection.Connection.{Connection}
+use Rattle.doc_hub.specs.declared.event.ConnId.{ConnId}
+use Rattle.doc_hub.specs.declared.event.Step.{Step}
+use Rattle.doc_hub.specs.declared.event.Step.TheVariants as steps
+use Rattle.doc_hub.specs.declared.refusal.HubError.{HubError}
+use Rattle.doc_hub.specs.declared.refusal.HubError.TheVariants as hub_errors
+use Rattle.doc_hub.specs.declared.refusal.ConnectError.{ConnectError}
+use Rattle.doc_hub.specs.declared.refusal.ConnectError.TheVariants as connect_errors
+use Rattle.doc_hub.specs.declared.refusal.PushError.{PushError}
+use Rattle.doc_hub.specs.declared.refusal.StepError.{StepError}
+use Rattle.doc_hub.specs.declared.refusal.StepError.TheVariants as step_errors
+
+-- the site with the number of accepted puts, the readers, whether connections are kept alive, the
+-- number of connections given, and the connections by number
+pub record World : Type 0 where
+  pub store : StoreState
+  pub readers : ReaderTable
+  pub keep_alive : Bool
+  pub given : ℕ
+  pub connections : Connections
+
+-- a world as its parts, which tell worlds apart
+abbrev pub world_code : Coded StoreState → Coded ReaderTable → Coded Connection → Coded World
+world_code store readers one =
+    code_by (StoreState × (ReaderTable × (Bool × (ℕ × Connections))))
+    (coded× store (coded× readers (coded× coded_bool (coded× coded_ℕ (map.code coded_ℕ one)))))
+    (λ w. (w.store, (w.readers, (w.keep_alive, (w.given, w.connections)))))
+    (λ p. record { store = p.0; readers = p.1.0; keep_alive = p.1.1.0; given = p.1.1.1.0; connections = p.1.1.1.1 }) (λ _. refl)
+
+-- a server without pages and connections
+abbrev pub new_world : ReaderTable → Bool → World
+new_world readers keep_alive = record { store = empty_store; readers = readers; keep_alive = keep_alive; given = 0; connections = map.empty }
+
+-- the capacities that a cache may have; this project's choice
+abbrev pub is_capacity : ℕ → Bool
+is_capacity n = nat_le 1 n && nat_le n 4096
+
+-- the renderer and the world of a new hub
+abbrev pub hub_made : {R : Type 0} → R → ReaderTable → Bool → ℕ → Result (R × World) HubError
+hub_made renderer readers keep_alive capacity = if is_capacity capacity then Ok (renderer, new_world readers keep_alive) else Err hub_errors.BadCapacity
+
+unfoldable pub last_id : ℕ
+last_id = 2 ^ 64 - 1
+
+-- one more connection
+abbrev pub connected : World → World × Result ConnId ConnectError
+connected w =
+    if nat_lt w.given last_id
+    then (record w { given = w.given + 1; connections = map.insert w.connections (w.given + 1) new_connection }, Ok (record { 0 = w.given + 1 }))
+    else (w, Err connect_errors.NoIds)
+
+-- more unread bytes on a connection
+abbrev pub world_pushed : World → ℕ → List ℕ → World × Result (Unit {0}) PushError
+world_pushed w id bytes = let r = pushed w.connections id bytes in (record w { connections = r.0 }, r.1)
+
+-- the reader of a request: the entry of its bearer token
+abbrev pub reader_of : World → Request → Option Reader
+reader_of w request = option_and_then (map.get w.readers) (bearer_of request)
+
+-- the answer to a request, from what its reader may see
+abbrev pub answer_in : Renders → World → Request → Answer
+answer_in render w request = answer_of render (view_of w.store.site (reader_of w request)) (reader_of w request) w.keep_alive request
+
+abbrev pub step_said : Bool → List ℕ → Step
+step_said closes bytes = if closes then steps.Last bytes else steps.Sent bytes
+
+abbrev pub with_finished : World → ℕ → Connection → ℕ → Bool → World
+with_finished w id c used closes = record w { connections = map.insert w.connections id (finished c used closes) }
+
+-- a step of an open connection, by what its unread bytes begin with
+abbrev pub stepped_by : Renders → World → ℕ → Connection → Next → World × Result Step StepError
+stepped_by render w id c nexts.More = (w, Ok steps.More)
+stepped_by render w id c (nexts.Fault code bare) = (with_finished w id c 0 true, Ok (steps.Last (fault_bytes code bare)))
+stepped_by render w id c (nexts.Request used request) =
+    let a = answer_in render w request in (with_finished w id c used a.closes, Ok (step_said a.closes a.bytes))
+
+-- the answer is this one, and nothing changes
+abbrev pub Stays : World → Result Step StepError → World → Result Step StepError → Type 0
+Stays old said new result = (new ≡ old) × (result ≡ said)
+
+-- A step of an open connection is by the one thing that its unread bytes begin with, or memory ran out
+-- and nothing changes.
+abbrev pub Answers : Renders → World → ℕ → World → Result Step StepError → Connection → Type 0
+Answers render old id new (Err step_errors.Memory) c = new ≡ old
+Answers render old id new result c =
+    (next : Next) × IsNext c.unread next × ◌≡◌ {A = World × Result Step StepError} (stepped_by render old id c next) (new, result)
+
+-- A step: of a number never given, of a closed connection, or of an open one.
+abbrev pub StepsAt : Renders → World → ℕ → World → Result Step StepError → Option Connection → Type 0
+StepsAt render old id new result None = Stays old (Err step_errors.NoConnection) new result
+StepsAt render old id new result (Some c) =
+    MatchBool c.closed (Stays old (Ok steps.Closed) new result) (Answers render old id new result c)
+
+abbrev pub Steps : Renders → World → ℕ → World → Result Step StepError → Type 0
+Steps render old id new result = StepsAt render old id new result (map.get old.connections id)
+
+-- a put of a page at a path, with the refusals of the store
+abbrev pub world_put : World → List ℕ → Page → World × Result Put EditError
+world_put w path page = let r = put_into w.store path page.groups page.text in (record w { store = r.0 }, r.1)

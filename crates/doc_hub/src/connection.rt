@@ -1,0 +1,48 @@
+//! One connection.
+
+ghost use Rattle.std.specs.Prelude.{◌≡◌, ◌≤◌, length};
+ghost use Rattle.doc_page.specs.Refusals.{Gives};
+ghost use Rattle.doc_hub.specs.Connections.{pushed_onto, finished};
+
+use crate::refusal::PushError;
+use crate::unread::Unread;
+
+/// The unread bytes of a connection, and whether it is closed.
+#[derive(Debug, Drop)]
+pub struct Connection {
+    pub unread: Unread,
+    pub closed: bool,
+}
+
+/// How many unread bytes a connection may have.
+pub const BACKLOG: usize = 4_194_304;
+
+impl Connection {
+    /// Adds unread bytes.
+    #[tactic(auto, unfolding(crate::specs::Connections::backlog_limit))]
+    pub fn push(&mut self, bytes: &[u8]) -> Result<(), PushError>
+        ensures { Gives PushError.Memory (pushed_onto self.old bytes.now) self.old self.new result }
+    {
+        if self.closed {
+            return Err(PushError::Closed);
+        }
+        if bytes.len() > BACKLOG || self.unread.get().len() > BACKLOG - bytes.len() {
+            return Err(PushError::Backlog);
+        }
+        self.unread.push(bytes)?;
+        Ok(())
+    }
+
+    /// Takes the bytes of an answered request, or all of them where the connection closes.
+    pub fn finish(&mut self, used: usize, last: bool)
+        requires { used ≤ length self.old.unread }
+        ensures { self.new ≡ finished self.old used last }
+    {
+        self.closed = last;
+        if last {
+            self.unread.clear();
+        } else {
+            self.unread.take_front(used);
+        }
+    }
+}

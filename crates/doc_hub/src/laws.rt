@@ -1,0 +1,24 @@
+//! Noninterference, as contracts of functions that do nothing. Each speaks of the relation `Happens`
+//! between two worlds, which the contracts of the hub's calls promise of each call.
+
+ghost use Rattle.doc_hub.specs.Laws.{StepsAlike, RepliesAsFresh, RunsAlike};
+
+/// Step noninterference: a request is answered alike in two worlds with one keep-alive setting, one
+/// entry for its token, and one view for its reader.
+#[tactic(auto, using(crate::proofs::StepLaws::steps_alike))]
+pub fn steps_are_noninterfering()
+    ensures { StepsAlike }
+{}
+
+/// In any run, each reply is that of a fresh server that holds only what its reader may see.
+#[tactic(auto, using(crate::proofs::FreshLaws::replies_as_fresh))]
+pub fn replies_are_a_fresh_servers()
+    ensures { RepliesAsFresh }
+{}
+
+/// Run noninterference: what runs send on a connection is alike where its own events and what its
+/// readers may see are alike.
+#[tactic(auto, using(crate::proofs::RunLaws::runs_alike))]
+pub fn runs_are_noninterfering()
+    ensures { RunsAlike }
+{}

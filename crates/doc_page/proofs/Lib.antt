@@ -1,0 +1,6 @@
+pub mod EscapingSteps
+pub mod Examples
+pub mod LineSteps
+pub mod Maps
+pub mod PlainSteps
+pub mod StrippingSteps

@@ -1,0 +1,66 @@
+//! How text is written in HTML.
+
+ghost use Rattle.std.specs.Prelude.{◌≡◌, ◌<◌, ◌∷◌, [], ◌++◌, string_bytes, IfOk, OnOk, OnSome, IfSome, IfNone};
+ghost use Rattle.doc_page.specs.Escaping.{escaped, escaped_byte};
+
+use crate::failure::Memory;
+use crate::text::Text;
+use doc_heap::{Heap, String};
+
+/// The text with `&`, `<`, `>` and `"` written `&amp;`, `&lt;`, `&gt;` and `&quot;`.
+pub fn escape(heap: Heap, text: &str) -> Result<Text, Memory>
+    ensures { IfOk result (λ html. html ≡ escaped text.now) }
+{
+    let mut out = String::with_capacity(heap, text.len())?;
+    push_escaped(&mut out, text)?;
+    Ok(Text::new(out))
+}
+
+/// Writes the escaped text at the end of the buffer, which after a refusal may hold part of it.
+pub fn push_escaped(out: &mut String, text: &str) -> Result<(), Memory>
+    ensures { OnOk result (string_bytes out.new ≡ string_bytes out.old ++ escaped text.now) }
+{
+    let mut start = 0;
+    for (i, byte) in text.as_bytes().iter().enumerate() {
+        let Some(reference) = reference(*byte) else {
+            continue;
+        };
+        out.push_str(&text[start..i])?;
+        out.push_str(reference)?;
+        start = i + 1;
+    }
+    out.push_str(&text[start..])?;
+    Ok(())
+}
+
+/// The character reference that stands for a byte, where it is not written as it is.
+fn reference(byte: u8) -> Option<&'static str>
+    ensures ascii { OnSome result (byte < 128) }
+    ensures written { IfSome result (λ reference. reference.now ≡ escaped_byte byte) }
+    ensures plain { IfNone result (byte ∷ [] ≡ escaped_byte byte) }
+{
+    match byte {
+        b'&' => Some("&amp;"),
+        b'<' => Some("&lt;"),
+        b'>' => Some("&gt;"),
+        b'"' => Some("&quot;"),
+        _ => None,
+    }
+}
+
+#[cfg(test)]
+mod tests {
+    use super::*;
+    use std::test::Fail;
+
+    #[test]
+    fn four_characters_are_escaped(rt: HostRuntime) -> Result<(), Fail> {
+        let heap = doc_heap::heap(rt.alloc(), u64::MAX)?;
+        let mut html = String::from_str(heap, "<p>")?;
+        push_escaped(&mut html, "é<b & \"c\">d'e")?;
+        assert_eq!(rt; html.as_str(), "<p>é&lt;b &amp; &quot;c&quot;&gt;d'e");
+        assert_eq!(rt; escape(heap, "&amp;")?.get(), "&amp;amp;");
+        assert_eq!(rt; escape(heap, "")?.get(), "");
+        Ok(())
+    }
+}

@@ -1,0 +1,128 @@
+//! The plain renderer: paragraphs of escaped lines, without headings and links.
+
+ghost use Rattle.std.specs.Prelude.{◌≡◌, ◌<◌, ◌++◌, string_bytes, IfOk, OnOk};
+ghost use Rattle.doc_page.specs.Plain.{plain_texts, plain_html, html_pieces, plain_page};
+
+use crate::count::Count;
+use crate::escaping::push_escaped;
+use crate::failure::Memory;
+use crate::list::List;
+use crate::rendered::{Piece, Rendered};
+use crate::renderer::Renderer;
+use crate::text::Text;
+use doc_heap::{Heap, String, Vec};
+use std::marker::Model;
+use std::sync::ledger::{Blank, Ledger};
+
+mod paragraphs;
+
+/// Makes a page of a text that has no markup. Each longest run of lines that are not blank is a
+/// paragraph: its lines are stripped of spaces and tabs, escaped, and joined by LF. There are no
+/// headings and no links. Contracts see how many calls were made.
+#[derive(Drop)]
+pub struct PlainRenderer<L: Ledger> {
+    count: Count<L>,
+}
+
+impl<L: Ledger> Model for PlainRenderer<L> {
+    ghost use Rattle.std.specs.Prelude.{ℕ};
+
+    ghost Value = { ℕ };
+
+    ghost view = { λ r. r.count };
+}
+
+impl<L: Ledger> PlainRenderer<L> {
+    /// A renderer that made no page yet, whose count is kept in a blank book of the ledger.
+    pub fn new(blank: Blank) -> Self
+        requires name { blank.name ≡ L.name }
+        requires parts { blank.parts ≡ L.parts }
+        requires some { 0 < L.parts }
+        ensures { result ≡ 0 }
+    {
+        PlainRenderer {
+            count: Count::new(blank),
+        }
+    }
+}
+
+impl<L: Ledger> Renderer for PlainRenderer<L> {
+    ghost page = { λ _. plain_page };
+
+    ghost count = { λ count. count };
+
+    fn render(&mut self, heap: Heap, text: &str) -> Result<Rendered, Memory> {
+        self.count.raise();
+        plain_page(heap, text)
+    }
+}
+
+/// The page of a plain text.
+fn plain_page(heap: Heap, text: &str) -> Result<Rendered, Memory>
+    ensures { IfOk result (λ page. page ≡ plain_page text.now) }
+{
+    let texts = paragraphs::plain_texts(heap, text)?;
+    let html = plain_html(heap, &texts)?;
+    Ok(Rendered {
+        pieces: html_pieces(heap, html)?,
+        headings: List::new(Vec::new(heap)),
+        texts: List::new(texts),
+    })
+}
+
+/// The HTML of paragraphs.
+#[tactic(auto, unfolding(crate::specs::Plain::plain_html))]
+fn plain_html(heap: Heap, texts: &[Text]) -> Result<Text, Memory>
+    ensures { IfOk result (λ html. html ≡ plain_html texts.now) }
+{
+    let mut html = String::new(heap);
+    for text in texts {
+        html.push_str("<p>")?;
+        push_escaped(&mut html, text.get())?;
+        html.push_str("</p>\n")?;
+    }
+    Ok(Text::new(html))
+}
+
+/// The HTML as one piece, or none where it is empty.
+fn html_pieces(heap: Heap, html: Text) -> Result<List<Piece>, Memory>
+    ensures { IfOk result (λ pieces. pieces ≡ html_pieces html) }
+{
+    let mut pieces = Vec::new(heap);
+    if !html.get().is_empty() {
+        pieces.push(Piece::Html(html))?;
+    }
+    Ok(List::new(pieces))
+}
+
+#[cfg(test)]
+mod tests {
+    use super::*;
+    use std::marker::Brand;
+    use std::test::Fail;
+
+    fn rendered<L: Ledger>(heap: Heap, blank: Blank, text: &Text) -> Result<Rendered, Memory>
+        requires name { blank.name ≡ L.name }
+        requires parts { blank.parts ≡ L.parts }
+        requires some { 0 < L.parts }
+    {
+        let mut renderer: PlainRenderer<L> = PlainRenderer::new(blank);
+        renderer.render(heap, text.get())
+    }
+
+    #[test]
+    fn paragraphs_are_escaped_and_their_texts_are_not(rt: HostRuntime) -> Result<(), Fail> {
+        let heap = doc_heap::heap(rt.alloc(), u64::MAX)?;
+        let text = Text::copy_of(heap, "a\n b \n\nc<\n")?;
+        let page = rendered::<Brand>(heap, Blank::new(1), &text)?;
+        let mut html = Vec::new(heap);
+        html.push(Piece::Html(Text::copy_of(heap, "<p>a\nb</p>\n<p>c&lt;</p>\n")?))?;
+        assert_eq!(rt; page.pieces, List::new(html));
+        let mut texts = Vec::new(heap);
+        texts.push(Text::copy_of(heap, "a\nb")?)?;
+        texts.push(Text::copy_of(heap, "c<")?)?;
+        assert_eq!(rt; page.texts, List::new(texts));
+        assert_eq!(rt; page.headings.get().len(), 0);
+        Ok(())
+    }
+}

@@ -1,0 +1,7 @@
+mod Examples
+pub mod EntrySteps
+pub mod GroupLaws
+pub mod GroupSteps
+pub mod MapSteps
+pub mod ReaderSteps
+pub mod ViewLaw

@@ -1,0 +1,48 @@
+-- Maps as contracts see them: how many keys they have, and those by `String` keys.
+use Rattle.std.proofs.Common.{◌≡◌, ℕ, List, [], ◌∷◌, ◌+◌, false, cond, String, string_bytes, length, add-one, is_some, refl, ap, sym, ◌∙◌}
+use Rattle.std.specs.Prelude.{Some, None}
+use Rattle.std.specs.declared.cmp.Ordering.{Ordering}
+use Rattle.std.specs.declared.cmp.Ordering.TheVariants.{Less}
+use Rattle.std.specs.BTreeMap.{BTreeMap, Updates, is_at}
+use Rattle.std.specs.Map.{lookup, keys_of}
+use Rattle.std.specs.List.{AllByRecursion}
+use Rattle.std.specs.List.Sorted.{IsStrictlySortedBy}
+use Rattle.std.specs.Ordering.{nat_cmp, is_eq}
+use Rattle.std.specs.String.{string_cmp}
+use Rattle.std.specs.Cmp.{IsTotalOrder}
+use Rattle.std.specs.Cmp.Lexicographic.{slice_cmp}
+use Rattle.std.specs.FinMap as map
+use Rattle.std.proofs.lemmas.Cmp.{nat_list_cmp_total}
+use Rattle.std.proofs.lemmas.Map.Lookups.{CmpEqualImpliesEq, exact_bytes}
+use Rattle.std.proofs.lemmas.Map.Text.{btree_map_updates_text, is_eq-slice_cmp}
+use Rattle.doc_page.proofs.Maps.{inserted, looked_up}
+use Rattle.doc_store.specs.declared.reader.Reader.{Reader}
+use Rattle.doc_store.specs.Readers.{entries_shown}
+
+module _ {K X : Type 0} {R : K → K → Ordering} (total : IsTotalOrder R) (exact : CmpEqualImpliesEq R) where
+  -- a key before all others is none of them
+  lookup_before : (k : K) (es : List (K × X)) → AllByRecursion (λ y. R k y ≡ Less) (keys_of es) → lookup (is_at (R k)) es ≡ None
+  lookup_before k [] before = refl
+  lookup_before k (e ∷ es) before = rw before.0 (lookup_before k es before.1)
+
+  -- sorted entries make a map with as many keys
+  pub len-sorted : (es : List (K × X)) → IsStrictlySortedBy R (keys_of es) → length es ≡ map.len (map.from_entries {R = R} es)
+  unfolding IsStrictlySortedBy
+  len-sorted [] sorted = sym (map.len-empty R X)
+  len-sorted (e ∷ es) sorted =
+      let new : map.contains_key (map.from_entries {R = R} es) e.0 ≡ false = ap is_some (sym (looked_up total exact es e.0) ∙ lookup_before e.0 es sorted.0) in
+      sym (map.len-insert total (map.from_entries {R = R} es) e.0 e.1 ∙ ap (λ b. cond b (map.len (map.from_entries {R = R} es)) (map.len (map.from_entries {R = R} es) + 1)) new ∙ ap (λ n. n + 1) (sym (len-sorted es sorted.1)) ∙ add-one (length es))
+
+-- a look-up by bytes among `String` keys
+pub looked_up_shown : {A : Type 0} (es : List (String A × Reader)) (token : List ℕ) → lookup (is_at (λ k. slice_cmp nat_cmp token (string_bytes k))) es ≡ lookup (is_at (slice_cmp nat_cmp token)) (entries_shown es)
+looked_up_shown [] token = refl
+looked_up_shown (e ∷ es) token = ap (cond (is_eq (slice_cmp nat_cmp token (string_bytes e.0))) (Some e.1)) (looked_up_shown es token)
+
+-- an insertion at a `String` key is one at its bytes
+pub inserted_shown : {A : Type 0} (m n : BTreeMap (String A) Reader) (key : String A) (reader : Reader) → Updates string_cmp m n key (Some reader)
+    → map.from_entries {R = slice_cmp nat_cmp} (entries_shown n.entries) ≡ map.insert (map.from_entries (entries_shown m.entries)) (string_bytes key) reader
+inserted_shown m n key reader updates =
+    inserted nat_list_cmp_total exact_bytes (entries_shown m.entries) (entries_shown n.entries) (string_bytes key) reader (λ token.
+    sym (looked_up_shown n.entries token) ∙ btree_map_updates_text (string_bytes key) m n (Some reader) updates token
+    ∙ ap (λ b. cond b (Some reader) (lookup (is_at (λ k. slice_cmp nat_cmp token (string_bytes k))) m.entries)) (sym (is_eq-slice_cmp (string_bytes key) token))
+    ∙ ap (cond (is_eq (slice_cmp nat_cmp (string_bytes key) token)) (Some reader)) (looked_up_shown m.entries token))

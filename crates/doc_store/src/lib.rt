@@ -1,0 +1,15 @@
+//! The pages of a site, the groups that they are for, and the readers: who may see which page.
+#![tactic(auto)]
+
+mod entries;
+pub mod groups;
+pub mod laws;
+mod names;
+pub mod page;
+mod pages;
+pub mod reader;
+pub mod readers;
+pub mod site_sight;
+pub mod store;
+#[cfg(test)]
+mod tests;

@@ -1,0 +1,54 @@
+//! The program `docs_server`.
+#![tactic(auto)]
+
+ghost use Rattle.std.specs.Prelude.{◌≡◌, ◌<◌};
+
+use doc_heap::{Heap, heap};
+use doc_page::plain::PlainRenderer;
+use doc_server::demo::demo;
+use doc_server::fault::Fault;
+use std::marker::Brand;
+use std::process::ExitCode;
+use std::rt::Env;
+use std::sync::ledger::{Blank, Ledger};
+use std::{env, io};
+
+fn main(rt: HostRuntime) -> ExitCode {
+    match run(&rt) {
+        Ok(()) => ExitCode::SUCCESS,
+        Err(fault) => {
+            let _ = eprintln!(rt; "docs_server: {fault}");
+            ExitCode::from(2)
+        }
+    }
+}
+
+/// Runs the command that the arguments name.
+fn run<R: AllocGlobal + Env + Input + Print>(rt: &R) -> Result<(), Fault> {
+    let heap = heap(rt.alloc(), u64::MAX)?;
+    if !is_demo(rt) {
+        return Err(Fault::Usage);
+    }
+    run_demo::<Brand, R>(rt, heap, Blank::new(1))
+}
+
+/// Whether the only argument is `demo`.
+fn is_demo<R: AllocGlobal + Env>(rt: &R) -> bool {
+    let Ok(mut args) = env::args(rt) else {
+        return false;
+    };
+    let _program = args.next();
+    let Some(command) = args.next() else {
+        return false;
+    };
+    command.as_str() == "demo" && args.next().is_none()
+}
+
+fn run_demo<L: Ledger, R: Input + Print>(rt: &R, heap: Heap, blank: Blank) -> Result<(), Fault>
+    requires name { blank.name ≡ L.name }
+    requires parts { blank.parts ≡ L.parts }
+    requires some { 0 < L.parts }
+{
+    let renderer: PlainRenderer<L> = PlainRenderer::new(blank);
+    demo(heap, renderer, &mut rt.reader(), &mut io::writer(rt))
+}
