@@ -1,9 +1,7 @@
 -- In any run, each reply is that of a fresh server.
-use Rattle.std.proofs.Common.{◌≡◌, ℕ, List, false, true, refl, ap, sym, ◌∙◌, subst}
-use Rattle.std.specs.Prelude.{Option, Some, Result, Ok, Err}
-use Rattle.std.specs.FinMap as map
+use Rattle.std.proofs.Common.{◌≡◌, ℕ, List, ap, sym, ◌∙◌, subst}
+use Rattle.std.specs.Prelude.{Option, Some, Result, Ok}
 use Rattle.std.proofs.lemmas.List.Elements.{All-nil, All-cons}
-use Rattle.doc_page.specs.Refusals.{Gives}
 use Rattle.doc_http.specs.Requests.{IsNext}
 use Rattle.doc_http.specs.declared.request.Next.{Next}
 use Rattle.doc_http.proofs.LawLemmas.{read_in_one_way}
@@ -12,8 +10,8 @@ use Rattle.doc_hub.specs.declared.event.Step.{Step}
 use Rattle.doc_hub.specs.declared.refusal.StepError.{StepError}
 use Rattle.doc_hub.specs.Replies.{Renders}
 use Rattle.doc_hub.specs.Worlds.{World, StepsAt, stepped_by}
-use Rattle.doc_hub.specs.Runs.{Event, step, Outcome, stepping, Happens, Happened, Runs, nothing, first}
-use Rattle.doc_hub.specs.Laws.{SendsAsFresh, RepliesAsFresh, open_with, fresh_for}
+use Rattle.doc_hub.specs.Runs.{Event, step, Outcome, Happens, nothing, first}
+use Rattle.doc_hub.specs.Laws.{SendsAsFresh, RepliesAsFresh, open_with}
 use Rattle.doc_hub.proofs.StepLaws.{as_fresh}
 
 -- what an open connection's step answered is the definition's, by whatever its bytes begin with

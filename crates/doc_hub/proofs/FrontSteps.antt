@@ -1,5 +1,5 @@
 -- What the unread bytes of a connection begin with, as a step finds it.
-use Rattle.std.proofs.Common.{◌≡◌, ◌≤◌, ℕ, List, Bool, length, sym, ap, ◌∙◌, subst}
+use Rattle.std.proofs.Common.{◌≡◌, ◌≤◌, ℕ, List, Bool, length, ap, ◌∙◌, subst}
 use Rattle.std.specs.Prelude.{IsTrue, Option, Some}
 use Rattle.doc_http.specs.Laws.{is_fault_code}
 use Rattle.doc_http.specs.Requests.{IsNext, UsesAtMost}

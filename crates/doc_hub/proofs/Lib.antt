@@ -5,6 +5,7 @@ mod NextLaws
 mod OriginParts
 mod PathLaws
 mod PathSteps
+mod ReplyExamples
 mod Routing
 mod RunLaws
 mod StepLaws

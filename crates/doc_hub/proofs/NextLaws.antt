@@ -4,14 +4,13 @@ use Rattle.std.specs.Prelude.{Option, Some, None, Result, Ok, Err, MatchBool, na
 use Rattle.std.specs.FinMap as map
 use Rattle.doc_page.specs.Refusals.{Gives}
 use Rattle.doc_store.specs.Pages.{Page}
-use Rattle.doc_store.specs.Store.{StoreState, put_by, put_into, fits}
+use Rattle.doc_store.specs.Store.{put_by, fits}
 use Rattle.doc_store.specs.declared.store.EditError.{EditError}
 use Rattle.doc_store.specs.declared.store.EditError.TheVariants as edit_errors
 use Rattle.doc_store.specs.declared.store.Put.{Put}
 use Rattle.doc_http.specs.Requests.{IsNext}
 use Rattle.doc_http.specs.declared.request.Next.{Next as Front}
-use Rattle.doc_http.specs.declared.request.Next.TheVariants as nexts
-use Rattle.doc_hub.specs.Connections.{Connections, new_connection, pushed_at, with_pushed}
+use Rattle.doc_hub.specs.Connections.{Connections, pushed_at, with_pushed}
 use Rattle.doc_hub.specs.declared.connection.Connection.{Connection}
 use Rattle.doc_hub.specs.declared.event.ConnId.{ConnId}
 use Rattle.doc_hub.specs.declared.event.Step.{Step}

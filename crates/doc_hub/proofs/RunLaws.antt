@@ -1,22 +1,18 @@
 -- Run noninterference: what is sent on a connection depends on its own events and on what its readers may see.
-use Rattle.std.proofs.Common.{◌≡◌, ℕ, ◌+◌, ◌≤◌, List, [], ◌∷◌, ◌++◌, Bool, true, false, cond, T, refl, ap, sym, ◌∙◌, subst, arith, ◌==◌, length}
+use Rattle.std.proofs.Common.{◌≡◌, ℕ, ◌+◌, ◌≤◌, List, [], ◌∷◌, ◌++◌, Bool, true, false, cond, T, refl, ap, sym, ◌∙◌, subst, arith, ◌==◌}
 use Rattle.std.specs.Prelude.{All, Option, Some, None, Result, Ok, Err, nat_lt, if◌then◌else◌, flat_map, MatchBool, ⊤}
 use Rattle.std.specs.FinMap as map
 use Rattle.std.specs.Cmp.{unsigned_tied}
 use Rattle.std.proofs.lemmas.Cmp.{nat_cmp_total}
 use Rattle.std.proofs.Math.Facts.{eqb_yes}
 use Rattle.std.proofs.lemmas.List.Elements.{All-head, All-tail}
-use Rattle.doc_store.specs.Pages.{Page}
-use Rattle.doc_store.specs.Store.{put_by, fits}
-use Rattle.doc_store.specs.declared.store.EditError.{EditError}
 use Rattle.doc_http.specs.Requests.{IsNext}
 use Rattle.doc_http.specs.declared.request.Next.{Next as Front}
 use Rattle.doc_http.specs.declared.request.Next.TheVariants as nexts
 use Rattle.doc_http.proofs.LawLemmas.{read_in_one_way}
-use Rattle.doc_hub.specs.Connections.{new_connection, backlog_limit, pushed_onto, with_pushed, pushed_at, finished}
+use Rattle.doc_hub.specs.Connections.{new_connection, pushed_onto, with_pushed, pushed_at, finished}
 use Rattle.doc_hub.specs.declared.connection.Connection.{Connection}
 use Rattle.doc_hub.specs.declared.event.ConnId.{ConnId}
-use Rattle.doc_hub.specs.declared.event.Step.{Step}
 use Rattle.doc_hub.specs.declared.event.Step.TheVariants as steps
 use Rattle.doc_hub.specs.declared.refusal.ConnectError.{ConnectError}
 use Rattle.doc_hub.specs.declared.refusal.ConnectError.TheVariants as connect_errors
@@ -24,8 +20,8 @@ use Rattle.doc_hub.specs.declared.refusal.PushError.{PushError}
 use Rattle.doc_hub.specs.declared.refusal.StepError.TheVariants as step_errors
 use Rattle.doc_hub.specs.Replies.{Renders}
 use Rattle.doc_hub.specs.declared.reply.Answer.{Answer}
-use Rattle.doc_hub.specs.Worlds.{World, connected, world_pushed, world_put, with_finished, answer_in, step_said, stepped_by, last_id}
-use Rattle.doc_hub.specs.Runs.{Event, connect, push, step, put, Outcome, connecting, pushing, stepping, putting, IsOutOfMemory, Happened, Runs, nothing, first, sent_by, is_on, events_on}
+use Rattle.doc_hub.specs.Worlds.{World, answer_in, step_said, stepped_by, last_id}
+use Rattle.doc_hub.specs.Runs.{Event, connect, push, step, put, Outcome, stepping, IsOutOfMemory, Happened, Runs, nothing, first, sent_by, is_on, events_on}
 use Rattle.doc_hub.specs.Laws.{AgreeOn, AgreeAt, Matched, RunsAlike, connection}
 use Rattle.doc_hub.proofs.StepLaws.{same_answer}
 use Rattle.doc_hub.proofs.NextLaws.{Is, shown, Next, NextStep, next_of}

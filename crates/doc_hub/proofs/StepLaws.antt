@@ -1,13 +1,13 @@
 -- Step noninterference, and a step beside that of a fresh server.
-use Rattle.std.proofs.Common.{◌≡◌, ℕ, List, [], Bool, cond, refl, ap, sym, ◌∙◌}
-use Rattle.std.specs.Prelude.{Option, Some, None, option_and_then, Result, Ok}
+use Rattle.std.proofs.Common.{◌≡◌, ℕ, List, cond, refl, ap, sym, ◌∙◌}
+use Rattle.std.specs.Prelude.{Option, Some, None, option_and_then, Ok}
 use Rattle.std.specs.FinMap as map
 use Rattle.std.specs.Cmp.{eq_by_cmp_equiv}
 use Rattle.std.specs.Cmp.Lexicographic.{slice_cmp}
 use Rattle.std.specs.Ordering.{nat_cmp}
 use Rattle.std.proofs.lemmas.Cmp.{nat_list_cmp_total}
 use Rattle.doc_store.specs.declared.reader.Reader.{Reader}
-use Rattle.doc_store.specs.Sites.{Site, visible_to}
+use Rattle.doc_store.specs.Sites.{visible_to}
 use Rattle.doc_store.specs.Readers.{ReaderTable}
 use Rattle.doc_store.proofs.ViewLaw.{view_of_view}
 use Rattle.doc_http.specs.Bearers.{bearer_of}
@@ -18,7 +18,7 @@ use Rattle.doc_hub.specs.declared.connection.Connection.{Connection}
 use Rattle.doc_hub.specs.Replies.{Renders, answer_of}
 use Rattle.doc_hub.specs.declared.reply.Answer.{Answer}
 use Rattle.doc_hub.specs.Worlds.{World, reader_of, answer_in, stepped_by, step_said}
-use Rattle.doc_hub.specs.Laws.{Agree, AgreeOn, StepsAlike, site_seen, only_reader, open_with, fresh, fresh_for}
+use Rattle.doc_hub.specs.Laws.{Agree, StepsAlike, site_seen, only_reader, open_with, fresh, fresh_for}
 
 pub same_answer : (render : Renders) (w v : World) (request : Request) → Agree w v request → answer_in render w request ≡ answer_in render v request
 same_answer render w v request agree =

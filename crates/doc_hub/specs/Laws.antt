@@ -1,5 +1,5 @@
 -- Noninterference: what is sent on a connection depends on its own events and on what its readers may see.
-use Rattle.std.specs.Prelude.{◌≡◌, ℕ, ◌≤◌, All, Bool, List, [], ◌∷◌, false, Option, Some, None, Result, Ok, ⊤}
+use Rattle.std.specs.Prelude.{◌≡◌, ℕ, ◌≤◌, All, Bool, List, [], ◌∷◌, false, Option, Some, None, Ok, ⊤}
 use Rattle.std.specs.FinMap as map
 use Rattle.doc_store.specs.declared.reader.Reader.{Reader}
 use Rattle.doc_store.specs.Sites.{Site, visible_to}
@@ -11,10 +11,9 @@ use Rattle.doc_http.specs.declared.request.Next.{Next}
 use Rattle.doc_http.specs.declared.request.Next.TheVariants as nexts
 use Rattle.doc_hub.specs.declared.connection.Connection.{Connection}
 use Rattle.doc_hub.specs.declared.event.Step.{Step}
-use Rattle.doc_hub.specs.Connections.{Connections}
 use Rattle.doc_hub.specs.Replies.{Renders}
 use Rattle.doc_hub.specs.Worlds.{World, reader_of, stepped_by}
-use Rattle.doc_hub.specs.Runs.{Event, step, Outcome, stepping, IsOutOfMemory, Happened, Runs, events_on, sent_on}
+use Rattle.doc_hub.specs.Runs.{Event, step, stepping, IsOutOfMemory, Happened, Runs, events_on, sent_on}
 
 -- what the reader of a request may see of a world's site
 abbrev pub site_seen : World → Request → Site

@@ -1,5 +1,4 @@
-use Rattle.std.proofs.Common.{sym, ◌∙◌, ap}
-use Rattle.std.specs.Prelude.{cond, Some, None}
+use Rattle.std.proofs.Common.{sym}
 use Rattle.doc_hub.proofs.ViewSteps.{no_page, hidden_page, seen_page}
 use Rattle.doc_hub.proofs.reply.visible_page.Goals as goal
 

@@ -1,0 +1,30 @@
+pub mod Computing
+mod Shows
+mod SelectedExamples
+mod TextExamples
+mod EscapeExamples
+mod LeafExamples
+mod HtmlBlockExamples
+mod DefinitionExamples
+mod ContainerExamples
+mod InlineExamples
+mod EmphasisExamples
+mod LinkExamples
+mod FrontExamples
+mod AnchorExamples
+mod PageExamples
+pub mod LineLaws
+pub mod ColumnLaws
+pub mod DefinitionLaws
+pub mod HeadingLaws
+pub mod ParserLaws
+pub mod GrammarLaws
+pub mod SkipLaws
+pub mod EscapingLaws
+pub mod PieceLaws
+pub mod OnePass
+pub mod QuoteLines
+pub mod QuoteLaws
+pub mod EmphasisLaws
+pub mod AnchorLaws
+pub mod RoomLaws

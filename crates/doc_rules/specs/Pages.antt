@@ -1,0 +1,103 @@
+-- Pages (this project's choice): HTML cut at the opening tags of links, headings with anchors, texts; then the same in UTF-8.
+use Rattle.std.specs.Prelude.{ℕ, List, [], ◌∷◌, map, flat_map, encode_utf8_all, option_map}
+use Rattle.doc_rules.specs.Characters.{Text}
+use Rattle.doc_rules.specs.Entities.{Table}
+use Rattle.doc_rules.specs.Destinations.{Target}
+use Rattle.doc_rules.specs.Blocks.{Document, document_of}
+use Rattle.doc_rules.specs.PlainTexts.{headings_of, texts_of}
+use Rattle.doc_rules.specs.Anchors.{anchors_of}
+use Rattle.doc_rules.specs.Html.{Character, LinkTag, Output, output_of, Linker, link_tag}
+use Rattle.doc_page.specs.declared.rendered.Rendered.{Rendered}
+use Rattle.doc_page.specs.declared.rendered.Heading.{Heading}
+use Rattle.doc_page.specs.declared.rendered.Piece.{Piece}
+use Rattle.doc_page.specs.declared.rendered.Piece.TheVariants.{Html, Link}
+
+-- HTML as it is written, or the opening tag of a link
+pub data PagePiece : Type 0 where
+  HtmlPiece : Text → PagePiece
+  LinkPiece : Target → PagePiece
+
+-- a heading, with its plain text
+pub record PageHeading : Type 0 where
+  pub level : ℕ
+  pub anchor : Text
+  pub text : Text
+
+-- the page of a text
+pub record Page : Type 0 where
+  pub pieces : List PagePiece
+  pub headings : List PageHeading
+  pub texts : List Text
+
+-- ---- pieces
+
+-- a character put before pieces
+unfoldable pub onto_html : ℕ → List PagePiece → List PagePiece
+onto_html c [] = HtmlPiece (c ∷ []) ∷ []
+onto_html c (HtmlPiece text ∷ more) = HtmlPiece (c ∷ text) ∷ more
+onto_html c (LinkPiece target ∷ more) = HtmlPiece (c ∷ []) ∷ LinkPiece target ∷ more
+
+-- the pieces of what is written: characters between two links are one
+unfoldable pub pieces_of : Output → List PagePiece
+pieces_of [] = []
+pieces_of (Character c ∷ more) = onto_html c (pieces_of more)
+pieces_of (LinkTag target ∷ more) = LinkPiece target ∷ pieces_of more
+
+-- ---- headings
+
+-- headings with these anchors, one each
+unfoldable pub page_headings : List (ℕ × Text) → List Text → List PageHeading
+page_headings [] anchors = []
+page_headings (heading ∷ more) [] = []
+page_headings (heading ∷ more) (anchor ∷ anchors) = record { level = heading.0; anchor = anchor; text = heading.1 } ∷ page_headings more anchors
+
+-- the anchors of a document's headings
+unfoldable pub document_anchors : Table → Document → List Text
+document_anchors table document = anchors_of (map (λ heading. heading.1) (headings_of table document))
+
+-- ---- pages
+
+-- the page of a document
+unfoldable pub document_page : Table → Document → Page
+document_page table document =
+    let anchors : List Text = document_anchors table document in
+    record {
+      pieces = pieces_of (output_of table anchors document);
+      headings = page_headings (headings_of table document) anchors;
+      texts = texts_of table document;
+    }
+
+-- the page of a text
+unfoldable pub page_of : Table → Text → Page
+page_of table text = document_page table (document_of table text)
+
+-- ---- links are shown
+
+-- HTML as it stands, a link as the linker shows it
+unfoldable pub piece_text : Linker → PagePiece → Text
+piece_text linker (HtmlPiece text) = text
+piece_text linker (LinkPiece target) = link_tag (linker target.dest) target.title
+
+-- the pieces joined, with their links as the linker shows them
+unfoldable pub filled : Linker → List PagePiece → Text
+filled linker = flat_map (piece_text linker)
+
+-- ---- pages in UTF-8
+
+-- a piece in UTF-8
+unfoldable pub encoded_piece : PagePiece → Piece
+encoded_piece (HtmlPiece text) = Html (encode_utf8_all text)
+encoded_piece (LinkPiece target) = Link (record { dest = encode_utf8_all target.dest; title = option_map encode_utf8_all target.title })
+
+-- a heading in UTF-8
+unfoldable pub encoded_heading : PageHeading → Heading
+encoded_heading heading = record { level = heading.level; anchor = encode_utf8_all heading.anchor; text = encode_utf8_all heading.text }
+
+-- a page in UTF-8
+unfoldable pub encoded : Page → Rendered
+encoded page =
+    record { pieces = map encoded_piece page.pieces; headings = map encoded_heading page.headings; texts = map encode_utf8_all page.texts }
+
+-- what the renderer makes of a text
+abbrev pub rendered_of : Table → Text → Rendered
+rendered_of table text = encoded (page_of table text)
