@@ -31,7 +31,7 @@ enum Ended {
 }
 
 /// What comes of the command on an input, where it is to write these bytes.
-fn ended<L: Ledger>(heap: Heap, blank: Blank, input: &[u8], wanted: &[u8]) -> Ended
+fn outcome_of<L: Ledger>(heap: Heap, blank: Blank, input: &[u8], wanted: &[u8]) -> Ended
     requires name { blank.name ≡ L.name }
     requires parts { blank.parts ≡ L.parts }
     requires some { 0 < L.parts }
@@ -82,7 +82,7 @@ fn the_first_page_is_answered(rt: HostRuntime) -> Result<(), AllocError> {
         ),
     ];
     for (request, wanted) in &rows {
-        let end = ended::<Brand>(heap, Blank::new(1), request, wanted);
+        let end = outcome_of::<Brand>(heap, Blank::new(1), request, wanted);
         assert_eq!(rt; end, Ended::WithThis);
     }
     Ok(())
@@ -92,7 +92,7 @@ fn the_first_page_is_answered(rt: HostRuntime) -> Result<(), AllocError> {
 fn too_much_input_is_refused(rt: HostRuntime) -> Result<(), AllocError> {
     let heap = heap(rt.alloc(), u64::MAX)?;
     let input = Vec::from_elem(heap, b'a', 4_194_305)?;
-    let end = ended::<Brand>(heap, Blank::new(1), &input, b"");
+    let end = outcome_of::<Brand>(heap, Blank::new(1), &input, b"");
     assert_eq!(rt; end, Ended::Refused);
     Ok(())
 }

@@ -1,0 +1,14 @@
+use Rattle.std.proofs.Common.{arith}
+use Rattle.std.proofs.lemmas.List.Sums.{suffix_len-le-length}
+use Rattle.doc_page.specs.Lines.{is_ending}
+use Rattle.doc_page.proofs.StrippingSteps.{endings_are_ascii, cut_end, without_ending_is}
+use Rattle.doc_lines.proofs.entities.row.without_ending.Goals as goal
+
+pub overflow_sub-line : goal.overflow_sub-line
+overflow_sub-line c = omega (arith, suffix_len-le-length is_ending c.args.line.now, c.ending_length.ensures)
+
+pub range-requires-clause-end_boundary : goal.range-requires-clause-end_boundary
+range-requires-clause-end_boundary c = cut_end endings_are_ascii c.args.line.now c.ending_length.result c.ending_length.ensures
+
+pub returns : goal.returns
+returns c = without_ending_is c.args.line.now _ _ c.ending_length.ensures c.range.ensures.value

@@ -1,0 +1,8 @@
+use Rattle.std.proofs.Common.{rules, string_bytes}
+use Rattle.std.proofs.lemmas.Str.{IsUtf8-string_bytes, chars-append}
+use Rattle.doc_lines.proofs.pushing.push_text.Goals as goal
+
+pub returns : goal.returns
+returns c =
+    let pushed : _ = chars-append (string_bytes c.args.out.now) c.args.text.now (IsUtf8-string_bytes c.args.out.now) in
+    search rules

@@ -1,0 +1,8 @@
+use Rattle.std.proofs.Common.{◌≡◌, chars, drop}
+use denote.Text.{Utf8}
+use denote.Shadow.{shadow}
+use Rattle.doc_rules.specs.Parsers.{word}
+use Rattle.doc_lines.proofs.scan.word.word.Given as goal
+
+abbrev pub invariant-loop-letter : goal.invariant-loop-letter
+invariant-loop-letter l = shadow (Utf8 l.rest) × (word l.letters (chars l.text) ≡ word (drop l.letter-index l.letters) (chars l.rest))

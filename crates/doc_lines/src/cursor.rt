@@ -1,0 +1,170 @@
+//! A cursor over the characters and columns of a line.
+
+ghost use Rattle.std.specs.Prelude.{◌≡◌, ◌+◌, ◌-◌, ◌<◌, ◌≤◌, ◌++◌, ◌∷◌, [], min, chars, IfSome, MatchOption};
+ghost use Rattle.std.specs.Char.{encode_utf8};
+ghost use Rattle.doc_rules.specs.Characters.{is_space_or_tab};
+ghost use Rattle.doc_rules.specs.Columns.{width_at, skip, indent};
+ghost use Rattle.doc_lines.specs.Cursors.{start, first, after_next, skipped, left_of};
+
+use std::marker::Model;
+
+/// A place on a line, which moves from its front to its end.
+///
+/// A tab reaches the next column that is a multiple of 4. [`Cursor::skip`] may stop inside a tab, which is then used in part:
+/// [`Cursor::peek`] and [`Cursor::next`] still give it as a tab, and what is left of the line, as CommonMark reads it, begins
+/// with the columns that are left of it as spaces (CommonMark 0.31.2, section 2.2). Contracts see the place as `Position`, and
+/// what is left of the line as its `left_of`.
+#[derive(Drop)]
+pub struct Cursor<'a> {
+    rest: &'a str,
+    line_length: usize,
+    column: u128,
+    in_tab: bool,
+}
+
+impl<'a> Model for Cursor<'a> {
+    ghost use Rattle.std.specs.Prelude.{length};
+    ghost use Rattle.doc_lines.specs.Cursors.{Position, position_at, IsWithin, IsSound};
+
+    ghost Value = { Position };
+
+    ghost view = { λ c. position_at c.line_length c.rest.now c.column c.in_tab };
+
+    ghost invariant = { λ c. IsWithin c.line_length c.rest.now × IsSound (position_at c.line_length c.rest.now c.column c.in_tab) };
+}
+
+impl<'a> Cursor<'a> {
+    /// A cursor at the front of a line.
+    pub fn new(line: &'a str) -> Self
+        ensures { result ≡ start (chars line.now) }
+    {
+        Cursor {
+            rest: line,
+            line_length: line.len(),
+            column: 0,
+            in_tab: false,
+        }
+    }
+
+    /// The number of bytes before the place. Inside a tab, the tab is not among them.
+    pub fn place(&self) -> usize
+        ensures { result ≡ self.now.place }
+    {
+        self.line_length - self.rest.len()
+    }
+
+    /// The number of columns before the place. A line of tabs can have more of them than a `usize` counts.
+    pub fn column(&self) -> u128
+        ensures { result ≡ self.now.column }
+    {
+        self.column
+    }
+
+    /// Whether the place is inside a tab, of which columns were skipped and columns are left.
+    pub fn is_in_tab(&self) -> bool
+        ensures { result ≡ self.now.in_tab }
+    {
+        self.in_tab
+    }
+
+    /// What is left of the line, with a tab that is used in part as its first character.
+    pub fn rest(&self) -> &'a str
+        ensures { chars result.now ≡ self.now.rest }
+    {
+        self.rest
+    }
+
+    /// The next character, if there is one. The rest of a tab that is used in part is a tab.
+    pub fn peek(&self) -> Option<char>
+        ensures { result ≡ first self.now.rest }
+    {
+        let (first, _) = first_char(self.rest)?;
+        Some(first)
+    }
+
+    /// Takes the next character, if there is one, with all the columns that are left of it. The rest of a tab that is used in
+    /// part is a tab.
+    pub fn next(&mut self) -> Option<char>
+        ensures character { result ≡ first self.old.rest }
+        ensures place { self.new ≡ after_next self.old }
+    {
+        let (c, rest) = first_char(self.rest)?;
+        self.column += width_at(c, self.column) as u128;
+        self.in_tab = false;
+        self.rest = rest;
+        Some(c)
+    }
+
+    /// Skips at most this many columns of spaces and tabs, and answers how many. It stops inside a tab that has more columns.
+    pub fn skip(&mut self, columns: usize) -> usize
+        ensures place { self.new ≡ skipped columns self.old }
+        ensures line { left_of self.new ≡ skip columns (left_of self.old) }
+        ensures columns { result ≡ min columns (indent (left_of self.old)) }
+    {
+        // Read for the proof alone, which takes from it that a place inside a tab stands before a tab.
+        let _ = &self.rest;
+        let mut left = columns;
+        while left > 0 {
+            let taken = self.skip_one(left);
+            if taken == 0 {
+                return columns - left;
+            }
+            left -= taken;
+        }
+        columns
+    }
+
+    /// Skips at most this many columns of one space or tab, and answers how many: 0 where another character or none is next.
+    fn skip_one(&mut self, columns: usize) -> usize
+        requires { 0 < columns }
+        ensures bound { result ≤ columns }
+        ensures place { skipped columns self.old ≡ skipped (columns - result) self.new }
+        ensures stop { result ≡ 0 → self.new ≡ skipped columns self.old }
+        ensures column { self.new.column ≡ self.old.column + result }
+    {
+        let Some((c, rest)) = first_char(self.rest) else {
+            return 0;
+        };
+        if !is_space_or_tab(c) {
+            return 0;
+        }
+        let width = width_at(c, self.column);
+        if columns < width {
+            self.column += columns as u128;
+            self.in_tab = true;
+            return columns;
+        }
+        self.column += width as u128;
+        self.in_tab = false;
+        self.rest = rest;
+        width
+    }
+}
+
+/// The first character, and the text behind it.
+#[tactic(auto, using(std::proofs::lemmas::Str::chars_past_char))]
+fn first_char(text: &str) -> Option<(char, &str)>
+    ensures characters { MatchOption result (chars text.now ≡ []) (λ r. chars text.now ≡ r.0 ∷ chars r.1.now) }
+    ensures bytes { IfSome result (λ r. text.now ≡ encode_utf8 r.0 ++ r.1.now) }
+{
+    let mut rest = text.chars();
+    let c = rest.next()?;
+    Some((c, rest.as_str()))
+}
+
+fn is_space_or_tab(c: char) -> bool
+    ensures { result ≡ is_space_or_tab c }
+{
+    matches!(c, ' ' | '\t')
+}
+
+/// The columns of a character at a column.
+fn width_at(c: char, column: u128) -> usize
+    ensures { result ≡ width_at c column }
+{
+    if c == '\t' {
+        4 - (column % 4) as usize
+    } else {
+        1
+    }
+}

@@ -1,0 +1,126 @@
+//! Character references by name.
+
+mod built_in;
+mod names;
+mod row;
+mod table;
+
+ghost use Rattle.std.specs.Prelude.{◌≡◌, chars, option_map};
+ghost use Rattle.doc_page.specs.Lines.{lines};
+ghost use Rattle.doc_page.specs.Refusals.{IsAnswer};
+ghost use Rattle.doc_rules.specs.Entities.{built_in};
+ghost use Rattle.doc_rules.specs.Escapes.{find_entity};
+ghost use Rattle.doc_lines.specs.Entities.{characters};
+ghost use Rattle.doc_lines.specs.Tables.{entities_of, twice_line, twice_or};
+
+use built_in::find_built_in;
+use doc_heap::{BTreeMap, Heap, String};
+use doc_page::failure::Memory;
+use std::error::Error;
+use std::fmt;
+use std::marker::Model;
+use table::{added_of, bad_line, find_either, twice_line};
+
+/// Why a text is no table of character references. Lines are counted from 1.
+#[derive(Clone, Copy, Debug, PartialEq, Eq)]
+pub enum TableError {
+    /// The first line that is neither blank nor of the form `name HEX` or `name HEX HEX`.
+    BadRow(usize),
+    /// The first line whose name is built in or stands in an earlier line, with other characters.
+    Twice(usize),
+    Memory,
+}
+
+impl fmt::Display for TableError {
+    fn fmt<W: fmt::Write>(&self, f: &mut fmt::Formatter<W>) -> fmt::Result {
+        match self {
+            TableError::BadRow(line) => write!(f, "line {line} is bad"),
+            TableError::Twice(line) => write!(f, "line {line} gives a name other characters"),
+            TableError::Memory => write!(f, "{Memory}"),
+        }
+    }
+}
+
+impl Error for TableError {}
+
+impl From<Memory> for TableError {
+    ghost use Rattle.std.specs.Prelude.{◌≡◌};
+    ghost use Rattle.doc_lines.specs.declared.entities.TableError.TheVariants as refusals;
+
+    ghost from_gives = { λ _ e. e ≡ refusals.Memory };
+
+    fn from(_e: Memory) -> TableError {
+        TableError::Memory
+    }
+}
+
+/// Character references by name: those that are built in, and those that are added (CommonMark 0.31.2, section 2.5). Contracts
+/// see a table of names with their characters: the built-in ones, and then the added ones in the order of their names.
+#[derive(Drop)]
+pub struct Entities {
+    added: Option<BTreeMap<String, (char, Option<char>)>>,
+}
+
+impl Model for Entities {
+    ghost use Rattle.std.specs.Prelude.{◌++◌, ◌≡◌, true};
+    ghost use Rattle.doc_rules.specs.Entities.{Table, built_in};
+
+    ghost Value = { Table };
+
+    ghost use Rattle.doc_lines.specs.Entities.{added_entities, has_ascii_names};
+
+    ghost view = { λ e. built_in ++ added_entities e.added };
+
+    ghost invariant = { λ e. has_ascii_names (added_entities e.added) ≡ true };
+}
+
+impl Entities {
+    /// The 252 names of HTML 4, and `apos`, `Dcaron`, `HilbertSpace`, `DifferentialD`, `ClockwiseContourIntegral` and `ngE`, with
+    /// the characters that HTML 5 gives them. Takes no memory.
+    pub fn built_in() -> Entities
+        ensures { result ≡ built_in }
+    {
+        Entities { added: None }
+    }
+
+    /// The built-in names and those of a table, a text with one line `name HEX` or `name HEX HEX` for each name.
+    ///
+    /// A name is an ASCII letter and up to 31 letters or digits. HEX is the code point of a character, in 1 to 6 hexadecimal
+    /// digits. One space stands between two fields. Lines end as those of CommonMark do. Blank lines, of spaces and tabs alone,
+    /// don't count. A name that stands already with the same characters is no fault.
+    ///
+    /// Where memory runs out, later lines are still compared with all lines before them, since `Twice` comes before `Memory`:
+    /// that takes no memory, and a time that is quadratic in the number of lines.
+    pub fn from_table(heap: Heap, text: &str) -> Result<Entities, TableError>
+        ensures { IsAnswer TableError.Memory (entities_of text.now) result }
+    {
+        if let Some(line) = bad_line(text) {
+            return Err(TableError::BadRow(line));
+        }
+        match added_of(heap, text) {
+            Ok(added) => Ok(Entities { added: Some(added) }),
+            Err(TableError::Memory) => Err(twice_or_memory(text)),
+            Err(error) => Err(error),
+        }
+    }
+
+    /// The one or two characters of a name, which is given without `&` and `;`.
+    pub fn find(&self, name: &str) -> Option<(char, Option<char>)>
+        ensures { option_map characters result ≡ find_entity self.now (chars name.now) }
+    {
+        match &self.added {
+            None => find_built_in(name),
+            Some(added) => find_either(added, name),
+        }
+    }
+}
+
+/// What is answered without memory: the first line that contradicts, where there is one.
+fn twice_or_memory(text: &str) -> TableError
+    ensures { result ≡ twice_or TableError.Memory (twice_line built_in 1 (lines text.now)) }
+{
+    match twice_line(text) {
+        Some(line) => TableError::Twice(line),
+        None => TableError::Memory,
+    }
+}

@@ -1,0 +1,33 @@
+//! One character.
+ghost use Rattle.std.specs.Prelude.{◌≡◌, [], ◌∷◌, ℕ, Bool, chars, IfSome, MatchOption};
+ghost use Rattle.doc_rules.proofs.ParserLaws.{IsRest};
+ghost use Rattle.doc_rules.specs.Parsers.{one, is};
+ghost use Rattle.doc_lines.specs.Rests.{rest_of, IsTestOf};
+
+/// The first character, and the text behind it.
+#[tactic(auto, using(std::proofs::lemmas::Str::chars_past_char))]
+pub fn next_char(text: &str) -> Option<(char, &str)>
+    ensures { MatchOption result (chars text.now ≡ []) (λ r. chars text.now ≡ r.0 ∷ chars r.1.now) }
+{
+    let mut rest = text.chars();
+    let c = rest.next()?;
+    Some((c, rest.as_str()))
+}
+
+/// One character that passes the test.
+#[tactic(auto, using(crate::proofs::Steps::one_behind))]
+pub fn one<F: Fn(char) -> bool>(text: &str, test: F) -> Option<&str>
+    requires { F.IsAlwaysCallable test }
+    ensures value { (class : ℕ → Bool) → IsTestOf (F.post test) class → rest_of result ≡ one class (chars text.now) }
+    ensures end { IfSome result (λ rest. IsRest (chars rest.now) (chars text.now)) }
+{
+    let (c, rest) = next_char(text)?;
+    if test(c) { Some(rest) } else { None }
+}
+
+/// This character.
+pub fn is(text: &str, c: char) -> Option<&str>
+    ensures { rest_of result ≡ is c (chars text.now) }
+{
+    one(text, |d| d == c)
+}

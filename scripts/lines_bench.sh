@@ -1,0 +1,24 @@
+#!/usr/bin/env bash
+# Measures how the time of `Lines` and of `unescape` grows with the text: 1, 2, 4 and 8 MiB. Prints the
+# best of five runs of each, and its ratio to the one before (2 is linear). Run `rt run` in
+# crates/lines_bench first, which builds the program.
+set -eu
+cd "$(dirname "$0")/.."
+program=crates/lines_bench/out/lines_bench
+[ -x "$program" ] || { echo "run 'rt run' in crates/lines_bench first" >&2; exit 1; }
+python3 - "$program" <<'PYTHON'
+import subprocess, sys, time
+program = sys.argv[1]
+for task in ("lines", "unescape"):
+    before = None
+    for size in (1, 2, 4, 8):
+        best = None
+        for _ in range(5):
+            start = time.perf_counter()
+            subprocess.run([program, task, str(size)], stdout=subprocess.DEVNULL, check=True)
+            took = time.perf_counter() - start
+            best = took if best is None else min(best, took)
+        ratio = "" if before is None else f"  {best / before:.2f} times the one before"
+        print(f"{task:8} {size} MiB: {best * 1000:7.1f} ms{ratio}")
+        before = best
+PYTHON
