@@ -1,11 +1,11 @@
 //! A cursor over the characters and columns of a line.
 
-ghost use Rattle.std.specs.Prelude.{◌≡◌, ◌+◌, ◌-◌, ◌<◌, ◌≤◌, ◌++◌, ◌∷◌, [], min, chars, IfSome, MatchOption};
-ghost use Rattle.std.specs.Char.{encode_utf8};
+ghost use Rattle.std.specs.Prelude.{◌≡◌, ◌+◌, ◌-◌, ◌<◌, ◌≤◌, min, chars};
 ghost use Rattle.doc_rules.specs.Characters.{is_space_or_tab};
 ghost use Rattle.doc_rules.specs.Columns.{width_at, skip, indent};
 ghost use Rattle.doc_lines.specs.Cursors.{start, first, after_next, skipped, left_of};
 
+use crate::scan::character::next_char;
 use std::marker::Model;
 
 /// A place on a line, which moves from its front to its end.
@@ -78,7 +78,7 @@ impl<'a> Cursor<'a> {
     pub fn peek(&self) -> Option<char>
         ensures { result ≡ first self.now.rest }
     {
-        let (first, _) = first_char(self.rest)?;
+        let (first, _) = next_char(self.rest)?;
         Some(first)
     }
 
@@ -88,7 +88,7 @@ impl<'a> Cursor<'a> {
         ensures character { result ≡ first self.old.rest }
         ensures place { self.new ≡ after_next self.old }
     {
-        let (c, rest) = first_char(self.rest)?;
+        let (c, rest) = next_char(self.rest)?;
         self.column += width_at(c, self.column) as u128;
         self.in_tab = false;
         self.rest = rest;
@@ -122,7 +122,7 @@ impl<'a> Cursor<'a> {
         ensures stop { result ≡ 0 → self.new ≡ skipped columns self.old }
         ensures column { self.new.column ≡ self.old.column + result }
     {
-        let Some((c, rest)) = first_char(self.rest) else {
+        let Some((c, rest)) = next_char(self.rest) else {
             return 0;
         };
         if !is_space_or_tab(c) {
@@ -139,17 +139,6 @@ impl<'a> Cursor<'a> {
         self.rest = rest;
         width
     }
-}
-
-/// The first character, and the text behind it.
-#[tactic(auto, using(std::proofs::lemmas::Str::chars_past_char))]
-fn first_char(text: &str) -> Option<(char, &str)>
-    ensures characters { MatchOption result (chars text.now ≡ []) (λ r. chars text.now ≡ r.0 ∷ chars r.1.now) }
-    ensures bytes { IfSome result (λ r. text.now ≡ encode_utf8 r.0 ++ r.1.now) }
-{
-    let mut rest = text.chars();
-    let c = rest.next()?;
-    Some((c, rest.as_str()))
 }
 
 fn is_space_or_tab(c: char) -> bool

@@ -1,0 +1,3 @@
+pub mod Demo
+pub mod DemoSite
+pub mod Faults

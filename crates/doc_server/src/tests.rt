@@ -7,6 +7,7 @@ use crate::fault::Fault;
 use doc_heap::{Heap, Vec, heap};
 use doc_page::plain::PlainRenderer;
 use std::alloc::AllocError;
+use std::io::{self, Read, Write};
 use std::marker::Brand;
 use std::sync::ledger::{Blank, Ledger};
 
@@ -94,5 +95,82 @@ fn too_much_input_is_refused(rt: HostRuntime) -> Result<(), AllocError> {
     let input = Vec::from_elem(heap, b'a', 4_194_305)?;
     let end = outcome_of::<Brand>(heap, Blank::new(1), &input, b"");
     assert_eq!(rt; end, Ended::Refused);
+    Ok(())
+}
+
+/// An input that can't be read.
+#[derive(Drop)]
+struct Broken;
+
+impl Read for Broken {
+    fn read(&mut self, _buf: &mut [u8]) -> io::Result<usize> {
+        Err(io::Error::from(io::ErrorKind::BrokenPipe))
+    }
+}
+
+/// What stops the command.
+#[derive(Clone, Copy, Debug, PartialEq, Eq)]
+enum Stop {
+    StandardInput,
+    Output,
+    OutOfMemory,
+    Other,
+}
+
+/// What stops the command on this input and output, if anything does.
+fn stop_of<L: Ledger, I: Read, O: Write>(
+    heap: Heap,
+    blank: Blank,
+    input: &mut I,
+    output: &mut O,
+) -> Option<Stop>
+    requires name { blank.name ≡ L.name }
+    requires parts { blank.parts ≡ L.parts }
+    requires some { 0 < L.parts }
+{
+    let renderer: PlainRenderer<L> = PlainRenderer::new(blank);
+    match demo(heap, renderer, input, output) {
+        Ok(()) => None,
+        Err(Fault::CannotRead(name)) if name.as_str() == "-" => Some(Stop::StandardInput),
+        Err(Fault::CannotWrite) => Some(Stop::Output),
+        Err(Fault::Memory) => Some(Stop::OutOfMemory),
+        Err(_) => Some(Stop::Other),
+    }
+}
+
+const REQUEST: &[u8] = b"GET /page/a.md HTTP/1.1\r\nHost: docs\r\n\r\n";
+
+#[test]
+fn a_broken_input_stops_the_command(rt: HostRuntime) -> Result<(), AllocError> {
+    let heap = heap(rt.alloc(), u64::MAX)?;
+    let mut output = Vec::new(heap);
+    let stop = stop_of::<Brand, Broken, Vec<u8>>(heap, Blank::new(1), &mut Broken, &mut output);
+    assert_eq!(rt; stop, Some(Stop::StandardInput));
+    assert!(rt; output.is_empty());
+    Ok(())
+}
+
+#[test]
+fn an_output_without_room_stops_the_command(rt: HostRuntime) -> Result<(), AllocError> {
+    let heap = heap(rt.alloc(), u64::MAX)?;
+    let mut input = REQUEST;
+    let mut room = [0u8; 10];
+    let mut output: &mut [u8] = &mut room;
+    let stop = stop_of::<Brand, &[u8], &mut [u8]>(heap, Blank::new(1), &mut input, &mut output);
+    assert_eq!(rt; stop, Some(Stop::Output));
+    Ok(())
+}
+
+#[test]
+fn a_refused_growth_stops_the_command(rt: HostRuntime) -> Result<(), AllocError> {
+    let heap = heap(rt.alloc(), u64::MAX)?;
+    for growths in 0..20u64 {
+        let mut input = REQUEST;
+        let mut output = Vec::new(heap);
+        heap.refuse_after(growths);
+        let stop = stop_of::<Brand, &[u8], Vec<u8>>(heap, Blank::new(1), &mut input, &mut output);
+        heap.refuse_after(u64::MAX);
+        assert_eq!(rt; stop, Some(Stop::OutOfMemory));
+    }
     Ok(())
 }

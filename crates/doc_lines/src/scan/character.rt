@@ -1,5 +1,6 @@
 //! One character.
-ghost use Rattle.std.specs.Prelude.{◌≡◌, [], ◌∷◌, ℕ, Bool, chars, IfSome, MatchOption};
+ghost use Rattle.std.specs.Prelude.{◌≡◌, [], ◌∷◌, ◌++◌, ℕ, Bool, chars, IfSome, MatchOption};
+ghost use Rattle.std.specs.Char.{encode_utf8};
 ghost use Rattle.doc_rules.proofs.ParserLaws.{IsRest};
 ghost use Rattle.doc_rules.specs.Parsers.{one, is};
 ghost use Rattle.doc_lines.specs.Rests.{rest_of, IsTestOf};
@@ -7,7 +8,8 @@ ghost use Rattle.doc_lines.specs.Rests.{rest_of, IsTestOf};
 /// The first character, and the text behind it.
 #[tactic(auto, using(std::proofs::lemmas::Str::chars_past_char))]
 pub fn next_char(text: &str) -> Option<(char, &str)>
-    ensures { MatchOption result (chars text.now ≡ []) (λ r. chars text.now ≡ r.0 ∷ chars r.1.now) }
+    ensures characters { MatchOption result (chars text.now ≡ []) (λ r. chars text.now ≡ r.0 ∷ chars r.1.now) }
+    ensures bytes { IfSome result (λ r. text.now ≡ encode_utf8 r.0 ++ r.1.now) }
 {
     let mut rest = text.chars();
     let c = rest.next()?;

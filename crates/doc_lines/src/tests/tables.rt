@@ -41,68 +41,55 @@ fn a_table_adds_names(rt: HostRuntime) -> Result<(), Fail> {
 }
 
 #[test]
-fn a_line_of_another_form_is_refused(rt: HostRuntime) -> Result<(), Fail> {
+fn a_name_of_another_form_is_refused(rt: HostRuntime) -> Result<(), Fail> {
     let heap = heap(rt.alloc(), u64::MAX)?;
-    assert!(rt;
-        refusal(heap, "1x 41") == Some(TableError::BadRow(1)),
-        "no letter"
-    );
-    assert!(rt;
-        refusal(heap, "a 41\rb-c 41") == Some(TableError::BadRow(2)),
-        "no letter or digit"
-    );
-    assert!(rt;
-        refusal(heap, "a 41\r\n\na") == Some(TableError::BadRow(3)),
-        "no code"
-    );
-    assert!(rt;
-        refusal(heap, "a  41") == Some(TableError::BadRow(1)),
-        "two spaces"
-    );
-    assert!(rt;
-        refusal(heap, "a 41 ") == Some(TableError::BadRow(1)),
-        "an empty field"
-    );
-    assert!(rt;
-        refusal(heap, " a 41") == Some(TableError::BadRow(1)),
-        "a space in front"
-    );
-    assert!(rt;
-        refusal(heap, "a\t41") == Some(TableError::BadRow(1)),
-        "a tab"
-    );
-    assert!(rt;
-        refusal(heap, "a 41 42 43") == Some(TableError::BadRow(1)),
-        "three codes"
-    );
-    assert!(rt;
-        refusal(heap, "a 0000041") == Some(TableError::BadRow(1)),
-        "seven digits"
-    );
-    assert!(rt;
-        refusal(heap, "a 4G") == Some(TableError::BadRow(1)),
-        "no digit"
-    );
-    assert!(rt;
-        refusal(heap, "a +41") == Some(TableError::BadRow(1)),
-        "a sign"
-    );
-    assert!(rt;
-        refusal(heap, "a D800") == Some(TableError::BadRow(1)),
-        "a surrogate"
-    );
-    assert!(rt;
-        refusal(heap, "a 110000") == Some(TableError::BadRow(1)),
-        "no code point"
-    );
-    assert!(rt;
-        refusal(heap, "a23456789012345678901234567890123 61") == Some(TableError::BadRow(1)),
-        "33 characters"
-    );
-    assert!(rt;
-        refusal(heap, "\u{e9} E9") == Some(TableError::BadRow(1)),
-        "no ASCII letter"
-    );
+    for (text, line, fault) in [
+        ("1x 41", 1, "no letter"),
+        ("a 41\rb-c 41", 2, "no letter or digit"),
+        ("a23456789012345678901234567890123 61", 1, "33 characters"),
+        ("\u{e9} E9", 1, "no ASCII letter"),
+    ] {
+        assert_eq!(rt;
+            refusal(heap, text),
+            Some(TableError::BadRow(line)),
+            "{fault}"
+        );
+    }
+    Ok(())
+}
+
+#[test]
+fn fields_of_another_form_are_refused(rt: HostRuntime) -> Result<(), Fail> {
+    let heap = heap(rt.alloc(), u64::MAX)?;
+    for (text, line, fault) in [
+        ("a 41\r\n\na", 3, "no code"),
+        ("a  41", 1, "two spaces"),
+        ("a 41 ", 1, "an empty field"),
+        (" a 41", 1, "a space in front"),
+        ("a\t41", 1, "a tab"),
+        ("a 41 42 43", 1, "three codes"),
+    ] {
+        assert_eq!(rt;
+            refusal(heap, text),
+            Some(TableError::BadRow(line)),
+            "{fault}"
+        );
+    }
+    Ok(())
+}
+
+#[test]
+fn a_code_of_another_form_is_refused(rt: HostRuntime) -> Result<(), Fail> {
+    let heap = heap(rt.alloc(), u64::MAX)?;
+    for (text, fault) in [
+        ("a 0000041", "seven digits"),
+        ("a 4G", "no digit"),
+        ("a +41", "a sign"),
+        ("a D800", "a surrogate"),
+        ("a 110000", "no code point"),
+    ] {
+        assert_eq!(rt; refusal(heap, text), Some(TableError::BadRow(1)), "{fault}");
+    }
     Ok(())
 }
 
@@ -145,5 +132,22 @@ fn each_growth_is_refused_in_turn(rt: HostRuntime) -> Result<(), Fail> {
         "a built-in name takes no memory"
     );
     assert!(rt; Entities::built_in().find("copy") == Some(('\u{a9}', None)));
+    Ok(())
+}
+
+/// The texts are this project's choice.
+#[test]
+fn refusals_are_printed(rt: HostRuntime) -> Result<(), Fail> {
+    let heap = heap(rt.alloc(), u64::MAX)?;
+    let printed = format!(in heap;
+        "{}, {}, {}",
+        TableError::BadRow(3),
+        TableError::Twice(12),
+        TableError::Memory
+    )?;
+    assert_eq!(rt;
+        printed.as_str(),
+        "line 3 is bad, line 12 gives a name other characters, out of memory"
+    );
     Ok(())
 }

@@ -14,9 +14,9 @@ characters-preserved-in_default-escape_or_reference c =
       (
         record {
           front = i.2.0.front ++ c.in-Some.c ∷ [];
-          split = i.2.0.split ∙ (ap (λ more. i.2.0.front ++ more) c.in-Some.ensures ∙ sym (append_assoc i.2.0.front (c.in-Some.c ∷ []) (chars c.in-Some.behind.now)));
+          split = i.2.0.split ∙ (ap (λ more. i.2.0.front ++ more) c.in-Some.ensures.characters ∙ sym (append_assoc i.2.0.front (c.in-Some.c ∷ []) (chars c.in-Some.behind.now)));
         },
-        goes_on _ _ i.2.0.front _ _ _ c.in-Some.c c.in-Some.ensures c.in_default-escape_or_reference.ensures.value i.2.1,
+        goes_on _ _ i.2.0.front _ _ _ c.in-Some.c c.in-Some.ensures.characters c.in_default-escape_or_reference.ensures.value i.2.1,
       ),
     )
 
@@ -27,11 +27,11 @@ characters-preserved c =
       search rules,
       (
         record { front = []; split = refl },
-        writes _ _ i.2.0.front _ _ _ _ _ _ _ _ _ c.in-Some.c c.in-Some.ensures i.2.0.split c.front.ensures.joins c.in_ok-push_text.ensures c.in_ok-push_characters.ensures c.in-Some-escape_or_reference.ensures.value c.in-Some-escape_or_reference.ensures.end i.2.1,
+        writes _ _ i.2.0.front _ _ _ _ _ _ _ _ _ c.in-Some.c c.in-Some.ensures.characters i.2.0.split c.front.ensures.joins c.in_ok-push_text.ensures.ok c.in_ok-push_characters.ensures.ok c.in-Some-escape_or_reference.ensures.value c.in-Some-escape_or_reference.ensures.end i.2.1,
       ),
     )
 
 pub returns : goal.returns
 returns c =
     let i = c.characters.invariant in
-    ap chars c.new.ensures ∙ ends _ _ i.2.0.front _ _ _ _ c.in_default.ensures i.2.0.split c.in_ok-push_text-2.ensures i.2.1
+    ap chars c.new.ensures ∙ ends _ _ i.2.0.front _ _ _ _ c.in_default.ensures.characters i.2.0.split c.in_ok-push_text-2.ensures.ok i.2.1

@@ -3,7 +3,7 @@ use Rattle.std.proofs.lemmas.Str.{IsUtf8-string_bytes}
 use Rattle.doc_lines.proofs.Pushes.{chars_pushed}
 use Rattle.doc_lines.proofs.pushing.push_char.Goals as goal
 
-pub returns : goal.returns
-returns c =
+pub returns-clause-ok : goal.returns-clause-ok
+returns-clause-ok c =
     let pushed : _ = chars_pushed (string_bytes c.args.out.now) c.args.c (IsUtf8-string_bytes c.args.out.now) c.ranges.c.0 in
     search rules

@@ -1,4 +1,4 @@
-//! Runs `Lines` or `unescape` over a text of some MiB, for `scripts/lines_bench.sh` to time.
+//! Runs a layer of CommonMark over a long text, for `scripts/commonmark_bench.sh` to time.
 #![tactic(auto)]
 
 use doc_heap::{Heap, String, heap};
@@ -6,6 +6,7 @@ use doc_lines::entities::Entities;
 use doc_lines::lines::Lines;
 use doc_lines::unescape;
 use doc_page::failure::Memory;
+use doc_refs::{normalize_label, take_definitions};
 use std::env;
 use std::process::ExitCode;
 use std::rt::Env;
@@ -13,16 +14,22 @@ use std::rt::Env;
 /// A line of 64 bytes with its ending, which stand for 51 with escapes and references read.
 const LINE: &str = "one &amp; two \\* three &copy; four &#65; and then, plain texts.\n";
 
+/// How many definitions one part of a text of definitions has.
+const DEFINITIONS: u32 = 10_000;
+
 /// What is run.
 #[derive(Clone, Copy, Debug, PartialEq, Eq)]
 enum Task {
     Lines,
     Unescape,
+    Definitions,
 }
 
 fn main(rt: HostRuntime) -> ExitCode {
     let Some((task, size)) = named_task(&rt) else {
-        let _ = eprintln!(rt; "lines_bench: usage: lines_bench lines|unescape 1|2|4|8");
+        let _ = eprintln!(rt;
+            "commonmark_bench: usage: commonmark_bench lines|unescape|definitions 1|2|4|8"
+        );
         return ExitCode::from(2);
     };
     let Ok(heap) = heap(rt.alloc(), u64::MAX) else {
@@ -37,13 +44,14 @@ fn main(rt: HostRuntime) -> ExitCode {
     }
 }
 
-/// What the arguments name: a task and a number of MiB.
+/// What the arguments name: a task and a size.
 fn named_task<R: AllocGlobal + Env>(rt: &R) -> Option<(Task, u32)> {
     let mut args = env::args(rt).ok()?;
     let _program = args.next();
     let task = match args.next()?.as_str() {
         "lines" => Task::Lines,
         "unescape" => Task::Unescape,
+        "definitions" => Task::Definitions,
         _ => return None,
     };
     let size = match args.next()?.as_str() {
@@ -56,17 +64,21 @@ fn named_task<R: AllocGlobal + Env>(rt: &R) -> Option<(Task, u32)> {
     Some((task, size))
 }
 
-/// How many lines the text has, or how many bytes it has with escapes and references read.
+/// How many lines a text of so many MiB has, how many bytes it has with escapes and references read, or how many bytes so many times
+/// 10,000 definitions take.
 fn measure(heap: Heap, task: Task, size: u32) -> Result<usize, Memory> {
-    let text = text(heap, size)?;
     match task {
-        Task::Lines => Ok(count_lines(&text)),
-        Task::Unescape => Ok(unescape(heap, &text, &Entities::built_in())?.get().len()),
+        Task::Lines => Ok(count_lines(&lines(heap, size)?)),
+        Task::Unescape => {
+            let read = unescape(heap, &lines(heap, size)?, &Entities::built_in())?;
+            Ok(read.get().len())
+        }
+        Task::Definitions => take_and_find(heap, &definitions(heap, size)?),
     }
 }
 
 /// So many MiB of lines.
-fn text(heap: Heap, size: u32) -> Result<String, Memory> {
+fn lines(heap: Heap, size: u32) -> Result<String, Memory> {
     let mut text = String::new(heap);
     for _ in 0..size {
         for _ in 0..16_384u32 {
@@ -82,4 +94,28 @@ fn count_lines(text: &str) -> usize {
         count = count.wrapping_add(1);
     }
     count
+}
+
+/// So many times 10,000 definitions, of different labels.
+fn definitions(heap: Heap, size: u32) -> Result<String, Memory> {
+    let mut text = String::new(heap);
+    for part in 0..size {
+        for number in 0..DEFINITIONS {
+            let line = format!(in heap;
+                "[Label {part} {number}]: /pages/{number} 'page {number}'\n"
+            )?;
+            text.push_str(&line)?;
+        }
+    }
+    Ok(text)
+}
+
+/// How many bytes the definitions of a text take, where the last of the first 10,000 is found by its label.
+fn take_and_find(heap: Heap, text: &str) -> Result<usize, Memory> {
+    let (refs, taken) = take_definitions(heap, text, &Entities::built_in())?;
+    let label = normalize_label(heap, "label 0 9999")?;
+    match refs.find(label.get()) {
+        Some(_) => Ok(taken),
+        None => Ok(0),
+    }
 }

@@ -1,0 +1,8 @@
+pub mod Ends
+pub mod EntryLaws
+pub mod Escapes
+pub mod MapLaws
+pub mod ParenthesisSteps
+pub mod Rests
+pub mod SpaceLaws
+pub mod TakenLaws

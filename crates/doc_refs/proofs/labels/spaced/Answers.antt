@@ -1,0 +1,22 @@
+use Rattle.std.proofs.Common.{rules, ◌≡◌, ◌<◌, length, chars, Some, ◌∙◌}
+use Rattle.doc_lines.proofs.Pushes.{nothing_before}
+use Rattle.doc_rules.specs.Characters.{is_space_tab_or_ending}
+use Rattle.doc_rules.specs.Parsers.{many}
+use Rattle.doc_refs.proofs.Ends.{empty_chars}
+use Rattle.doc_refs.proofs.SpaceLaws.{front_is_stripped, nothing_left, some_characters, is_none, is_some}
+use Rattle.doc_refs.proofs.labels.spaced.Goals as goal
+
+pub words-init : goal.words-init
+words-init c =
+    let start : Some (chars c.many-rest.result.now) ≡ many is_space_tab_or_ending (chars c.args.text.now) = c.many-rest.ensures.value is_space_tab_or_ending (search rules) in
+    record { is_text = search rules; same = nothing_before _ _ c.in_ok-out.ensures.bytes ∙ front_is_stripped _ _ start }
+
+pub words-smaller : goal.words-smaller
+words-smaller c =
+    let some : 0 < length c.words.rest.now = is_some _ _ c.is_empty.ensures c.words-test.true in
+    c.in_ok-rest.ensures.shorter (some_characters _ c.words.invariant.is_text some)
+
+pub returns : goal.returns
+returns c =
+    let none : length c.words.rest.now ≡ 0 = is_none _ _ c.is_empty.ensures c.words-test.false in
+    nothing_left _ _ _ (empty_chars _ none) c.words.invariant.same

@@ -1,0 +1,96 @@
+-- Replies so far, as steps of one connection.
+use Rattle.std.proofs.Common.{◌≡◌, ℕ, List, [], ◌∷◌, ◌++◌, Bool, true, false, refl, sym, ap, ◌∙◌, subst, ◌==◌, arith}
+use Rattle.std.specs.Prelude.{All, Option, Ok}
+use Rattle.std.specs.Io.KnownBytes.{Appends, Keeps}
+use Rattle.std.proofs.KnownBytes.{Appends-nil, Appends-trans, Appends-kept}
+use Rattle.std.proofs.lemmas.List.Elements.{All-nil, All-push}
+use Rattle.doc_hub.specs.Replies.{Renders}
+use Rattle.doc_hub.specs.Worlds.{World}
+use Rattle.doc_hub.specs.Runs.{step, Outcome, stepping, Happens, Happened, Runs, nothing, bytes_of, sent_by, sent_on}
+use Rattle.doc_hub.specs.declared.event.Step.{Step}
+use Rattle.doc_hub.specs.declared.event.Step.TheVariants as steps
+use Rattle.doc_server.specs.Demo.{Sends, Ends, IsStep, SendsNext, SendsToEnd}
+use Rattle.doc_server.proofs.RunSteps.{one_more, sent_more}
+use Rattle.doc_server.proofs.Unread.{unread_len, Left, reply_takes}
+
+-- ---- one step
+
+reply_of : (render : Renders) (w v : World) (id : ℕ) (old new : Option (List ℕ)) (said : Step) (given : List ℕ) → Sends (stepping (Ok said)) → bytes_of said ≡ given
+    → Happens render w (step id) v (stepping (Ok said)) → Appends old new given → SendsNext render w id v old new true
+reply_of render w v id old new said given sends same happens appends = (stepping (Ok said), happens, sends, subst (Appends old new) (sym same) appends)
+
+pub reply_sent : (render : Renders) (w v : World) (id : ℕ) (old new : Option (List ℕ)) (said : Step) (reply given : List ℕ) → said ≡ steps.Sent reply
+    → Happens render w (step id) v (stepping (Ok said)) → given ≡ reply → Appends old new given → SendsNext render w id v old new true
+reply_sent render w v id old new said reply given is happens same appends =
+    reply_of render w v id old new said given (subst (λ s. Sends (stepping (Ok s))) (sym is) tt) (ap bytes_of is ∙ sym same) happens appends
+
+pub last_sent : (render : Renders) (w v : World) (id : ℕ) (old new : Option (List ℕ)) (said : Step) (reply given : List ℕ) → said ≡ steps.Last reply
+    → Happens render w (step id) v (stepping (Ok said)) → given ≡ reply → Appends old new given → SendsNext render w id v old new true
+last_sent render w v id old new said reply given is happens same appends =
+    reply_of render w v id old new said given (subst (λ s. Sends (stepping (Ok s))) (sym is) tt) (ap bytes_of is ∙ sym same) happens appends
+
+end_of : (render : Renders) (w v : World) (id : ℕ) (old : Option (List ℕ)) (said : Step) → Ends (stepping (Ok said)) → bytes_of said ≡ []
+    → Happens render w (step id) v (stepping (Ok said)) → SendsNext render w id v old old false
+end_of render w v id old said ends none happens = (stepping (Ok said), happens, ends, subst (Appends old old) (sym none) (Appends-nil old))
+
+pub none_left : (render : Renders) (w v : World) (id : ℕ) (old : Option (List ℕ)) (said : Step) → said ≡ steps.More
+    → Happens render w (step id) v (stepping (Ok said)) → SendsNext render w id v old old false
+none_left render w v id old said is happens = end_of render w v id old said (subst (λ s. Ends (stepping (Ok s))) (sym is) tt) (ap bytes_of is) happens
+
+pub closed_before : (render : Renders) (w v : World) (id : ℕ) (old : Option (List ℕ)) (said : Step) → said ≡ steps.Closed
+    → Happens render w (step id) v (stepping (Ok said)) → SendsNext render w id v old old false
+closed_before render w v id old said is happens = end_of render w v id old said (subst (λ s. Ends (stepping (Ok s))) (sym is) tt) (ap bytes_of is) happens
+
+-- ---- the steps so far
+
+-- the output grew by the replies of some steps
+abbrev pub Replied : Renders → World → ℕ → World → Option (List ℕ) → Option (List ℕ) → Type 0
+Replied render w id v old new =
+    (replies : List Happened) × Runs render w replies v × All (IsStep id Sends) replies × Appends old new (sent_on id replies)
+
+pub none_yet : (render : Renders) (w : World) (id : ℕ) (old : Option (List ℕ)) → Replied render w id w old old
+none_yet render w id old = ([], nothing w, All-nil (IsStep id Sends), Appends-nil old)
+
+itself : (id : ℕ) → (id == id) ≡ true
+itself id = grind (arith)
+
+-- the output after one step more
+grown : (id : ℕ) (run : List Happened) (v : World) (outcome : Outcome) (old mid new : Option (List ℕ)) → Appends old mid (sent_on id run) → Appends mid new (sent_by outcome)
+    → Appends old new (sent_on id (run ++ record { world = v; event = step id; outcome = outcome } ∷ []))
+grown id run v outcome old mid new p q =
+    subst (Appends old new) (sym (sent_more id run (record { world = v; event = step id; outcome = outcome }) (itself id)))
+    (Appends-trans old mid new (sent_on id run) (sent_by outcome) p q)
+
+one_reply : (render page : Renders) (w v u : World) (id : ℕ) (old mid new : Option (List ℕ)) → page ≡ render → Replied render w id v old mid → SendsNext page v id u mid new true → Replied render w id u old new
+one_reply render page w v u id old mid new same (replies, runs, all, p) (outcome, happens, sends, q) =
+    let h : Happened = record { world = v; event = step id; outcome = outcome } in (
+      replies ++ h ∷ [],
+      one_more render w v u replies (step id) outcome runs (subst (λ r. Happens r v (step id) u outcome) same happens),
+      All-push (IsStep id Sends) replies h all (refl, sends),
+      grown id replies v outcome old mid new p q,
+    )
+
+pub reply_more : (render page : Renders) (w v u : World) (id : ℕ) (old mid new : Option (List ℕ)) (more : Bool) → more ≡ true → page ≡ render → Replied render w id v old mid → SendsNext page v id u mid new more
+    → Replied render w id u old new
+reply_more render page w v u id old mid new more is same sent next = one_reply render page w v u id old mid new same sent (subst (SendsNext page v id u mid new) is next)
+
+-- what a reply leaves unread
+pub reply_leaves : (page : Renders) (v u : World) (id : ℕ) (mid new : Option (List ℕ)) (more : Bool) → more ≡ true → SendsNext page v id u mid new more → Left (unread_len v id) u id
+reply_leaves page v u id mid new more is next = leaves (subst (SendsNext page v id u mid new) is next)
+  where
+    leaves : SendsNext page v id u mid new true → Left (unread_len v id) u id
+    leaves (outcome, happens, sends, q) = reply_takes page v u id outcome happens sends
+
+the_end : (render page : Renders) (w v u : World) (id : ℕ) (old mid new kept : Option (List ℕ)) → page ≡ render → Replied render w id v old mid → SendsNext page v id u mid new false → Keeps new kept
+    → SendsToEnd render w id u old kept
+the_end render page w v u id old mid new kept same (replies, runs, all, p) (outcome, happens, ends, q) keeps =
+    let h : Happened = record { world = v; event = step id; outcome = outcome } in (
+      replies ++ h ∷ [],
+      one_more render w v u replies (step id) outcome runs (subst (λ r. Happens r v (step id) u outcome) same happens),
+      (replies, h, refl, all, (refl, ends)),
+      Appends-kept old new kept _ (grown id replies v outcome old mid new p q) keeps,
+    )
+
+pub reply_none : (render page : Renders) (w v u : World) (id : ℕ) (old mid new kept : Option (List ℕ)) (more : Bool) → more ≡ false → page ≡ render → Replied render w id v old mid → SendsNext page v id u mid new more
+    → Keeps new kept → SendsToEnd render w id u old kept
+reply_none render page w v u id old mid new kept more is same sent next keeps = the_end render page w v u id old mid new kept same sent (subst (SendsNext page v id u mid new) is next) keeps
