@@ -5,6 +5,7 @@ ghost use Rattle.std.specs.Prelude.{◌≡◌, ◌<◌};
 
 mod conversations;
 mod growths;
+mod refusals;
 
 use crate::event::{ConnId, Step};
 use crate::hub::Hub;

@@ -1,4 +1,5 @@
 pub mod Ends
+mod Examples
 pub mod EntryLaws
 pub mod Escapes
 pub mod MapLaws

@@ -4,12 +4,13 @@ ghost use Rattle.std.specs.Prelude.{◌≡◌, ◌<◌};
 
 use crate::demo::demo;
 use crate::fault::Fault;
-use doc_heap::{Heap, Vec, heap};
+use doc_heap::{Heap, String, Vec, heap};
 use doc_page::plain::PlainRenderer;
 use std::alloc::AllocError;
 use std::io::{self, Read, Write};
 use std::marker::Brand;
 use std::sync::ledger::{Blank, Ledger};
+use std::test::Fail;
 
 const PAGE: &[u8] =
     b"HTTP/1.1 200 OK\r\nContent-Type: text/html; charset=utf-8\r\nContent-Length: 49\r\n\r\n<!DOCTYPE html>\n<title>a.md</title>\n<p>Hello</p>\n";
@@ -172,5 +173,24 @@ fn a_refused_growth_stops_the_command(rt: HostRuntime) -> Result<(), AllocError>
         heap.refuse_after(u64::MAX);
         assert_eq!(rt; stop, Some(Stop::OutOfMemory));
     }
+    Ok(())
+}
+
+/// Each fault, as the program prints it behind its own name.
+#[test]
+fn faults_are_printed(rt: HostRuntime) -> Result<(), Fail> {
+    let heap = heap(rt.alloc(), u64::MAX)?;
+    let printed = format!(in heap;
+        "{}, {}, {}, {}, {}",
+        Fault::Usage,
+        Fault::CannotRead(String::from_str(heap, "site.toml")?),
+        Fault::CannotWrite,
+        Fault::Refused,
+        Fault::Memory
+    )?;
+    assert_eq!(rt;
+        printed.as_str(),
+        "usage, cannot read site.toml, cannot write, refused, memory"
+    );
     Ok(())
 }

@@ -204,3 +204,54 @@ fn a_put_whose_growth_is_refused_changes_nothing(rt: HostRuntime) -> Result<(), 
     assert_eq!(rt; page.text(), "Hello");
     Ok(())
 }
+
+// The texts are this project's choice.
+
+#[test]
+fn refusals_of_groups_are_printed(rt: HostRuntime) -> Result<(), Fail> {
+    let heap = heap(rt.alloc(), u64::MAX)?;
+    let printed = format!(in heap;
+        "{}, {}, {}",
+        GroupsError::BadGroup,
+        GroupsError::TooMany,
+        GroupsError::Memory
+    )?;
+    assert_eq!(rt;
+        printed.as_str(),
+        "not the name of a group, more than 32 groups, out of memory"
+    );
+    Ok(())
+}
+
+#[test]
+fn refusals_of_readers_are_printed(rt: HostRuntime) -> Result<(), Fail> {
+    let heap = heap(rt.alloc(), u64::MAX)?;
+    let printed = format!(in heap;
+        "{}, {}, {}, {}",
+        ReadersError::BadToml,
+        ReadersError::BadRow(2),
+        ReadersError::Twice(3),
+        ReadersError::Memory
+    )?;
+    assert_eq!(rt;
+        printed.as_str(),
+        "no TOML with an array of readers, reader 2 is bad, reader 3 has the token of an earlier one, out of memory"
+    );
+    Ok(())
+}
+
+#[test]
+fn refusals_of_edits_are_printed(rt: HostRuntime) -> Result<(), Fail> {
+    let heap = heap(rt.alloc(), u64::MAX)?;
+    let printed = format!(in heap;
+        "{}, {}, {}",
+        EditError::TooLong,
+        EditError::StoreFull,
+        EditError::Memory
+    )?;
+    assert_eq!(rt;
+        printed.as_str(),
+        "the text is too long, the store is full, out of memory"
+    );
+    Ok(())
+}
