@@ -4,6 +4,7 @@ pub mod AnswerLaws
 pub mod BuiltInLaws
 pub mod CursorLaws
 pub mod Digits
+pub mod Ends
 pub mod LineLaws
 pub mod Pushes
 pub mod Rests

@@ -1,11 +1,11 @@
 //! A cursor over the characters and columns of a line.
 
 ghost use Rattle.std.specs.Prelude.{◌≡◌, ◌+◌, ◌-◌, ◌<◌, ◌≤◌, min, chars};
-ghost use Rattle.doc_rules.specs.Characters.{is_space_or_tab};
 ghost use Rattle.doc_rules.specs.Columns.{width_at, skip, indent};
 ghost use Rattle.doc_lines.specs.Cursors.{start, first, after_next, skipped, left_of};
 
 use crate::scan::character::next_char;
+use crate::scan::white_space::is_space_or_tab;
 use std::marker::Model;
 
 /// A place on a line, which moves from its front to its end.
@@ -43,6 +43,18 @@ impl<'a> Cursor<'a> {
             line_length: line.len(),
             column: 0,
             in_tab: false,
+        }
+    }
+
+    /// Another cursor at this place, for looking ahead.
+    pub fn copy(&self) -> Self
+        ensures { result ≡ self.now }
+    {
+        Cursor {
+            rest: self.rest,
+            line_length: self.line_length,
+            column: self.column,
+            in_tab: self.in_tab,
         }
     }
 
@@ -139,12 +151,6 @@ impl<'a> Cursor<'a> {
         self.rest = rest;
         width
     }
-}
-
-fn is_space_or_tab(c: char) -> bool
-    ensures { result ≡ is_space_or_tab c }
-{
-    matches!(c, ' ' | '\t')
 }
 
 /// The columns of a character at a column.

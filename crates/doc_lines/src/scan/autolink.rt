@@ -6,7 +6,7 @@ ghost use Rattle.doc_rules.specs.Parsers.{is, ◌then◌, repeated};
 ghost use Rattle.doc_rules.specs.Autolinks.{is_scheme_char, scheme, uri, is_local_char, is_domain_char, is_domain_part, domain_part, mail};
 ghost use Rattle.doc_lines.specs.Rests.{rest_of};
 
-use super::character::{is, next_char, one};
+use super::character::{is, last_char, next_char, one};
 use super::front::front;
 use super::run::{at_most, many, some};
 
@@ -117,12 +117,12 @@ fn is_domain_char(c: char) -> bool
 fn is_domain_part(part: &str) -> bool
     ensures { result ≡ is_domain_part (chars part.now) }
 {
-    first_char(part).is_ascii_alphanumeric()
-        && last_char(part).is_ascii_alphanumeric()
+    first_or_nul(part).is_ascii_alphanumeric()
+        && last_or_nul(part).is_ascii_alphanumeric()
         && char_count(part) <= 63
 }
 
-fn first_char(part: &str) -> char
+fn first_or_nul(part: &str) -> char
     ensures { result ≡ first_or 0 (chars part.now) }
 {
     match next_char(part) {
@@ -131,17 +131,13 @@ fn first_char(part: &str) -> char
     }
 }
 
-#[tactic(auto, unfolding(doc_rules::specs::Characters::last_or))]
-fn last_char(part: &str) -> char
+fn last_or_nul(part: &str) -> char
     ensures { result ≡ last_or 0 (chars part.now) }
 {
-    let mut last = '\0';
-    let mut rest = part;
-    'characters: while let Some((c, behind)) = next_char(rest) {
-        last = c;
-        rest = behind;
+    match last_char(part) {
+        Some((_, c)) => c,
+        None => '\0',
     }
-    last
 }
 
 fn char_count(part: &str) -> usize

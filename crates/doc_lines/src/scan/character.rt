@@ -16,6 +16,16 @@ pub fn next_char(text: &str) -> Option<(char, &str)>
     Some((c, rest.as_str()))
 }
 
+/// The text before the last character, and that character.
+#[tactic(auto, using(crate::proofs::Ends::chars_before_last, crate::proofs::Ends::empty_chars))]
+pub fn last_char(text: &str) -> Option<(&str, char)>
+    ensures { MatchOption result (chars text.now ≡ []) (λ r. chars text.now ≡ chars r.0.now ++ (r.1 ∷ [])) }
+{
+    let mut front = text.chars();
+    let c = front.next_back()?;
+    Some((front.as_str(), c))
+}
+
 /// One character that passes the test.
 #[tactic(auto, using(crate::proofs::Steps::one_behind))]
 pub fn one<F: Fn(char) -> bool>(text: &str, test: F) -> Option<&str>

@@ -70,6 +70,7 @@ fn a_tab_is_used_in_part(rt: HostRuntime) -> Result<(), Fail> {
     assert!(rt; cursor.next() == Some('>'));
     assert!(rt; cursor.skip(1) == 1);
     assert!(rt; spot(&cursor) == (1, 2, true, Some('\t')));
+    let before = cursor.copy();
     assert!(rt; cursor.skip(1) == 1);
     assert!(rt; spot(&cursor) == (1, 3, true, Some('\t')));
     assert!(rt; cursor.next() == Some('\t'), "the rest of a tab is a tab");
@@ -77,5 +78,6 @@ fn a_tab_is_used_in_part(rt: HostRuntime) -> Result<(), Fail> {
     assert!(rt; cursor.skip(100) == 4);
     assert!(rt; cursor.rest() == "foo");
     assert!(rt; spot(&cursor) == (3, 8, false, Some('f')));
+    assert!(rt; spot(&before) == (1, 2, true, Some('\t')), "a copy stays");
     Ok(())
 }

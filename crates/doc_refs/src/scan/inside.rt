@@ -2,7 +2,7 @@
 ghost use Rattle.std.specs.Prelude.{◌≡◌, ◌-◌, length, take, chars};
 ghost use Rattle.doc_rules.specs.Parsers.{inside};
 
-use doc_lines::scan::character::next_char;
+use doc_lines::scan::character::{last_char, next_char};
 
 /// The text without its first and its last character, as a slice of it; empty where it has no more than these.
 pub fn inside(text: &str) -> &str
@@ -18,9 +18,8 @@ pub fn inside(text: &str) -> &str
 fn without_last(text: &str) -> &str
     ensures { chars result.now ≡ take (length (chars text.now) - 1) (chars text.now) }
 {
-    let mut characters = text.chars();
-    match characters.next_back() {
-        Some(_) => characters.as_str(),
+    match last_char(text) {
+        Some((front, _)) => front,
         None => text,
     }
 }

@@ -1,7 +1,7 @@
 use Rattle.std.proofs.Common.{rules, ◌≡◌, ◌<◌, length, chars, string_bytes, Some}
 use Rattle.doc_rules.specs.Characters.{is_space_tab_or_ending}
 use Rattle.doc_rules.specs.Parsers.{many}
-use Rattle.doc_refs.proofs.Ends.{empty_chars}
+use Rattle.doc_lines.proofs.Ends.{empty_chars}
 use Rattle.doc_refs.proofs.SpaceLaws.{is_word_char, last_word, word_and_space, word_takes, some_characters, is_none, is_some}
 use Rattle.doc_refs.proofs.labels.push_word.Goals as goal
 

@@ -1,0 +1,5 @@
+pub mod CellLaws
+pub mod ContainerSteps
+pub mod Ends
+pub mod HtmlNames
+pub mod StripLaws

@@ -1,0 +1,5 @@
+pub mod Fences
+pub mod Headings
+pub mod HtmlKinds
+pub mod Items
+pub mod Lines

@@ -1,0 +1,16 @@
+//! What one line begins and ends (CommonMark 0.31.2, sections 4 and 5): leaf blocks, block quotes and list items. Nothing here takes
+//! memory.
+#![tactic(auto)]
+
+mod end;
+pub mod fence;
+pub mod heading;
+pub mod html;
+pub mod indentation;
+pub mod item;
+pub mod quote;
+mod run;
+mod strip;
+#[cfg(test)]
+mod tests;
+pub mod thematic_break;
