@@ -29,3 +29,16 @@ inner_at Z p = (p.0, p.1 + up (align (α Z)) 0)
 
 abbrev pub plan_at : Al → ℕ × ℕ → ℕ × ℕ
 plan_at Z p = (p.0, p.1 + up 8 (up (align (α Z)) 0 + size (α Z)))
+
+-- the same of `grow` and `shrink`, which have the type of the values for a second type argument
+abbrev pub items_self : RattleType → Slot 3
+items_self B = RefOf (0 ∷ []) tt (plain (λ _. refusing.the_row (param 0 B))) (λ _. tt)
+
+abbrev pub items_word : Slot 3
+items_word = plain (λ _. usize)
+
+abbrev pub items_pointer : Slot 3
+items_pointer = plain (λ _. RawPtr)
+
+abbrev pub items_args : Al → RattleType → Args
+items_args Z X = bounded (a_type ∷ a_type ∷ []) (Z.row, (X, tt)) (dcons Z.d (dcons Z.drops dnil))

@@ -1,6 +1,6 @@
 //! What is planned for the growths to come.
 ghost use Rattle.std.specs.Prelude.{◌≡◌};
-ghost use Rattle.doc_heap.specs.Plans.{grown, left_of};
+ghost use Rattle.doc_heap.specs.Plans.{left_of, step_of};
 
 /// Which of the growths to come are refused. A growth is one request for memory.
 #[derive(Clone, Copy)]
@@ -20,8 +20,8 @@ pub(crate) enum Step {
 
 impl Plan {
     /// One growth.
-    pub(crate) fn grow(self) -> Step
-        ensures { result ≡ grown self }
+    pub(crate) fn step(self) -> Step
+        ensures { result ≡ step_of self }
     {
         match self {
             Plan::RefuseAfter(0) => Step::Refused(self),

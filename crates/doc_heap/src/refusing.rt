@@ -8,8 +8,9 @@ use std::cell::Cell;
 /// Passes growths on to `inner`, and refuses those that it was told to refuse: each one after a number of them, or one
 /// alone.
 ///
-/// A growth is one request for a block of memory, of any size. A block that is made larger or smaller is a new block,
-/// and so one growth. A block that is given back counts nothing. A growth that `inner` refuses is counted too.
+/// A growth is one request for memory: for a block of any size, or for a block that is there to be made larger or
+/// smaller, whether it moves or stays. Where one of the latter is refused, the block stays as it was. A block that is
+/// given back counts nothing. A growth that `inner` refuses is counted too.
 ///
 /// A `&Refusing` is an allocator, as each `&` to an allocator is, and stays on its thread. What one growth makes of a
 /// plan is proved. The plan lies in a cell, which a `&` changes and no contract can speak of: the tests say what
@@ -61,7 +62,7 @@ impl Refusing<Global> {
 
 /// Counts one growth in `plan`, and answers whether it is refused.
 fn refuses_growth(plan: &Cell<Plan>) -> bool {
-    match plan.get().grow() {
+    match plan.get().step() {
         Step::PassedOn(then) => {
             plan.set(then);
             false
@@ -73,7 +74,7 @@ fn refuses_growth(plan: &Cell<Plan>) -> bool {
     }
 }
 
-// Safety: each block is `inner`'s, asked and given back with the caller's own size and alignment.
+// Safety: each block is `inner`'s, asked, resized and given back with the caller's own sizes and alignment.
 unsafe impl<B: Allocator> Allocator for Refusing<B> {
     ghost dealloc_token = { λ heap ty ptr. B.dealloc_token heap.inner ty ptr };
 
@@ -86,5 +87,31 @@ unsafe impl<B: Allocator> Allocator for Refusing<B> {
 
     unsafe fn deallocate(&self, ptr: *mut u8, size: usize, align: usize) {
         self.inner.deallocate(ptr, size, align);
+    }
+
+    unsafe fn grow<T>(
+        &self,
+        ptr: *mut T,
+        len: usize,
+        old_cap: usize,
+        new_cap: usize,
+    ) -> Result<*mut T, AllocError> {
+        if refuses_growth(&self.plan) {
+            return Err(AllocError);
+        }
+        self.inner.grow(ptr, len, old_cap, new_cap)
+    }
+
+    unsafe fn shrink<T>(
+        &self,
+        ptr: *mut T,
+        len: usize,
+        old_cap: usize,
+        new_cap: usize,
+    ) -> Result<*mut T, AllocError> {
+        if refuses_growth(&self.plan) {
+            return Err(AllocError);
+        }
+        self.inner.shrink(ptr, len, old_cap, new_cap)
     }
 }
