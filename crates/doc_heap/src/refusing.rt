@@ -15,7 +15,8 @@ use std::cell::Cell;
 /// A `&Refusing` is an allocator, as each `&` to an allocator is, and stays on its thread. What one growth makes of a
 /// plan is proved. The plan lies in a cell, which a `&` changes and no contract can speak of: the tests say what
 /// [`Refusing::refuse_after`], [`Refusing::refuse_only`] and [`Refusing::left`] do. Proved of the blocks is that each is
-/// one of `inner` in the layout that was asked, and that `inner` gets back only its own, each in its own layout.
+/// one of `inner` in the layout that was asked, that one that is made larger or smaller keeps its values, and that
+/// `inner` gets back only its own, each in its own layout.
 #[derive(Drop)]
 pub struct Refusing<B: Allocator> {
     inner: B,

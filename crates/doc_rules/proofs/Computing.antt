@@ -28,7 +28,8 @@ use Rattle.doc_rules.specs.Lists.{is_last_blank, ends_blank, has_gap, last_list,
 use Rattle.doc_rules.specs.Blocks.{ended, joined, without_last_blanks, with_text, with_leaf, list_start, container_of, blocks_of, leaf_references, references_of, tree_document, document_of}
 use Rattle.doc_rules.specs.Escaping.{escaped_char, html_escape, percent, url_char, url_escape}
 use Rattle.doc_rules.specs.PlainTexts.{plain, plain_text, leaf_headings, headings_in, leaf_texts, texts_in}
-use Rattle.doc_rules.specs.Html.{characters, title_attribute, span_start, span_end, inline_html, images_after, html_among, inlines_html, write, is_fresh, new_line, paragraph_html, id_attribute, heading_html, first_word, language_class, code_html, leaf_html, is_tight_inside, list_tag, list_end, container_start, container_end, blocks_html, output_of, link_tag, written_text, html_of, plain_linker, rendered_plain}
+use Rattle.doc_page.specs.Escaping.{escaped}
+use Rattle.doc_rules.specs.Html.{characters, span_start, span_end, inline_html, images_after, html_among, inlines_html, write, is_fresh, new_line, paragraph_html, id_attribute, heading_html, first_word, language_class, code_html, leaf_html, is_tight_inside, list_tag, list_end, container_start, container_end, blocks_html, output_of, link_tag, written_text, html_of, plain_linker, rendered_plain}
 use Rattle.doc_rules.specs.Anchors.{anchor_char, or_section, anchor_name, free_number, free_anchor, anchors_behind}
 use Rattle.doc_rules.specs.Pages.{onto_html, pieces_of, page_headings, document_anchors, document_page, page_of, piece_text, filled, encoded_piece, encoded_heading, encoded}
 
@@ -59,7 +60,7 @@ block_words = tt
 
 -- and HTML
 unfoldable pub html_words : Unit {0}
-unfolding block_words encode_utf8 digits escaped_char html_escape percent url_char url_escape plain plain_text leaf_headings headings_in leaf_texts texts_in characters title_attribute span_start span_end inline_html images_after html_among inlines_html write is_fresh new_line paragraph_html id_attribute heading_html first_word language_class code_html leaf_html is_tight_inside list_tag list_end container_start container_end blocks_html output_of link_tag written_text html_of plain_linker rendered_plain
+unfolding block_words encode_utf8 digits escaped_char html_escape percent url_char url_escape plain plain_text leaf_headings headings_in leaf_texts texts_in characters escaped span_start span_end inline_html images_after html_among inlines_html write is_fresh new_line paragraph_html id_attribute heading_html first_word language_class code_html leaf_html is_tight_inside list_tag list_end container_start container_end blocks_html output_of link_tag written_text html_of plain_linker rendered_plain
 html_words = tt
 
 -- and pages

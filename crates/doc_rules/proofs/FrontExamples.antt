@@ -10,7 +10,7 @@ use Rattle.doc_rules.specs.Tags.{html_tag, raw_html}
 use Rattle.doc_rules.specs.Autolinks.{uri, mail}
 use Rattle.doc_rules.specs.Destinations.{destination, title}
 use Rattle.doc_rules.specs.Labels.{label, normal_label}
-use Rattle.doc_rules.specs.Definitions.{definitions_of, definitions_length, find_reference}
+use Rattle.doc_rules.specs.Definitions.{definitions_of, find_reference}
 
 -- ---- lines and columns (2.1, 2.2)
 
@@ -186,10 +186,6 @@ two_definitions :
 unfolding reference_words
 two_definitions = refl
 
-counted : definitions_length built_in (codes "[foo]: /url\n===") ≡ 12
-unfolding reference_words
-counted = refl
-
 -- a title that fails on its own line is text, and one that fails on the destination's line undoes the definition
 failed_titles :
     (definitions_of built_in (codes "[foo]: /url\n\"title\" ok")
@@ -200,12 +196,12 @@ failed_titles = (refl, refl)
 
 -- at most 3 spaces before, at most one line ending before a destination and before a title
 margins :
-    (definitions_length built_in (codes "   [a]: b") ≡ 9)
-    × (definitions_length built_in (codes "    [a]: b") ≡ 0)
-    × (definitions_length built_in (codes "[a]:\r\nb\r\n'c'\r\nd") ≡ 14)
-    × (definitions_length built_in (codes "[a]:\n\nb") ≡ 0)
-    × (definitions_length built_in (codes "[a]: b\n\n'c'") ≡ 7)
-    × (definitions_length built_in (codes "[a] : b") ≡ 0)
+    ((definitions_of built_in (codes "   [a]: b")).1 ≡ [])
+    × ((definitions_of built_in (codes "    [a]: b")).1 ≡ codes "    [a]: b")
+    × ((definitions_of built_in (codes "[a]:\r\nb\r\n'c'\r\nd")).1 ≡ codes "d")
+    × ((definitions_of built_in (codes "[a]:\n\nb")).1 ≡ codes "[a]:\n\nb")
+    × ((definitions_of built_in (codes "[a]: b\n\n'c'")).1 ≡ codes "\n'c'")
+    × ((definitions_of built_in (codes "[a] : b")).1 ≡ codes "[a] : b")
 unfolding reference_words
 margins = (refl, refl, refl, refl, refl, refl)
 

@@ -14,6 +14,7 @@ mod FrontExamples
 mod AnchorExamples
 mod PageExamples
 pub mod LineLaws
+pub mod PageLineLaws
 pub mod ColumnLaws
 pub mod DefinitionLaws
 pub mod HeadingLaws
@@ -22,6 +23,7 @@ pub mod GrammarLaws
 pub mod SkipLaws
 pub mod EscapingLaws
 pub mod PieceLaws
+pub mod FillingLaws
 pub mod OnePass
 pub mod QuoteLines
 pub mod QuoteLaws

@@ -1,5 +1,5 @@
 -- Link reference definitions (CommonMark 0.31.2, section 4.7).
-use Rattle.std.specs.Prelude.{ℕ, zero, suc, ◌-◌, true, false, bytes_eq, List, [], ◌∷◌, length, Option, Some, None, option_map}
+use Rattle.std.specs.Prelude.{ℕ, zero, suc, true, false, bytes_eq, List, [], ◌∷◌, length, Option, Some, None, option_map}
 use Rattle.doc_rules.specs.Characters.{Text, is_space_or_tab}
 use Rattle.doc_rules.specs.Parsers.{Parser, is, many, ◌then◌, maybe, before, inside, line_ending, spacing, some_spacing}
 use Rattle.doc_rules.specs.Entities.{Table}
@@ -89,10 +89,6 @@ definitions_within (suc n) table text =
 -- the definitions at the front of a text, and the text behind them; each takes a character at least
 unfoldable pub definitions_of : Table → Text → List Definition × Text
 definitions_of table text = definitions_within (length text) table text
-
--- how many characters they take
-abbrev pub definitions_length : Table → Text → ℕ
-definitions_length table text = length text - length (definitions_of table text).1
 
 -- ---- references
 

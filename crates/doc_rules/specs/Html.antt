@@ -11,6 +11,8 @@ use Rattle.doc_rules.specs.Forests.{none, ◌▹◌, node}
 use Rattle.doc_rules.specs.Blocks.{Leaf, Paragraph, Heading, IndentedCode, FencedCode, HtmlBlock, ThematicBreak, Container, BlockQuote, ListBlock, ListItem, Blocks, Document, document_of}
 use Rattle.doc_rules.specs.Escaping.{html_escape, url_escape}
 use Rattle.doc_rules.specs.PlainTexts.{plain}
+use Rattle.doc_page.specs.Pages.{title_attribute, opening_tag}
+use Rattle.doc_page.specs.declared.linker.Shown.TheVariants as page
 
 -- what is written: characters, and opening tags of links, which a linker shows later
 pub data Written : Type 0 where
@@ -27,11 +29,6 @@ characters = map Character
 
 -- ---- inlines
 
--- an empty title is written too (this project's choice)
-unfoldable pub title_attribute : Option Text → Text
-title_attribute None = []
-title_attribute (Some title) = codes " title=\"" ++ html_escape title ++ codes "\""
-
 -- what stands before a span; of an image its text comes next, as plain text
 unfoldable pub span_start : Span → Output
 span_start Emphasis = characters (codes "<em>")
@@ -39,7 +36,7 @@ span_start Strong = characters (codes "<strong>")
 span_start (Link target) = LinkTag target ∷ []
 span_start (Image target) = characters (codes "<img src=\"" ++ url_escape target.dest ++ codes "\" alt=\"")
 
--- what stands behind a span
+-- what stands behind a span; the attribute of a title is doc_page's, over characters
 unfoldable pub span_end : Span → Text
 span_end Emphasis = codes "</em>"
 span_end Strong = codes "</strong>"
@@ -198,10 +195,10 @@ pub data Shown : Type 0 where
 abbrev pub Linker : Type 0
 Linker = Text → Shown
 
--- the opening tag of a link with this title
+-- the opening tag of a link with this title: doc_page's, over characters in the place of bytes
 unfoldable pub link_tag : Shown → Option Text → Text
-link_tag (Href href) title = codes "<a href=\"" ++ href ++ codes "\"" ++ title_attribute title ++ codes ">"
-link_tag Missing title = codes "<a class=\"missing\">"
+link_tag (Href href) title = opening_tag title (page.Href href)
+link_tag Missing title = opening_tag title page.Missing
 
 -- a character as it is, the tag of a link as the linker shows it
 unfoldable pub written_text : Linker → Written → Text

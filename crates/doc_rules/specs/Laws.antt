@@ -3,7 +3,7 @@ use Rattle.std.specs.Prelude.{◌≡◌, ℕ, zero, suc, ◌+◌, ◌%◌, ◌^�
 use Rattle.std.specs.Bool.{MatchBool}
 use Rattle.std.specs.List.{concat, AllByRecursion, IsDistinct, list_any}
 use Rattle.doc_rules.specs.Characters.{Text}
-use Rattle.doc_rules.specs.Lines.{lines_of}
+use Rattle.doc_rules.specs.Lines.{lines_of, without_ending}
 use Rattle.doc_rules.specs.Columns.{Column, columns_of}
 use Rattle.doc_rules.specs.Entities.{Table}
 use Rattle.doc_rules.specs.Destinations.{Target}
@@ -16,9 +16,12 @@ use Rattle.doc_rules.specs.Blocks.{BlockQuote, Blocks, Document, document_of, do
 use Rattle.doc_rules.specs.PlainTexts.{headings_in, headings_of}
 use Rattle.doc_rules.specs.Anchors.{anchors_of}
 use Rattle.doc_rules.specs.Escaping.{html_escape}
-use Rattle.doc_rules.specs.Html.{Output, Writing, blocks_html, Linker, written_text}
-use Rattle.doc_rules.specs.Pages.{PagePiece, HtmlPiece, LinkPiece, pieces_of, document_anchors, document_page, filled, rendered_of}
+use Rattle.doc_rules.specs.Html.{Output, Writing, blocks_html, Linker, written_text, html_of}
+use Rattle.doc_rules.specs.Pages.{PagePiece, HtmlPiece, LinkPiece, Page, pieces_of, document_anchors, document_page, filled, encoded, encoded_shown, rendered_of}
 use Rattle.doc_page.specs.Escaping.{escaped}
+use Rattle.doc_page.specs.Lines.{lines as page_lines, without_ending as page_without_ending}
+use Rattle.doc_page.specs.Pages.{filled as page_filled}
+use Rattle.doc_page.specs.declared.linker.Shown.{Shown as PageShown}
 use Rattle.doc_page.specs.declared.rendered.Piece.{Piece}
 use Rattle.doc_page.specs.declared.rendered.Piece.TheVariants.{Html, Link}
 
@@ -27,6 +30,11 @@ use Rattle.doc_page.specs.declared.rendered.Piece.TheVariants.{Html, Link}
 -- the lines of a text join to it
 abbrev pub LinesJoin : Type 0
 LinesJoin = (text : Text) → concat (lines_of text) ≡ text
+
+-- doc_page reads the same lines, and takes the same endings off
+abbrev pub PageLinesAgree : Type 0
+PageLinesAgree = (text : Text) →
+    (page_lines text ≡ lines_of text) × (map page_without_ending (lines_of text) ≡ map without_ending (lines_of text))
 
 -- ---- columns (2.2)
 
@@ -131,6 +139,23 @@ RenderedIsCut = (table : Table) (text : Text) → IsCutInBytes (rendered_of tabl
 -- the pieces joined are what was written
 abbrev pub PiecesJoin : Type 0
 PiecesJoin = (linker : Linker) (output : Output) → filled linker (pieces_of output) ≡ flat_map (written_text linker) output
+
+-- ---- filling
+
+-- a linker of texts in UTF-8 shows the link to each destination as this one does
+abbrev pub ShowsAlike : (List ℕ → PageShown) → Linker → Type 0
+ShowsAlike shown linker = (dest : Text) → shown (encode_utf8_all dest) ≡ encoded_shown (linker dest)
+
+-- filling a page in UTF-8 with its links is filling it as characters
+abbrev pub FillingIsByBytes : Type 0
+FillingIsByBytes = (linker : Linker) (shown : List ℕ → PageShown) → ShowsAlike shown linker → (page : Page) →
+    page_filled shown (encoded page) ≡ encode_utf8_all (filled linker page.pieces)
+
+-- the page of a text, filled with its links, is the text as HTML in UTF-8
+abbrev pub FilledPagesAreHtml : Type 0
+FilledPagesAreHtml = (table : Table) (text : Text) (linker : Linker) (shown : List ℕ → PageShown) → ShowsAlike shown linker →
+    page_filled shown (rendered_of table text)
+    ≡ encode_utf8_all (html_of table linker (document_anchors table (document_of table text)) (document_of table text))
 
 -- ---- quoted texts (5.1)
 

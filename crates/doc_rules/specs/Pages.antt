@@ -6,7 +6,9 @@ use Rattle.doc_rules.specs.Destinations.{Target}
 use Rattle.doc_rules.specs.Blocks.{Document, document_of}
 use Rattle.doc_rules.specs.PlainTexts.{headings_of, texts_of}
 use Rattle.doc_rules.specs.Anchors.{anchors_of}
-use Rattle.doc_rules.specs.Html.{Character, LinkTag, Output, output_of, Linker, link_tag}
+use Rattle.doc_rules.specs.Html.{Character, LinkTag, Output, output_of, Linker, link_tag, Shown, Href, Missing}
+use Rattle.doc_page.specs.declared.linker.Shown.{Shown as PageShown}
+use Rattle.doc_page.specs.declared.linker.Shown.TheVariants as page
 use Rattle.doc_page.specs.declared.rendered.Rendered.{Rendered}
 use Rattle.doc_page.specs.declared.rendered.Heading.{Heading}
 use Rattle.doc_page.specs.declared.rendered.Piece.{Piece}
@@ -101,3 +103,8 @@ encoded page =
 -- what the renderer makes of a text
 abbrev pub rendered_of : Table → Text → Rendered
 rendered_of table text = encoded (page_of table text)
+
+-- how a link is shown, in UTF-8
+unfoldable pub encoded_shown : Shown → PageShown
+encoded_shown (Href href) = page.Href (encode_utf8_all href)
+encoded_shown Missing = page.Missing

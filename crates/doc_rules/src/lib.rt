@@ -2,12 +2,18 @@
 //! `specs/`, one file a subject. Each function here is empty: its contract is a law of the definitions.
 #![tactic(auto)]
 
-ghost use Rattle.doc_rules.specs.Laws.{LinesJoin, ColumnsSpell, ColumnsAreContiguous, TabsReachStops, FirstWins, AnchorsDiffer, AnchorsAreAsMany, HeadingsTakeAnchors, HeadingsHaveAnchors, EscapingIsByBytes, PiecesAreCut, RenderedIsCut, PiecesJoin, WrappingLeavesFewer, WrappingEnds, QuotedDocument, QuotedTree, RoomIsEnough, QuotedWithin};
+ghost use Rattle.doc_rules.specs.Laws.{LinesJoin, PageLinesAgree, ColumnsSpell, ColumnsAreContiguous, TabsReachStops, FirstWins, AnchorsDiffer, AnchorsAreAsMany, HeadingsTakeAnchors, HeadingsHaveAnchors, EscapingIsByBytes, PiecesAreCut, RenderedIsCut, PiecesJoin, FillingIsByBytes, FilledPagesAreHtml, WrappingLeavesFewer, WrappingEnds, QuotedDocument, QuotedTree, RoomIsEnough, QuotedWithin};
 
 /// The lines of a text join to it.
 #[tactic(auto, using(crate::proofs::LineLaws::lines_join))]
 pub fn lines_of_a_text_join()
     ensures { LinesJoin }
+{}
+
+/// `doc_page` reads the same lines, and takes the same endings off: there all characters of line endings at the end of a
+/// line, here all from the first one on, which is the same in a line (2.1).
+pub fn page_lines_agree()
+    ensures { PageLinesAgree }
 {}
 
 /// The characters of the columns of a line are the line.
@@ -80,6 +86,18 @@ pub fn rendered_pieces_are_cut()
 #[tactic(auto, using(crate::proofs::PieceLaws::pieces_join))]
 pub fn pieces_join()
     ensures { PiecesJoin }
+{}
+
+/// Filling a page in UTF-8 with its links, as `doc_page` does, is filling it as characters.
+#[tactic(auto, using(crate::proofs::FillingLaws::filling_is_by_bytes))]
+pub fn filling_is_by_bytes()
+    ensures { FillingIsByBytes }
+{}
+
+/// The page of a text, filled with its links, is the text as HTML in UTF-8.
+#[tactic(auto, using(crate::proofs::FillingLaws::filled_pages_are_html))]
+pub fn filled_pages_are_html()
+    ensures { FilledPagesAreHtml }
 {}
 
 /// Wrapping a pair of delimiter runs leaves fewer delimiters.
