@@ -56,7 +56,9 @@ impl<B: Allocator> Refusing<B> {
 
 impl Refusing<Global> {
     /// The allocator below, for a call that takes `Global` alone. Its growths are neither counted nor refused here.
-    pub fn global(&self) -> Global {
+    pub fn global(&self) -> Global
+        ensures { result ≡ self.now.inner }
+    {
         self.inner
     }
 }
