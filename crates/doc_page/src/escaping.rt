@@ -47,20 +47,3 @@ fn reference(byte: u8) -> Option<&'static str>
         _ => None,
     }
 }
-
-#[cfg(test)]
-mod tests {
-    use super::*;
-    use std::test::Fail;
-
-    #[test]
-    fn four_characters_are_escaped(rt: HostRuntime) -> Result<(), Fail> {
-        let heap = doc_heap::heap(rt.alloc(), u64::MAX)?;
-        let mut html = String::from_str(heap, "<p>")?;
-        push_escaped(&mut html, "é<b & \"c\">d'e")?;
-        assert_eq!(rt; html.as_str(), "<p>é&lt;b &amp; &quot;c&quot;&gt;d'e");
-        assert_eq!(rt; escape(heap, "&amp;")?.get(), "&amp;amp;");
-        assert_eq!(rt; escape(heap, "")?.get(), "");
-        Ok(())
-    }
-}

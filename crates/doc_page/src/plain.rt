@@ -94,35 +94,3 @@ fn html_pieces(heap: Heap, html: Text) -> Result<List<Piece>, Memory>
     }
     Ok(List::new(pieces))
 }
-
-#[cfg(test)]
-mod tests {
-    use super::*;
-    use std::marker::Brand;
-    use std::test::Fail;
-
-    fn rendered<L: Ledger>(heap: Heap, blank: Blank, text: &Text) -> Result<Rendered, Memory>
-        requires name { blank.name ≡ L.name }
-        requires parts { blank.parts ≡ L.parts }
-        requires some { 0 < L.parts }
-    {
-        let mut renderer: PlainRenderer<L> = PlainRenderer::new(blank);
-        renderer.render(heap, text.get())
-    }
-
-    #[test]
-    fn paragraphs_are_escaped_and_their_texts_are_not(rt: HostRuntime) -> Result<(), Fail> {
-        let heap = doc_heap::heap(rt.alloc(), u64::MAX)?;
-        let text = Text::copy_of(heap, "a\n b \n\nc<\n")?;
-        let page = rendered::<Brand>(heap, Blank::new(1), &text)?;
-        let mut html = Vec::new(heap);
-        html.push(Piece::Html(Text::copy_of(heap, "<p>a\nb</p>\n<p>c&lt;</p>\n")?))?;
-        assert_eq!(rt; page.pieces, List::new(html));
-        let mut texts = Vec::new(heap);
-        texts.push(Text::copy_of(heap, "a\nb")?)?;
-        texts.push(Text::copy_of(heap, "c<")?)?;
-        assert_eq!(rt; page.texts, List::new(texts));
-        assert_eq!(rt; page.headings.get().len(), 0);
-        Ok(())
-    }
-}
