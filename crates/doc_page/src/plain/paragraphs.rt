@@ -3,7 +3,8 @@
 ghost use Rattle.std.specs.Prelude.{◌≡◌, ◌++◌, ◌∷◌, [], List as Seq, ℕ, map, false, All, string_bytes, IfOk, OnOk};
 ghost use Rattle.std.specs.Option.{option_to_list};
 ghost use Rattle.doc_page.specs.Pages.{is_empty};
-ghost use Rattle.doc_page.specs.Plain.{lines_after, paragraphs, plain_texts};
+ghost use Rattle.doc_page.specs.ParagraphSteps.{lines_after};
+ghost use Rattle.doc_page.specs.Plain.{paragraphs, plain_texts};
 
 use crate::failure::Memory;
 use crate::lines::Lines;
@@ -84,7 +85,7 @@ fn room_of(run: &[&str]) -> usize {
 }
 
 /// Writes the lines at the end, each after an LF.
-#[tactic(auto, unfolding(crate::specs::Plain::lines_after))]
+#[tactic(auto, unfolding(crate::specs::ParagraphSteps::lines_after))]
 fn push_lines(out: &mut String, lines: &[&str]) -> Result<(), Memory>
     ensures { OnOk result
         (string_bytes out.new ≡ string_bytes out.old ++ lines_after (map (λ l. l.now) lines.now)) }

@@ -1,5 +1,5 @@
 use Rattle.std.proofs.Common.{◌∙◌, ◌++◌, ap, map}
-use Rattle.doc_page.specs.Plain.{lines_after}
+use Rattle.doc_page.specs.ParagraphSteps.{lines_after}
 use Rattle.doc_page.proofs.PlainSteps.{paragraph_some, paragraph_none}
 use Rattle.doc_page.proofs.plain.paragraphs.paragraph.Goals as goal
 
