@@ -3,7 +3,7 @@ use Rattle.std.proofs.Common.{◌≡◌, true, false, codes, refl, [], ◌∷◌
 use Rattle.std.specs.Prelude.{Ok, Err, Some, None, replicate}
 use Rattle.std.specs.Str.{chars}
 use Rattle.doc_page.specs.Escaping.{escaped}
-use Rattle.doc_page.specs.Lines.{lines, without_ending, stripped}
+use Rattle.doc_page.specs.Lines.{lines, is_blank, without_ending, stripped}
 use Rattle.doc_page.specs.Pages.{opening_tag, filled, title_of, body_of}
 use Rattle.doc_page.specs.Paths.{is_path, path_of}
 use Rattle.doc_page.specs.Plain.{paragraphs, plain_html, plain_page}
@@ -111,6 +111,19 @@ pub ending_off : without_ending (codes " a \r\n") ≡ codes " a "
 unfolding without_ending
 ending_off = refl
 
+pub blank : is_blank (codes " \t ") ≡ true
+blank = refl
+
+pub blank_without_text : is_blank [] ≡ true
+blank_without_text = refl
+
+-- a no-break space, and an ending, are no blanks
+pub not_blank : is_blank (0xC2 ∷ 0xA0 ∷ []) ≡ false
+not_blank = refl
+
+pub ending_is_no_blank : is_blank (codes " \n") ≡ false
+ending_is_no_blank = refl
+
 pub stripped_text : stripped (codes "\t a\tb \t") ≡ codes "a\tb"
 unfolding stripped
 stripped_text = refl
@@ -127,6 +140,10 @@ pub two_paragraphs : plain_page (codes "a\n b \n\nc<\n") ≡ record {
 }
 unfolding lines without_ending stripped paragraphs plain_html escaped
 two_paragraphs = refl
+
+pub empty_text : plain_page [] ≡ record { pieces = []; headings = []; texts = [] }
+unfolding lines without_ending stripped paragraphs plain_html escaped
+empty_text = refl
 
 pub blank_text : plain_page (codes " \r\n\t\n") ≡ record { pieces = []; headings = []; texts = [] }
 unfolding lines without_ending stripped paragraphs plain_html escaped

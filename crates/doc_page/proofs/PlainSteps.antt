@@ -8,7 +8,8 @@ use Rattle.std.proofs.lemmas.List.Concat.{flat_map-append}
 use Rattle.std.proofs.lemmas.List.Splits.{slice_split_at, slice_split_none}
 use Rattle.doc_page.specs.declared.failure.Memory.{Memory}
 use Rattle.doc_page.specs.Pages.{is_empty}
-use Rattle.doc_page.specs.Plain.{paragraphs, lines_after}
+use Rattle.doc_page.specs.ParagraphSteps.{lines_after}
+use Rattle.doc_page.specs.Plain.{paragraphs}
 
 is_empty_by_length : {X : Type 0} (xs : List X) (t : Bool) → t ≡ eqb (length xs) 0 → t ≡ is_empty xs
 is_empty_by_length [] t e = e

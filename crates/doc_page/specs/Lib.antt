@@ -1,6 +1,8 @@
 pub mod Escaping
+pub mod Laws
 pub mod Lines
 pub mod Pages
+pub mod ParagraphSteps
 pub mod Paths
 pub mod Plain
 pub mod Refusals

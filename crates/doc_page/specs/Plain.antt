@@ -21,10 +21,6 @@ runs lines = filter (λ run. not (is_empty run)) (slice_split is_empty lines)
 unfoldable pub paragraphs : List (List ℕ) → List (List ℕ)
 paragraphs lines = map (join_with_byte 10) (runs lines)
 
--- the lines, each after an LF
-unfoldable pub lines_after : List (List ℕ) → List ℕ
-lines_after lines = flat_map (λ line. 10 ∷ line) lines
-
 -- the paragraphs of a plain text, not escaped
 abbrev pub plain_texts : List ℕ → List (List ℕ)
 plain_texts text = paragraphs (stripped_lines text)

@@ -11,7 +11,7 @@ use Rattle.doc_store.specs.declared.store.EditError.TheVariants.{StoreFull}
 use Rattle.doc_store.specs.Groups.{groups_of, groups_of_names}
 use Rattle.doc_store.specs.Pages.{Page}
 use Rattle.doc_store.specs.Readers.{readers_in}
-use Rattle.doc_store.specs.Sites.{View, may_see, page_at, target_of}
+use Rattle.doc_store.specs.Sites.{View, may_see, page_at}
 use Rattle.doc_store.specs.Store.{fits, text_limit, page_limit, put_limit}
 use Rattle.doc_page.specs.Tokens.{is_token}
 
@@ -96,14 +96,6 @@ page_stands = refl
 page_is_absent : page_at view (codes "b.md") ≡ None
 unfolding view
 page_is_absent = refl
-
-target_stands : target_of view (codes "a.md") ≡ Some (codes "a.md")
-unfolding view
-target_stands = refl
-
-target_is_absent : target_of view (codes "a") ≡ None
-unfolding view
-target_is_absent = refl
 
 -- ---- reader entries
 

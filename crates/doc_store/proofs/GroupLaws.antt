@@ -1,16 +1,19 @@
 -- The different names of a list are the keys of a finite set: so they are its names, and equal sets have equal lists.
-use Rattle.std.proofs.Common.{◌≡◌, ℕ, List, [], ◌∷◌, map as mapped, Bool, true, false, ◌||◌, cond, bytes_eq, Less, Equal, Greater, is_some, refl, sym, ap, ◌∙◌}
+use Rattle.std.proofs.Common.{◌≡◌, ℕ, List, [], ◌∷◌, map as mapped, Bool, true, false, ◌||◌, ◌++◌, cond, bytes_eq, Less, Equal, Greater, is_some, refl, sym, ap, ◌∙◌}
 use Rattle.std.specs.Prelude.{Option, Some, None}
 use Rattle.std.specs.Cmp.Lexicographic.{slice_cmp}
 use Rattle.std.specs.FinMap as map
 use Rattle.std.specs.FinMap.Entries.{by_order}
-use Rattle.std.specs.List.{list_any}
-use Rattle.std.specs.Ordering.{nat_cmp, eq_by_cmp, match_ordering}
+use Rattle.std.specs.List.{list_any, AllByRecursion}
+use Rattle.std.specs.List.Sorted.{IsStrictlySortedBy}
+use Rattle.std.specs.Ordering.{nat_cmp, eq_by_cmp, match_ordering, ordering_reverse}
 use Rattle.std.proofs.lemmas.Cmp.{nat_list_cmp_total}
+use Rattle.std.proofs.lemmas.List.{append-nil, append_assoc}
 use Rattle.std.proofs.lemmas.Map.Lookups.{exact_bytes}
 use Rattle.std.proofs.lemmas.Map.Text.{is_eq-slice_cmp}
 use Rattle.doc_store.specs.Groups.{with_name, with_names, different_names}
-use Rattle.doc_store.specs.Laws.{SameNames, EqualSets}
+use Rattle.doc_store.proofs.SortedSteps.{IsBelow}
+use Rattle.doc_store.specs.Laws.{SameNames, EqualSets, SameGroups}
 
 abbrev Names : Type 0
 Names = map.FinMap (slice_cmp nat_cmp) (Unit {0})
@@ -89,3 +92,33 @@ equal_sets names others same =
     ∙ ap (λ b. cond b (Some tt) (map.get start q)) (any_same q names ∙ same q ∙ sym (any_same q others))
     ∙ sym (get_all start others q)))
     ∙ sym (different_keys others)
+
+-- ---- names in order stay as they are
+
+-- each of these names is below each of those
+abbrev AreBelow : List (List ℕ) → List (List ℕ) → Type 0
+AreBelow before names = AllByRecursion (λ name. IsBelow name names) before
+
+put_last : (name : List ℕ) (before rest : List (List ℕ)) → AreBelow before (name ∷ rest) → with_name name before ≡ before ++ name ∷ []
+put_last name [] rest below = refl
+put_last name (first ∷ before) rest below =
+    let more : slice_cmp nat_cmp name first ≡ Greater = nat_list_cmp_total.antisymm name first ∙ ap ordering_reverse below.0.0 in
+    rw more (ap (λ names. first ∷ names) (put_last name before rest below.1))
+
+one_more_below : (name : List ℕ) (before rest : List (List ℕ)) → AreBelow before (name ∷ rest) → IsBelow name rest → AreBelow (before ++ name ∷ []) rest
+one_more_below name [] rest below all = (all, tt)
+one_more_below name (first ∷ before) rest below all = (below.0.1, one_more_below name before rest below.1 all)
+
+put_in_order : (before names : List (List ℕ)) → AreBelow before names → IsStrictlySortedBy (slice_cmp nat_cmp) names → with_names before names ≡ before ++ names
+unfolding IsStrictlySortedBy
+put_in_order before [] below sorted = sym (append-nil before)
+put_in_order before (name ∷ names) below sorted =
+    ap (λ found. with_names found names) (put_last name before names below)
+    ∙ put_in_order (before ++ name ∷ []) names (one_more_below name before names below sorted.0) sorted.1
+    ∙ append_assoc before (name ∷ []) names
+
+sorted_stays : (names : List (List ℕ)) → IsStrictlySortedBy (slice_cmp nat_cmp) names → different_names names ≡ names
+sorted_stays names sorted = put_in_order [] names tt sorted
+
+pub same_groups : SameGroups
+same_groups names others ours theirs same = sym (sorted_stays names ours.sorted) ∙ equal_sets names others same ∙ sorted_stays others theirs.sorted

@@ -1,9 +1,10 @@
 -- Groups of readers. All of this is this project's choice.
-use Rattle.std.specs.Prelude.{ℕ, List, [], ◌∷◌, length, map, Bool, not, ◌&&◌, ◌||◌, ◌==◌, nat_le, nat_lt, bytes_eq, Result, Ok, Err, if◌then◌else◌}
+use Rattle.std.specs.Prelude.{◌≡◌, ◌≤◌, true, ℕ, List, [], ◌∷◌, length, map, Bool, not, ◌&&◌, ◌||◌, ◌==◌, nat_le, nat_lt, bytes_eq, Result, Ok, Err, if◌then◌else◌}
 use Rattle.std.specs.Borrow.{Bor}
 use Rattle.std.specs.Char.{is_ascii_digit, is_ascii_lowercase}
 use Rattle.std.specs.Cmp.Lexicographic.{slice_cmp}
 use Rattle.std.specs.List.{slice_split, list_all, list_any}
+use Rattle.std.specs.List.Sorted.{IsStrictlySortedBy}
 use Rattle.std.specs.Ordering.{nat_cmp, match_ordering}
 use Rattle.doc_store.specs.declared.groups.GroupsError.{GroupsError}
 use Rattle.doc_store.specs.declared.groups.GroupsError.TheVariants.{BadGroup, TooMany}
@@ -41,6 +42,12 @@ different_names names = with_names [] names
 -- how many different names one may have
 abbrev pub group_limit : ℕ
 group_limit = 32
+
+-- what every set of groups is: names of groups in the order of bytes, no two the same, 32 at most
+pub record IsGroups (names : List (List ℕ)) : Type 0 where
+  pub sorted : IsStrictlySortedBy (slice_cmp nat_cmp) names
+  pub good : list_all is_group names ≡ true
+  pub few : length names ≤ group_limit
 
 -- the groups of these names, or the first refusal: a name that is none, too many different names
 unfoldable pub groups_of_names : List (List ℕ) → Result (List (List ℕ)) GroupsError

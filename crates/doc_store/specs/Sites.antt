@@ -1,5 +1,5 @@
 -- Sites, and what a reader sees of one. All of this is this project's choice.
-use Rattle.std.specs.Prelude.{ℕ, List, [], ◌∷◌, Bool, false, ◌||◌, bytes_eq, Option, Some, None, option_map, if◌then◌else◌}
+use Rattle.std.specs.Prelude.{ℕ, List, [], ◌∷◌, Bool, false, ◌||◌, bytes_eq, Option, Some, None, if◌then◌else◌}
 use Rattle.std.specs.FinMap as map
 use Rattle.std.specs.FinSet as set
 use Rattle.std.specs.Cmp.Lexicographic.{slice_cmp}
@@ -45,7 +45,3 @@ view_of site reader = map.entries (visible_to site reader)
 abbrev pub page_at : View → List ℕ → Option Page
 page_at [] path = None
 page_at (entry ∷ rest) path = if bytes_eq path entry.0 then Some entry.1 else page_at rest path
-
--- the path of the page to which a path leads
-abbrev pub target_of : View → List ℕ → Option (List ℕ)
-target_of view path = option_map (λ _. path) (page_at view path)

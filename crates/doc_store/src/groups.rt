@@ -2,9 +2,9 @@
 
 ghost use Rattle.std.specs.Prelude.{◌≡◌, [], IfOk};
 ghost use Rattle.doc_page.specs.Refusals.{IsAnswer};
-ghost use Rattle.doc_store.specs.Groups.{groups_of, groups_of_names, meet, texts_of};
+ghost use Rattle.doc_store.specs.Groups.{IsGroups, groups_of, groups_of_names, meet, texts_of};
 
-use crate::names::{add_name, are_groups, are_groups_in_text};
+use crate::names::{add_name, are_groups, are_groups_in_text, have_common_name};
 use arrayvec::ArrayVec;
 use doc_heap::{Heap, Vec};
 use doc_page::failure::Memory;
@@ -57,16 +57,20 @@ pub struct Groups {
 
 impl Model for Groups {
     ghost use Rattle.std.specs.Prelude.{ℕ, List as Seq};
+    ghost use Rattle.doc_store.specs.Groups.{IsGroups};
 
     ghost Value = { Seq (Seq ℕ) };
 
     ghost view = { λ g. g.names };
+
+    ghost invariant = { λ g. IsGroups g.names };
 
     ghost inverse = { λ names. record { names = names } };
 }
 
 impl Groups {
     /// No groups.
+    #[tactic(auto, using(crate::proofs::SortedSteps::no_names))]
     pub fn none(heap: Heap) -> Groups
         ensures { result ≡ [] }
     {
@@ -110,7 +114,9 @@ impl Groups {
     }
 
     /// Groups with copies of these names.
+    #[tactic(auto, using(crate::proofs::SortedSteps::groups_are))]
     fn copies_of(heap: Heap, names: &[&str]) -> Result<Groups, Memory>
+        requires { IsGroups (texts_of names.now) }
         ensures { IfOk result (λ groups. groups ≡ texts_of names.now) }
     {
         let mut copies = Vec::with_capacity(heap, names.len())?;
@@ -122,6 +128,7 @@ impl Groups {
         })
     }
 
+    #[tactic(auto, using(crate::proofs::SortedSteps::groups_are))]
     pub fn copy(&self, heap: Heap) -> Result<Groups, Memory>
         ensures { IfOk result (λ copy. copy ≡ self.now) }
     {
@@ -138,7 +145,6 @@ impl Groups {
     pub fn meets(&self, others: &Groups) -> bool
         ensures { result ≡ meet self.now others.now }
     {
-        let others = others.names.get();
-        self.names.get().iter().any(|name| others.contains(name))
+        have_common_name(self.names.get(), others.names.get())
     }
 }

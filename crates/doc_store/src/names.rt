@@ -1,11 +1,15 @@
 //! The names of groups.
 
 ghost use Rattle.std.specs.Prelude.{◌≡◌, ◌≤◌, ◌<◌, ◌∷◌, ◌++◌, length, take, drop, OnOk, IfErr, MatchResult};
+ghost use Rattle.std.specs.Cmp.Lexicographic.{slice_cmp};
 ghost use Rattle.std.specs.List.{list_all};
-ghost use Rattle.doc_store.specs.Groups.{group_limit, has_good_length, is_group, is_group_byte, parts_of, texts_of, with_name};
+ghost use Rattle.std.specs.List.Sorted.{IsStrictlySortedBy};
+ghost use Rattle.std.specs.Ordering.{nat_cmp};
+ghost use Rattle.doc_store.specs.Groups.{group_limit, has_good_length, is_group, is_group_byte, meet, parts_of, texts_of, with_name};
 
 use crate::groups::GroupsError;
 use arrayvec::ArrayVec;
+use doc_page::text::Text;
 use std::cmp::Ordering;
 
 /// Adds a name in its place by the order of bytes, unless it stands already.
@@ -39,6 +43,29 @@ fn place_of(names: &[&str], name: &str) -> Result<usize, usize>
         }
     }
     Err(names.len())
+}
+
+/// Whether two lists of different names, both in the order of bytes, have a name in common.
+pub fn have_common_name(ours: &[Text], theirs: &[Text]) -> bool
+    requires ours { IsStrictlySortedBy (slice_cmp nat_cmp) ours.now }
+    requires theirs { IsStrictlySortedBy (slice_cmp nat_cmp) theirs.now }
+    ensures { result ≡ meet ours.now theirs.now }
+{
+    let mut ours = ours;
+    let mut theirs = theirs;
+    loop {
+        let Some((our, our_rest)) = ours.split_first() else {
+            return false;
+        };
+        let Some((their, their_rest)) = theirs.split_first() else {
+            return false;
+        };
+        match our.cmp(their) {
+            Ordering::Less => ours = our_rest,
+            Ordering::Equal => return true,
+            Ordering::Greater => theirs = their_rest,
+        }
+    }
 }
 
 /// Whether each part of a text between its commas is the name of a group.

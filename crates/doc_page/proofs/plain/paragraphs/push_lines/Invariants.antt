@@ -1,5 +1,5 @@
 use Rattle.std.proofs.Common.{◌≡◌, ◌++◌, take, map, string_bytes}
-use Rattle.doc_page.specs.Plain.{lines_after}
+use Rattle.doc_page.specs.ParagraphSteps.{lines_after}
 use Rattle.doc_page.proofs.plain.paragraphs.push_lines.Given as goal
 
 abbrev pub invariant-loop-line : goal.invariant-loop-line

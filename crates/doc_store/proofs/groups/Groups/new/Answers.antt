@@ -4,6 +4,7 @@ use Rattle.std.proofs.lemmas.Iterator.Splits.{YieldsList-from_str_split}
 use Rattle.std.proofs.lemmas.Result.{err_from_is_err_and}
 use Rattle.doc_store.specs.Groups.{is_group, parts_of, with_names}
 use Rattle.doc_store.proofs.GroupSteps.{next_item, no_item, all_added, not_added, of_text, length-shown}
+use Rattle.doc_store.proofs.SortedSteps.{collected_in_slice}
 use Rattle.doc_store.proofs.groups.Groups.new.Goals as goal
 
 pub loop-name-init : goal.loop-name-init
@@ -49,3 +50,10 @@ returns c =
     let ended = no_item _ _ c.loop-name.name-iterator c.next.new.self c.loop-name.invariant.0 c.loop-name.invariant.1 c.in-None.ensures.steps in
     let same : with_names [] (parts_of c.args.text.now) ≡ map (λ name. name.now) c.loop-name.names.items = c.loop-name.invariant.2 ∙ ap (with_names (map (λ name. name.now) c.loop-name.names.items)) ended in
     rw (of_text c.args.text.now full, all_added (parts_of c.args.text.now) _ good same (length-shown (λ name. name.now) _ _ c.as_slice.ensures.value c.as_slice.ensures.fits)) (c.in_ok-copies_of.ensures ∙ ap (map (λ name. name.now)) c.as_slice.ensures.value)
+
+pub copies_of-requires : goal.copies_of-requires
+copies_of-requires c =
+    let good : list_all is_group (parts_of c.args.text.now) ≡ true = sym c.are_groups_in_text.ensures ∙ c.if-not-are_groups_in_text.false in
+    let ended = no_item _ _ c.loop-name.name-iterator c.next.new.self c.loop-name.invariant.0 c.loop-name.invariant.1 c.in-None.ensures.steps in
+    let same : with_names [] (parts_of c.args.text.now) ≡ map (λ name. name.now) c.loop-name.names.items = c.loop-name.invariant.2 ∙ ap (with_names (map (λ name. name.now) c.loop-name.names.items)) ended in
+    collected_in_slice (λ name. name.now) (parts_of c.args.text.now) c.loop-name.names.items c.as_slice.result.now good same c.as_slice.ensures.value c.as_slice.ensures.fits
