@@ -10,6 +10,4 @@ pub mod laws;
 pub mod refusal;
 pub mod reply;
 pub mod target;
-#[cfg(test)]
-mod tests;
 pub mod unread;
