@@ -1,10 +1,10 @@
 //! Requests at the front of the unread bytes of a connection.
 
-ghost use Rattle.std.specs.Prelude.{◌≡◌, ◌<◌, ◌+◌, ◌^◌, ℕ, length, map, All, IfOk, IsUtf8, false, Option};
+ghost use Rattle.std.specs.Prelude.{◌≡◌, ◌<◌, ◌+◌, ◌^◌, ℕ, length, map, All, IfOk, OnErr, IsUtf8, false, Option};
 ghost use Rattle.httparse.specs.Grammar.{RequestHead};
 ghost use Rattle.httparse.specs.Spans.{header_bytes, span_bytes, IsHeaderWithin, IsWithin};
 ghost use Rattle.doc_http.specs.Heads.{IsRead};
-ghost use Rattle.doc_http.specs.Requests.{framing_of as framing_by, request_with, next_with, next_behind, IsNext, UsesAtMost};
+ghost use Rattle.doc_http.specs.Requests.{framing_of as framing_by, request_with, next_with, next_behind, IsNext, IsRequest, BeginsWithRequest, UsesAtMost};
 ghost use Rattle.doc_http.specs.declared.request.Next.TheVariants.{Fault as fault_by};
 
 use crate::fields::{asks_close, count_named, has_good_counts, value_named};
@@ -56,9 +56,12 @@ enum Framing {
 /// at most 64 fields, or has a line feed that no carriage return precedes, or not one Host field
 /// (HTTP/1.0: at most one), or more than one Authorization field; 501 where it has a Content-Length
 /// or a Transfer-Encoding field, since bodies are not read yet.
+///
+/// Memory is taken for the method, the target and the value of Authorization of a whole request.
 pub fn next_request(heap: Heap, bytes: &[u8]) -> Result<Next, Memory>
     ensures found { IfOk result (λ next. IsNext bytes.now next) }
     ensures within { IfOk result (UsesAtMost (length bytes.now)) }
+    ensures memory { OnErr result (BeginsWithRequest bytes.now) }
 {
     match find_head(bytes) {
         HeadSpan::Unfinished => Ok(Next::More),
@@ -71,8 +74,10 @@ pub fn next_request(heap: Heap, bytes: &[u8]) -> Result<Next, Memory>
 #[tactic(auto, unfolding(crate::specs::Requests::next_behind))]
 fn read_head(heap: Heap, text: &[u8], end: usize, rest: &[u8]) -> Result<Next, Memory>
     requires { end + length rest.now < 2 ^ 64 }
-    ensures { IfOk result (λ next. (read : Option RequestHead)
+    ensures found { IfOk result (λ next. (read : Option RequestHead)
         × IsRead text.now read × (next ≡ next_behind text.now read end rest.now)) }
+    ensures memory { OnErr result ((read : Option RequestHead)
+        × IsRead text.now read × IsRequest (next_behind text.now read end rest.now)) }
 {
     let mut headers = [EMPTY_HEADER_SPAN; 64];
     let Some(spans) = head_spans(text, &mut headers) else {
@@ -103,9 +108,12 @@ fn read_body(
     requires target_text { IsUtf8 (span_bytes text.now spans.now.path) }
     requires headers_within { All (IsHeaderWithin (length text.now)) headers.now }
     requires end_fits { end + length rest.now < 2 ^ 64 }
-    ensures { IfOk result (λ next. next ≡ next_with
+    ensures found { IfOk result (λ next. next ≡ next_with
         (span_bytes text.now spans.now.method) (span_bytes text.now spans.now.path) spans.now.version
         (map (header_bytes text.now) headers.now) end rest.now) }
+    ensures memory { OnErr result (IsRequest (next_with
+        (span_bytes text.now spans.now.method) (span_bytes text.now spans.now.path) spans.now.version
+        (map (header_bytes text.now) headers.now) end rest.now)) }
 {
     match framing_of(text, headers) {
         Framing::Unsupported => Ok(fault(501)),
