@@ -46,7 +46,8 @@ impl Reply {
         ensures { IfOk result (λ bytes. bytes ≡ reply_bytes self.now head_only close) }
     {
         let body = self.body.get();
-        let mut out = String::with_capacity(heap, HEAD_ROOM.saturating_add(body.len()))?;
+        let content_room = if head_only { 0 } else { body.len() };
+        let mut out = String::with_capacity(heap, HEAD_ROOM.saturating_add(content_room))?;
         self.push_head(&mut out, close)?;
         if head_only || self.code == 204 {
             return Ok(Bytes::new(out.into_bytes()));

@@ -44,7 +44,7 @@ pub enum Next {
 }
 
 // How a body is framed.
-#[derive(Clone, Copy, Debug, PartialEq, Eq)]
+#[derive(Clone, Copy)]
 enum Framing {
     Sized(usize),
     Unsupported,
