@@ -13,11 +13,13 @@ ghost use Rattle.std.specs.Ordering.{nat_cmp};
 use crate::failure::Memory;
 use doc_heap::{Heap, String};
 use std::cmp::Ordering;
+use std::fmt;
 use std::hash::{Hash, Hasher};
 use std::marker::Model;
 
-/// A text in UTF-8. Contracts see the list of its bytes; it is equal, ordered and hashed by them.
-#[derive(Debug, Drop)]
+/// A text in UTF-8. Contracts see the list of its bytes; it is equal, ordered and hashed by them, and printed for debugging as a
+/// `str` is.
+#[derive(Drop)]
 pub struct Text {
     inner: String,
 }
@@ -61,6 +63,12 @@ impl Text {
         ensures { IfOk result (λ copy. copy ≡ self.now) }
     {
         Text::copy_of(heap, self.get())
+    }
+}
+
+impl fmt::Debug for Text {
+    fn fmt<W: fmt::Write>(&self, f: &mut fmt::Formatter<W>) -> fmt::Result {
+        fmt::Debug::fmt(self.get(), f)
     }
 }
 
