@@ -21,7 +21,7 @@ IsDecidedWithin limit = (bytes : List ℕ) (a : Next) → limit ≤ length bytes
 abbrev pub TakesBytes : Type 0
 TakesBytes = (bytes : List ℕ) (used : ℕ) (request : Request) → IsNext bytes (next.Request used request) → (1 ≤ used) × (used ≤ length bytes)
 
--- no bytes begin with neither a request nor a fault
+-- where there are no bytes, they begin with neither a request nor a fault
 abbrev pub EmptyIsUndecided : Type 0
 EmptyIsUndecided = (a : Next) → IsNext [] a → a ≡ next.More
 
