@@ -9,7 +9,8 @@ use Rattle.doc_page.specs.declared.rendered.Piece.{Piece}
 use Rattle.doc_page.specs.declared.rendered.Piece.TheVariants.{Html, Link}
 use Rattle.doc_rules.specs.Html.{Character, LinkTag, Output, output_of, Linker, written_text, link_tag}
 use Rattle.doc_rules.specs.Pages.{PagePiece, HtmlPiece, LinkPiece, onto_html, pieces_of, document_anchors, document_page, page_of, piece_text, filled, encoded_piece, encoded}
-use Rattle.doc_rules.specs.Laws.{IsCut, PiecesAreCut, IsCutInBytes, RenderedIsCut, PiecesJoin}
+use Rattle.doc_page.specs.Laws as pages
+use Rattle.doc_rules.specs.Laws.{IsCut, PiecesAreCut, RenderedIsCut, PiecesJoin}
 
 onto_cut : (c : ℕ) (some : List PagePiece) → IsCut some → IsCut (onto_html c some)
 unfolding onto_html
@@ -63,13 +64,13 @@ text_has_a_byte c text =
     let s : Starts (encode_utf8 c) = has_a_byte c in
     record { first = s.first; rest = s.rest ++ encode_utf8_all text; is = ap (λ bytes. bytes ++ encode_utf8_all text) s.is }
 
-at_end : (bytes : List ℕ) → Starts bytes → IsCutInBytes (Html bytes ∷ [])
-at_end bytes s = subst (λ bs. IsCutInBytes (Html bs ∷ [])) (sym s.is) tt
+at_end : (bytes : List ℕ) → Starts bytes → pages.IsCut (Html bytes ∷ [])
+at_end bytes s = subst (λ bs. pages.IsCut (Html bs ∷ [])) (sym s.is) tt
 
-before_link : (bytes : List ℕ) (spot : LinkSpot) (more : List Piece) → Starts bytes → IsCutInBytes more → IsCutInBytes (Html bytes ∷ Link spot ∷ more)
-before_link bytes spot more s h = subst (λ bs. IsCutInBytes (Html bs ∷ Link spot ∷ more)) (sym s.is) h
+before_link : (bytes : List ℕ) (spot : LinkSpot) (more : List Piece) → Starts bytes → pages.IsCut more → pages.IsCut (Html bytes ∷ Link spot ∷ more)
+before_link bytes spot more s h = subst (λ bs. pages.IsCut (Html bs ∷ Link spot ∷ more)) (sym s.is) h
 
-cut_in_bytes : (some : List PagePiece) → IsCut some → IsCutInBytes (map encoded_piece some)
+cut_in_bytes : (some : List PagePiece) → IsCut some → pages.IsCut (map encoded_piece some)
 unfolding encoded_piece
 cut_in_bytes [] h = tt
 cut_in_bytes (LinkPiece target ∷ more) h = cut_in_bytes more h

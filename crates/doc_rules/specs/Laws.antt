@@ -18,6 +18,7 @@ use Rattle.doc_rules.specs.Anchors.{anchors_of}
 use Rattle.doc_rules.specs.Escaping.{html_escape}
 use Rattle.doc_rules.specs.Html.{Output, Writing, blocks_html, Linker, written_text, html_of}
 use Rattle.doc_rules.specs.Pages.{PagePiece, HtmlPiece, LinkPiece, Page, pieces_of, document_anchors, document_page, filled, encoded, encoded_shown, rendered_of}
+use Rattle.doc_page.specs.Laws as pages
 use Rattle.doc_page.specs.Escaping.{escaped}
 use Rattle.doc_page.specs.Lines.{lines as page_lines, without_ending as page_without_ending}
 use Rattle.doc_page.specs.Pages.{filled as page_filled}
@@ -123,18 +124,9 @@ IsCut (HtmlPiece (c ∷ text) ∷ HtmlPiece other ∷ more) = ⊥
 abbrev pub PiecesAreCut : Type 0
 PiecesAreCut = (output : Output) → IsCut (pieces_of output)
 
--- the same of pieces in UTF-8
-abbrev pub IsCutInBytes : List Piece → Type 0
-IsCutInBytes [] = ⊤
-IsCutInBytes (Link spot ∷ more) = IsCutInBytes more
-IsCutInBytes (Html [] ∷ more) = ⊥
-IsCutInBytes (Html (b ∷ bytes) ∷ []) = ⊤
-IsCutInBytes (Html (b ∷ bytes) ∷ Link spot ∷ more) = IsCutInBytes more
-IsCutInBytes (Html (b ∷ bytes) ∷ Html other ∷ more) = ⊥
-
 -- this holds of the page of each text
 abbrev pub RenderedIsCut : Type 0
-RenderedIsCut = (table : Table) (text : Text) → IsCutInBytes (rendered_of table text).pieces
+RenderedIsCut = (table : Table) (text : Text) → pages.IsCut (rendered_of table text).pieces
 
 -- the pieces joined are what was written
 abbrev pub PiecesJoin : Type 0
