@@ -10,16 +10,17 @@ use types.Logic.{Logic, sem}
 use contract.Monad.{Fun}
 use types.Kit.{Item, ‵, raw, mean, ◌⊛◌, some, later, given, ◌$◌, ◌∵◌, !, qed, move, keep, use1, split, join, pick, fjoin, feq_i, feq_l, check, show, await, updating, now as at_once, done}
 use denote.Memory.{hidden_shr}
-use denote.Builtin.{u64, bool}
+use denote.Builtin.{bool}
 use denote.Steps.{nothing, only}
 use denote.Triple.Statement.{Contract}
 use denote.Triple.Spec.{triple_of}
 use Rattle.std.specs.contracts.cell.Cell as cell
+use Rattle.doc_heap.specs.contracts.plan.Plan as plan
 use Rattle.doc_heap.specs.contracts.refusing.refuses_growth as callee
 
--- what a `&Cell<u64>` of the lifetime κ at c lets its holder do
-abbrev pub shared_count : Lft → ℕ × ℕ → Fml
-shared_count κ c = hidden_shr (cell.the_row u64) κ (record { value = tt }) c.0 c.1
+-- what a `&Cell<Plan>` of the lifetime κ at c lets its holder do
+abbrev pub shared_plan : Lft → ℕ × ℕ → Fml
+shared_plan κ c = hidden_shr (cell.the_row plan.the_row) κ (record { value = tt }) c.0 c.1
 
 -- the call answers some truth value, and the token of the lifetime comes back
 abbrev pub Answers : {M : Type 1} (𝓤 : Ura M) → Lft → Share → Val → Item 𝓤
@@ -35,9 +36,9 @@ module _ {M : Type 1} {𝓤 : Ura M} (𝓛 : Logic 𝓤) (at_mem : Memory → SP
   counts_at κ q c = (((κ, tt), (q, tt), tt, (record { ref_ptr = c; now = record { value = tt } }, tt), (vptr c.0 c.1 ∷ [], tt)), tt)
 
   module _ (κ : Lft) (q : Share) (c : ℕ × ℕ) where
-    pub counts_takes : ent 𝓤 (sep 𝓤 (sem 𝓛 (shared_count κ c)) (A.lft κ q)) (Counts.pre (counts_at κ q c))
+    pub counts_takes : ent 𝓤 (sep 𝓤 (sem 𝓛 (shared_plan κ c)) (A.lft κ q)) (Counts.pre (counts_at κ q c))
     counts_takes =
-        qed 𝓛 (‵ (shared_count κ c) ∷ ‵ (flft κ q) ∷ []) ∵
+        qed 𝓛 (‵ (shared_plan κ c) ∷ ‵ (flft κ q) ∷ []) ∵
         feq_i ! (List Val) (vptr c.0 c.1 ∷ []) (vptr c.0 c.1 ∷ []) refl $ fjoin ! $
         nothing ! $ move ! (1 ∷ []) $ fjoin ! $ nothing ! $ move ! (2 ∷ []) $ join ! $ join ! $ nothing ! $ move ! (1 ∷ []) $ done !
 

@@ -23,9 +23,9 @@ pointer = plain (λ _. RawPtr)
 abbrev pub args_of : Al → Args
 args_of Z = bounded (a_type ∷ []) (Z.row, tt) (dcons Z.d (dcons Z.drops dnil))
 
--- where `inner` and `left` lie in a `Refusing` at p
+-- where `inner` and `plan` lie in a `Refusing` at p
 abbrev pub inner_at : Al → ℕ × ℕ → ℕ × ℕ
 inner_at Z p = (p.0, p.1 + up (align (α Z)) 0)
 
-abbrev pub left_at : Al → ℕ × ℕ → ℕ × ℕ
-left_at Z p = (p.0, p.1 + up 8 (up (align (α Z)) 0 + size (α Z)))
+abbrev pub plan_at : Al → ℕ × ℕ → ℕ × ℕ
+plan_at Z p = (p.0, p.1 + up 8 (up (align (α Z)) 0 + size (α Z)))

@@ -1,10 +1,12 @@
 //! The one heap of the product, and the strings, lists and maps on it.
 //!
 //! The memory of the product comes from one [`Refusing`]. A program makes it once, by [`heap`], with `u64::MAX` for a
-//! count, which never runs out. A test sets the count by [`Refusing::refuse_after`]: so it has any growth inside a call
-//! refused, each in turn, and reads by [`Refusing::left`] how many there were.
+//! count, which never runs out. A test sets it by [`Refusing::refuse_after`], so that any growth inside a call is refused
+//! and each one after it, or by [`Refusing::refuse_only`], so that one is refused alone. It reads by [`Refusing::left`]
+//! how many growths there were.
 #![tactic(auto)]
 
+mod plan;
 mod refusing;
 #[cfg(test)]
 mod tests;

@@ -1,23 +1,24 @@
-//! An allocator that answers a set number of growths and refuses each further one.
+//! An allocator that refuses growths as it was told to.
 ghost use Rattle.std.specs.Prelude.{◌≡◌};
-ghost use Rattle.doc_heap.specs.Counting.{left_after};
 
+use crate::plan::{Plan, Step};
 use std::alloc::{AllocError, Allocator, Global};
 use std::cell::Cell;
 
-/// Passes each growth on to `inner`, until as many as were set have been passed on. From then on each is refused.
+/// Passes growths on to `inner`, and refuses those that it was told to refuse: each one after a number of them, or one
+/// alone.
 ///
 /// A growth is one request for a block of memory, of any size. A block that is made larger or smaller is a new block,
 /// and so one growth. A block that is given back counts nothing. A growth that `inner` refuses is counted too.
 ///
-/// A `&Refusing` is an allocator, as each `&` to an allocator is, and stays on its thread. The count lies in a cell,
-/// which a `&` changes and no contract can speak of: the tests say what [`Refusing::refuse_after`] and
-/// [`Refusing::left`] do. What is proved is that each block is one of `inner` in the layout that was asked, and that
-/// `inner` gets back only its own blocks, each in its own layout.
+/// A `&Refusing` is an allocator, as each `&` to an allocator is, and stays on its thread. What one growth makes of a
+/// plan is proved. The plan lies in a cell, which a `&` changes and no contract can speak of: the tests say what
+/// [`Refusing::refuse_after`], [`Refusing::refuse_only`] and [`Refusing::left`] do. Proved of the blocks is that each is
+/// one of `inner` in the layout that was asked, and that `inner` gets back only its own, each in its own layout.
 #[derive(Drop)]
 pub struct Refusing<B: Allocator> {
     inner: B,
-    left: Cell<u64>,
+    plan: Cell<Plan>,
 }
 
 impl<B: Allocator> Refusing<B> {
@@ -27,20 +28,27 @@ impl<B: Allocator> Refusing<B> {
     {
         Refusing {
             inner,
-            left: Cell::new(left),
+            plan: Cell::new(Plan::RefuseAfter(left)),
         }
     }
 
     /// Sets the number of growths that are still passed on, whatever it was. From `u64::MAX` on, none is refused and
     /// none is counted, until the number is set again.
     pub fn refuse_after(&self, left: u64) {
-        self.left.set(left);
+        self.plan.set(Plan::RefuseAfter(left));
     }
 
-    /// The number of growths that are still passed on: what was last set, less one for each growth since. It is 0 where
-    /// each growth is refused, and stays `u64::MAX` where that was set.
+    /// Has one growth refused alone: the next `granted` growths are passed on, the one after them is refused, and each
+    /// further one is passed on and not counted, as after [`Refusing::refuse_after`] with `u64::MAX`.
+    pub fn refuse_only(&self, granted: u64) {
+        self.plan.set(Plan::RefuseOnly(granted));
+    }
+
+    /// The number of growths that are passed on before the next that is refused: what was last set, less one for each
+    /// growth since. It is 0 where the next growth is refused, and `u64::MAX` where none is, as after the growth that
+    /// [`Refusing::refuse_only`] had refused.
     pub fn left(&self) -> u64 {
-        self.left.get()
+        self.plan.get().left()
     }
 }
 
@@ -51,26 +59,16 @@ impl Refusing<Global> {
     }
 }
 
-/// The number that is left after one more growth, or `None` where that growth is refused.
-fn count_growth(left: u64) -> Option<u64>
-    ensures { result ≡ left_after left }
-{
-    if left == 0 {
-        None
-    } else if left == u64::MAX {
-        Some(left)
-    } else {
-        Some(left - 1)
-    }
-}
-
-/// Counts one growth in `left`, and answers whether it is refused.
-fn refuses_growth(left: &Cell<u64>) -> bool {
-    match count_growth(left.get()) {
-        None => true,
-        Some(rest) => {
-            left.set(rest);
+/// Counts one growth in `plan`, and answers whether it is refused.
+fn refuses_growth(plan: &Cell<Plan>) -> bool {
+    match plan.get().grow() {
+        Step::PassedOn(then) => {
+            plan.set(then);
             false
+        }
+        Step::Refused(then) => {
+            plan.set(then);
+            true
         }
     }
 }
@@ -80,7 +78,7 @@ unsafe impl<B: Allocator> Allocator for Refusing<B> {
     ghost dealloc_token = { λ heap ty ptr. B.dealloc_token heap.inner ty ptr };
 
     fn allocate(&self, size: usize, align: usize) -> Result<*mut u8, AllocError> {
-        if refuses_growth(&self.left) {
+        if refuses_growth(&self.plan) {
             return Err(AllocError);
         }
         self.inner.allocate(size, align)

@@ -50,6 +50,18 @@ fn each_growth_of_a_call_is_refused_in_turn(rt: HostRuntime) -> Result<(), Fail>
 }
 
 #[test]
+fn one_growth_is_refused_alone(rt: HostRuntime) -> Result<(), Fail> {
+    let heap = heap(rt.alloc(), u64::MAX)?;
+    for n in 0..4u64 {
+        heap.refuse_only(n);
+        assert!(rt; fill_shelf(heap).is_err(), "growth {n} is refused");
+        assert_eq!(rt; heap.left(), u64::MAX);
+        assert!(rt; fill_shelf(heap).is_ok(), "and none after it");
+    }
+    Ok(())
+}
+
+#[test]
 fn a_refused_growth_leaves_what_was_there(rt: HostRuntime) -> Result<(), Fail> {
     let heap = heap(rt.alloc(), 1)?;
     let mut list = Vec::with_capacity(heap, 1)?;

@@ -29,7 +29,7 @@ use types.Kit.{‵, raw, ◌⊛◌, later, prop, at_ret, Sq, ◌$◌, ◌∵◌,
 use types.Part.{agg}
 use types.Run.{stop, fld, addr, lit, no_more, and_then, first, branches, skips, exec, returns, returns_within, enter}
 use Rattle.doc_heap.proofs.Counting.{Answers, Counts, counts_at, counts_takes, counts_gives}
-use Rattle.doc_heap.proofs.Shared.{self, word, args_of, inner_at, left_at}
+use Rattle.doc_heap.proofs.Shared.{self, word, args_of, inner_at, plan_at}
 use Rattle.doc_heap.proofs.refusing.refuses_growth.Met as counting
 use Rattle.doc_heap.specs.contracts.refusing.RefusingAllocator.allocate as promise
 use Rattle.doc_heap.proofs.refusing.RefusingAllocator.allocate.Statement.{statement}
@@ -51,10 +51,10 @@ allocate_spec 𝓤 𝓛 𝓜 𝓡 wired B laws g d drops met _ =
     (λ κs qs bounds a τ are.
     let κ = κs.0 in let q = qs.0 in let r = a.0 in let n = a.1.0 in let al = a.1.1.0 in
     let fits_n = are.1.0.1 in let fits_al = are.1.1.0.1 in
-    let h = r.now.inner in let inner : ℕ × ℕ = inner_at Z r.ref_ptr in let left : ℕ × ℕ = left_at Z r.ref_ptr in
+    let h = r.now.inner in let inner : ℕ × ℕ = inner_at Z r.ref_ptr in let plan : ℕ × ℕ = plan_at Z r.ref_ptr in
     let Said : Type 0 = (capped (size τ) ≡ n) × (capped (align τ) ≡ al) in
     let y : W.Ghost = ((κs, qs, bounds, a, (shr_vals r, (vint w64 n ∷ [], (vint w64 al ∷ [], tt)))), τ) in
-    let counts = counts_at 𝓛 𝓜.mem 𝓡.returns κ q left in
+    let counts = counts_at 𝓛 𝓜.mem 𝓡.returns κ q plan in
     let takes : (Takes Z 𝓛 𝓜.mem 𝓡.returns).Ghost = at_takes Z 𝓛 𝓜.mem 𝓡.returns κ q inner h n al τ in
     -- the end: the answer as it is stored and as the contract sees it, from [the answer; the block; the two tokens]
     let ends : (v : Val) (answer : Answer.Denot) → Sq 𝓛 (‵ (Answer.own_val answer (v ∷ [])) ∷ ‵ (block_if_ok (token Z h) τ answer) ∷ ‵ (flft κ q) ∷ (‵ (flft κs.1.0 qs.1.0) ⊛ ‵ ftrue) ∷ []) (prop (W.post y v)) = λ v answer.
@@ -69,12 +69,12 @@ allocate_spec 𝓤 𝓛 𝓜 𝓡 wired B laws g d drops met _ =
     split ! $ split ! $ move ! (2 ∷ []) $ fsplit ! $ fsplit ! $ move ! (1 ∷ []) $ unhide ! $ fsplit ! $ fsplit ! $
     use1 𝓛 (‵ (seen Z κ inner h)) (id⊢ 𝓤 _) $ move ! (1 ∷ []) $ fsplit ! $ keep ! (0 ∷ 6 ∷ 2 ∷ 7 ∷ []) $
     enter ! _ _ _ _ _ $ alloc_all ! (λ l. pass_all ! refl ((tt, tt), ((tt, record { fits = fits_n }), ((tt, record { fits = fits_al }), tt))) $
-    -- [`left`; the token of its lifetime; `inner`; the other token; the locals]
+    -- [`plan`; the token of its lifetime; `inner`; the other token; the locals]
     sets ! (addr ! (through ! refl (fld ! refl (stop !)))) refl (tt, tt) $
-    use2 𝓛 (raw ((Counts 𝓛 𝓜.mem 𝓡.returns).pre counts)) (counts_takes 𝓛 𝓜.mem 𝓡.returns κ q left) $
+    use2 𝓛 (raw ((Counts 𝓛 𝓜.mem 𝓡.returns).pre counts)) (counts_takes 𝓛 𝓜.mem 𝓡.returns κ q plan) $
     calls_at ! (framed 𝓤 𝓛.H 𝓜 𝓣) (Counts 𝓛 𝓜.mem 𝓡.returns) (counting.met 𝓤 𝓛 𝓜 𝓡 (code.calls-doc_heap::refusing::refuses_growth 𝓡.env wired)) counts
     (and_then ! (get ! refl) (no_more !)) (λ u.
-    use1 𝓛 (later (Answers 𝓤 κ q u)) (counts_gives 𝓛 𝓜.mem 𝓡.returns κ q left u) $ await ! tt $ pick ! (λ refuses. learn ! (λ told.
+    use1 𝓛 (later (Answers 𝓤 κ q u)) (counts_gives 𝓛 𝓜.mem 𝓡.returns κ q plan u) $ await ! tt $ pick ! (λ refuses. learn ! (λ told.
     lands_as ! told refl (tt, tt) $ first ! $ branches ! (get ! refl)
     (λ yes_refused. sets ! (agg ! (no_more !)) refl (tt, tt) $ sets ! (agg ! (and_then ! (lit ! tt) (and_then ! (get ! refl) (no_more !)))) refl (Answer-typed false 0 0) $
     returns_within ! (W.post y) refl (look_at ! 0 refl) $ free_all ! refl $ keep ! (0 ∷ 2 ∷ []) $ refused)
