@@ -17,6 +17,7 @@ mod growing;
 mod growths;
 mod of_lines;
 mod of_refs;
+mod of_scanners;
 mod of_starts;
 mod written;
 
@@ -52,6 +53,7 @@ fn answer_of(heap: Heap, line: &str) -> Result<String, Memory> {
 /// What a call answers.
 fn called(heap: Heap, name: &str, text: &str) -> Result<String, Memory> {
     of_lines::called(heap, name, text)
+        .or_else(|| of_scanners::called(heap, name, text))
         .or_else(|| of_starts::called(heap, name, text))
         .or_else(|| of_refs::called(heap, name, text))
         .or_else(|| growing::called(heap, name, text))

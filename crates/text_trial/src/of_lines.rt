@@ -1,7 +1,7 @@
 //! Calls of `doc_lines` that answer for a line, a character or a whole text.
 
 use crate::answer::{number_and_text, only_char, shown, shown_if, two_texts, word_and_text};
-use doc_heap::{Heap, String, Vec};
+use doc_heap::{Heap, String};
 use doc_lines::characters::{is_punctuation, is_white};
 use doc_lines::cursor::Cursor;
 use doc_lines::entities::{Entities, TableError};
@@ -42,13 +42,13 @@ pub fn called(heap: Heap, name: &str, given: &str) -> Option<Result<String, Memo
     })
 }
 
-/// The lines of a text.
+/// The lines of a text, each with a comma behind it.
 fn lines(heap: Heap, text: &str) -> Result<String, Memory> {
-    let mut lines = Vec::new(heap);
+    let mut out = String::new(heap);
     for line in Lines::new(text) {
-        lines.push(line)?;
+        write!(out, "{line:?},")?;
     }
-    shown(heap, lines)
+    Ok(out)
 }
 
 /// `N LINE`: the spot after N calls of `next`.
@@ -69,21 +69,26 @@ fn skipped(given: &str) -> Option<(usize, Spot)> {
     Some((taken, spot(&cursor)))
 }
 
-/// `MOVES LINE`, where MOVES are numbers with `,` between two, 0 for `next` and another for `skip` with this number: what each move
-/// answers with the spot before it, as a copy of the cursor gives it after the move, and the last spot with what is left of the line.
+/// `MOVES LINE`, where MOVES are numbers with `,` between two, 0 for `next` and another for `skip` with this number: for each move the spot
+/// before it, as a copy of the cursor gives it after the move, and what the move answers; then the last spot with what is left of the
+/// line.
 fn walked(heap: Heap, given: &str) -> Result<String, Memory> {
     let (moves, line) = word_and_text(given).unwrap_or(("", given));
     let mut cursor = Cursor::new(line);
-    let mut answers = Vec::new(heap);
+    let mut out = String::new(heap);
     for columns in moves.split(',') {
         let before = cursor.copy();
-        let moved = moved(&mut cursor, columns.parse::<usize>().unwrap_or(0));
-        answers.push((spot(&before), moved))?;
+        let moved = move_by(&mut cursor, columns.parse::<usize>().unwrap_or(0));
+        let spot = spot(&before);
+        write!(out, "{spot:?} {moved:?}; ")?;
     }
-    shown(heap, (answers, spot(&cursor), cursor.rest()))
+    let spot = spot(&cursor);
+    let rest = cursor.rest();
+    write!(out, "{spot:?} {rest:?}")?;
+    Ok(out)
 }
 
-fn moved(cursor: &mut Cursor, columns: usize) -> Moved {
+fn move_by(cursor: &mut Cursor, columns: usize) -> Moved {
     if columns == 0 {
         Moved::Next(cursor.next())
     } else {
@@ -138,8 +143,9 @@ fn unescaped_by_table(heap: Heap, given: &str) -> Result<String, Memory> {
     }
 }
 
-/// How many bytes and how many lines the text has with its escapes and references read.
+/// How many bytes and how many characters the text has with its escapes and references read.
 fn unescaped_length(heap: Heap, text: &str) -> Result<String, Memory> {
     let read = unescape(heap, text, &Entities::built_in())?;
-    shown(heap, (read.get().len(), Lines::new(read.get()).count()))
+    let read = read.get();
+    shown(heap, (read.len(), read.chars().count()))
 }

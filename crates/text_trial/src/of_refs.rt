@@ -9,8 +9,12 @@ use doc_refs::{
     title_value,
 };
 
-/// A destination and a title.
-type Shown<'a> = (&'a str, Option<&'a str>);
+/// What a label names.
+#[derive(Clone, Copy, Debug)]
+struct Leads<'a> {
+    dest: &'a str,
+    title: Option<&'a str>,
+}
 
 /// What a call of this name answers, if there is one.
 pub fn called(heap: Heap, name: &str, given: &str) -> Option<Result<String, Memory>> {
@@ -55,7 +59,7 @@ fn target(heap: Heap, given: &str) -> Result<String, Memory> {
     };
     let (refs, taken) = take_definitions(heap, text, &Entities::built_in())?;
     let label = normalize_label(heap, label)?;
-    shown(heap, (taken, refs.find(label.get()).map(shown_target)))
+    shown(heap, (taken, refs.find(label.get()).map(leads)))
 }
 
 /// `LABEL | TEXT | TEXT`: what the joined definitions of two texts name for a label as it matches.
@@ -68,7 +72,7 @@ fn joined(heap: Heap, given: &str) -> Result<String, Memory> {
     };
     let mut refs = refs_of(heap, first)?;
     refs.join(refs_of(heap, second)?)?;
-    shown(heap, refs.find(label).map(shown_target))
+    shown(heap, refs.find(label).map(leads))
 }
 
 /// What the definitions at the front of a text name.
@@ -77,6 +81,9 @@ pub fn refs_of(heap: Heap, text: &str) -> Result<RefMap, Memory> {
     Ok(refs)
 }
 
-fn shown_target(target: &Target) -> Shown {
-    (target.dest.get(), target.title.as_ref().map(|title| title.get()))
+fn leads(target: &Target) -> Leads {
+    Leads {
+        dest: target.dest.get(),
+        title: target.title.as_ref().map(|title| title.get()),
+    }
 }

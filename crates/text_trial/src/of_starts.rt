@@ -1,6 +1,6 @@
 //! Calls of `doc_starts`.
 
-use crate::answer::{char_and_text, number_and_text, shown, shown_if, two_texts, word_and_text};
+use crate::answer::{char_and_text, number_and_text, only_char, shown, shown_if, word_and_text};
 use doc_heap::{Heap, String};
 use doc_lines::cursor::Cursor;
 use doc_page::failure::Memory;
@@ -65,12 +65,7 @@ fn fence(given: &str) -> Option<Option<(char, usize, usize, &str)>> {
         return Some(None);
     };
     let fence = start.fence;
-    Some(Some((
-        fence.character,
-        fence.length,
-        fence.indent,
-        start.info,
-    )))
+    Some(Some((fence.character, fence.length, fence.indent, start.info)))
 }
 
 /// `C LENGTH TEXT`.
@@ -149,10 +144,18 @@ fn may_interrupt(line: &Cursor) -> Option<bool> {
     Some(item_start(line)?.may_interrupt())
 }
 
-/// `LINE | LINE`: whether the items that two lines begin are of one kind.
+/// `KIND C KIND C`.
 fn is_same(given: &str) -> Option<bool> {
-    let (first, second) = two_texts(given)?;
-    let first = item_start(&Cursor::new(first))?;
-    let second = item_start(&Cursor::new(second))?;
-    Some(first.kind.is_same(second.kind))
+    let (kind, rest) = word_and_text(given)?;
+    let (c, rest) = char_and_text(rest)?;
+    let (other_kind, other) = word_and_text(rest)?;
+    Some(list_kind(kind, c)?.is_same(list_kind(other_kind, only_char(other)?)?))
+}
+
+fn list_kind(kind: &str, c: char) -> Option<ListKind> {
+    match kind {
+        "Bullet" => Some(ListKind::Bullet(c)),
+        "Ordered" => Some(ListKind::Ordered(c)),
+        _ => None,
+    }
 }
