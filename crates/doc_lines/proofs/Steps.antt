@@ -66,6 +66,15 @@ unfolding through up_to
 through_here end [] after e = e
 through_here end (c ∷ rest) after e = ap (up_to end rest) e
 
+-- where it doesn't stand here, it is sought further on, up to the end of the text
+pub through_further : (end : Parser) (c : ℕ) (text rest : Text) → text ≡ c ∷ rest → None ≡ end text → through end text ≡ through end rest
+unfolding through up_to
+through_further end c text rest t e = ap (through end) t ∙ sym (ap (up_to end rest) (e ∙ ap end t))
+
+pub through_ends : (end : Parser) (text : Text) → text ≡ [] → None ≡ end text → None ≡ through end text
+unfolding through
+through_ends end text t e = e ∙ ap end t ∙ sym (ap (through end) t)
+
 -- where no end stands behind one place, none stands behind a later one: a caller need not seek it again
 pub no_end_behind : (end : Parser) (front rest : Text) → through end (front ++ rest) ≡ None → through end rest ≡ None
 unfolding through up_to

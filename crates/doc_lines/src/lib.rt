@@ -10,8 +10,6 @@ pub mod lines;
 pub mod pushing;
 pub mod scan;
 mod tags;
-#[cfg(test)]
-mod tests;
 
 pub use escapes::unescape;
 pub use tags::html_tag;

@@ -9,8 +9,6 @@ mod lengths;
 mod ref_map;
 pub mod scan;
 mod target;
-#[cfg(test)]
-mod tests;
 
 pub use definitions::take_definitions;
 pub use labels::normalize_label;

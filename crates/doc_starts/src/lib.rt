@@ -11,6 +11,4 @@ pub mod item;
 pub mod quote;
 mod run;
 mod strip;
-#[cfg(test)]
-mod tests;
 pub mod thematic_break;

@@ -1,8 +1,8 @@
 //! Words of ASCII characters.
 ghost use Rattle.std.specs.Prelude.{◌≡◌, ◌==◌, chars};
 ghost use Rattle.std.specs.Char.{to_ascii_lowercase};
-ghost use Rattle.doc_rules.specs.Parsers.{one, word, word_in_any_case, through};
-ghost use Rattle.doc_lines.specs.Rests.{rest_of};
+ghost use Rattle.doc_rules.specs.Parsers.{Parser, one, word, word_in_any_case, through};
+ghost use Rattle.doc_lines.specs.Rests.{rest_of, IsScannerOf};
 
 use super::character::{is, next_char, one};
 
@@ -31,13 +31,30 @@ pub fn word_in_any_case<'a>(text: &'a str, letters: &[u8]) -> Option<&'a str>
 }
 
 /// All up to and with the first place where this word stands.
-#[tactic(auto, unfolding(doc_rules::specs::Parsers::through))]
 pub fn through<'a>(text: &'a str, end: &[u8]) -> Option<&'a str>
     ensures { rest_of result ≡ through (word end.now) (chars text.now) }
 {
+    through_first(text, |rest| word(rest, end))
+}
+
+/// All up to and with the first place where this word of lower case letters stands, in any case.
+pub fn through_in_any_case<'a>(text: &'a str, end: &[u8]) -> Option<&'a str>
+    ensures { rest_of result ≡ through (word_in_any_case end.now) (chars text.now) }
+{
+    through_first(text, |rest| word_in_any_case(rest, end))
+}
+
+/// All up to and with what this scanner takes at the first place where it takes something.
+fn through_first<'a, F: Fn(&'a str) -> Option<&'a str>>(
+    text: &'a str,
+    scanner: F,
+) -> Option<&'a str>
+    requires { F.IsAlwaysCallable scanner }
+    ensures { (parser : Parser) → IsScannerOf (F.post scanner) parser → rest_of result ≡ through parser (chars text.now) }
+{
     let mut rest = text;
     'places: loop {
-        if let Some(after) = word(rest, end) {
+        if let Some(after) = scanner(rest) {
             return Some(after);
         }
         let (_, behind) = next_char(rest)?;

@@ -1,13 +1,12 @@
 //! What the last line of an HTML block holds (CommonMark 0.31.2, section 4.6).
 ghost use Rattle.std.specs.Prelude.{◌≡◌, ◌++◌, ◌==◌, not, chars, codes};
 ghost use Rattle.std.specs.List.{list_any};
-ghost use Rattle.doc_rules.specs.Parsers.{is, word, word_in_any_case, through, holds};
+ghost use Rattle.doc_rules.specs.Parsers.{is, word, word_in_any_case, holds};
 ghost use Rattle.doc_rules.specs.HtmlStarts.{raw_text_names};
-ghost use Rattle.doc_lines.specs.Rests.{rest_of};
 
-use doc_lines::scan::character::{is, next_char};
+use doc_lines::scan::character::is;
 use doc_lines::scan::run::many;
-use doc_lines::scan::word::{through, word_in_any_case};
+use doc_lines::scan::word::{through, through_in_any_case};
 
 /// Whether the end tag of a name of kind 1 stands in the line, in any case.
 #[tactic(auto, unfolding(doc_rules::specs::HtmlStarts::raw_text_names))]
@@ -25,21 +24,6 @@ fn holds_in_any_case(line: &str, end: &[u8]) -> bool
     ensures { result ≡ holds (word_in_any_case end.now) (chars line.now) }
 {
     through_in_any_case(line, end).is_some()
-}
-
-/// All up to and with the first place where this word of lower case letters stands, in any case.
-#[tactic(auto, unfolding(doc_rules::specs::Parsers::through))]
-fn through_in_any_case<'a>(text: &'a str, end: &[u8]) -> Option<&'a str>
-    ensures { rest_of result ≡ through (word_in_any_case end.now) (chars text.now) }
-{
-    let mut rest = text;
-    'places: loop {
-        if let Some(after) = word_in_any_case(rest, end) {
-            return Some(after);
-        }
-        let (_, behind) = next_char(rest)?;
-        rest = behind;
-    }
 }
 
 /// Whether this word stands in the line.

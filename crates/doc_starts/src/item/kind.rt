@@ -16,10 +16,6 @@ impl ListKind {
     pub fn is_same(self, other: ListKind) -> bool
         ensures { result ≡ is_same_kind (kind_of self) (kind_of other) }
     {
-        match (self, other) {
-            (ListKind::Bullet(one), ListKind::Bullet(another)) => one == another,
-            (ListKind::Ordered(one), ListKind::Ordered(another)) => one == another,
-            _ => false,
-        }
+        self == other
     }
 }

@@ -1,6 +1,6 @@
-use Rattle.std.proofs.Common.{◌∙◌, sym}
-use Rattle.doc_lines.proofs.Steps.{through_here}
+use Rattle.std.proofs.Common.{rules}
+use Rattle.doc_rules.specs.Parsers.{word}
 use Rattle.doc_lines.proofs.scan.word.through.Goals as goal
 
-pub returns-in-Some : goal.returns-in-Some
-returns-in-Some c = through_here _ _ _ c.in-Some.ensures ∙ sym c.places.invariant.1
+pub returns : goal.returns
+returns c = c.through_first.ensures (word c.args.end.now) (λ text found h. search rules)

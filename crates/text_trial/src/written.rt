@@ -1,0 +1,103 @@
+//! Texts that are written with escapes.
+
+use crate::answer::number_and_text;
+use doc_heap::{Heap, String};
+use doc_page::failure::Memory;
+
+/// The text that is written so, or `None` where it is not written as the head of this crate says.
+pub fn text_of(heap: Heap, written: &str) -> Result<Option<String>, Memory> {
+    let mut out = String::with_capacity(heap, written.len())?;
+    let mut rest = written;
+    // Each part has a byte at least.
+    for _ in 0..written.len() {
+        if rest.is_empty() {
+            break;
+        }
+        match push_part(&mut out, rest)? {
+            Some(behind) => rest = behind,
+            None => return Ok(None),
+        }
+    }
+    Ok(Some(out))
+}
+
+/// Adds what the front of a text is written for, and answers the text behind it.
+fn push_part<'a>(out: &mut String, written: &'a str) -> Result<Option<&'a str>, Memory> {
+    match written.strip_prefix("\\{") {
+        Some(repeated) => push_repetition(out, repeated),
+        None => push_one(out, written, 0),
+    }
+}
+
+/// Adds a repetition, which stands here from its count on.
+fn push_repetition<'a>(out: &mut String, written: &'a str) -> Result<Option<&'a str>, Memory> {
+    let Some((count, rest)) = number_and_text(written) else {
+        return Ok(None);
+    };
+    let Some((repeated, behind)) = rest.split_once('}') else {
+        return Ok(None);
+    };
+    for number in 0..count {
+        if !push_all(out, repeated, number)? {
+            return Ok(None);
+        }
+    }
+    Ok(Some(behind))
+}
+
+/// Adds a text without repetitions, and answers whether it is written so.
+fn push_all(out: &mut String, written: &str, number: usize) -> Result<bool, Memory> {
+    let mut rest = written;
+    for _ in 0..written.len() {
+        if rest.is_empty() {
+            break;
+        }
+        match push_one(out, rest, number)? {
+            Some(behind) => rest = behind,
+            None => return Ok(false),
+        }
+    }
+    Ok(true)
+}
+
+/// Adds one character or the number of the repetition, and answers the text behind it.
+fn push_one<'a>(
+    out: &mut String,
+    written: &'a str,
+    number: usize,
+) -> Result<Option<&'a str>, Memory> {
+    if let Some(behind) = written.strip_prefix("\\#") {
+        write!(out, "{number}")?;
+        return Ok(Some(behind));
+    }
+    let Some((c, behind)) = written_char(written) else {
+        return Ok(None);
+    };
+    out.push(c)?;
+    Ok(Some(behind))
+}
+
+/// The character that the front of a text is written for, and the text behind it.
+fn written_char(written: &str) -> Option<(char, &str)> {
+    let mut characters = written.chars();
+    let first = characters.next()?;
+    if first != '\\' {
+        return Some((first, characters.as_str()));
+    }
+    let c = match characters.next()? {
+        'n' => '\n',
+        'r' => '\r',
+        't' => '\t',
+        '\\' => '\\',
+        'u' => return numbered_char(characters.as_str()),
+        _ => return None,
+    };
+    Some((c, characters.as_str()))
+}
+
+/// The character that a hexadecimal number between braces names, and the text behind it.
+fn numbered_char(written: &str) -> Option<(char, &str)> {
+    let (digits, behind) = written.strip_prefix("{")?.split_once('}')?;
+    let number = u32::from_str_radix(digits, 16).ok()?;
+    Some((char::from_u32(number)?, behind))
+}
