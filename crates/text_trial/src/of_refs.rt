@@ -59,7 +59,7 @@ fn target(heap: Heap, given: &str) -> Result<String, Memory> {
     };
     let (refs, taken) = take_definitions(heap, text, &Entities::built_in())?;
     let label = normalize_label(heap, label)?;
-    shown(heap, (taken, refs.find(label.get()).map(leads)))
+    shown(heap, (taken, refs.find(label.get()).map(shown_target)))
 }
 
 /// `LABEL | TEXT | TEXT`: what the joined definitions of two texts name for a label as it matches.
@@ -72,7 +72,7 @@ fn joined(heap: Heap, given: &str) -> Result<String, Memory> {
     };
     let mut refs = refs_of(heap, first)?;
     refs.join(refs_of(heap, second)?)?;
-    shown(heap, refs.find(label).map(leads))
+    shown(heap, refs.find(label).map(shown_target))
 }
 
 /// What the definitions at the front of a text name.
@@ -81,7 +81,7 @@ pub fn refs_of(heap: Heap, text: &str) -> Result<RefMap, Memory> {
     Ok(refs)
 }
 
-fn leads(target: &Target) -> Leads {
+fn shown_target(target: &Target) -> Leads {
     Leads {
         dest: target.dest.get(),
         title: target.title.as_ref().map(|title| title.get()),

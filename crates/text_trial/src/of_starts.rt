@@ -65,7 +65,8 @@ fn fence(given: &str) -> Option<Option<(char, usize, usize, &str)>> {
         return Some(None);
     };
     let fence = start.fence;
-    Some(Some((fence.character, fence.length, fence.indent, start.info)))
+    let character = fence.character;
+    Some(Some((character, fence.length, fence.indent, start.info)))
 }
 
 /// `C LENGTH TEXT`.
