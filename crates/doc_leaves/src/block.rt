@@ -9,11 +9,17 @@ pub enum Block {
     /// A paragraph, without the definitions at its front.
     Para(Text),
     /// A heading of a level from 1 to 6.
-    Heading { level: u8, text: Text },
+    Heading {
+        level: u8,
+        text: Text,
+    },
     /// Indented code. Each line ends in LF.
     Code(Text),
     /// A fenced code block with its info string, whose escapes and references are read. Each line ends in LF.
-    Fence { info: Text, text: Text },
+    Fence {
+        info: Text,
+        text: Text,
+    },
     /// An HTML block, its lines joined by LF.
     Html(Text),
     /// A thematic break.

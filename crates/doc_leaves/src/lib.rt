@@ -3,3 +3,9 @@
 #![tactic(auto)]
 
 pub mod block;
+mod gathered;
+pub mod leaf;
+pub mod line;
+mod paragraph;
+pub mod start;
+mod strip;
