@@ -218,8 +218,8 @@ at_break_sign table situation line c rest h =
     ]
 
 -- neither a space nor a tab
-pub neither : {c : ℕ} → (c == 32) ≡ false → (c == 9) ≡ false → is_space_or_tab c ≡ false
-neither {c} s t = ap (λ b. b || (c == 9)) s ∙ t
+pub neither : (c : ℕ) → (c == 32) ≡ false → (c == 9) ≡ false → is_space_or_tab c ≡ false
+neither c s t = ap (λ b. b || (c == 9)) s ∙ t
 
 pub at_other : (table : Table) (situation : Situation) (line : Line) (c : ℕ) (rest : Text) →
     (c == 35) ≡ false → (c == 96) ≡ false → (c == 126) ≡ false → (c == 60) ≡ false → (c == 61) ≡ false → (c == 45) ≡ false → (c == 42) ≡ false → (c == 95) ≡ false → is_space_or_tab c ≡ false →

@@ -69,4 +69,4 @@ returns-in_default-first c =
     let i : (c.in-Some.first == 95) ≡ false = search rules in
     let s : (c.in-Some.first == 32) ≡ false = search rules in
     let t : (c.in-Some.first == 9) ≡ false = search rules in
-    at_other table situation line c.in-Some.first _ a b d e f g h i (neither s t) ∙ sym (ap (text_begins table situation line) c.in-Some.ensures.characters)
+    at_other table situation line c.in-Some.first _ a b d e f g h i (neither c.in-Some.first s t) ∙ sym (ap (text_begins table situation line) c.in-Some.ensures.characters)

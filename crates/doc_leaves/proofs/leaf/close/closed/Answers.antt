@@ -17,20 +17,20 @@ returns-in-Nothing-clause-refs c = rw c.in-Nothing.is (none_join c.args.refs.now
 pub returns-in-Some-clause-block : goal.returns-in-Some-clause-block
 unfolding leaf_shown
 returns-in-Some-clause-block c =
-    rw c.in-Paragraph.is (λ before. paragraph_closed c.args.entities.now c.args.lines.now.all c.in-Some.text c.all.result.now before (subst (λ (r : Option (List ℕ)). Leaves r c.args.entities.now (chars c.all.result.now)) c.in-Some.is c.in_ok-text.ensures.text) c.all.ensures)
+    rw c.in-Paragraph.is (λ before. paragraph_closed c.args.entities.now c.args.lines.now.all c.in-Some.text c.all.result.now before (subst (λ (r : Option (List ℕ)). Leaves r c.args.entities.now (chars c.all.result.now)) c.in-Some.is c.in_ok-text-in-Paragraph.ensures.text) c.all.ensures)
 
 pub returns-in-Some-clause-refs : goal.returns-in-Some-clause-refs
 unfolding leaf_shown open_references
-returns-in-Some-clause-refs c = rw c.in-Paragraph.is (those_join c.args.entities.now _ _ _ c.args.lines.now.all c.in_ok-text.ensures.refs c.all.ensures)
+returns-in-Some-clause-refs c = rw c.in-Paragraph.is (those_join c.args.entities.now _ _ _ c.args.lines.now.all c.in_ok-text-in-Paragraph.ensures.refs c.all.ensures)
 
 pub returns-in-None-clause-block : goal.returns-in-None-clause-block
 unfolding leaf_shown
 returns-in-None-clause-block c =
-    rw c.in-Paragraph.is (λ before. definitions_closed c.args.entities.now c.args.lines.now.all c.all.result.now before (subst (λ (r : Option (List ℕ)). Leaves r c.args.entities.now (chars c.all.result.now)) c.in-None.is c.in_ok-text.ensures.text) c.all.ensures)
+    rw c.in-Paragraph.is (λ before. definitions_closed c.args.entities.now c.args.lines.now.all c.all.result.now before (subst (λ (r : Option (List ℕ)). Leaves r c.args.entities.now (chars c.all.result.now)) c.in-None.is c.in_ok-text-in-Paragraph.ensures.text) c.all.ensures)
 
 pub returns-in-None-clause-refs : goal.returns-in-None-clause-refs
 unfolding leaf_shown open_references
-returns-in-None-clause-refs c = rw c.in-Paragraph.is (those_join c.args.entities.now _ _ _ c.args.lines.now.all c.in_ok-text.ensures.refs c.all.ensures)
+returns-in-None-clause-refs c = rw c.in-Paragraph.is (those_join c.args.entities.now _ _ _ c.args.lines.now.all c.in_ok-text-in-Paragraph.ensures.refs c.all.ensures)
 
 pub returns-in_ok-copy_of-in-Code-clause-block : goal.returns-in_ok-copy_of-in-Code-clause-block
 unfolding leaf_shown
