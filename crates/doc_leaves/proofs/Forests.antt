@@ -1,6 +1,6 @@
 -- Blocks in a row, block by block.
 use Rattle.std.proofs.Common.{◌≡◌, ℕ, Bool, List, [], ◌∷◌, ◌++◌, map, refl, ap, sym, ◌∙◌, chars}
-use Rattle.std.specs.Prelude.{Option, Vec}
+use Rattle.std.specs.Prelude.{Option}
 use Rattle.doc_rules.specs.Forests.{none, ◌▹◌, node}
 use Rattle.doc_rules.specs.Blocks.{Paragraph, Heading, IndentedCode, FencedCode, HtmlBlock, ThematicBreak, BlockQuote, ListBlock, ListItem, Blocks}
 use Rattle.doc_leaves.specs.declared.block.Block.{Block, fold-roll-Block}

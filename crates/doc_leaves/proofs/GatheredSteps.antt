@@ -1,14 +1,13 @@
 -- The text that is gathered for a leaf: it grows at its end, and what is kept is a front of it.
-use Rattle.std.proofs.Common.{rules, ◌≡◌, ℕ, zero, suc, ◌+◌, ◌-◌, ◌<◌, ◌≤◌, Bool, true, false, List, [], ◌∷◌, ◌++◌, map, length, take, chars, refl, ap, sym, ◌∙◌, arith, subst, append-nil, append_assoc, length-append, inl, inr}
+use Rattle.std.proofs.Common.{rules, ◌≡◌, ℕ, zero, suc, ◌+◌, ◌-◌, ◌<◌, ◌≤◌, true, false, List, [], ◌∷◌, ◌++◌, length, take, chars, refl, ap, sym, ◌∙◌, arith, subst, append-nil, append_assoc, length-append, inl, inr}
 use Rattle.std.specs.Prelude.{replicate, slice_index, Result, Ok, Err, OnOk}
 use Rattle.std.specs.Str.{IsUtf8, IsCharBoundary}
-use Rattle.std.proofs.Math.Seq.{take-length}
 use Rattle.std.proofs.lemmas.Bool.{cases_lt}
 use Rattle.std.proofs.lemmas.Bool.Decides.{nat_tests}
 use Rattle.std.proofs.lemmas.List.{take-append-le, get_or_append_left}
 use Rattle.std.proofs.lemmas.Str.{IsCharBoundary-at_seam, chars-append, chars-IsAscii}
 use Rattle.doc_rules.specs.Characters.{Text}
-use Rattle.doc_rules.specs.Columns.{Line, Cell, width_at, columns_from, cell_of, cells_from, text_of, spaces}
+use Rattle.doc_rules.specs.Columns.{Line, width_at, columns_from, cell_of, cells_from, text_of, spaces}
 use Rattle.doc_lines.specs.Cursors.{Position, behind_first, after_next, cells_at, left_of}
 
 -- ---- what is kept

@@ -1,17 +1,17 @@
 -- What an open leaf becomes, and what a line makes of it.
-use Rattle.std.proofs.Common.{◌≡◌, ℕ, Bool, true, false, List, [], ◌∷◌, ◌++◌, chars, refl, ap, sym, ◌∙◌}
+use Rattle.std.proofs.Common.{◌≡◌, ℕ, Bool, true, false, List, [], ◌∷◌, chars, refl, ap, sym, ◌∙◌}
 use Rattle.std.specs.Prelude.{Option, Some, None, option_map}
 use Rattle.doc_rules.specs.Characters.{Text}
 use Rattle.doc_rules.specs.Columns.{Line, text_of, is_blank_line}
 use Rattle.doc_rules.specs.Entities.{Table}
 use Rattle.doc_rules.specs.Escapes.{unescape}
-use Rattle.doc_rules.specs.Definitions.{Definition, definitions_of}
+use Rattle.doc_rules.specs.Definitions.{definitions_of}
 use Rattle.doc_rules.specs.LeafStarts as fences
 use Rattle.doc_rules.specs.HtmlStarts as kinds_of
 use Rattle.doc_rules.specs.Forests.{◌▹◌}
 use Rattle.doc_rules.specs.Trees.{AtxLine, FencedLines, HtmlLines, BreakLine}
-use Rattle.doc_rules.specs.Blocks.{Leaf, Paragraph, Heading, IndentedCode, FencedCode, HtmlBlock, ThematicBreak, Blocks, ended, joined, without_last_blanks, with_text, with_leaf}
-use Rattle.doc_one_pass.specs.Leaves.{OpenLeaf, NoLeaf, OpenParagraph, OpenCode, OpenFence, OpenHtml, open_of, with_open, open_references}
+use Rattle.doc_rules.specs.Blocks.{Leaf, Paragraph, Heading, IndentedCode, FencedCode, HtmlBlock, Blocks, ended, joined, with_text, with_leaf}
+use Rattle.doc_one_pass.specs.Leaves.{OpenLeaf, NoLeaf, OpenParagraph, OpenCode, OpenFence, OpenHtml, open_of, with_open}
 use Rattle.doc_refs.specs.Targets.{Targets, targets_of}
 use Rattle.doc_refs.specs.Targets as maps
 use Rattle.doc_refs.proofs.MapLaws.{joined-empty}

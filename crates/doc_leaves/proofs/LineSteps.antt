@@ -1,10 +1,9 @@
 -- The lines of HTML blocks: the white space at a line's front ends none, and a first line that is kept or isn't.
-use Rattle.std.proofs.Common.{◌≡◌, ℕ, zero, suc, ◌-◌, Bool, true, false, List, [], ◌∷◌, ◌++◌, map, refl, ap, sym, ◌∙◌}
-use Rattle.std.specs.Prelude.{replicate, Option, Some, codes, ◌==◌, ◌&&◌, ◌||◌}
-use Rattle.std.specs.List.{list_all, list_any}
-use Rattle.doc_rules.specs.Characters.{Text, is_space_or_tab, is_blank_text}
+use Rattle.std.proofs.Common.{◌≡◌, ℕ, zero, suc, ◌-◌, Bool, true, false, [], ◌∷◌, ◌++◌, refl, ap, sym, ◌∙◌}
+use Rattle.std.specs.Prelude.{replicate, ◌&&◌}
+use Rattle.doc_rules.specs.Characters.{Text, is_blank_text}
 use Rattle.doc_rules.specs.Columns.{Line, text_of, is_gap, is_blank_line}
-use Rattle.doc_rules.specs.Parsers.{Parser, through, holds, word, word_in_any_case}
+use Rattle.doc_rules.specs.Parsers.{through, word, word_in_any_case}
 use Rattle.doc_rules.specs.HtmlStarts as rules
 use Rattle.doc_rules.specs.HtmlStarts.{HtmlKind, ends_html, raw_text_names}
 use Rattle.doc_rules.specs.Blocks.{joined, without_last_blanks}

@@ -1,4 +1,4 @@
-use Rattle.std.proofs.Common.{rules, ◌≡◌, false, chars, ap, sym, ◌∙◌}
+use Rattle.std.proofs.Common.{rules, ◌≡◌, false, chars, ap, ◌∙◌}
 use Rattle.doc_leaves.proofs.DefinitionSteps.{all_is_left, empty_by_chars}
 use Rattle.doc_leaves.proofs.paragraph.has_only_definitions.Goals as goal
 

@@ -1,4 +1,3 @@
-use Rattle.std.proofs.Common.{rules, ◌≡◌, false}
 use Rattle.std.proofs.lemmas.Bool.{ne_eqb}
 use Rattle.doc_leaves.proofs.DefinitionSteps.{none_at_other, none_at_end}
 use Rattle.doc_leaves.proofs.paragraph.may_define.Goals as goal

@@ -1,5 +1,4 @@
-use Rattle.std.proofs.Common.{rules, ◌≡◌, chars, ap, sym, ◌∙◌}
-use Rattle.doc_rules.specs.Blocks.{with_text}
+use Rattle.std.proofs.Common.{chars, ap, ◌∙◌}
 use Rattle.doc_leaves.specs.OpenLeaves.{with_leaf_of}
 use Rattle.doc_leaves.proofs.DefinitionSteps.{text_is_left, no_text_is_left}
 use Rattle.doc_leaves.proofs.paragraph.paragraph_text.Goals as goal

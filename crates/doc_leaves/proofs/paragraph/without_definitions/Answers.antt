@@ -1,4 +1,4 @@
-use Rattle.std.proofs.Common.{rules, ◌≡◌, false, chars, sym, ◌∙◌}
+use Rattle.std.proofs.Common.{rules, ◌≡◌, false, chars}
 use Rattle.doc_leaves.proofs.DefinitionSteps.{nothing_joins}
 use Rattle.doc_leaves.proofs.paragraph.without_definitions.Goals as goal
 

@@ -1,4 +1,3 @@
-use Rattle.std.proofs.Common.{rules}
 use Rattle.doc_leaves.proofs.StartSteps.{margin_of}
 use Rattle.doc_leaves.proofs.start.leaf_start.Goals as goal
 

@@ -1,4 +1,4 @@
-use Rattle.std.proofs.Common.{rules, ◌≡◌, ◌==◌, false, refl, chars, ap, sym, ◌∙◌, ◌∷◌}
+use Rattle.std.proofs.Common.{rules, ◌≡◌, ◌==◌, false, refl, chars, ap, sym, ◌∙◌}
 use Rattle.doc_rules.specs.Trees.{text_begins, atx_begins, fence_begins, html_begins, setext_begins, break_begins}
 use Rattle.doc_lines.specs.Cursors.{left_of}
 use Rattle.doc_leaves.specs.Starts.{situation_of, start_of, or_else}

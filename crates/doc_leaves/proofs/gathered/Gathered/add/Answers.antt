@@ -1,4 +1,4 @@
-use Rattle.std.proofs.Common.{rules, ◌≡◌, sym, ap, ◌++◌, ◌∙◌, chars}
+use Rattle.std.proofs.Common.{ap, ◌++◌, ◌∙◌, chars}
 use Rattle.std.specs.String.{string_bytes}
 use Rattle.std.proofs.lemmas.Str.{IsUtf8-string_bytes}
 use Rattle.doc_leaves.specs.OpenLeaves.{Gathering}

@@ -1,4 +1,3 @@
-use Rattle.std.proofs.Common.{OnOk, ap, ◌∙◌, subst}
 use Rattle.doc_leaves.proofs.GatheredSteps.{ending_added}
 use Rattle.doc_leaves.proofs.gathered.Gathered.add_ending.Goals as goal
 

@@ -1,7 +1,7 @@
-use Rattle.std.proofs.Common.{rules, ◌≡◌, refl, chars, ap, sym, ◌∙◌}
+use Rattle.std.proofs.Common.{refl, chars}
 use Rattle.doc_one_pass.specs.Leaves.{open_of}
 use Rattle.doc_starts.specs.Fences.{fence_shown}
-use Rattle.doc_leaves.specs.OpenLeaves.{leaf_shown, with_begun}
+use Rattle.doc_leaves.specs.OpenLeaves.{leaf_shown}
 use Rattle.doc_leaves.specs.Starts.{leaf_lines}
 use Rattle.doc_leaves.specs.Views.{with_block}
 use Rattle.doc_leaves.proofs.LeafSteps.{heading_begun, break_begun, fence_begun, fence_opened}

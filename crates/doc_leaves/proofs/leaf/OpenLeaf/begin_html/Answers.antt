@@ -1,4 +1,4 @@
-use Rattle.std.proofs.Common.{rules, ◌≡◌, ◌++◌, refl, chars, ap, sym, ◌∙◌}
+use Rattle.std.proofs.Common.{◌≡◌, ◌++◌, refl, ap, ◌∙◌}
 use Rattle.doc_rules.specs.Columns.{text_of}
 use Rattle.doc_lines.specs.Cursors.{left_of}
 use Rattle.doc_one_pass.specs.Leaves.{open_of}

@@ -1,5 +1,5 @@
-use Rattle.std.proofs.Common.{rules, ◌≡◌, ℕ, List, subst, chars, ap, sym, ◌∙◌}
-use Rattle.std.specs.Prelude.{Option, Some, None}
+use Rattle.std.proofs.Common.{rules, ◌≡◌, ℕ, List, subst, chars}
+use Rattle.std.specs.Prelude.{Option, None}
 use Rattle.doc_leaves.proofs.LeafSteps.{Leaves, other_stays, other_makes_none, other_defines_none, paragraph_goes, heading_of_paragraph, no_heading_of_paragraph, paragraph_defines}
 use Rattle.doc_leaves.proofs.leaf.OpenLeaf.underline.Goals as goal
 

@@ -1,4 +1,4 @@
-use Rattle.std.proofs.Common.{rules, ◌≡◌, ℕ, List, subst, refl, chars, ap, sym, ◌∙◌}
+use Rattle.std.proofs.Common.{ℕ, List, subst, refl, chars}
 use Rattle.std.specs.Prelude.{Option}
 use Rattle.doc_one_pass.specs.Leaves.{with_open, open_references}
 use Rattle.doc_leaves.specs.OpenLeaves.{leaf_shown}
