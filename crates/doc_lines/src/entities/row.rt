@@ -1,12 +1,13 @@
 //! A line of a table of character references.
 
 ghost use Rattle.std.specs.Prelude.{◌≡◌, ◌<◌, ◌≤◌, true, length, option_map, Some, None, MatchOption};
-ghost use Rattle.std.specs.List.{list_all, suffix_len};
+ghost use Rattle.std.specs.List.{list_all};
 ghost use Rattle.std.specs.Char.{digit_value, is_ascii_alphanumeric, is_ascii_hexdigit};
-ghost use Rattle.doc_page.specs.Lines.{is_ending, is_space_or_tab, without_ending};
 ghost use Rattle.doc_rules.specs.Escapes.{number};
 ghost use Rattle.doc_lines.specs.Entities.{characters, entity_shown};
 ghost use Rattle.doc_lines.specs.Tables.{at_space, character_of, entity_of, fields_characters, is_code, is_name, is_row};
+
+use doc_page::trimming::{is_blank, without_ending};
 
 /// Whether a line is blank or gives an entity.
 pub fn is_row(line: &str) -> bool
@@ -106,30 +107,4 @@ fn at_space(text: &str) -> Option<(&str, &str)>
     ensures { MatchOption result (at_space text.now ≡ None) (λ fields. at_space text.now ≡ Some (fields.0.now, fields.1.now)) }
 {
     text.split_once(' ')
-}
-
-fn is_blank(line: &str) -> bool
-    ensures { result ≡ list_all is_space_or_tab line.now }
-{
-    line.as_bytes()
-        .iter()
-        .all(|byte| matches!(*byte, b' ' | b'\t'))
-}
-
-/// The line without its ending.
-fn without_ending(line: &str) -> &str
-    ensures { result.now ≡ without_ending line.now }
-{
-    &line[..line.len() - ending_length(line)]
-}
-
-/// How many bytes the line ending has.
-fn ending_length(line: &str) -> usize
-    ensures { result ≡ suffix_len is_ending line.now }
-{
-    line.as_bytes()
-        .iter()
-        .rev()
-        .take_while(|byte| matches!(**byte, b'\n' | b'\r'))
-        .count()
 }
