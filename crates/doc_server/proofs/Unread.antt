@@ -24,7 +24,8 @@ use Rattle.doc_hub.specs.declared.event.Step.{Step}
 use Rattle.doc_hub.specs.declared.event.Step.TheVariants as steps
 use Rattle.doc_hub.specs.declared.refusal.StepError.{StepError}
 use Rattle.doc_hub.specs.declared.refusal.StepError.TheVariants as step_errors
-use Rattle.doc_server.specs.Demo.{Sends, IsMade}
+use Rattle.doc_server.specs.Demo.{Sends}
+use Rattle.doc_server.specs.DemoSteps.{IsMade}
 
 -- ---- a request takes a byte at least, and no bytes begin with a fault
 
