@@ -6,4 +6,5 @@ mod ReadLemmas
 mod ReplyLemmas
 mod SkipLemmas
 mod SpanLemmas
+pub mod TakenLemmas
 mod TokenLemmas

@@ -1,5 +1,6 @@
 -- Laws of requests.
-use Rattle.std.specs.Prelude.{IsTrue, Bool, ◌||◌, ◌==◌, ◌≡◌, ℕ, ◌≤◌, List, ◌++◌, length}
+use Rattle.std.specs.Prelude.{IsTrue, Bool, ◌||◌, ◌==◌, ◌≡◌, ℕ, ◌≤◌, List, [], ◌++◌, length}
+use Rattle.doc_http.specs.declared.request.Request.{Request}
 use Rattle.doc_http.specs.declared.request.Next.{Next}
 use Rattle.doc_http.specs.declared.request.Next.TheVariants as next
 use Rattle.doc_http.specs.Requests.{IsNext}
@@ -15,6 +16,14 @@ StaysDecided = (bytes more : List ℕ) (a : Next) → ¬ (a ≡ next.More) → I
 -- 16,384 bytes begin with a request or a fault
 abbrev pub IsDecidedWithin : ℕ → Type 0
 IsDecidedWithin limit = (bytes : List ℕ) (a : Next) → limit ≤ length bytes → IsNext bytes a → ¬ (a ≡ next.More)
+
+-- a request takes at least one byte, and at most all
+abbrev pub TakesBytes : Type 0
+TakesBytes = (bytes : List ℕ) (used : ℕ) (request : Request) → IsNext bytes (next.Request used request) → (1 ≤ used) × (used ≤ length bytes)
+
+-- no bytes begin with neither a request nor a fault
+abbrev pub EmptyIsUndecided : Type 0
+EmptyIsUndecided = (a : Next) → IsNext [] a → a ≡ next.More
 
 -- the codes of faults (RFC 9110, sections 15.5.1 and 15.6.2; RFC 6585, section 5)
 abbrev pub is_fault_code : ℕ → Bool

@@ -66,6 +66,15 @@ abbrev pub IsNext : List ℕ → Next → Type 0
 IsNext bytes found =
     (read : Option RequestHead) × IsReadAt bytes (head_span_of bytes) read × (found ≡ request_of bytes read)
 
+-- it is a whole request
+abbrev pub IsRequest : Next → Type 0
+IsRequest (next.Request used request) = ⊤
+IsRequest other = ⊥
+
+-- the bytes begin with a whole request
+abbrev pub BeginsWithRequest : List ℕ → Type 0
+BeginsWithRequest bytes = (found : Next) × IsNext bytes found × IsRequest found
+
 -- a request takes at most n bytes
 abbrev pub UsesAtMost : ℕ → Next → Type 0
 UsesAtMost n next.More = ⊤

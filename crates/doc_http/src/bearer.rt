@@ -81,32 +81,3 @@ fn count_spaces(bytes: &[u8]) -> usize
 {
     bytes.iter().take_while(|byte| **byte == b' ').count()
 }
-
-#[cfg(test)]
-mod tests {
-    use super::*;
-    use crate::testing::{get, heap};
-    use doc_page::failure::Memory;
-
-    #[test]
-    fn finds_tokens(rt: HostRuntime) -> Result<(), Memory> {
-        let heap = heap(&rt)?;
-        let values: [(&[u8], Option<&str>); 9] = [
-            (b"Bearer tok-ann", Some("tok-ann")),
-            (b"bearer  x==", Some("x==")),
-            (b"BEARER az09-._~+/", Some("az09-._~+/")),
-            (b"Bearer a=b", None),
-            (b"Bearer =", None),
-            (b"Bearer a b", None),
-            (b"Basic x", None),
-            (b"Bearer\tx", None),
-            (b"Bearer ", None),
-        ];
-        for (value, token) in values {
-            let request = get(heap, "/", Some(value), false)?;
-            assert_eq!(rt; bearer(&request), token);
-        }
-        assert_eq!(rt; bearer(&get(heap, "/", None, false)?), None);
-        Ok(())
-    }
-}

@@ -12,7 +12,7 @@ use httparse::spans::{HeaderSpan, RequestSpans, parse_request};
 pub const HEAD_LIMIT: usize = 16384;
 
 /// Where a head lies in the unread bytes.
-#[derive(Clone, Copy, Debug, PartialEq, Eq)]
+#[derive(Clone, Copy)]
 pub enum HeadSpan {
     /// No head ends yet.
     Unfinished,

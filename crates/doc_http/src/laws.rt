@@ -1,6 +1,6 @@
 //! Laws of what unread bytes begin with. A call of one does nothing; its contract is the law.
 
-ghost use Rattle.doc_http.specs.Laws.{IsReadInOneWay, StaysDecided, IsDecidedWithin, FaultsHaveCodes};
+ghost use Rattle.doc_http.specs.Laws.{IsReadInOneWay, StaysDecided, IsDecidedWithin, TakesBytes, EmptyIsUndecided, FaultsHaveCodes};
 
 /// Bytes begin with one thing.
 pub fn bytes_are_read_in_one_way()
@@ -15,6 +15,16 @@ pub fn a_decided_request_stays_decided()
 /// As many bytes as a head may take decide what they begin with.
 pub fn a_request_is_decided_within_the_limit()
     ensures { IsDecidedWithin 16384 }
+{}
+
+/// A request takes at least one byte of those that it begins, and at most all of them.
+pub fn a_request_takes_bytes()
+    ensures { TakesBytes }
+{}
+
+/// Where there are no bytes, there is neither a request nor a fault yet.
+pub fn no_bytes_are_undecided()
+    ensures { EmptyIsUndecided }
 {}
 
 /// A fault has the code 400, 431 or 501.

@@ -8,5 +8,3 @@ mod head;
 pub mod laws;
 pub mod reply;
 pub mod request;
-#[cfg(test)]
-mod testing;

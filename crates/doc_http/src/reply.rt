@@ -46,7 +46,8 @@ impl Reply {
         ensures { IfOk result (λ bytes. bytes ≡ reply_bytes self.now head_only close) }
     {
         let body = self.body.get();
-        let mut out = String::with_capacity(heap, HEAD_ROOM.saturating_add(body.len()))?;
+        let content_room = if head_only { 0 } else { body.len() };
+        let mut out = String::with_capacity(heap, HEAD_ROOM.saturating_add(content_room))?;
         self.push_head(&mut out, close)?;
         if head_only || self.code == 204 {
             return Ok(Bytes::new(out.into_bytes()));
@@ -198,135 +199,5 @@ fn reason(code: u16) -> &'static str
         501 => "Not Implemented",
         507 => "Insufficient Storage",
         _ => "",
-    }
-}
-
-#[cfg(test)]
-mod tests {
-    use super::*;
-    use crate::testing::heap;
-
-    const PAGE: &[u8] = b"<!DOCTYPE html>\n<title>a.md</title>\n<p>Hello</p>\n";
-
-    const PAGE_HEAD: &[u8] = b"HTTP/1.1 200 OK\r\n\
-          Content-Type: text/html; charset=utf-8\r\n\
-          Content-Length: 49\r\n\r\n";
-
-    fn page(heap: Heap) -> Result<Reply, Memory>
-        ensures { IfOk result (λ reply. (reply.code ≡ 200) × (reply.allow ≡ None)) }
-    {
-        Ok(Reply {
-            code: 200,
-            html: true,
-            allow: None,
-            body: Bytes::copy_of(heap, PAGE)?,
-        })
-    }
-
-    // The bytes of a reply without a content of its own.
-    fn plain(heap: Heap, code: u16, close: bool) -> Result<Bytes, Memory>
-        requires known { IsTrue (is_reply_code code) }
-        requires other { code ≢ 405 }
-    {
-        let body = Bytes::copy_of(heap, b"")?;
-        let reply = Reply {
-            code,
-            html: false,
-            allow: None,
-            body,
-        };
-        reply.write(heap, false, close)
-    }
-
-    #[test]
-    fn writes_a_page(rt: HostRuntime) -> Result<(), Memory> {
-        let heap = heap(&rt)?;
-        let reply = page(heap)?;
-        let mut whole = Bytes::copy_of(heap, PAGE_HEAD)?;
-        assert_eq!(rt; reply.write(heap, true, false)?, whole);
-        whole.extend(PAGE)?;
-        assert_eq!(rt; reply.write(heap, false, false)?, whole);
-        Ok(())
-    }
-
-    #[test]
-    fn writes_what_refuses(rt: HostRuntime) -> Result<(), Memory> {
-        let heap = heap(&rt)?;
-        assert_eq!(rt;
-            plain(heap, 401, false)?.get(),
-            b"HTTP/1.1 401 Unauthorized\r\n\
-              Content-Type: text/plain; charset=utf-8\r\n\
-              Content-Length: 17\r\n\
-              WWW-Authenticate: Bearer realm=\"docs\"\r\n\r\n\
-              401 Unauthorized\n"
-                .as_slice()
-        );
-        assert_eq!(rt;
-            plain(heap, 400, true)?.get(),
-            b"HTTP/1.1 400 Bad Request\r\n\
-              Content-Type: text/plain; charset=utf-8\r\n\
-              Content-Length: 16\r\n\
-              Connection: close\r\n\r\n\
-              400 Bad Request\n"
-                .as_slice()
-        );
-        assert_eq!(rt;
-            plain(heap, 404, false)?.get(),
-            b"HTTP/1.1 404 Not Found\r\n\
-              Content-Type: text/plain; charset=utf-8\r\n\
-              Content-Length: 14\r\n\r\n\
-              404 Not Found\n"
-                .as_slice()
-        );
-        assert_eq!(rt;
-            plain(heap, 431, true)?.get(),
-            b"HTTP/1.1 431 Request Header Fields Too Large\r\n\
-              Content-Type: text/plain; charset=utf-8\r\n\
-              Content-Length: 36\r\n\
-              Connection: close\r\n\r\n\
-              431 Request Header Fields Too Large\n"
-                .as_slice()
-        );
-        assert_eq!(rt;
-            plain(heap, 204, false)?.get(),
-            b"HTTP/1.1 204 No Content\r\n\r\n".as_slice()
-        );
-        Ok(())
-    }
-
-    #[test]
-    fn writes_the_methods(rt: HostRuntime) -> Result<(), Memory> {
-        let heap = heap(&rt)?;
-        let reply = Reply {
-            code: 405,
-            html: false,
-            allow: Some(Allow::Read),
-            body: Bytes::copy_of(heap, b"")?,
-        };
-        assert_eq!(rt;
-            reply.write(heap, false, false)?.get(),
-            b"HTTP/1.1 405 Method Not Allowed\r\n\
-              Content-Type: text/plain; charset=utf-8\r\n\
-              Content-Length: 23\r\n\
-              Allow: GET\r\n\r\n\
-              405 Method Not Allowed\n"
-                .as_slice()
-        );
-        Ok(())
-    }
-
-    // A reply is one buffer, whose room is taken at once.
-    #[test]
-    fn grows_once(rt: HostRuntime) -> Result<(), Memory> {
-        let heap = heap(&rt)?;
-        let reply = page(heap)?;
-        heap.refuse_after(0);
-        let refused = reply.write(heap, false, true);
-        heap.refuse_after(1);
-        let written = reply.write(heap, false, true);
-        heap.refuse_after(u64::MAX);
-        assert_eq!(rt; refused, Err(Memory));
-        assert!(rt; written.is_ok());
-        Ok(())
     }
 }

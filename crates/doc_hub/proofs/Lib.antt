@@ -2,6 +2,7 @@ mod ConnectionSteps
 mod FreshLaws
 mod FrontSteps
 mod NextLaws
+mod NumberSteps
 mod OriginParts
 mod PathLaws
 mod PathSteps

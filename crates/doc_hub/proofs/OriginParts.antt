@@ -3,7 +3,7 @@ use Rattle.std.proofs.Common.{◌≡◌, ℕ, suc, ◌+◌, ◌==◌, not, true,
 use Rattle.std.specs.List.{position_or_len}
 use Rattle.std.proofs.lemmas.Bool.Decides.{nat_tests}
 use Rattle.doc_hub.specs.Targets.{ends_authority, after_authority, after_http, with_slash, if_rooted, origin_form_by, origin_form, path_part, route_of, page_rest}
-use Rattle.doc_hub.specs.TargetParts.{origin_part_by, origin_part}
+use Rattle.doc_hub.specs.TargetSteps.{origin_part_by, origin_part}
 
 -- the byte that ends an authority
 ends-here : (text : List ℕ) (b : ℕ) (rest : List ℕ) → after_authority text ≡ b ∷ rest → ends_authority b ≡ true

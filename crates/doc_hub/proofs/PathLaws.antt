@@ -11,7 +11,7 @@ use Rattle.percent_encoding.proofs.PercentLemmas.{length-percent_decode}
 use Rattle.percent_encoding.specs.Percent.{percent_decode}
 use Rattle.doc_page.specs.Paths.{segments, is_path}
 use Rattle.doc_hub.specs.WrittenPaths.{is_folder, with_index, segment_of, all_of, if_path, path_written, holds_slash}
-use Rattle.doc_hub.specs.TargetParts.{with_decoded, decoded_segments, path_of_bytes}
+use Rattle.doc_hub.specs.TargetSteps.{with_decoded, decoded_segments, path_of_bytes}
 
 -- two tests that say the same
 same_test : (a b : Bool) → (a ≡ true → b ≡ true) → (b ≡ true → a ≡ true) → a ≡ b

@@ -9,7 +9,7 @@ use Rattle.doc_page.specs.Paths.{is_path, path_of}
 use Rattle.doc_page.specs.Refusals.{IsAnswer}
 use Rattle.doc_page.specs.declared.path.PathError.TheVariants as PathError
 use Rattle.doc_hub.specs.WrittenPaths.{is_folder, if_path, holds_slash}
-use Rattle.doc_hub.specs.TargetParts.{with_decoded, decoded_segments, path_of_bytes}
+use Rattle.doc_hub.specs.TargetSteps.{with_decoded, decoded_segments, path_of_bytes}
 
 -- a text in front of another, where there is one
 abbrev pub onto : List ℕ → Option (List ℕ) → Option (List ℕ)

@@ -7,9 +7,9 @@ use Rattle.matchit.specs.Rows.{RowsOf, catch_all_token, param_token}
 use Rattle.matchit.specs.Seek.{seek, step, or_else, param_step, has_slash}
 use Rattle.matchit.specs.declared.error.InsertError.{InsertError}
 use Rattle.matchit.specs.declared.error.InsertError.TheVariants.{Conflict, InvalidParam, InvalidParamSegment, InvalidCatchAll, OutOfMemory}
-use Rattle.doc_hub.specs.RouteTable.{place_of}
+use Rattle.doc_hub.specs.RouteSteps.{place_of}
 use Rattle.doc_hub.specs.Targets.{after, if_not_empty, route_of}
-use Rattle.doc_hub.specs.TargetParts.{after_slash}
+use Rattle.doc_hub.specs.TargetSteps.{after_slash}
 use Rattle.doc_hub.specs.declared.target.routes.Place.{Place}
 use Rattle.doc_hub.specs.declared.target.routes.Place.TheVariants.{Page}
 

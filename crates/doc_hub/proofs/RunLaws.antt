@@ -21,7 +21,7 @@ use Rattle.doc_hub.specs.declared.refusal.StepError.TheVariants as step_errors
 use Rattle.doc_hub.specs.Replies.{Renders}
 use Rattle.doc_hub.specs.declared.reply.Answer.{Answer}
 use Rattle.doc_hub.specs.Worlds.{World, answer_in, step_said, stepped_by, last_id}
-use Rattle.doc_hub.specs.Runs.{Event, connect, push, step, put, Outcome, stepping, IsOutOfMemory, Happened, Runs, nothing, first, sent_by, is_on, events_on}
+use Rattle.doc_hub.specs.Runs.{Event, connect, push, step, put, Outcome, connecting, stepping, IsOutOfMemory, Happened, Runs, nothing, first, sent_by, is_on_by, is_on, events_on}
 use Rattle.doc_hub.specs.Laws.{AgreeOn, AgreeAt, Matched, RunsAlike, connection}
 use Rattle.doc_hub.proofs.StepLaws.{same_answer}
 use Rattle.doc_hub.proofs.NextLaws.{Is, shown, Next, NextStep, next_of}
@@ -35,39 +35,12 @@ first_is : (x : World × Outcome) (v : World) (o : Outcome) (P : World → Type 
 first_is x v o P is p = subst P (ap (λ (q : World × Outcome). q.0) is) p
 
 module _ (render : Renders) (c : ℕ) where
-  -- ---- numbers are never taken back
-
-  abbrev AtLeast : World → Type 0
-  AtLeast v = c ≤ v.given
-
-  front_given : (w : World) (id : ℕ) (k : Connection) (f : Front) → AtLeast w → AtLeast (stepped_by render w id k f).0
-  front_given w id k nexts.More le = le
-  front_given w id k (nexts.Fault code bare) le = le
-  front_given w id k (nexts.Request used request) le = le
-
-  open_given : (w v : World) (o : Outcome) (id : ℕ) (k : Connection) (t : Bool) → AtLeast w → MatchBool t (Is (w, stepping (Ok steps.Closed)) v o) ((f : Front) × IsNext k.unread f × Is (shown stepping (stepped_by render w id k f)) v o) → AtLeast v
-  open_given w v o id k true le h = first_is (w, stepping (Ok steps.Closed)) v o AtLeast h le
-  open_given w v o id k false le (f, is, h) = first_is (shown stepping (stepped_by render w id k f)) v o AtLeast h (front_given w id k f le)
-
-  step_given : (w v : World) (o : Outcome) (id : ℕ) (k : Option Connection) → AtLeast w → NextStep render w id k v o → AtLeast v
-  step_given w v o id None le h = first_is (w, stepping (Err step_errors.NoConnection)) v o AtLeast h le
-  step_given w v o id (Some k) le h = open_given w v o id k k.closed le h
-
-  abbrev Leaves : {X E : Type 0} → (World → Type 0) → World × Result X E → Type 0
-  Leaves P given = P given.0
-
   abbrev connected_if : World → Bool → World × Result ConnId ConnectError
   connected_if w t = if t then (record w { given = w.given + 1; connections = map.insert w.connections (w.given + 1) new_connection }, Ok (record { 0 = w.given + 1 })) else (w, Err connect_errors.NoIds)
 
-  connect_given : (w : World) (t : Bool) → AtLeast w → Leaves AtLeast (connected_if w t)
-  connect_given w true le = omega arith
-  connect_given w false le = le
-
-  given_after : (w : World) (e : Event) (v : World) (o : Outcome) → AtLeast w → Next render w e v o → AtLeast v
-  given_after w connect v o le h = first_is _ v o AtLeast h (connect_given w (nat_lt w.given last_id) le)
-  given_after w (push id bytes) v o le h = first_is _ v o AtLeast h le
-  given_after w (step id) v o le h = step_given w v o id (map.get w.connections id) le h
-  given_after w (put path page) v o le h = first_is _ v o AtLeast h le
+  -- what is known of an outcome is known of an equal one
+  on_given : (x : World × Outcome) (v : World) (e : Event) (o : Outcome) (t : Bool) → x ≡ (v, o) → is_on_by c e o ≡ t → is_on_by c e x.1 ≡ t
+  on_given x v e o t is on = ap (λ (q : World × Outcome). is_on_by c e q.1) is ∙ on
 
   -- ---- events elsewhere
 
@@ -87,12 +60,9 @@ module _ (render : Renders) (c : ℕ) where
   step_elsewhere w v o id None off h = first_is (w, stepping (Err step_errors.NoConnection)) v o (Kept w) h refl
   step_elsewhere w v o id (Some k) off h = open_elsewhere w v o id k k.closed off h
 
-  apart : (n : ℕ) → c ≤ n → (c == (n + 1)) ≡ false
-  apart n le = grind (arith)
-
-  connect_elsewhere : (w : World) (t : Bool) → AtLeast w → Leaves (Kept w) (connected_if w t)
-  connect_elsewhere w true le = put_at w (w.given + 1) new_connection c false (apart w.given le)
-  connect_elsewhere w false le = refl
+  connect_elsewhere : (w : World) (t : Bool) → is_on_by c connect (connecting (connected_if w t).1) ≡ false → Kept w (connected_if w t).0
+  connect_elsewhere w true off = put_at w (w.given + 1) new_connection c false off
+  connect_elsewhere w false off = refl
 
   with_pushed_elsewhere : (w : World) (id : ℕ) (k : Connection) (r : Result (Unit {0}) PushError) → (c == id) ≡ false → map.get (with_pushed w.connections id k r).0 c ≡ connection c w
   with_pushed_elsewhere w id k (Ok x) off = put_at w id k c false off
@@ -102,30 +72,32 @@ module _ (render : Renders) (c : ℕ) where
   push_elsewhere w id bytes None off = refl
   push_elsewhere w id bytes (Some k) off = with_pushed_elsewhere w id _ _ off
 
-  elsewhere : (w : World) (e : Event) (v : World) (o : Outcome) → AtLeast w → is_on c e ≡ false → Next render w e v o → Kept w v
-  elsewhere w connect v o le off h = first_is _ v o (Kept w) h (connect_elsewhere w (nat_lt w.given last_id) le)
-  elsewhere w (push id bytes) v o le off h = first_is _ v o (Kept w) h (push_elsewhere w id bytes (map.get w.connections id) off)
-  elsewhere w (step id) v o le off h = step_elsewhere w v o id (map.get w.connections id) off h
-  elsewhere w (put path page) v o le off h = first_is _ v o (Kept w) h refl
+  elsewhere : (w : World) (e : Event) (v : World) (o : Outcome) → is_on_by c e o ≡ false → Next render w e v o → Kept w v
+  elsewhere w connect v o off h =
+      let t = nat_lt w.given last_id in
+      first_is _ v o (Kept w) h (connect_elsewhere w t (on_given (shown connecting (connected_if w t)) v connect o false h off))
+  elsewhere w (push id bytes) v o off h = first_is _ v o (Kept w) h (push_elsewhere w id bytes (map.get w.connections id) off)
+  elsewhere w (step id) v o off h = step_elsewhere w v o id (map.get w.connections id) off h
+  elsewhere w (put path page) v o off h = first_is _ v o (Kept w) h refl
 
   -- ---- the events of c, each with the connection as it finds it
 
   abbrev Chain : Option Connection → List Happened → Type 0
   Chain k [] = ⊤
-  Chain k (h ∷ hs) = (v : World) × (is_on c h.event ≡ true) × (connection c h.world ≡ k) × Next render h.world h.event v h.outcome × Chain (connection c v) hs
+  Chain k (h ∷ hs) = (v : World) × (is_on c h ≡ true) × (connection c h.world ≡ k) × Next render h.world h.event v h.outcome × Chain (connection c v) hs
 
   abbrev Enough : Happened → Type 0
   Enough h = ¬ (IsOutOfMemory h.outcome)
 
-  chain_of : (w : World) (run : List Happened) (u : World) → AtLeast w → Runs render w run u → All Enough run → Chain (connection c w) (events_on c run)
-  chain_of w run u le (nothing x) enough = tt
-  chain_of w run u le (first x v y e o rest happens runs) enough =
+  chain_of : (w : World) (run : List Happened) (u : World) → Runs render w run u → All Enough run → Chain (connection c w) (events_on c run)
+  chain_of w run u (nothing x) enough = tt
+  chain_of w run u (first x v y e o rest happens runs) enough =
       let next : Next render x e v o = next_of render x e v o (All-head Enough (record { world = x; event = e; outcome = o }) rest enough) happens in
-      either next (chain_of v rest y (given_after x e v o le next) runs (All-tail Enough (record { world = x; event = e; outcome = o }) rest enough)) (is_on c e) refl
+      either next (chain_of v rest y runs (All-tail Enough (record { world = x; event = e; outcome = o }) rest enough)) (is_on_by c e o) refl
     where
-      either : Next render x e v o → Chain (connection c v) (events_on c rest) → (t : Bool) → is_on c e ≡ t → Chain (connection c x) (cond t (record { world = x; event = e; outcome = o } ∷ events_on c rest) (events_on c rest))
+      either : Next render x e v o → Chain (connection c v) (events_on c rest) → (t : Bool) → is_on_by c e o ≡ t → Chain (connection c x) (cond t (record { world = x; event = e; outcome = o } ∷ events_on c rest) (events_on c rest))
       either next chain true on = (v, on, refl, next, chain)
-      either next chain false off = subst (λ k. Chain k (events_on c rest)) (elsewhere x e v o le off next) chain
+      either next chain false off = subst (λ k. Chain k (events_on c rest)) (elsewhere x e v o off next) chain
 
   -- ---- one event of c, in two worlds
 
@@ -187,9 +159,25 @@ module _ (render : Renders) (c : ℕ) where
   itself : (c == c) ≡ true
   itself = grind (arith)
 
-  same_event : (w v w' v' : World) (e : Event) (o p : Outcome) → is_on c e ≡ true → connection c w ≡ connection c v → AgreeAt c w v e → Next render w e w' o → Next render v e v' p → Same w' v' o p
-  same_event w v w' v' connect o p on alike agree h g = absurd (subst T (sym on) tt)
-  same_event w v w' v' (push id bytes) o p on alike agree h g = at id (eqb_yes (subst T (sym on) tt)) h g
+  -- the connection that was made, of which nothing is sent
+  abbrev Made : World × Outcome → Type 0
+  Made x = (sent_by x.1 ≡ []) × (connection c x.0 ≡ Some new_connection)
+
+  connect_here : (w : World) (t : Bool) → is_on_by c connect (connecting (connected_if w t).1) ≡ true → Made (shown connecting (connected_if w t))
+  connect_here w true on = (refl, put_at w (w.given + 1) new_connection c true on)
+  connect_here w false on = absurd (subst T (sym on) tt)
+
+  made : (w w' : World) (o : Outcome) → is_on_by c connect o ≡ true → Next render w connect w' o → Made (w', o)
+  made w w' o on h =
+      let t = nat_lt w.given last_id in
+      subst Made h (connect_here w t (on_given (shown connecting (connected_if w t)) w' connect o true h on))
+
+  same_made : (w v w' v' : World) (o p : Outcome) → Made (w', o) → Made (v', p) → Same w' v' o p
+  same_made w v w' v' o p (none, here) (nor, there) = (none ∙ sym nor, here ∙ sym there)
+
+  same_event : (w v w' v' : World) (e : Event) (o p : Outcome) → is_on_by c e o ≡ true → is_on_by c e p ≡ true → connection c w ≡ connection c v → AgreeAt c w v e → Next render w e w' o → Next render v e v' p → Same w' v' o p
+  same_event w v w' v' connect o p on on' alike agree h g = same_made w v w' v' o p (made w w' o on h) (made v v' p on' g)
+  same_event w v w' v' (push id bytes) o p on on' alike agree h g = at id (eqb_yes (subst T (sym on) tt)) h g
     where
       at : (n : ℕ) → c ≡ n → Next render w (push n bytes) w' o → Next render v (push n bytes) v' p → Same w' v' o p
       at n is = subst (λ m. Next render w (push m bytes) w' o → Next render v (push m bytes) v' p → Same w' v' o p) is (λ h g.
@@ -197,21 +185,22 @@ module _ (render : Renders) (c : ℕ) where
             refl,
             pushed_here w bytes (connection c w) itself refl ∙ ap (push_result bytes) alike ∙ sym (pushed_here v bytes (connection c v) itself refl),
           ))
-  same_event w v w' v' (step id) o p on alike agree h g = at id (eqb_yes (subst T (sym on) tt)) agree h g
+  same_event w v w' v' (step id) o p on on' alike agree h g = at id (eqb_yes (subst T (sym on) tt)) agree h g
     where
       at : (n : ℕ) → c ≡ n → AgreeAt c w v (step n) → Next render w (step n) w' o → Next render v (step n) v' p → Same w' v' o p
       at n is = subst (λ m. AgreeAt c w v (step m) → Next render w (step m) w' o → Next render v (step m) v' p → Same w' v' o p) is (λ agree h g.
           step_same w v w' v' o p (connection c w) itself refl (sym alike) agree h (subst (λ k. NextStep render v c k v' p) (sym alike) g))
-  same_event w v w' v' (put path page) o p on alike agree h g = absurd (subst T (sym on) tt)
+  same_event w v w' v' (put path page) o p on on' alike agree h g = absurd (subst T (sym on) tt)
 
   same_sent : (hs gs : List Happened) (k j : Option Connection) → k ≡ j → Chain k hs → Chain j gs → Matched c hs gs → flat_map (λ h. sent_by h.outcome) hs ≡ flat_map (λ h. sent_by h.outcome) gs
   same_sent [] [] k j alike a b m = refl
   same_sent (h ∷ hs) [] k j alike a b m = absurd m
   same_sent [] (g ∷ gs) k j alike a b m = absurd m
   same_sent (h ∷ hs) (g ∷ gs) k j alike (v, on, at, next, chain) (u, on', at', next', chain') (same, agree, m) =
-      let both = same_event h.world g.world v u h.event h.outcome g.outcome on (at ∙ alike ∙ sym at') agree next (subst (λ e. Next render g.world e u g.outcome) (sym same) next') in
+      let here = subst (λ e. is_on_by c e g.outcome ≡ true) (sym same) on' in
+      let both = same_event h.world g.world v u h.event h.outcome g.outcome on here (at ∙ alike ∙ sym at') agree next (subst (λ e. Next render g.world e u g.outcome) (sym same) next') in
       λ i. both.0 i ++ same_sent hs gs (connection c v) (connection c u) both.1 chain chain' m i
 
 pub runs_alike : RunsAlike
-runs_alike render c w v w' v' run other alike le le' runs runs' enough enough' m =
-    same_sent render c (events_on c run) (events_on c other) (connection c w) (connection c v) alike (chain_of render c w run w' le runs enough) (chain_of render c v other v' le' runs' enough') m
+runs_alike render c w v w' v' run other alike runs runs' enough enough' m =
+    same_sent render c (events_on c run) (events_on c other) (connection c w) (connection c v) alike (chain_of render c w run w' runs enough) (chain_of render c v other v' runs' enough') m

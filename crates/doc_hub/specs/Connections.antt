@@ -1,5 +1,5 @@
 -- Connections by number, and what pushes and replies do to one.
-use Rattle.std.specs.Prelude.{ℕ, List, [], ◌++◌, ◌+◌, length, drop, Bool, false, nat_lt, Option, Some, None, Result, Ok, Err, if◌then◌else◌}
+use Rattle.std.specs.Prelude.{◌≡◌, ◌≤◌, ℕ, List, [], ◌++◌, ◌+◌, length, drop, Bool, false, nat_lt, Option, Some, None, Result, Ok, Err, if◌then◌else◌}
 use Rattle.std.specs.FinMap as map
 use Rattle.std.specs.Ordering.{nat_cmp}
 use Rattle.doc_hub.specs.declared.connection.Connection.{Connection}
@@ -8,6 +8,10 @@ use Rattle.doc_hub.specs.declared.refusal.PushError.TheVariants as push_errors
 
 abbrev pub Connections : Type 0
 Connections = map.FinMap nat_cmp Connection
+
+-- each connection has a number that was given: one of the first so many, which begin at 1
+abbrev pub HaveGivenNumbers : ℕ → Connections → Type 0
+HaveGivenNumbers given cs = (id : ℕ) (c : Connection) → map.get cs id ≡ Some c → (1 ≤ id) × (id ≤ given)
 
 -- an open connection without unread bytes
 abbrev pub new_connection : Connection

@@ -1,5 +1,5 @@
 -- Noninterference: what is sent on a connection depends on its own events and on what its readers may see.
-use Rattle.std.specs.Prelude.{◌≡◌, ℕ, ◌≤◌, All, Bool, List, [], ◌∷◌, false, Option, Some, None, Ok, ⊤}
+use Rattle.std.specs.Prelude.{◌≡◌, ℕ, All, Bool, List, [], ◌∷◌, false, Option, Some, None, Ok, ⊤}
 use Rattle.std.specs.FinMap as map
 use Rattle.doc_store.specs.declared.reader.Reader.{Reader}
 use Rattle.doc_store.specs.Sites.{Site, visible_to}
@@ -79,19 +79,19 @@ abbrev pub AgreeAt : ℕ → World → World → Event → Type 0
 AgreeAt c w v (step id) = (k : Connection) → connection c w ≡ Some k → (next : Next) → IsNext k.unread next → AgreeOn w v next
 AgreeAt c w v event = ⊤
 
--- the same events on the connection in the same order, in worlds that are alike before each step
+-- the same events on the connection in the same order, what made it among them, in worlds that are alike before each step
 abbrev pub Matched : ℕ → List Happened → List Happened → Type 0
 Matched c [] [] = ⊤
 Matched c (h ∷ hs) [] = ⊥
 Matched c [] (g ∷ gs) = ⊥
 Matched c (h ∷ hs) (g ∷ gs) = (h.event ≡ g.event) × AgreeAt c h.world g.world h.event × Matched c hs gs
 
--- Run noninterference: two runs in which memory sufficed, from worlds where the connection was given
--- and is alike, and which agree on its events and on what its readers may see, send equal bytes on it.
+-- Run noninterference: two runs in which memory sufficed, from worlds in which the connection is alike,
+-- and which agree on its events and on what its readers may see, send equal bytes on it.
 abbrev pub RunsAlike : Type 0
 RunsAlike =
     (render : Renders) (c : ℕ) (w v w' v' : World) (run other : List Happened)
-    → connection c w ≡ connection c v → c ≤ w.given → c ≤ v.given
+    → connection c w ≡ connection c v
     → Runs render w run w' → Runs render v other v'
     → All (λ h. ¬ (IsOutOfMemory h.outcome)) run → All (λ h. ¬ (IsOutOfMemory h.outcome)) other
     → Matched c (events_on c run) (events_on c other) → sent_on c run ≡ sent_on c other

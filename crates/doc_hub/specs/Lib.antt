@@ -1,9 +1,9 @@
 pub mod Connections
 pub mod Laws
 pub mod Replies
-pub mod RouteTable
+pub mod RouteSteps
 pub mod Runs
-pub mod TargetParts
+pub mod TargetSteps
 pub mod Targets
 pub mod Worlds
 pub mod WrittenPaths

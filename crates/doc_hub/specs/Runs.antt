@@ -67,14 +67,18 @@ abbrev pub sent_by : Outcome → List ℕ
 sent_by (stepping (Ok said)) = bytes_of said
 sent_by outcome = []
 
--- whether an event is on this connection
-abbrev pub is_on : ℕ → Event → Bool
-is_on c (push id bytes) = c == id
-is_on c (step id) = c == id
-is_on c event = false
+-- whether an event with this outcome is on the connection: what makes it, its pushes and its steps
+abbrev pub is_on_by : ℕ → Event → Outcome → Bool
+is_on_by c connect (connecting (Ok id)) = c == id.0
+is_on_by c (push id bytes) outcome = c == id
+is_on_by c (step id) outcome = c == id
+is_on_by c event outcome = false
+
+abbrev pub is_on : ℕ → Happened → Bool
+is_on c h = is_on_by c h.event h.outcome
 
 abbrev pub events_on : ℕ → List Happened → List Happened
-events_on c run = filter (λ h. is_on c h.event) run
+events_on c run = filter (is_on c) run
 
 -- the bytes that a run sends on a connection
 abbrev pub sent_on : ℕ → List Happened → List ℕ

@@ -97,10 +97,11 @@ stepped_by render w id c (nexts.Request used request) =
 abbrev pub Stays : World → Result Step StepError → World → Result Step StepError → Type 0
 Stays old said new result = (new ≡ old) × (result ≡ said)
 
--- A step of an open connection is by the one thing that its unread bytes begin with, or memory ran out
--- and nothing changes.
+-- A step of an open connection is by the one thing that its unread bytes begin with. Where that is a
+-- request or a fault memory may run out, and then nothing changes.
 abbrev pub Answers : Renders → World → ℕ → World → Result Step StepError → Connection → Type 0
-Answers render old id new (Err step_errors.Memory) c = new ≡ old
+Answers render old id new (Err step_errors.Memory) c =
+    (new ≡ old) × ((next : Next) × IsNext c.unread next × ¬ (next ≡ nexts.More))
 Answers render old id new result c =
     (next : Next) × IsNext c.unread next × ◌≡◌ {A = World × Result Step StepError} (stepped_by render old id c next) (new, result)
 

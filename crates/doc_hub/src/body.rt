@@ -10,7 +10,13 @@ use doc_page::failure::Memory;
 use doc_page::filling::push_filled;
 use doc_page::linker::Linker;
 use doc_page::path::Path;
-use doc_page::rendered::{Heading, Rendered};
+use doc_page::rendered::{Heading, Piece, Rendered};
+
+/// The bytes round the title.
+const FRAME_LEN: usize = 32;
+
+/// Room for a link's opening tag.
+const LINK_ROOM: usize = 64;
 
 /// The document of a page: a head with its title, and the page with its links as they are shown.
 pub fn body<L: Linker>(
@@ -21,9 +27,10 @@ pub fn body<L: Linker>(
 ) -> Result<Bytes, Memory>
     ensures { IfOk result (λ body. body ≡ body_of path.now (L.shown linker.now) page.now) }
 {
-    let mut out = String::new(heap);
+    let title = title(path, page.headings.get());
+    let mut out = String::with_capacity(heap, room(title, page.pieces.get()))?;
     out.push_str("<!DOCTYPE html>\n<title>")?;
-    push_escaped(&mut out, title(path, page.headings.get()))?;
+    push_escaped(&mut out, title)?;
     out.push_str("</title>\n")?;
     push_filled(heap, &mut out, page, linker)?;
     Ok(Bytes::new(out.into_bytes()))
@@ -39,4 +46,16 @@ fn title<'a>(path: &'a Path, headings: &'a [Heading]) -> &'a str
         }
     }
     path.text()
+}
+
+/// About how many bytes the document takes; escapes in the title and long links take more.
+fn room(title: &str, pieces: &[Piece]) -> usize {
+    let mut room = FRAME_LEN.saturating_add(title.len());
+    for piece in pieces {
+        room = room.saturating_add(match piece {
+            Piece::Html(html) => html.get().len(),
+            Piece::Link(_) => LINK_ROOM,
+        });
+    }
+    room
 }

@@ -1,6 +1,7 @@
 //! The hub: pages, readers and connections, and what each call does to them.
 
-ghost use Rattle.std.specs.Prelude.{◌≡◌};
+ghost use Rattle.std.specs.Prelude.{◌≡◌, IfOk};
+ghost use Rattle.std.specs.FinMap as map;
 ghost use Rattle.doc_page.specs.Refusals.{Gives, IsAnswer};
 ghost use Rattle.doc_hub.specs.Runs.{Happens, connect as connect_event, push as push_event, step as step_event, put as put_event, connecting, pushing, stepping, putting};
 ghost use Rattle.doc_hub.specs.Worlds.{hub_made};
@@ -40,6 +41,7 @@ pub struct Hub<R: Renderer + Drop> {
 
 impl<R: Renderer + Drop> Model for Hub<R> {
     ghost use Rattle.std.specs.Coded.{coded×};
+    ghost use Rattle.doc_hub.specs.Connections.{HaveGivenNumbers};
     ghost use Rattle.doc_hub.specs.Worlds.{World, world_code};
     ghost use Rattle.doc_hub.specs.contracts.connection.Connection as one;
     ghost use Rattle.doc_store.specs.contracts.readers.Readers as reader_table;
@@ -50,6 +52,8 @@ impl<R: Renderer + Drop> Model for Hub<R> {
     ghost coded = { coded× R.code (world_code stored.the_row.coded reader_table.the_row.coded one.the_row.coded) };
 
     ghost view = { λ h. (h.renderer, record { store = h.store; readers = h.readers; keep_alive = h.keep_alive; given = h.given; connections = h.connections }) };
+
+    ghost invariant = { λ h. HaveGivenNumbers h.given h.connections };
 }
 
 impl<R: Renderer + Drop> Hub<R> {
@@ -79,10 +83,11 @@ impl<R: Renderer + Drop> Hub<R> {
         })
     }
 
-    /// One more connection, open and without unread bytes.
+    /// One more connection, open and without unread bytes, under a number that has none.
     #[tactic(auto, unfolding(crate::specs::Worlds::last_id))]
     pub fn connect(&mut self) -> Result<ConnId, ConnectError>
         ensures world { Happens (R.page self.old.0) self.old.1 connect_event self.new.1 (connecting result) }
+        ensures fresh { IfOk result (λ id. map.get self.old.1.connections id.0 ≡ None) }
         ensures same { R.page self.new.0 ≡ R.page self.old.0 }
     {
         if self.given == u64::MAX {

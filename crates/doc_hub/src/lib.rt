@@ -1,15 +1,13 @@
 //! The hub: connections, requests and replies over pages that each reader sees their part of.
 #![tactic(auto)]
 
-pub mod body;
-pub mod connection;
-pub mod connections;
+mod body;
+mod connection;
+mod connections;
 pub mod event;
 pub mod hub;
 pub mod laws;
 pub mod refusal;
-pub mod reply;
-pub mod target;
-#[cfg(test)]
-mod tests;
-pub mod unread;
+mod reply;
+mod target;
+mod unread;

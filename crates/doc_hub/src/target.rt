@@ -2,6 +2,4 @@
 
 mod origin_form;
 pub mod routes;
-#[cfg(test)]
-mod tests;
 pub mod written_path;

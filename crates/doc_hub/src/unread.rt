@@ -61,11 +61,12 @@ impl Unread {
         self.taken += count;
     }
 
-    /// Drops all bytes, and keeps their room.
+    /// Drops all bytes, and gives their room back.
     pub fn clear(&mut self)
         ensures { self.new ≡ [] }
     {
         self.buffer.clear();
+        self.buffer.shrink_to_fit();
         self.taken = 0;
     }
 

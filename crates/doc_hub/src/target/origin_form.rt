@@ -2,14 +2,14 @@
 
 ghost use Rattle.std.specs.Prelude.{◌≡◌, option_copied};
 ghost use Rattle.doc_hub.specs.Targets.{ends_authority, after_authority, after_http, if_rooted, path_part};
-ghost use Rattle.doc_hub.specs.TargetParts.{origin_part, after_slash};
+ghost use Rattle.doc_hub.specs.TargetSteps.{origin_part, after_slash};
 
 const HTTP: &str = "http://";
 
 /// The target's origin form, where that is a part of the target. `http://docs`, `http://docs?a` and
 /// `http://docs#a` have origin forms that aren't, as `/?a`; no route is lost, since none stands at
 /// a path that begins so.
-#[tactic(auto, unfolding(crate::specs::TargetParts::origin_part))]
+#[tactic(auto, unfolding(crate::specs::TargetSteps::origin_part))]
 pub(super) fn origin_part(target: &str) -> Option<&str>
     ensures { option_copied result ≡ origin_part target.now }
 {

@@ -1,7 +1,7 @@
 //! The routes of the hub.
 
 ghost use Rattle.std.specs.Prelude.{◌≡◌, option_copied};
-ghost use Rattle.doc_hub.specs.RouteTable.{route_table};
+ghost use Rattle.doc_hub.specs.RouteSteps.{route_table};
 ghost use Rattle.doc_hub.specs.Targets.{page_rest, route_of};
 
 use crate::target::origin_form::{after_slash, origin_part, path_part};
@@ -24,7 +24,7 @@ pub struct Routes {
 }
 
 impl Routes {
-    ghost use Rattle.doc_hub.specs.RouteTable.{place_of};
+    ghost use Rattle.doc_hub.specs.RouteSteps.{place_of};
 
     /// The router takes its memory from the allocator below the heap, and none after this call.
     pub fn new(heap: Heap) -> Result<Routes, Memory> {

@@ -4,7 +4,7 @@ ghost use Rattle.std.specs.Prelude.{◌≡◌, ◌≤◌, ◌++◌, ◌∷◌, l
 ghost use Rattle.percent_encoding.specs.Percent.{percent_decode};
 ghost use Rattle.doc_page.specs.Paths.{segments};
 ghost use Rattle.doc_hub.specs.WrittenPaths.{is_folder, path_written, holds_slash};
-ghost use Rattle.doc_hub.specs.TargetParts.{decoded_segments, path_of_bytes};
+ghost use Rattle.doc_hub.specs.TargetSteps.{decoded_segments, path_of_bytes};
 
 use doc_heap::{Heap, Vec};
 use doc_page::failure::Memory;

@@ -26,4 +26,4 @@ returns-in-At-clause-within c =
     let inside = places c.args.bytes.now c.in-At.start c.in-At.end c.in-At.ensures in
     let len : c.in-At.end + length (take (length c.args.bytes.now - c.in-At.end) (drop c.in-At.end c.args.bytes.now)) ≡ length c.args.bytes.now = omega (arith, take_rest c.args.bytes.now c.in-At.end, length-drop c.in-At.end c.args.bytes.now, length-take (length c.args.bytes.now - c.in-At.end) (drop c.in-At.end c.args.bytes.now)) in
     IfOk-weaker c.read_head.result _ (UsesAtMost (length c.args.bytes.now))
-    (λ found (read, is, e). behind_uses_all _ _ read c.in-At.end _ found len e) c.read_head.ensures
+    (λ found (read, is, e). behind_uses_all _ _ read c.in-At.end _ found len e) c.read_head.ensures.found

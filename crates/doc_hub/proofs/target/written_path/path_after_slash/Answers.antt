@@ -4,7 +4,7 @@ use Rattle.std.proofs.lemmas.Bool.{cond_both}
 use Rattle.std.proofs.lemmas.List.{take_rest}
 use Rattle.std.proofs.lemmas.Str.{IsUtf8-from_is_utf8}
 use Rattle.doc_hub.specs.WrittenPaths.{if_path}
-use Rattle.doc_hub.specs.TargetParts.{path_of_bytes}
+use Rattle.doc_hub.specs.TargetSteps.{path_of_bytes}
 use Rattle.doc_hub.proofs.PathSteps.{path_of_bytes-found}
 use Rattle.doc_hub.proofs.target.written_path.path_after_slash.Goals as goal
 

@@ -1,6 +1,6 @@
 use Rattle.std.proofs.Common.{◌≡◌, ◌∙◌, sym, arith, subst, ap, Option, List, ℕ, drop}
 use Rattle.std.specs.Result.{IfOk}
-use Rattle.doc_hub.specs.TargetParts.{path_of_bytes}
+use Rattle.doc_hub.specs.TargetSteps.{path_of_bytes}
 use Rattle.doc_hub.proofs.PathLaws.{path-too_long, path-missing, path-found, decoded-long}
 use Rattle.doc_hub.proofs.target.written_path.written_path.Goals as goal
 

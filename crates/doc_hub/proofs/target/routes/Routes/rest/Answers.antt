@@ -1,6 +1,6 @@
 use Rattle.std.proofs.Common.{◌∙◌, sym, ap, option_and_then}
 use Rattle.std.specs.Option.{option_copied}
-use Rattle.doc_hub.specs.TargetParts.{after_slash}
+use Rattle.doc_hub.specs.TargetSteps.{after_slash}
 use Rattle.doc_hub.proofs.Routing.{rest-routed, rest-unrouted}
 use Rattle.doc_hub.proofs.target.routes.Routes.rest.Goals as goal
 

@@ -1,4 +1,0 @@
-use Rattle.doc_hub.proofs.tests.a_push_survives_each_refused_growth.Given as goal
-
-abbrev pub ghosts-tried : goal.ghosts-tried
-ghosts-tried g a = record { name = a.blank.name; parts = a.blank.parts }
