@@ -1,5 +1,5 @@
 -- Escaping by runs: what was written and the run that waits are together the escaped front of the text.
-use Rattle.std.proofs.Common.{◌≡◌, ℕ, ◌+◌, ◌-◌, ◌<◌, ◌≤◌, List, [], ◌∷◌, ◌++◌, length, get_or, take, drop, refl, sym, ap, ◌∙◌, arith, length-drop}
+use Rattle.std.proofs.Common.{◌≡◌, ℕ, ◌+◌, ◌-◌, ◌<◌, ◌≤◌, List, [], ◌∷◌, ◌++◌, length, get_or, take, drop, sym, ap, ◌∙◌, arith, length-drop}
 use Rattle.std.specs.Prelude.{slice_range}
 use Rattle.std.specs.List.{flat_map}
 use Rattle.std.specs.Str.{IsUtf8, IsCharBoundary}
@@ -13,9 +13,9 @@ unfolding escaped
 escaped-append xs ys = flat_map-append escaped_byte xs ys
 
 -- nothing is escaped before the first byte
-pub escaped_none : (out : List ℕ) → out ++ [] ≡ out ++ escaped []
+pub escaped_none : (text old new : List ℕ) → new ≡ old → new ++ slice_range text 0 0 ≡ old ++ escaped (take 0 text)
 unfolding escaped
-escaped_none out = refl
+escaped_none text old new same = ap (λ out. out ++ []) same
 
 -- one more byte
 escaped-take : (bs : List ℕ) (i : ℕ) → i < length bs → escaped (take (i + 1) bs) ≡ escaped (take i bs) ++ escaped_byte (get_or bs i 0)

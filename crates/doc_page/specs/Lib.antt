@@ -1,4 +1,5 @@
 pub mod Escaping
+pub mod Laws
 pub mod Lines
 pub mod Pages
 pub mod Paths

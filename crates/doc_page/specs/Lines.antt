@@ -1,6 +1,6 @@
 -- The lines of a text (CommonMark 0.31.2, section 2.1).
 use Rattle.std.specs.Prelude.{ℕ, List, [], ◌∷◌, ◌-◌, length, take, drop, Bool, false, not, ◌&&◌, ◌||◌, ◌==◌, if◌then◌else◌}
-use Rattle.std.specs.List.{onto_first, prefix_len, suffix_len}
+use Rattle.std.specs.List.{list_all, onto_first, prefix_len, suffix_len}
 
 -- the text's first byte is this one
 abbrev pub begins_with : ℕ → List ℕ → Bool
@@ -27,6 +27,10 @@ without_ending line = take (length line - suffix_len is_ending line) line
 -- a space or a tab
 abbrev pub is_space_or_tab : ℕ → Bool
 is_space_or_tab b = b == 32 || b == 9
+
+-- nothing but spaces and tabs; of a line the ending is off (section 2.1, "blank line")
+abbrev pub is_blank : List ℕ → Bool
+is_blank text = list_all is_space_or_tab text
 
 -- the text without spaces and tabs at both ends; of a blank line nothing is left (section 2.1,
 -- "blank line")

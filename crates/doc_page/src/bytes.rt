@@ -95,32 +95,3 @@ impl Hash for Bytes {
         self.inner.hash(state);
     }
 }
-
-#[cfg(test)]
-mod tests {
-    use super::*;
-    use std::hash::DefaultHasher;
-    use std::test::Fail;
-
-    fn hash_of(bytes: &Bytes) -> u64 {
-        let mut state = DefaultHasher::new();
-        bytes.hash(&mut state);
-        state.finish()
-    }
-
-    #[test]
-    fn bytes_grow_and_are_cleared(rt: HostRuntime) -> Result<(), Fail> {
-        let heap = doc_heap::heap(rt.alloc(), u64::MAX)?;
-        let mut bytes = Bytes::new(Vec::new(heap));
-        bytes.extend(b"GET ")?;
-        bytes.extend(b"/\xFF")?;
-        assert_eq!(rt; bytes.get(), b"GET /\xFF".as_slice());
-        let copy = Bytes::copy_of(heap, b"GET /\xFF")?;
-        assert_eq!(rt; copy, bytes);
-        assert_eq!(rt; hash_of(&copy), hash_of(&bytes));
-        bytes.clear();
-        assert_eq!(rt; bytes.get(), b"".as_slice());
-        assert_eq!(rt; copy.into_inner().as_slice(), b"GET /\xFF".as_slice());
-        Ok(())
-    }
-}

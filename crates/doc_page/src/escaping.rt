@@ -1,6 +1,7 @@
 //! How text is written in HTML.
 
-ghost use Rattle.std.specs.Prelude.{◌≡◌, ◌<◌, ◌∷◌, [], ◌++◌, string_bytes, IfOk, OnOk, OnSome, IfSome, IfNone};
+ghost use Rattle.std.specs.Prelude.{◌≡◌, ◌<◌, ◌∷◌, [], ◌++◌, string_bytes, IfOk, OnOk, OnErr, OnSome, IfSome, IfNone};
+ghost use Rattle.std.specs.Io.{StartsWith};
 ghost use Rattle.doc_page.specs.Escaping.{escaped, escaped_byte};
 
 use crate::failure::Memory;
@@ -16,10 +17,13 @@ pub fn escape(heap: Heap, text: &str) -> Result<Text, Memory>
     Ok(Text::new(out))
 }
 
-/// Writes the escaped text at the end of the buffer, which after a refusal may hold part of it.
+/// Writes the escaped text at the end of the buffer, where after a refusal part of it may stand.
+#[tactic(auto, using(crate::proofs::BufferSteps::front_same, crate::proofs::BufferSteps::front_more))]
 pub fn push_escaped(out: &mut String, text: &str) -> Result<(), Memory>
-    ensures { OnOk result (string_bytes out.new ≡ string_bytes out.old ++ escaped text.now) }
+    ensures ok { OnOk result (string_bytes out.new ≡ string_bytes out.old ++ escaped text.now) }
+    ensures err { OnErr result (StartsWith (string_bytes out.new) (string_bytes out.old)) }
 {
+    out.reserve(text.len())?;
     let mut start = 0;
     for (i, byte) in text.as_bytes().iter().enumerate() {
         let Some(reference) = reference(*byte) else {
@@ -45,22 +49,5 @@ fn reference(byte: u8) -> Option<&'static str>
         b'>' => Some("&gt;"),
         b'"' => Some("&quot;"),
         _ => None,
-    }
-}
-
-#[cfg(test)]
-mod tests {
-    use super::*;
-    use std::test::Fail;
-
-    #[test]
-    fn four_characters_are_escaped(rt: HostRuntime) -> Result<(), Fail> {
-        let heap = doc_heap::heap(rt.alloc(), u64::MAX)?;
-        let mut html = String::from_str(heap, "<p>")?;
-        push_escaped(&mut html, "é<b & \"c\">d'e")?;
-        assert_eq!(rt; html.as_str(), "<p>é&lt;b &amp; &quot;c&quot;&gt;d'e");
-        assert_eq!(rt; escape(heap, "&amp;")?.get(), "&amp;amp;");
-        assert_eq!(rt; escape(heap, "")?.get(), "");
-        Ok(())
     }
 }

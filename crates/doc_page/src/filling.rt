@@ -1,6 +1,7 @@
 //! Pages with their links as a reader sees them.
 
-ghost use Rattle.std.specs.Prelude.{◌≡◌, ◌++◌, string_bytes, IfOk, OnOk};
+ghost use Rattle.std.specs.Prelude.{◌≡◌, ◌++◌, string_bytes, IfOk, OnOk, OnErr};
+ghost use Rattle.std.specs.Io.{StartsWith};
 ghost use Rattle.doc_page.specs.Pages.{filled, filled_piece, opening_tag, title_attribute};
 
 use crate::escaping::push_escaped;
@@ -19,31 +20,51 @@ pub fn fill<L: Linker>(heap: Heap, page: &Rendered, linker: &L) -> Result<Text, 
     Ok(Text::new(out))
 }
 
-/// Writes the filled page at the end of the buffer, which after a refusal may hold part of it.
-#[tactic(auto, unfolding(crate::specs::Pages::filled))]
+/// Writes the filled page at the end of the buffer, where after a refusal part of it may stand.
+#[tactic(auto, unfolding(crate::specs::Pages::filled), using(crate::proofs::BufferSteps::front_same, crate::proofs::BufferSteps::front_more))]
 pub fn push_filled<L: Linker>(
     heap: Heap,
     out: &mut String,
     page: &Rendered,
     linker: &L,
 ) -> Result<(), Memory>
-    ensures { OnOk result
+    ensures ok { OnOk result
         (string_bytes out.new ≡ string_bytes out.old ++ filled (L.shown linker.now) page.now) }
+    ensures err { OnErr result (StartsWith (string_bytes out.new) (string_bytes out.old)) }
 {
+    out.reserve(room_of(page.pieces.get()))?;
     for piece in page.pieces.get() {
         push_piece(heap, out, piece, linker)?;
     }
     Ok(())
 }
 
+/// How many bytes pieces take, where each tag is a short one: a guess, on which nothing rests.
+fn room_of(pieces: &[Piece]) -> usize {
+    let mut room: usize = 0;
+    for piece in pieces {
+        room = room.saturating_add(room_of_piece(piece));
+    }
+    room
+}
+
+fn room_of_piece(piece: &Piece) -> usize {
+    match piece {
+        Piece::Html(html) => html.get().len(),
+        Piece::Link(spot) => spot.dest.get().len().saturating_add(20),
+    }
+}
+
+#[tactic(auto, using(crate::proofs::BufferSteps::front_same, crate::proofs::BufferSteps::front_more))]
 fn push_piece<L: Linker>(
     heap: Heap,
     out: &mut String,
     piece: &Piece,
     linker: &L,
 ) -> Result<(), Memory>
-    ensures { OnOk result
+    ensures ok { OnOk result
         (string_bytes out.new ≡ string_bytes out.old ++ filled_piece (L.shown linker.now) piece.now) }
+    ensures err { OnErr result (StartsWith (string_bytes out.new) (string_bytes out.old)) }
 {
     match piece {
         Piece::Html(html) => {
@@ -57,9 +78,11 @@ fn push_piece<L: Linker>(
     }
 }
 
+#[tactic(auto, using(crate::proofs::BufferSteps::front_same, crate::proofs::BufferSteps::front_more))]
 fn push_opening_tag(out: &mut String, title: &Option<Text>, shown: &Shown) -> Result<(), Memory>
-    ensures { OnOk result
+    ensures ok { OnOk result
         (string_bytes out.new ≡ string_bytes out.old ++ opening_tag title.now shown.now) }
+    ensures err { OnErr result (StartsWith (string_bytes out.new) (string_bytes out.old)) }
 {
     match shown {
         Shown::Href(href) => {
@@ -74,9 +97,11 @@ fn push_opening_tag(out: &mut String, title: &Option<Text>, shown: &Shown) -> Re
     Ok(())
 }
 
+#[tactic(auto, using(crate::proofs::BufferSteps::front_same, crate::proofs::BufferSteps::front_more))]
 fn push_title(out: &mut String, title: &Option<Text>) -> Result<(), Memory>
-    ensures { OnOk result
+    ensures ok { OnOk result
         (string_bytes out.new ≡ string_bytes out.old ++ title_attribute title.now) }
+    ensures err { OnErr result (StartsWith (string_bytes out.new) (string_bytes out.old)) }
 {
     if let Some(title) = title {
         out.push_str(" title=\"")?;
@@ -84,81 +109,4 @@ fn push_title(out: &mut String, title: &Option<Text>) -> Result<(), Memory>
         out.push_str("\"")?;
     }
     Ok(())
-}
-
-#[cfg(test)]
-mod tests {
-    use super::*;
-    use crate::list::List;
-    use crate::rendered::LinkSpot;
-    use doc_heap::Vec;
-    use std::test::Fail;
-
-    /// Shows each link, with its destination as the `href`.
-    struct Shows;
-
-    impl Linker for Shows {
-        ghost use Rattle.doc_page.specs.declared.linker.Shown.TheVariants.{Href};
-
-        ghost shown = { λ _ dest. Href dest };
-
-        fn show(&self, heap: Heap, dest: &str) -> Result<Shown, Memory> {
-            Ok(Shown::Href(Text::copy_of(heap, dest)?))
-        }
-    }
-
-    /// Shows no link.
-    struct Hides;
-
-    impl Linker for Hides {
-        ghost use Rattle.doc_page.specs.declared.linker.Shown.TheVariants.{Missing};
-
-        ghost shown = { λ _ _. Missing };
-
-        fn show(&self, _heap: Heap, _dest: &str) -> Result<Shown, Memory> {
-            Ok(Shown::Missing)
-        }
-    }
-
-    fn link(heap: Heap, dest: &str, title: Option<&str>) -> Result<Piece, Memory> {
-        let title = match title {
-            Some(title) => Some(Text::copy_of(heap, title)?),
-            None => None,
-        };
-        Ok(Piece::Link(LinkSpot {
-            dest: Text::copy_of(heap, dest)?,
-            title,
-        }))
-    }
-
-    fn page(heap: Heap) -> Result<Rendered, Memory> {
-        let mut pieces = Vec::new(heap);
-        pieces.push(Piece::Html(Text::copy_of(heap, "<p>")?))?;
-        pieces.push(link(heap, "/a", None)?)?;
-        pieces.push(link(heap, "/b", Some(""))?)?;
-        pieces.push(link(heap, "/c", Some("\"t\""))?)?;
-        pieces.push(Piece::Html(Text::copy_of(heap, "d</a></p>\n")?))?;
-        Ok(Rendered {
-            pieces: List::new(pieces),
-            headings: List::new(Vec::new(heap)),
-            texts: List::new(Vec::new(heap)),
-        })
-    }
-
-    #[test]
-    fn links_are_shown_as_the_linker_says(rt: HostRuntime) -> Result<(), Fail> {
-        let heap = doc_heap::heap(rt.alloc(), u64::MAX)?;
-        let page = page(heap)?;
-        assert_eq!(rt;
-            fill(heap, &page, &Shows)?.get(),
-            "<p><a href=\"/a\"><a href=\"/b\" title=\"\"><a href=\"/c\" title=\"&quot;t&quot;\">d</a></p>\n"
-        );
-        let mut body = String::from_str(heap, "x")?;
-        push_filled(heap, &mut body, &page, &Hides)?;
-        assert_eq!(rt;
-            body.as_str(),
-            "x<p><a class=\"missing\"><a class=\"missing\"><a class=\"missing\">d</a></p>\n"
-        );
-        Ok(())
-    }
 }

@@ -69,32 +69,3 @@ fn ends_line(byte: u8, rest: &[u8]) -> bool
 {
     byte == b'\n' || (byte == b'\r' && !matches!(rest, [b'\n', ..]))
 }
-
-#[cfg(test)]
-mod tests {
-    use super::*;
-    use crate::failure::Memory;
-    use doc_heap::{Heap, Vec};
-    use std::test::Fail;
-
-    fn lines_of<'a>(heap: Heap, text: &'a str) -> Result<Vec<&'a str>, Memory> {
-        let mut lines = Vec::new(heap);
-        for line in Lines::new(text) {
-            lines.push(line)?;
-        }
-        Ok(lines)
-    }
-
-    #[test]
-    fn lines_end_at_lf_cr_lf_and_a_lone_cr(rt: HostRuntime) -> Result<(), Fail> {
-        let heap = doc_heap::heap(rt.alloc(), u64::MAX)?;
-        let lines = lines_of(heap, "é\rb\r\n\nc\r\rd")?;
-        assert_eq!(rt;
-            lines.as_slice(),
-            ["é\r", "b\r\n", "\n", "c\r", "\r", "d"].as_slice()
-        );
-        assert_eq!(rt; lines_of(heap, "a\n")?.as_slice(), ["a\n"].as_slice());
-        assert!(rt; lines_of(heap, "")?.is_empty());
-        Ok(())
-    }
-}

@@ -68,37 +68,3 @@ impl<T: Hash> Hash for List<T> {
         self.inner.hash(state);
     }
 }
-
-#[cfg(test)]
-mod tests {
-    use super::*;
-    use crate::text::Text;
-    use doc_heap::Heap;
-    use std::hash::DefaultHasher;
-    use std::test::Fail;
-
-    fn words(heap: Heap, last: &str) -> Result<List<Text>, Fail> {
-        let mut words = Vec::new(heap);
-        words.push(Text::copy_of(heap, "first")?)?;
-        words.push(Text::copy_of(heap, last)?)?;
-        Ok(List::new(words))
-    }
-
-    fn hash_of(list: &List<Text>) -> u64 {
-        let mut state = DefaultHasher::new();
-        list.hash(&mut state);
-        state.finish()
-    }
-
-    #[test]
-    fn lists_are_compared_and_hashed_by_their_items(rt: HostRuntime) -> Result<(), Fail> {
-        let heap = doc_heap::heap(rt.alloc(), u64::MAX)?;
-        let list = words(heap, "last")?;
-        assert_eq!(rt; list, words(heap, "last")?);
-        assert_eq!(rt; hash_of(&list), hash_of(&words(heap, "last")?));
-        assert!(rt; list != words(heap, "least")?);
-        assert_eq!(rt; list.get().len(), 2);
-        assert_eq!(rt; list.into_inner()[1].get(), "last");
-        Ok(())
-    }
-}

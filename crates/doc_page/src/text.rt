@@ -111,30 +111,3 @@ impl Hash for Text {
         self.inner.hash(state);
     }
 }
-
-#[cfg(test)]
-mod tests {
-    use super::*;
-    use std::hash::DefaultHasher;
-    use std::test::Fail;
-
-    fn hash_of(text: &Text) -> u64 {
-        let mut state = DefaultHasher::new();
-        text.hash(&mut state);
-        state.finish()
-    }
-
-    #[test]
-    fn texts_are_compared_and_hashed_by_their_bytes(rt: HostRuntime) -> Result<(), Fail> {
-        let heap = doc_heap::heap(rt.alloc(), u64::MAX)?;
-        let letter = Text::copy_of(heap, "z")?;
-        let accent = Text::new(String::from_str(heap, "é")?);
-        assert_eq!(rt; accent.get(), "é");
-        assert!(rt; letter != accent);
-        assert!(rt; letter < accent, "0x7A is below 0xC3");
-        assert_eq!(rt; accent.copy(heap)?, accent);
-        assert_eq!(rt; hash_of(&accent.copy(heap)?), hash_of(&accent));
-        assert_eq!(rt; accent.into_inner().as_str(), "é");
-        Ok(())
-    }
-}

@@ -36,24 +36,3 @@ fn is_padding(bytes: &[u8]) -> bool
 {
     bytes.iter().all(|byte| *byte == b'=')
 }
-
-#[cfg(test)]
-mod tests {
-    use super::*;
-
-    #[test]
-    fn tells_tokens(rt: HostRuntime) {
-        let texts: [(&[u8], bool); 7] = [
-            (b"tok-ann", true),
-            (b"az09-._~+/", true),
-            (b"x==", true),
-            (b"", false),
-            (b"=", false),
-            (b"a=b", false),
-            (b"a b", false),
-        ];
-        for (text, token) in texts {
-            assert_eq!(rt; is_token(text), token);
-        }
-    }
-}

@@ -2,14 +2,13 @@
 
 ghost use Rattle.std.specs.Prelude.{◌≡◌, ◌++◌, ◌∷◌, [], List as Seq, ℕ, map, false, All, string_bytes, IfOk, OnOk};
 ghost use Rattle.std.specs.Option.{option_to_list};
-ghost use Rattle.std.specs.List.{prefix_len, suffix_len};
-ghost use Rattle.doc_page.specs.Lines.{is_ending, is_space_or_tab, without_ending, stripped};
 ghost use Rattle.doc_page.specs.Pages.{is_empty};
 ghost use Rattle.doc_page.specs.Plain.{lines_after, paragraphs, plain_texts};
 
 use crate::failure::Memory;
 use crate::lines::Lines;
 use crate::text::Text;
+use crate::trimming::{stripped, without_ending};
 use doc_heap::{Heap, String, Vec};
 
 /// The paragraphs, in order, not escaped.
@@ -69,9 +68,19 @@ fn paragraph(heap: Heap, run: &[&str]) -> Result<Option<Text>, Memory>
     let Some((first, others)) = run.split_first() else {
         return Ok(None);
     };
-    let mut out = String::from_str(heap, first)?;
+    let mut out = String::with_capacity(heap, room_of(run))?;
+    out.push_str(first)?;
     push_lines(&mut out, others)?;
     Ok(Some(Text::new(out)))
+}
+
+/// How many bytes the lines of a run take, each with an LF: a guess, on which nothing rests.
+fn room_of(run: &[&str]) -> usize {
+    let mut room: usize = 0;
+    for line in run {
+        room = room.saturating_add(line.len()).saturating_add(1);
+    }
+    room
 }
 
 /// Writes the lines at the end, each after an LF.
@@ -85,61 +94,4 @@ fn push_lines(out: &mut String, lines: &[&str]) -> Result<(), Memory>
         out.push_str(line)?;
     }
     Ok(())
-}
-
-/// The line without its ending.
-fn without_ending(line: &str) -> &str
-    ensures { result.now ≡ without_ending line.now }
-{
-    &line[..line.len() - ending_len(line)]
-}
-
-/// The text without spaces and tabs at both ends.
-fn stripped(text: &str) -> &str
-    ensures { result.now ≡ stripped text.now }
-{
-    let rest = &text[blanks_at_start(text)..];
-    &rest[..rest.len() - blanks_at_end(rest)]
-}
-
-/// How many bytes the line ending has.
-fn ending_len(line: &str) -> usize
-    ensures { result ≡ suffix_len is_ending line.now }
-{
-    line.as_bytes()
-        .iter()
-        .rev()
-        .take_while(|byte| is_ending(**byte))
-        .count()
-}
-
-fn blanks_at_start(text: &str) -> usize
-    ensures { result ≡ prefix_len is_space_or_tab text.now }
-{
-    text.as_bytes()
-        .iter()
-        .take_while(|byte| is_space_or_tab(**byte))
-        .count()
-}
-
-fn blanks_at_end(text: &str) -> usize
-    ensures { result ≡ suffix_len is_space_or_tab text.now }
-{
-    text.as_bytes()
-        .iter()
-        .rev()
-        .take_while(|byte| is_space_or_tab(**byte))
-        .count()
-}
-
-fn is_ending(byte: u8) -> bool
-    ensures { result ≡ is_ending byte }
-{
-    matches!(byte, b'\n' | b'\r')
-}
-
-fn is_space_or_tab(byte: u8) -> bool
-    ensures { result ≡ is_space_or_tab byte }
-{
-    matches!(byte, b' ' | b'\t')
 }

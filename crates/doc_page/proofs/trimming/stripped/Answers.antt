@@ -2,7 +2,7 @@ use Rattle.std.proofs.Common.{arith}
 use Rattle.std.proofs.lemmas.List.Sums.{suffix_len-le-length}
 use Rattle.doc_page.specs.Lines.{is_space_or_tab}
 use Rattle.doc_page.proofs.StrippingSteps.{blanks_are_ascii, cut_start, cut_end, stripped_is}
-use Rattle.doc_page.proofs.plain.paragraphs.stripped.Goals as goal
+use Rattle.doc_page.proofs.trimming.stripped.Goals as goal
 
 pub range_from-rest-requires : goal.range_from-rest-requires
 range_from-rest-requires c = λ _. cut_start blanks_are_ascii c.args.text.now c.blanks_at_start.result c.utf8.text c.blanks_at_start.ensures

@@ -2,7 +2,7 @@ use Rattle.std.proofs.Common.{arith}
 use Rattle.std.proofs.lemmas.List.Sums.{suffix_len-le-length}
 use Rattle.doc_page.specs.Lines.{is_ending}
 use Rattle.doc_page.proofs.StrippingSteps.{endings_are_ascii, cut_end, without_ending_is}
-use Rattle.doc_page.proofs.plain.paragraphs.without_ending.Goals as goal
+use Rattle.doc_page.proofs.trimming.without_ending.Goals as goal
 
 pub overflow_sub-line : goal.overflow_sub-line
 overflow_sub-line c = omega (arith, suffix_len-le-length is_ending c.args.line.now)
