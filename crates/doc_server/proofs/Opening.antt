@@ -75,8 +75,8 @@ pub of_all : (render page : Renders) (bytes : List ℕ) (input : Option (List �
 of_all render page bytes input Goes Grows same all shown = by_input input all (subst (λ (p : Renders). RunSends p (Some bytes) Goes Grows) same shown)
   where
     by_input : (input : Option (List ℕ)) → IfSome input (λ left. bytes ≡ left) → RunSends render (Some bytes) Goes Grows → RunSends render input Goes Grows
-    by_input None all (these, run, rest, v, is, more) = (these, run, rest, v, tt, more)
-    by_input (Some xs) all (these, run, rest, v, is, more) = (these, run, rest, v, is ∙ all, more)
+    by_input None all (these, run, rest, v, is, runs, opens, goes, grows) = (these, run, rest, v, tt, runs, opens, goes, grows)
+    by_input (Some xs) all (these, run, rest, v, is, runs, opens, goes, grows) = (these, run, rest, v, is ∙ all, runs, opens, goes, grows)
 
 too_long : (bytes : List ℕ) (input : Option (List ℕ)) → IfSome input (λ left. bytes ≡ left) → backlog_limit < length bytes → IfSome input (λ left. backlog_limit < length left)
 too_long bytes None all long = tt

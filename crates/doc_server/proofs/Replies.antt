@@ -112,8 +112,8 @@ sent_nothing (stepping (Ok steps.More)) ends = refl
 sent_nothing (stepping (Ok steps.Closed)) ends = refl
 
 -- a step that memory stopped
-pub step_stopped : (render : Renders) (w v : World) (id : ℕ) (old : Option (List ℕ)) (fault : Fault) → (fault ≡ faults.Memory) × (v ≡ w) → StopsNext render w id v old old fault
-step_stopped render w v id old fault (is, same) = subst (StopsNext render w id v old old) (sym is) (same, Keeps-refl old)
+pub step_stopped : (render : Renders) (w v : World) (id : ℕ) (old : Option (List ℕ)) (fault : Fault) → fault ≡ faults.Memory → v ≡ w → StopsNext render w id v old old fault
+step_stopped render w v id old fault is same = subst (StopsNext render w id v old old) (sym is) (same, Keeps-refl old)
 
 cut_of : (render : Renders) (w v : World) (id : ℕ) (old new : Option (List ℕ)) (said : Step) (given : List ℕ) (fault : Fault) → Sends (stepping (Ok said)) → bytes_of said ≡ given
     → Happens render w (step id) v (stepping (Ok said)) → AppendsPrefix old new given → fault ≡ faults.CannotWrite → StopsNext render w id v old new fault
@@ -134,42 +134,48 @@ last_cut render w v id old new said reply given fault is happens same grows =
 cut_off : (id : ℕ) (run : List Happened) (v : World) (outcome : Outcome) (old mid new : Option (List ℕ)) → Appends old mid (sent_on id run) → AppendsPrefix mid new (sent_by outcome)
     → AppendsPrefix old new (sent_on id (run ++ record { world = v; event = step id; outcome = outcome } ∷ []))
 cut_off id run v outcome old mid new p (n, q) = (
-      length (sent_on id run) + n,
-      subst (Appends old new) (
-        sym (take-append-add (sent_on id run) (sent_by outcome) n)
-        ∙ ap (take (length (sent_on id run) + n)) (sym (sent_more id run (record { world = v; event = step id; outcome = outcome }) (itself id)))
+  length (sent_on id run) + n,
+  subst (Appends old new) (
+      sym (take-append-add (sent_on id run) (sent_by outcome) n)
+      ∙ ap (take (length (sent_on id run) + n)) (sym (sent_more id run (record { world = v; event = step id; outcome = outcome }) (itself id)))
       ) (Appends-trans old mid new (sent_on id run) (take n (sent_by outcome)) p q),
-    )
+)
 
 pub replies_stopped : (render page : Renders) (w v u : World) (id : ℕ) (old mid new : Option (List ℕ)) (fault : Fault) → page ≡ render → Replied render w id v old mid → StopsNext page v id u mid new fault
     → StopsReplies render w id old new fault
 replies_stopped render page w v u id old mid new faults.Usage same sent stops = stops
 replies_stopped render page w v u id old mid new (faults.CannotRead name) same sent stops = absurd stops
 replies_stopped render page w v u id old mid new faults.Refused same sent stops = absurd stops
-replies_stopped render page w v u id old mid new faults.Memory same (replies, runs, all, p) (still, keeps) = (v, replies, runs, all, Appends-kept old mid new (sent_on id replies) p keeps)
+replies_stopped render page w v u id old mid new faults.Memory same (replies, runs, all, p) (still, keeps) = (v, (replies, runs, all, Appends-kept old mid new (sent_on id replies) p keeps))
 replies_stopped render page w v u id old mid new faults.CannotWrite same (replies, runs, all, p) (outcome, happens, sends, grows) =
     let h : Happened = record { world = v; event = step id; outcome = outcome } in (
       u,
-      replies ++ h ∷ [],
-      one_more render w v u replies (step id) outcome runs (subst (λ r. Happens r v (step id) u outcome) same happens),
-      All-push (IsStep id Sends) replies h all (refl, sends),
-      cut_off id replies v outcome old mid new p grows,
+      (
+        replies ++ h ∷ [],
+        one_more render w v u replies (step id) outcome runs (subst (λ r. Happens r v (step id) u outcome) same happens),
+        All-push (IsStep id Sends) replies h all (refl, sends),
+        cut_off id replies v outcome old mid new p grows,
+      ),
     )
 
 -- all replies were written, and could not be flushed
 unflushed : (render page : Renders) (w v u : World) (id : ℕ) (old mid last new : Option (List ℕ)) → Replied render w id v old mid → SendsNext page v id u mid last false → Keeps last new
     → StopsReplies render w id old new faults.CannotWrite
 unflushed render page w v u id old mid last new (replies, runs, all, p) (outcome, happens, ends, q) keeps = (
-      v,
-      replies,
-      runs,
-      all,
+  v,
+  (
+    replies,
+    runs,
+    all,
+    (
       length (sent_on id replies),
       Appends-kept old last new (take (length (sent_on id replies)) (sent_on id replies)) (
-        subst (Appends old last) (append-nil (sent_on id replies) ∙ sym (take-length (sent_on id replies)))
-        (Appends-trans old mid last (sent_on id replies) [] p (subst (Appends mid last) (sent_nothing outcome ends) q))
-      ) keeps,
-    )
+          subst (Appends old last) (append-nil (sent_on id replies) ∙ sym (take-length (sent_on id replies)))
+          (Appends-trans old mid last (sent_on id replies) [] p (subst (Appends mid last) (sent_nothing outcome ends) q))
+          ) keeps,
+    ),
+  ),
+)
 
 pub flush_stopped : (render page : Renders) (w v u : World) (id : ℕ) (old mid last new : Option (List ℕ)) (more : Bool) (fault : Fault) → more ≡ false → fault ≡ faults.CannotWrite → Replied render w id v old mid
     → SendsNext page v id u mid last more → Keeps last new → StopsReplies render w id old new fault

@@ -1,6 +1,6 @@
 //! The command `demo`: requests on one connection of the demonstration site.
 
-ghost use Rattle.std.specs.Prelude.{◌≡◌, ◌||◌, Some, Ok, IfOk, IfErr, OnOk};
+ghost use Rattle.std.specs.Prelude.{◌≡◌, ◌||◌, Some, Ok, IfOk, IfErr, OnOk, OnErr};
 ghost use Rattle.doc_hub.specs.Runs.{Happens, connect as connect_event, push as push_event, step as step_event, connecting, pushing, stepping};
 ghost use Rattle.doc_hub.specs.Worlds.{connected, world_pushed};
 ghost use Rattle.doc_server.specs.Demo.{cannot_write, Demonstrates, StopsDemo};
@@ -13,12 +13,14 @@ use crate::fault::Fault;
 use crate::input::read_whole;
 use crate::output::Output;
 use doc_heap::Heap;
-use doc_hub::connection::BACKLOG;
 use doc_hub::event::{ConnId, Step};
 use doc_hub::hub::Hub;
 use doc_hub::refusal::{ConnectError, PushError, StepError};
 use doc_page::renderer::Renderer;
 use std::io::{Read, Write};
+
+/// How many bytes the input may have: as many as a connection may have unread.
+const LIMIT: usize = 4_194_304;
 
 /// Pushes the whole input on one connection of the demonstration site, and writes each reply.
 /// An input of more than 4,194,304 bytes is `Refused` before anything is written; the rest of it
@@ -37,7 +39,7 @@ pub fn demo<R: Renderer + Drop, I: Read, O: Write>(
     ensures failed { has_failed output.new ≡ (cannot_write result || has_failed output.old) }
 {
     let mut hub = demo_hub(heap, renderer)?;
-    let bytes = read_whole(heap, "-", input, BACKLOG)?;
+    let bytes = read_whole(heap, "-", input, LIMIT)?;
     answer_all(&mut hub, &bytes, output)
 }
 
@@ -133,7 +135,8 @@ fn step<R: Renderer + Drop>(hub: &mut Hub<R>, id: ConnId) -> Result<Step, Fault>
     requires made { IsMade hub.old.1 id.0 }
     ensures world { IfOk result (λ said. Happens (R.page hub.old.0) hub.old.1 (step_event id.0) hub.new.1 (stepping (Ok said))) }
     ensures same { R.page hub.new.0 ≡ R.page hub.old.0 }
-    ensures fault { IfErr result (λ fault. (fault ≡ Fault.Memory) × (hub.new.1 ≡ hub.old.1)) }
+    ensures fault { IfErr result (λ fault. fault ≡ Fault.Memory) }
+    ensures kept { OnErr result (hub.new.1 ≡ hub.old.1) }
 {
     match hub.step(id) {
         Ok(step) => Ok(step),

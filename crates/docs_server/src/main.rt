@@ -8,12 +8,12 @@ use doc_page::plain::PlainRenderer;
 use doc_server::demo::demo;
 use doc_server::fault::Fault;
 use doc_server::output::Output;
+use std::env;
 use std::io::{self, ErrorKind};
 use std::marker::Brand;
 use std::process::ExitCode;
 use std::rt::Env;
 use std::sync::ledger::{Blank, Ledger};
-use std::env;
 
 fn main(rt: HostRuntime) -> ExitCode {
     match run(&rt) {

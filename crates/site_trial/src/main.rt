@@ -1,4 +1,20 @@
-//! Cases of the site's crates, as data: `stdin` has calls, and `stdout` what each answers.
+//! Cases of the site's crates, as data: `stdin` has calls, and `stdout` repeats each line and says, behind four
+//! spaces, what its call answers: a word with what the call gave, or `refused: ` with what the refusal prints. What
+//! stands in `stdout` is written from public standards and from this repository's docs, as the lines that begin with
+//! `#` say, and never taken from the program.
+//!
+//! A line is blank, a comment `# ..`, or one of
+//!
+//! - `world keep CACHE | READERS`, which begins a new world: a hub with the readers of a TOML text, an empty store and
+//!   no readers beside. `world close ..` keeps no connection alive. Only a world that is refused answers.
+//! - `FAMILY CALL ARGUMENT | ARGUMENT ..`, a call. The families are the modules of `calls`, where each call says its
+//!   arguments: `path`, `groups`, `readers`, `store`, `http`, `hub`, `page`, `text`, `demo`, `print`.
+//! - `times N ..`, `growths N ..` or `refused N ..` before a call (`rounds`).
+//!
+//! An argument is the bytes of its text, where `\n`, `\r`, `\t`, `\s` (a space) and `\xHH` are one byte, a backslash
+//! before any other character is that character, `{N*TEXT}` is TEXT N times (only such escapes stand in TEXT; `{0*x}`
+//! is the empty argument), and `#` is the number of the round, also for N. Answers are written in the same way, with each byte
+//! that is no printable ASCII as an escape, and 32 and more equal bytes as a repetition.
 #![tactic(auto)]
 
 ghost use Rattle.std.specs.Prelude.{◌≡◌, ◌<◌};
@@ -10,8 +26,8 @@ mod rounds;
 mod trial;
 mod words;
 
-use anyhow::Result;
 use answer::{Answer, Refusal};
+use anyhow::Result;
 use call::Call;
 use doc_heap::{Heap, Vec, heap};
 use doc_hub::hub::Hub;
@@ -57,12 +73,7 @@ fn lines_of<'a>(desk: Heap, cases: &'a [u8]) -> Result<Vec<&'a [u8]>> {
 }
 
 /// Makes a world as the first line says, and the calls of the lines up to the next world.
-fn run_world<L: Ledger, P: Print>(
-    rt: &P,
-    heaps: Heaps,
-    blank: Blank,
-    lines: &[&[u8]],
-) -> Result<()>
+fn run_world<L: Ledger, P: Print>(rt: &P, heaps: Heaps, blank: Blank, lines: &[&[u8]]) -> Result<()>
     requires name { blank.name ≡ L.name }
     requires parts { blank.parts ≡ L.parts }
     requires some { 0 < L.parts }
@@ -119,11 +130,7 @@ fn run_calls<R: Renderer + Drop, P: Print>(
 }
 
 /// Prints a line, and behind it what its call answers, if it has one.
-fn run_line<R: Renderer + Drop, P: Print>(
-    rt: &P,
-    trial: &mut Trial<R>,
-    line: &str,
-) -> Result<()> {
+fn run_line<R: Renderer + Drop, P: Print>(rt: &P, trial: &mut Trial<R>, line: &str) -> Result<()> {
     if line.is_empty() {
         return Ok(());
     }

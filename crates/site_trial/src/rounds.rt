@@ -64,7 +64,7 @@ fn growths<R: Renderer + Drop>(
     };
     for round in 0..count {
         let call = Call::read(trial.heaps.desk, line, round)?;
-        let next = grown(trial, &call)?;
+        let next = make_grown(trial, &call)?;
         last = Grown {
             growths: last.growths.wrapping_add(next.growths),
             answer: next.answer,
@@ -84,9 +84,12 @@ struct Grown {
 fn counted<R: Renderer + Drop>(trial: &Trial<R>, grown: Grown) -> Result<Answer, Refusal> {
     let growths = grown.growths;
     let said = grown.answer.said;
-    let front = format!(in trial.heaps.desk; "{growths}, {said} ")?;
+    let front = format!(in trial.heaps.desk; "{growths}, {said}")?;
     let mut bytes = Vec::from_slice(trial.heaps.desk, front.as_bytes())?;
-    bytes.extend_from_slice(&grown.answer.bytes)?;
+    if !grown.answer.bytes.is_empty() {
+        bytes.push(b' ')?;
+        bytes.extend_from_slice(&grown.answer.bytes)?;
+    }
     Ok(Answer {
         said: "growths",
         bytes,
@@ -94,7 +97,7 @@ fn counted<R: Renderer + Drop>(trial: &Trial<R>, grown: Grown) -> Result<Answer,
 }
 
 /// The call's answer, once each of its growths was refused.
-fn grown<R: Renderer + Drop>(trial: &mut Trial<R>, call: &Call<'_>) -> Result<Grown, Refusal> {
+fn make_grown<R: Renderer + Drop>(trial: &mut Trial<R>, call: &Call<'_>) -> Result<Grown, Refusal> {
     let before = witnessed(trial)?;
     for growths in 0..MOST {
         trial.heaps.tried.refuse_only(growths);

@@ -18,7 +18,7 @@ pub fn decode(desk: Heap, text: &[u8], round: u64) -> Result<Vec<u8>, Refusal> {
         };
         rest = match *first {
             b'\\' => push_escape(&mut bytes, others)?,
-            b'{' => push_repeated(desk, &mut bytes, others)?,
+            b'{' => push_repeated(desk, &mut bytes, others, round)?,
             b'#' => push_number(desk, &mut bytes, round, others)?,
             byte => push_byte(&mut bytes, byte, others)?,
         };
@@ -83,6 +83,7 @@ fn push_repeated<'a>(
     desk: Heap,
     bytes: &mut Vec<u8>,
     text: &'a [u8],
+    round: u64,
 ) -> Result<&'a [u8], Refusal> {
     let Some((inside, rest)) = cut(text, b'}') else {
         return Err(Refusal::Trial("a repetition is cut off"));
@@ -91,7 +92,8 @@ fn push_repeated<'a>(
         return Err(Refusal::Trial("a repetition has no count"));
     };
     let unit = unescaped(desk, unit)?;
-    for _ in 0..number(count)? {
+    let count = if count == b"#" { round } else { number(count)? };
+    for _ in 0..count {
         bytes.extend_from_slice(&unit)?;
     }
     Ok(rest)

@@ -91,7 +91,7 @@ impl Write for Sink {
     }
 }
 
-fn feed(bytes: &[u8]) -> Feed<'_> {
+fn make_feed(bytes: &[u8]) -> Feed<'_> {
     Feed {
         rest: bytes,
         interrupts: false,
@@ -101,13 +101,13 @@ fn feed(bytes: &[u8]) -> Feed<'_> {
 
 fn run(heaps: Heaps, bytes: &[u8]) -> Result<Answer, Refusal> {
     let mut output = Output::new(Sink::new(heaps, u64::MAX));
-    demonstrated::<Brand>(heaps, Blank::new(1), &mut feed(bytes), &mut output)
+    demonstrated::<Brand>(heaps, Blank::new(1), &mut make_feed(bytes), &mut output)
 }
 
 /// With an output that has room for so many bytes.
 fn cut(heaps: Heaps, room: u64, bytes: &[u8]) -> Result<Answer, Refusal> {
     let mut output = Output::new(Sink::new(heaps, room));
-    demonstrated::<Brand>(heaps, Blank::new(1), &mut feed(bytes), &mut output)
+    demonstrated::<Brand>(heaps, Blank::new(1), &mut make_feed(bytes), &mut output)
 }
 
 /// With an output that can't be flushed.
@@ -115,12 +115,12 @@ fn unflushed(heaps: Heaps, bytes: &[u8]) -> Result<Answer, Refusal> {
     let mut sink = Sink::new(heaps, u64::MAX);
     sink.flushes = false;
     let mut output = Output::new(sink);
-    demonstrated::<Brand>(heaps, Blank::new(1), &mut feed(bytes), &mut output)
+    demonstrated::<Brand>(heaps, Blank::new(1), &mut make_feed(bytes), &mut output)
 }
 
 /// With an input that breaks behind these bytes.
 fn broken(heaps: Heaps, bytes: &[u8]) -> Result<Answer, Refusal> {
-    let mut input = feed(bytes);
+    let mut input = make_feed(bytes);
     input.breaks = true;
     let mut output = Output::new(Sink::new(heaps, u64::MAX));
     demonstrated::<Brand>(heaps, Blank::new(1), &mut input, &mut output)
@@ -128,7 +128,7 @@ fn broken(heaps: Heaps, bytes: &[u8]) -> Result<Answer, Refusal> {
 
 /// With an input and an output that are each interrupted once.
 fn interrupted(heaps: Heaps, bytes: &[u8]) -> Result<Answer, Refusal> {
-    let mut input = feed(bytes);
+    let mut input = make_feed(bytes);
     input.interrupts = true;
     let mut sink = Sink::new(heaps, u64::MAX);
     sink.interrupts = true;
@@ -138,7 +138,7 @@ fn interrupted(heaps: Heaps, bytes: &[u8]) -> Result<Answer, Refusal> {
 
 /// Whether the command stops reading before the end of an input that is too long.
 fn unread(heaps: Heaps, bytes: &[u8]) -> Result<Answer, Refusal> {
-    let mut input = feed(bytes);
+    let mut input = make_feed(bytes);
     let mut output = Output::new(Sink::new(heaps, u64::MAX));
     let answer = demonstrated::<Brand>(heaps, Blank::new(1), &mut input, &mut output)?;
     if input.rest.is_empty() {

@@ -26,7 +26,7 @@ pub fn answer(heaps: Heaps, call: &Call<'_>) -> Result<Answer, Refusal> {
         "escape" => escaped(heaps, call),
         "push_escaped" => escaped_behind(heaps, call),
         "lines" => lines(heaps, call),
-        "token" => Ok(Answer::flag(heaps.desk, is_token(call.text(0)?))),
+        "token" => Ok(Answer::flag(heaps.desk, is_token(call.bytes(0)?))),
         "plain" => plain(heaps, call),
         "shown" => shown(heaps, call),
         "hidden" => hidden(heaps, call),

@@ -6,11 +6,7 @@ use crate::trial::Heaps;
 use doc_store::groups::Groups;
 use doc_store::readers::Readers;
 
-pub fn answer(
-    heaps: Heaps,
-    readers: &mut Readers,
-    call: &Call<'_>,
-) -> Result<Answer, Refusal> {
+pub fn answer(heaps: Heaps, readers: &mut Readers, call: &Call<'_>) -> Result<Answer, Refusal> {
     match call.name {
         "read" => read(heaps, readers, call),
         "find" => find(heaps, readers, call),
