@@ -120,15 +120,22 @@ fn is_refused<R: Renderer + Drop>(
     given: Result<Answer, Refusal>,
     before: &[u8],
 ) -> Result<(), Refusal> {
-    match given {
-        Ok(_) => return Err(Refusal::Trial("an answer without memory")),
-        Err(refusal) if refusal.is_memory() => {}
-        Err(refusal) => return Err(refusal),
+    trial.heaps.tried.refuse_after(u64::MAX);
+    if !ran_out(&given) {
+        let _answer = given?;
+        return Err(Refusal::Trial("an answer without memory"));
     }
     if witnessed(trial)?.as_slice() == before {
         Ok(())
     } else {
         Err(Refusal::Trial("the witness got another reply"))
+    }
+}
+
+fn ran_out(given: &Result<Answer, Refusal>) -> bool {
+    match given {
+        Ok(_) => false,
+        Err(refusal) => refusal.is_memory(),
     }
 }
 

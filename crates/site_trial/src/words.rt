@@ -92,7 +92,11 @@ fn push_repeated<'a>(
         return Err(Refusal::Trial("a repetition has no count"));
     };
     let unit = unescaped(desk, unit)?;
-    let count = if count == b"#" { round } else { number(count)? };
+    let count = if count == b"#".as_slice() {
+        round
+    } else {
+        number(count)?
+    };
     for _ in 0..count {
         bytes.extend_from_slice(&unit)?;
     }
