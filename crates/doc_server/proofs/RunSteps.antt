@@ -15,9 +15,9 @@ one_more render w v u run event outcome (first x y z e o rest was runs) happens 
 abbrev sent_of : List Happened → List ℕ
 sent_of run = flat_map (λ h. sent_by h.outcome) run
 
-pub sent_more : (id : ℕ) (run : List Happened) (h : Happened) → is_on id h.event ≡ true → sent_on id (run ++ h ∷ []) ≡ sent_on id run ++ sent_by h.outcome
+pub sent_more : (id : ℕ) (run : List Happened) (h : Happened) → is_on id h ≡ true → sent_on id (run ++ h ∷ []) ≡ sent_on id run ++ sent_by h.outcome
 sent_more id run h on =
-    ap sent_of (filter-append (λ x. is_on id x.event) run (h ∷ []))
+    ap sent_of (filter-append (is_on id) run (h ∷ []))
     ∙ flat_map-append (λ x. sent_by x.outcome) (events_on id run) (events_on id (h ∷ []))
     ∙ ap (λ b. sent_on id run ++ sent_of (cond b (h ∷ []) [])) on
     ∙ ap (λ xs. sent_on id run ++ xs) (append-nil (sent_by h.outcome))

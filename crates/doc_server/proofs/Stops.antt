@@ -1,10 +1,11 @@
 -- What stops the calls of the demonstration.
-use Rattle.std.proofs.Common.{◌≡◌, ℕ, ◌+◌, ◌<◌, List, Bool, true, false, cond, T, length, refl, sym, ap, ◌∙◌, subst, ◌==◌, arith}
+use Rattle.std.proofs.Common.{◌≡◌, inl, ℕ, ◌+◌, ◌<◌, List, Bool, true, false, cond, T, length, refl, sym, ap, ◌∙◌, subst, ◌==◌, arith}
 use Rattle.std.specs.Prelude.{Option, Some, None, IfSome, Result, Ok, Err, is_ok, nat_lt, if◌then◌else◌}
 use Rattle.std.specs.FinMap as map
 use Rattle.std.specs.Cmp.{unsigned_tied}
 use Rattle.std.proofs.KnownBytes.{Keeps-refl}
 use Rattle.std.proofs.lemmas.Cmp.{nat_cmp_total}
+use Rattle.doc_hub.specs.Replies.{Renders}
 use Rattle.doc_hub.specs.Connections.{Connections, new_connection, backlog_limit, pushed_onto, with_pushed, pushed_at}
 use Rattle.doc_hub.specs.Worlds.{World, connected, world_pushed, last_id}
 use Rattle.doc_hub.specs.declared.connection.Connection.{Connection}
@@ -15,8 +16,8 @@ use Rattle.doc_hub.specs.declared.refusal.PushError.TheVariants as push_errors
 use Rattle.doc_server.specs.declared.fault.Fault.{Fault}
 use Rattle.doc_server.specs.declared.fault.Fault.TheVariants as faults
 use Rattle.doc_server.specs.DemoSite.{demo_world}
-use Rattle.doc_server.specs.Demo.{IsMade}
-use Rattle.doc_server.specs.Faults.{StopsCall, StopsDemo}
+use Rattle.doc_server.specs.Demo.{StopsDemo}
+use Rattle.doc_server.specs.DemoSteps.{IsMade, StopsCall}
 
 no_error : {X E : Type 0} (x : X) (e : E) → Ok x ≡ Err e → ⊥
 no_error x e is = subst T (ap is_ok is) tt
@@ -24,12 +25,12 @@ no_error x e is = subst T (ap is_ok is) tt
 -- ---- connect
 
 -- a call that is not refused stops the program for memory
-stop_unrefused : {X E : Type 0} (r : Result X E) (x : X) (input old : Option (List ℕ)) (fault : Fault) → r ≡ Ok x → StopsCall r fault → StopsDemo input old old fault
-stop_unrefused r x input old faults.Usage is stops = stops
-stop_unrefused r x input old (faults.CannotRead name) is stops = absurd stops
-stop_unrefused r x input old faults.CannotWrite is stops = absurd stops
-stop_unrefused r x input old faults.Refused is stops = absurd (subst (λ (s : Result _ _). StopsCall s faults.Refused) is stops)
-stop_unrefused r x input old faults.Memory is stops = tt
+stop_unrefused : {X E : Type 0} (r : Result X E) (x : X) (render : Renders) (input old : Option (List ℕ)) (fault : Fault) → r ≡ Ok x → StopsCall r fault → StopsDemo render input old old fault
+stop_unrefused r x render input old faults.Usage is stops = stops
+stop_unrefused r x render input old (faults.CannotRead name) is stops = absurd stops
+stop_unrefused r x render input old faults.CannotWrite is stops = absurd stops
+stop_unrefused r x render input old faults.Refused is stops = absurd (subst (λ (s : Result _ _). StopsCall s faults.Refused) is stops)
+stop_unrefused r x render input old faults.Memory is stops = inl (Keeps-refl old)
 
 abbrev one : ConnId
 one = record { 0 = 1 }
@@ -38,8 +39,8 @@ demo_connects : (connected demo_world).1 ≡ Ok one
 unfolding demo_world last_id
 demo_connects = refl
 
-pub stop_connect : (w : World) (input old : Option (List ℕ)) (fault : Fault) → w ≡ demo_world → StopsCall (connected w).1 fault → StopsDemo input old old fault
-stop_connect w input old fault is stops = stop_unrefused (connected w).1 one input old fault (ap (λ v. (connected v).1) is ∙ demo_connects) stops
+pub stop_connect : (render : Renders) (w : World) (input old : Option (List ℕ)) (fault : Fault) → w ≡ demo_world → StopsCall (connected w).1 fault → StopsDemo render input old old fault
+stop_connect render w input old fault is stops = stop_unrefused (connected w).1 one render input old fault (ap (λ v. (connected v).1) is ∙ demo_connects) stops
 
 -- ---- push
 
@@ -52,18 +53,18 @@ stands_at cs id k = map.get-insert nat_cmp_total cs id k id ∙ ap (λ t. cond t
 abbrev pushed_if : Connection → Bool → Connection × Result (Unit {0}) PushError
 pushed_if new full = if full then (new_connection, Err push_errors.Backlog) else (new, Ok tt)
 
-stop_push_by : (bytes : List ℕ) (old : Option (List ℕ)) (full : Bool) (new : Connection) (fault : Fault) → nat_lt backlog_limit (0 + length bytes) ≡ full
+stop_push_by : (render : Renders) (bytes : List ℕ) (old : Option (List ℕ)) (full : Bool) (new : Connection) (fault : Fault) → nat_lt backlog_limit (0 + length bytes) ≡ full
     → (cs : Connections) (id : ℕ) → StopsCall (with_pushed cs id (pushed_if new full).0 (pushed_if new full).1).1 fault
-    → StopsDemo (Some bytes) old old fault
-stop_push_by bytes old full new faults.Usage is cs id stops = absurd stops
-stop_push_by bytes old full new (faults.CannotRead name) is cs id stops = absurd stops
-stop_push_by bytes old full new faults.CannotWrite is cs id stops = absurd stops
-stop_push_by bytes old full new faults.Memory is cs id stops = tt
-stop_push_by bytes old true new faults.Refused is cs id stops = (grind (arith), Keeps-refl old)
-stop_push_by bytes old false new faults.Refused is cs id stops = absurd stops
+    → StopsDemo render (Some bytes) old old fault
+stop_push_by render bytes old full new faults.Usage is cs id stops = absurd stops
+stop_push_by render bytes old full new (faults.CannotRead name) is cs id stops = absurd stops
+stop_push_by render bytes old full new faults.CannotWrite is cs id stops = absurd stops
+stop_push_by render bytes old full new faults.Memory is cs id stops = inl (Keeps-refl old)
+stop_push_by render bytes old true new faults.Refused is cs id stops = (grind (arith), Keeps-refl old)
+stop_push_by render bytes old false new faults.Refused is cs id stops = absurd stops
 
-stop_push_new : (cs : Connections) (id : ℕ) (bytes : List ℕ) (old : Option (List ℕ)) (fault : Fault) → StopsCall (pushed_at cs id bytes (Some new_connection)).1 fault → StopsDemo (Some bytes) old old fault
-stop_push_new cs id bytes old fault stops = stop_push_by bytes old (nat_lt backlog_limit (0 + length bytes)) (record { unread = bytes; closed = false }) fault refl cs id stops
+stop_push_new : (render : Renders) (cs : Connections) (id : ℕ) (bytes : List ℕ) (old : Option (List ℕ)) (fault : Fault) → StopsCall (pushed_at cs id bytes (Some new_connection)).1 fault → StopsDemo render (Some bytes) old old fault
+stop_push_new render cs id bytes old fault stops = stop_push_by render bytes old (nat_lt backlog_limit (0 + length bytes)) (record { unread = bytes; closed = false }) fault refl cs id stops
 
 first_stands : (w : World) (id : ConnId) → connected demo_world ≡ (w, Ok id) → map.get w.connections id.0 ≡ Some new_connection
 unfolding demo_world last_id
@@ -77,10 +78,10 @@ first_stands w id is =
     pair : connected demo_world ≡ (w, Ok id) → ◌≡◌ {A = World × ConnId} ((connected demo_world).0, one) (w, id)
     pair is = ap (λ (p : World × Result ConnId ConnectError). (p.0, number_of id p.1)) is
 
-pub stop_push : (w v : World) (id : ConnId) (bytes : List ℕ) (old : Option (List ℕ)) (fault : Fault) → w ≡ demo_world → connected w ≡ (v, Ok id)
-    → StopsCall (world_pushed v id.0 bytes).1 fault → StopsDemo (Some bytes) old old fault
-stop_push w v id bytes old fault is made stops =
-    stop_push_new v.connections id.0 bytes old fault
+pub stop_push : (render : Renders) (w v : World) (id : ConnId) (bytes : List ℕ) (old : Option (List ℕ)) (fault : Fault) → w ≡ demo_world → connected w ≡ (v, Ok id)
+    → StopsCall (world_pushed v id.0 bytes).1 fault → StopsDemo render (Some bytes) old old fault
+stop_push render w v id bytes old fault is made stops =
+    stop_push_new render v.connections id.0 bytes old fault
     (subst (λ k. StopsCall (pushed_at v.connections id.0 bytes k).1 fault) (first_stands v id (sym (ap connected is) ∙ made)) stops)
 
 with_stands : (cs : Connections) (id : ℕ) (k : Connection) (r : Result (Unit {0}) PushError) → (with_pushed cs id k r).1 ≡ Ok tt → (d : Connection) × (map.get (with_pushed cs id k r).0 id ≡ Some d)
@@ -97,11 +98,3 @@ made_after_push w v id bytes is =
     subst (λ (p : World × Result (Unit {0}) PushError). IsMade p.0 id) is (pushed_stands w.connections id bytes (map.get w.connections id) (ap (λ (p : World × Result (Unit {0}) PushError). p.1) is))
 
 -- ---- an input of which the bytes are all
-
-pub stop_of_all : (bytes : List ℕ) (input old new : Option (List ℕ)) (fault : Fault) → IfSome input (λ left. bytes ≡ left) → StopsDemo (Some bytes) old new fault → StopsDemo input old new fault
-stop_of_all bytes input old new faults.Usage all stops = absurd stops
-stop_of_all bytes input old new (faults.CannotRead name) all stops = stops
-stop_of_all bytes input old new faults.CannotWrite all stops = tt
-stop_of_all bytes input old new faults.Memory all stops = tt
-stop_of_all bytes None old new faults.Refused all (long, keeps) = (tt, keeps)
-stop_of_all bytes (Some xs) old new faults.Refused all (long, keeps) = (subst (λ left. backlog_limit < length left) all long, keeps)

@@ -1,13 +1,15 @@
 -- What the command `demo` sends: a run of the hub on the demonstration site. All of this is this project's choice.
-use Rattle.std.specs.Prelude.{◌≡◌, ⊤, ℕ, Bool, MatchBool, List, [], ◌∷◌, ◌++◌, All, Option, Some, IfSome, Ok}
-use Rattle.std.specs.FinMap as map
-use Rattle.std.specs.Io.KnownBytes.{Appends}
+use Rattle.std.specs.Prelude.{◌≡◌, ◌<◌, ⊤, ◌⊎◌, ℕ, Bool, true, false, List, [], ◌∷◌, ◌++◌, length, codes, string_bytes, All, Option, IfSome, Result, Ok, Err}
+use Rattle.std.specs.Io.KnownBytes.{Appends, Keeps}
+use Rattle.doc_hub.specs.Connections.{backlog_limit}
 use Rattle.doc_hub.specs.Replies.{Renders}
 use Rattle.doc_hub.specs.Worlds.{World}
-use Rattle.doc_hub.specs.Runs.{Event, connect, push, step, Outcome, connecting, pushing, stepping, Happens, Happened, Runs, sent_by, sent_on}
-use Rattle.doc_hub.specs.declared.connection.Connection.{Connection}
+use Rattle.doc_hub.specs.Runs.{Event, connect, push, step, Outcome, connecting, pushing, stepping, Happened, Runs, sent_on}
 use Rattle.doc_hub.specs.declared.event.Step.TheVariants as steps
 use Rattle.doc_server.specs.DemoSite.{demo_world}
+use Rattle.doc_server.specs.Outputs.{AppendsPrefix}
+use Rattle.doc_server.specs.declared.fault.Fault.{Fault}
+use Rattle.doc_server.specs.declared.fault.Fault.TheVariants as faults
 
 -- a step sent a reply
 abbrev pub Sends : Outcome → Type 0
@@ -29,35 +31,43 @@ IsStep id Is h = (h.event ≡ step id) × Is h.outcome
 abbrev pub Was : Event → Outcome → Happened → Type 0
 Was event outcome h = (h.event ≡ event) × (h.outcome ≡ outcome)
 
+-- steps of this connection that each send a reply
+abbrev pub AreReplies : ℕ → List Happened → Type 0
+AreReplies id run = All (IsStep id Sends) run
+
 -- Steps of this connection, as many as there are replies, and one more, which finds no request.
 abbrev pub StepsToEnd : ℕ → List Happened → Type 0
 StepsToEnd id run =
-    (replies : List Happened) × (last : Happened) × (run ≡ replies ++ last ∷ []) × All (IsStep id Sends) replies × IsStep id Ends last
+    (replies : List Happened) × (last : Happened) × (run ≡ replies ++ last ∷ []) × AreReplies id replies × IsStep id Ends last
 
--- the connection was made
-abbrev pub IsMade : World → ℕ → Type 0
-IsMade w id = (k : Connection) × (map.get w.connections id ≡ Some k)
+-- The connection 1 is made and takes all these bytes at once; the rest follows.
+abbrev pub Opens : List ℕ → List Happened → List Happened → Type 0
+Opens bytes rest run =
+    (made taken : Happened) × (run ≡ made ∷ taken ∷ rest)
+    × Was connect (connecting (Ok (record { 0 = 1 }))) made × Was (push 1 bytes) (pushing (Ok tt)) taken
 
--- A step of this connection was answered, and the output grows by what it sent: a reply, or nothing
--- where there was no more.
-abbrev pub SendsNext : Renders → World → ℕ → World → Option (List ℕ) → Option (List ℕ) → Bool → Type 0
-SendsNext render w id v old new more =
-    (outcome : Outcome) × Happens render w (step id) v outcome × MatchBool more (Sends outcome) (Ends outcome) × Appends old new (sent_by outcome)
+-- A run from the demonstration world opens the connection with all that the input had left, where that
+-- is known. `Goes` says how it goes on, and `Grows` what becomes of what it sends on the connection.
+abbrev pub RunSends : Renders → Option (List ℕ) → (List Happened → Type 0) → (List ℕ → Type 0) → Type 0
+RunSends render input Goes Grows =
+    (bytes : List ℕ) × (run rest : List Happened) × (v : World) × IfSome input (λ left. bytes ≡ left)
+    × Runs render demo_world run v × Opens bytes rest run × Goes rest × Grows (sent_on 1 run)
 
--- The output grows by what such steps send.
-abbrev pub SendsToEnd : Renders → World → ℕ → World → Option (List ℕ) → Option (List ℕ) → Type 0
-SendsToEnd render w id v old new =
-    (run : List Happened) × Runs render w run v × StepsToEnd id run × Appends old new (sent_on id run)
-
--- The connection 1 is made, takes all these bytes at once, and answers until no request is left.
-abbrev pub Answers : List ℕ → List Happened → Type 0
-Answers bytes run =
-    (made taken : Happened) × (rest : List Happened) × (run ≡ made ∷ taken ∷ rest)
-    × Was connect (connecting (Ok (record { 0 = 1 }))) made × Was (push 1 bytes) (pushing (Ok tt)) taken × StepsToEnd 1 rest
-
--- The output grows by what such a run from the demonstration world sends on the connection; the
--- bytes are all that the input had left, where that is known.
+-- The output grows by what such a run sends that answers until no request is left.
 abbrev pub Demonstrates : Renders → Option (List ℕ) → Option (List ℕ) → Option (List ℕ) → Type 0
-Demonstrates render input old new =
-    (bytes : List ℕ) × (run : List Happened) × (v : World) × IfSome input (λ left. bytes ≡ left)
-    × Runs render demo_world run v × Answers bytes run × Appends old new (sent_on 1 run)
+Demonstrates render input old new = RunSends render input (StepsToEnd 1) (Appends old new)
+
+-- What stops the command, and what the output holds then. Standard input can't be read, or holds more
+-- bytes than a connection may have unread: nothing is written. The output can't be written: it grows by
+-- a prefix of the replies that such a run sends. Memory runs out: it grows by whole replies, or not.
+abbrev pub StopsDemo : Renders → Option (List ℕ) → Option (List ℕ) → Option (List ℕ) → Fault → Type 0
+StopsDemo render input old new (faults.CannotRead called) = (string_bytes called ≡ codes "-") × Keeps old new
+StopsDemo render input old new faults.Refused = IfSome input (λ left. backlog_limit < length left) × Keeps old new
+StopsDemo render input old new faults.CannotWrite = RunSends render input (AreReplies 1) (AppendsPrefix old new)
+StopsDemo render input old new faults.Memory = Keeps old new ⊎ RunSends render input (AreReplies 1) (Appends old new)
+StopsDemo render input old new faults.Usage = ⊥
+
+-- the output could not be written
+abbrev pub cannot_write : {X : Type 0} → Result X Fault → Bool
+cannot_write (Err faults.CannotWrite) = true
+cannot_write result = false

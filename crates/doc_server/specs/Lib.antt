@@ -1,3 +1,6 @@
 pub mod Demo
 pub mod DemoSite
+pub mod DemoSteps
 pub mod Faults
+pub mod InputSteps
+pub mod Outputs

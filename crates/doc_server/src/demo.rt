@@ -1,16 +1,17 @@
 //! The command `demo`: requests on one connection of the demonstration site.
 
-ghost use Rattle.std.specs.Prelude.{◌≡◌, Some, Ok, IfOk, IfErr, OnOk};
-ghost use Rattle.std.specs.Io.KnownBytes.{Appends, Keeps};
+ghost use Rattle.std.specs.Prelude.{◌≡◌, ◌||◌, Some, Ok, IfOk, IfErr, OnOk, OnErr};
 ghost use Rattle.doc_hub.specs.Runs.{Happens, connect as connect_event, push as push_event, step as step_event, connecting, pushing, stepping};
 ghost use Rattle.doc_hub.specs.Worlds.{connected, world_pushed};
-ghost use Rattle.doc_server.specs.Demo.{Demonstrates, IsMade, SendsNext, SendsToEnd};
+ghost use Rattle.doc_server.specs.Demo.{cannot_write, Demonstrates, StopsDemo};
 ghost use Rattle.doc_server.specs.DemoSite.{demo_world};
-ghost use Rattle.doc_server.specs.Faults.{IsUnwritten, StopsCall, StopsDemo};
+ghost use Rattle.doc_server.specs.DemoSteps.{IsMade, SendsNext, SendsToEnd, StopsCall, StopsNext, StopsReplies};
+ghost use Rattle.doc_server.specs.Outputs.{has_failed, writer_of};
 
 use crate::demo_site::demo_hub;
 use crate::fault::Fault;
 use crate::input::read_whole;
+use crate::output::Output;
 use doc_heap::Heap;
 use doc_hub::event::{ConnId, Step};
 use doc_hub::hub::Hub;
@@ -18,19 +19,27 @@ use doc_hub::refusal::{ConnectError, PushError, StepError};
 use doc_page::renderer::Renderer;
 use std::io::{Read, Write};
 
+/// How many bytes the input may have: as many as a connection may have unread.
+const LIMIT: usize = 4_194_304;
+
 /// Pushes the whole input on one connection of the demonstration site, and writes each reply.
-/// An input of more than 4,194,304 bytes is `Refused` before anything is written.
+/// An input of more than 4,194,304 bytes is `Refused` before anything is written; the rest of it
+/// may stay unread.
+#[tactic(auto, unfolding(doc_hub::specs::Connections::backlog_limit))]
 pub fn demo<R: Renderer + Drop, I: Read, O: Write>(
     heap: Heap,
     renderer: R,
     input: &mut I,
-    output: &mut O,
+    output: &mut Output<O>,
 ) -> Result<(), Fault>
-    ensures sent { OnOk result (Demonstrates (R.page renderer) (I.remaining input.old) (O.contents output.old) (O.contents output.new)) }
-    ensures fault { IfErr result (StopsDemo (I.remaining input.old) (O.contents output.old) (O.contents output.new)) }
+    ensures sent { OnOk result (Demonstrates (R.page renderer) (I.remaining input.old)
+        (O.contents (writer_of output.old)) (O.contents (writer_of output.new))) }
+    ensures fault { IfErr result (StopsDemo (R.page renderer) (I.remaining input.old)
+        (O.contents (writer_of output.old)) (O.contents (writer_of output.new))) }
+    ensures failed { has_failed output.new ≡ (cannot_write result || has_failed output.old) }
 {
     let mut hub = demo_hub(heap, renderer)?;
-    let bytes = read_whole(heap, "-", input)?;
+    let bytes = read_whole(heap, "-", input, LIMIT)?;
     answer_all(&mut hub, &bytes, output)
 }
 
@@ -38,11 +47,14 @@ pub fn demo<R: Renderer + Drop, I: Read, O: Write>(
 fn answer_all<R: Renderer + Drop, O: Write>(
     hub: &mut Hub<R>,
     bytes: &[u8],
-    output: &mut O,
+    output: &mut Output<O>,
 ) -> Result<(), Fault>
     requires world { hub.old.1 ≡ demo_world }
-    ensures sent { OnOk result (Demonstrates (R.page hub.old.0) (Some bytes.now) (O.contents output.old) (O.contents output.new)) }
-    ensures fault { IfErr result (StopsDemo (Some bytes.now) (O.contents output.old) (O.contents output.new)) }
+    ensures sent { OnOk result (Demonstrates (R.page hub.old.0) (Some bytes.now)
+        (O.contents (writer_of output.old)) (O.contents (writer_of output.new))) }
+    ensures fault { IfErr result (StopsDemo (R.page hub.old.0) (Some bytes.now)
+        (O.contents (writer_of output.old)) (O.contents (writer_of output.new))) }
+    ensures failed { has_failed output.new ≡ (cannot_write result || has_failed output.old) }
 {
     let id = connect(hub)?;
     push(hub, id, bytes)?;
@@ -78,34 +90,40 @@ fn push<R: Renderer + Drop>(hub: &mut Hub<R>, id: ConnId, bytes: &[u8]) -> Resul
 fn write_replies<R: Renderer + Drop, O: Write>(
     hub: &mut Hub<R>,
     id: ConnId,
-    output: &mut O,
+    output: &mut Output<O>,
 ) -> Result<(), Fault>
     requires made { IsMade hub.old.1 id.0 }
-    ensures sent { OnOk result (SendsToEnd (R.page hub.old.0) hub.old.1 id.0 hub.new.1 (O.contents output.old) (O.contents output.new)) }
-    ensures fault { IfErr result IsUnwritten }
+    ensures sent { OnOk result (SendsToEnd (R.page hub.old.0) hub.old.1 id.0 hub.new.1
+        (O.contents (writer_of output.old)) (O.contents (writer_of output.new))) }
+    ensures fault { IfErr result (StopsReplies (R.page hub.old.0) hub.old.1 id.0
+        (O.contents (writer_of output.old)) (O.contents (writer_of output.new))) }
+    ensures failed { has_failed output.new ≡ (cannot_write result || has_failed output.old) }
 {
     'replies: while write_reply(hub, id, output)? {}
-    flush(output)
+    output.flush()
 }
 
 /// Writes the next reply; false where there is none.
 fn write_reply<R: Renderer + Drop, O: Write>(
     hub: &mut Hub<R>,
     id: ConnId,
-    output: &mut O,
+    output: &mut Output<O>,
 ) -> Result<bool, Fault>
     requires made { IsMade hub.old.1 id.0 }
-    ensures sent { IfOk result (SendsNext (R.page hub.old.0) hub.old.1 id.0 hub.new.1 (O.contents output.old) (O.contents output.new)) }
+    ensures sent { IfOk result (SendsNext (R.page hub.old.0) hub.old.1 id.0 hub.new.1
+        (O.contents (writer_of output.old)) (O.contents (writer_of output.new))) }
     ensures same { R.page hub.new.0 ≡ R.page hub.old.0 }
-    ensures fault { IfErr result IsUnwritten }
+    ensures fault { IfErr result (StopsNext (R.page hub.old.0) hub.old.1 id.0 hub.new.1
+        (O.contents (writer_of output.old)) (O.contents (writer_of output.new))) }
+    ensures failed { has_failed output.new ≡ (cannot_write result || has_failed output.old) }
 {
     match step(hub, id)? {
         Step::Sent(reply) => {
-            write(output, reply.get())?;
+            output.send(reply.get())?;
             Ok(true)
         }
         Step::Last(reply) => {
-            write(output, reply.get())?;
+            output.send(reply.get())?;
             Ok(true)
         }
         Step::More => Ok(false),
@@ -118,30 +136,11 @@ fn step<R: Renderer + Drop>(hub: &mut Hub<R>, id: ConnId) -> Result<Step, Fault>
     ensures world { IfOk result (λ said. Happens (R.page hub.old.0) hub.old.1 (step_event id.0) hub.new.1 (stepping (Ok said))) }
     ensures same { R.page hub.new.0 ≡ R.page hub.old.0 }
     ensures fault { IfErr result (λ fault. fault ≡ Fault.Memory) }
+    ensures kept { OnErr result (hub.new.1 ≡ hub.old.1) }
 {
     match hub.step(id) {
         Ok(step) => Ok(step),
         Err(StepError::Memory) => Err(Fault::Memory),
         Err(StepError::NoConnection) => Err(Fault::Refused),
-    }
-}
-
-fn write<O: Write>(output: &mut O, bytes: &[u8]) -> Result<(), Fault>
-    ensures written { OnOk result (Appends (O.contents output.old) (O.contents output.new) bytes.now) }
-    ensures fault { IfErr result IsUnwritten }
-{
-    match output.write_all(bytes) {
-        Ok(()) => Ok(()),
-        Err(_) => Err(Fault::CannotWrite),
-    }
-}
-
-fn flush<O: Write>(output: &mut O) -> Result<(), Fault>
-    ensures same { Keeps (O.contents output.old) (O.contents output.new) }
-    ensures fault { IfErr result IsUnwritten }
-{
-    match output.flush() {
-        Ok(()) => Ok(()),
-        Err(_) => Err(Fault::CannotWrite),
     }
 }

@@ -5,7 +5,7 @@ ghost use Rattle.doc_page.specs.Paths.{path_of};
 ghost use Rattle.doc_store.specs.Groups.{groups_of};
 ghost use Rattle.doc_hub.specs.Worlds.{new_world};
 ghost use Rattle.doc_server.specs.DemoSite.{demo_readers, demo_world, with_page, IsAccepted};
-ghost use Rattle.doc_server.specs.Faults.{StopsCall};
+ghost use Rattle.doc_server.specs.DemoSteps.{StopsCall};
 
 use crate::fault::Fault;
 use doc_heap::Heap;

@@ -1,38 +1,79 @@
 //! Reading an input to its end.
 
-ghost use Rattle.std.specs.Prelude.{◌≡◌, IfOk, IfErr, IfSome, OnOk};
+ghost use Rattle.std.specs.Prelude.{◌≡◌, ◌<◌, ◌≤◌, ◌++◌, length, IfOk, IfErr, IfSome, OnOk, vec_len};
 ghost use Rattle.std.specs.Io.KnownBytes.{IsAtEnd};
 ghost use Rattle.doc_server.specs.Faults.{IsUnread};
+ghost use Rattle.doc_server.specs.InputSteps.{IsNamed, IsUnadded};
 
 use crate::fault::Fault;
 use doc_heap::{Heap, String, Vec};
-use std::io::Read;
+use std::io::{ErrorKind, Read};
 
 /// How often an input is read at most, so that reading it ends.
 const READS: u64 = 0x1_0000_0000;
 
-/// The whole input. `name` is what a fault calls it; it is also given up after 2^32 reads.
-pub fn read_whole<R: Read>(heap: Heap, name: &str, reader: &mut R) -> Result<Vec<u8>, Fault>
+/// How many bytes are read at once.
+const PIECE: usize = 65_536;
+
+/// The whole input, or `Refused` once it has given more bytes than the limit. `name` is what a fault
+/// calls it. An interrupted read is tried again; the input is given up after 2^32 reads.
+pub fn read_whole<R: Read>(
+    heap: Heap,
+    name: &str,
+    reader: &mut R,
+    limit: usize,
+) -> Result<Vec<u8>, Fault>
     ensures bytes { IfOk result (λ bytes. IfSome (R.remaining reader.old) (λ left. bytes.items ≡ left)) }
+    ensures within { IfOk result (λ bytes. vec_len bytes ≤ limit) }
     ensures end { OnOk result (IsAtEnd (R.remaining reader.new)) }
-    ensures fault { IfErr result (IsUnread name.now) }
+    ensures fault { IfErr result (IsUnread name.now limit (R.remaining reader.old)) }
+{
+    let mut piece = Vec::from_elem(heap, 0u8, PIECE)?;
+    read_pieces(heap, name, reader, piece.as_mut_slice(), limit)
+}
+
+/// The same, by reads into this piece.
+fn read_pieces<R: Read>(
+    heap: Heap,
+    name: &str,
+    reader: &mut R,
+    piece: &mut [u8],
+    limit: usize,
+) -> Result<Vec<u8>, Fault>
+    requires { 0 < length piece.old }
+    ensures bytes { IfOk result (λ bytes. IfSome (R.remaining reader.old) (λ left. bytes.items ≡ left)) }
+    ensures within { IfOk result (λ bytes. vec_len bytes ≤ limit) }
+    ensures end { OnOk result (IsAtEnd (R.remaining reader.new)) }
+    ensures fault { IfErr result (IsUnread name.now limit (R.remaining reader.old)) }
 {
     let mut bytes = Vec::new(heap);
-    let mut piece = [0u8; 4096];
     'reads: for _ in 0..READS {
-        let Ok(count) = reader.read(&mut piece) else {
-            return Err(cannot_read(heap, name));
-        };
-        if count == 0 {
-            return Ok(bytes);
+        match reader.read(piece) {
+            Ok(0) => return Ok(bytes),
+            Ok(count) => add_piece(&mut bytes, &piece[..count], limit)?,
+            Err(e) if e.kind() == ErrorKind::Interrupted => {}
+            Err(_) => return Err(cannot_read(heap, name)),
         }
-        bytes.extend_from_slice(&piece[..count])?;
     }
     Err(cannot_read(heap, name))
 }
 
+/// Adds a piece of the input, where the limit allows it.
+fn add_piece(bytes: &mut Vec<u8>, piece: &[u8], limit: usize) -> Result<(), Fault>
+    requires { vec_len bytes.old ≤ limit }
+    ensures added { OnOk result (bytes.new.items ≡ bytes.old.items ++ piece.now) }
+    ensures within { OnOk result (vec_len bytes.new ≤ limit) }
+    ensures fault { IfErr result (IsUnadded limit bytes.old.items piece.now) }
+{
+    if piece.len() > limit - bytes.len() {
+        return Err(Fault::Refused);
+    }
+    bytes.extend_from_slice(piece)?;
+    Ok(())
+}
+
 fn cannot_read(heap: Heap, name: &str) -> Fault
-    ensures { IsUnread name.now result }
+    ensures { IsNamed name.now result }
 {
     match String::from_str(heap, name) {
         Ok(name) => Fault::CannotRead(name),

@@ -5,5 +5,4 @@ pub mod demo;
 pub mod demo_site;
 pub mod fault;
 pub mod input;
-#[cfg(test)]
-mod tests;
+pub mod output;

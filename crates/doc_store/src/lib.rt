@@ -11,5 +11,3 @@ pub mod reader;
 pub mod readers;
 pub mod site_sight;
 pub mod store;
-#[cfg(test)]
-mod tests;

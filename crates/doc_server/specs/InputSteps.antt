@@ -1,0 +1,16 @@
+-- Words in which the parts of reading an input are stated.
+use Rattle.std.specs.Prelude.{◌≡◌, ◌<◌, ◌+◌, ⊤, ℕ, List, length, string_bytes}
+use Rattle.doc_server.specs.declared.fault.Fault.{Fault}
+use Rattle.doc_server.specs.declared.fault.Fault.TheVariants as faults
+
+-- the input of this name can't be read, or there is no memory for the name
+abbrev pub IsNamed : List ℕ → Fault → Type 0
+IsNamed name (faults.CannotRead called) = string_bytes called ≡ name
+IsNamed name faults.Memory = ⊤
+IsNamed name other = ⊥
+
+-- a piece that follows these bytes passes the limit, or memory ran out
+abbrev pub IsUnadded : ℕ → List ℕ → List ℕ → Fault → Type 0
+IsUnadded limit before piece faults.Refused = limit < length before + length piece
+IsUnadded limit before piece faults.Memory = ⊤
+IsUnadded limit before piece other = ⊥
