@@ -6,7 +6,7 @@ ghost use Rattle.doc_rules.specs.Trees.{HtmlLines, line_text};
 ghost use Rattle.doc_rules.specs.Blocks.{Blocks};
 ghost use Rattle.doc_one_pass.specs.Leaves.{NoLeaf, OpenParagraph, OpenCode, open_of, code_with, taken, with_open, open_references};
 ghost use Rattle.doc_lines.specs.Cursors.{left_of};
-ghost use Rattle.doc_lines.specs.Rests.{rest_of};
+ghost use Rattle.doc_lines.specs.RestSteps.{rest_of};
 ghost use Rattle.doc_refs.specs.Targets.{targets_of, joined};
 ghost use Rattle.doc_leaves.specs.OpenLeaves.{is_open, paragraph_text, taken_shown, leaf_continued, underlined, with_underlined, underlined_references, with_begun};
 ghost use Rattle.doc_leaves.specs.Starts.{leaf_lines};

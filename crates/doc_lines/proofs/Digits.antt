@@ -14,7 +14,7 @@ use Rattle.doc_rules.specs.Characters.{Text, one_of}
 use Rattle.doc_rules.specs.Parsers.{one, is, ◌then◌, at_most, before, inside}
 use Rattle.doc_rules.specs.Escapes.{number, decimal_reference, hexadecimal_reference}
 use Rattle.doc_rules.proofs.ParserLaws.{IsRest}
-use Rattle.doc_lines.specs.Meanings.{IsDigits}
+use Rattle.doc_lines.specs.MeaningSteps.{IsDigits}
 use Rattle.doc_lines.proofs.Slices.{front_is_before}
 use Rattle.doc_lines.proofs.Steps.{then_is}
 

@@ -1,6 +1,6 @@
 pub mod Cursors
 pub mod Entities
 pub mod Lines
-pub mod Meanings
-pub mod Rests
+pub mod MeaningSteps
+pub mod RestSteps
 pub mod Tables

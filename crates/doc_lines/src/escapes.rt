@@ -2,7 +2,7 @@
 ghost use Rattle.std.specs.Prelude.{◌≡◌, chars, IfOk, IfSome};
 ghost use Rattle.doc_rules.proofs.ParserLaws.{IsRest};
 ghost use Rattle.doc_rules.specs.Escapes.{escape_or_reference, backslash_escape, unescape};
-ghost use Rattle.doc_lines.specs.Meanings.{meaning_of};
+ghost use Rattle.doc_lines.specs.MeaningSteps.{meaning_of};
 
 mod number;
 mod reference;

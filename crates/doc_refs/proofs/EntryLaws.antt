@@ -19,7 +19,7 @@ use Rattle.std.proofs.lemmas.Slice.Eq.{bytes_eq-Decides}
 use Rattle.std.proofs.lemmas.Str.{IsUtf8-string_bytes, encodes-chars}
 use Rattle.doc_rules.specs.Characters.{Text}
 use Rattle.doc_rules.specs.Destinations as rules
-use Rattle.doc_refs.specs.Entries.{targets_shown, AreEntries, AreGrown, earlier, with_entry}
+use Rattle.doc_refs.specs.EntrySteps.{targets_shown, AreEntries, AreGrown, earlier, with_entry}
 use Rattle.doc_refs.specs.Targets.{Targets, target_shown, joined, single}
 use Rattle.doc_refs.specs.declared.ref_map.Entry.{Entry}
 use Rattle.doc_refs.specs.declared.target.Target.{Target}

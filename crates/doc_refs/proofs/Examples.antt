@@ -8,7 +8,7 @@ use Rattle.doc_rules.specs.Definitions.{Definition, definitions_of, find_referen
 use Rattle.doc_rules.specs.Destinations.{Target, balanced}
 use Rattle.doc_rules.specs.Entities.{built_in}
 use Rattle.doc_rules.specs.Labels.{normal_label}
-use Rattle.doc_refs.specs.Parentheses.{finish, ends_at}
+use Rattle.doc_refs.specs.ParenthesisSteps.{finish, ends_at}
 use Rattle.doc_refs.specs.Targets.{Targets, targets_of, joined, single}
 use Rattle.doc_refs.proofs.MapLaws.{finds_the_reference, joins_definitions, get-single}
 

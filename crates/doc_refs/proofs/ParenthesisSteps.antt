@@ -9,7 +9,7 @@ use Rattle.doc_rules.proofs.ParserLaws.{Takes, first_takes, or_takes, repeated_s
 use Rattle.doc_rules.proofs.GrammarLaws.{is_leaves, is_takes, balanced_leaves}
 use Rattle.doc_lines.proofs.Steps.{repeated_ends, repeated_goes_on}
 use Rattle.doc_refs.proofs.Escapes.{escaped_or_one_takes, run_ends, run_goes_on}
-use Rattle.doc_refs.specs.Parentheses.{finish, ends_at}
+use Rattle.doc_refs.specs.ParenthesisSteps.{finish, ends_at}
 
 -- ---- a run
 

@@ -1,5 +1,5 @@
-pub mod Entries
+pub mod EntrySteps
 pub mod Laws
-pub mod Parentheses
+pub mod ParenthesisSteps
 pub mod Sources
 pub mod Targets

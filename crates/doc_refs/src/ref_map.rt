@@ -2,7 +2,7 @@
 ghost use Rattle.std.specs.Prelude.{◌≡◌, chars, string_bytes, OnOk, OnErr};
 ghost use Rattle.std.specs.FinMap as finite;
 ghost use Rattle.doc_refs.specs.Targets.{target_found, target_shown, single, joined};
-ghost use Rattle.doc_refs.specs.Entries.{targets_shown, with_entry, earlier, AreGrown};
+ghost use Rattle.doc_refs.specs.EntrySteps.{targets_shown, with_entry, earlier, AreGrown};
 
 use crate::target::Target;
 use doc_heap::{BTreeMap, Heap, String};
@@ -25,7 +25,7 @@ struct Entry {
 
 impl Model for RefMap {
     ghost use Rattle.doc_refs.specs.Targets.{Targets, targets_code};
-    ghost use Rattle.doc_refs.specs.Entries.{targets_shown, AreEntries};
+    ghost use Rattle.doc_refs.specs.EntrySteps.{targets_shown, AreEntries};
 
     ghost Value = { Targets };
 

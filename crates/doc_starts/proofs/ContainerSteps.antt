@@ -9,7 +9,7 @@ use Rattle.doc_rules.specs.ContainerStarts.{ListKind, Bullet, Ordered, ListMarke
 use Rattle.doc_rules.specs.Escapes.{number}
 use Rattle.doc_lines.specs.Cursors.{Position, first, after_next, left_of}
 use Rattle.doc_starts.specs.Lines.{IsPlain}
-use Rattle.doc_starts.specs.Items.{TakesDigit}
+use Rattle.doc_starts.specs.ItemSteps.{TakesDigit}
 use Rattle.doc_starts.proofs.CellLaws.{front_end, front_cell}
 
 -- ---- block quotes

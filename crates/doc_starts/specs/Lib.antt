@@ -1,5 +1,6 @@
 pub mod Fences
 pub mod Headings
 pub mod HtmlKinds
+pub mod ItemSteps
 pub mod Items
 pub mod Lines

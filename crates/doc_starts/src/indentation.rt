@@ -3,7 +3,7 @@ ghost use Rattle.std.specs.Prelude.{◌≡◌, min, chars, not, nat_le, IfSome};
 ghost use Rattle.doc_rules.specs.Columns.{indent, after_indent, is_blank_line, text_of};
 ghost use Rattle.doc_rules.specs.LeafStarts.{marker_text};
 ghost use Rattle.doc_lines.specs.Cursors.{left_of};
-ghost use Rattle.doc_lines.specs.Rests.{rest_of};
+ghost use Rattle.doc_lines.specs.RestSteps.{rest_of};
 ghost use Rattle.doc_starts.specs.Lines.{line_of, marker_line, IsPlain};
 
 use doc_lines::cursor::Cursor;

@@ -6,7 +6,8 @@ ghost use Rattle.std.specs.Prelude.{◌≡◌, ◌+◌, ◌≤◌, length};
 ghost use Rattle.doc_rules.specs.Columns.{indent, after_indent};
 ghost use Rattle.doc_rules.specs.ContainerStarts as rules;
 ghost use Rattle.doc_lines.specs.Cursors.{left_of};
-ghost use Rattle.doc_starts.specs.Items.{item_shown, item_of_start, marker_shown, IsMarkerOf};
+ghost use Rattle.doc_starts.specs.Items.{item_shown, item_of_start};
+ghost use Rattle.doc_starts.specs.ItemSteps.{marker_shown, IsMarkerOf};
 
 use crate::indentation::{indent_up_to, is_blank_line, marker_place};
 use doc_lines::cursor::Cursor;

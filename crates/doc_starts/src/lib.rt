@@ -10,5 +10,5 @@ pub mod indentation;
 pub mod item;
 pub mod quote;
 mod run;
-mod strip;
+pub mod strip;
 pub mod thematic_break;

@@ -1,7 +1,7 @@
 //! Runs of one character.
 ghost use Rattle.std.specs.Prelude.{◌≡◌, ◌==◌, ◌-◌, ℕ, Option, chars, length, IfSome};
 ghost use Rattle.doc_rules.specs.Parsers.{some};
-ghost use Rattle.doc_lines.specs.Meanings.{behind_of};
+ghost use Rattle.doc_lines.specs.MeaningSteps.{behind_of};
 
 use doc_lines::scan::front::front;
 use doc_lines::scan::run::some;

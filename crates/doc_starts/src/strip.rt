@@ -1,7 +1,7 @@
 //! Slices of a text without characters at its ends.
 ghost use Rattle.std.specs.Prelude.{◌≡◌, ℕ, Bool, chars};
 ghost use Rattle.doc_rules.specs.Characters.{is_space_or_tab, strip, strip_end};
-ghost use Rattle.doc_lines.specs.Rests.{IsTestOf};
+ghost use Rattle.doc_lines.specs.RestSteps.{IsTestOf};
 
 use doc_lines::scan::character::last_char;
 use doc_lines::scan::run::many;

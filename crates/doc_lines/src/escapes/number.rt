@@ -2,7 +2,7 @@
 ghost use Rattle.std.specs.Prelude.{◌≡◌, [], ◌∷◌, chars};
 ghost use Rattle.std.specs.Char.{is_ascii_digit, is_ascii_hexdigit};
 ghost use Rattle.doc_rules.specs.Escapes.{number, code_point};
-ghost use Rattle.doc_lines.specs.Meanings.{IsDigits};
+ghost use Rattle.doc_lines.specs.MeaningSteps.{IsDigits};
 
 /// The character with this code point; U+FFFD for zero and for what is no scalar value.
 #[tactic(auto, unfolding(doc_rules::specs::Escapes::code_point))]

@@ -6,7 +6,7 @@ ghost use Rattle.std.specs.Prelude.{drop, codes};
 ghost use Rattle.std.specs.Char.{is_ascii_digit, is_ascii_hexdigit, is_ascii_alphanumeric};
 ghost use Rattle.doc_rules.specs.Characters.{one_of};
 ghost use Rattle.doc_rules.specs.Escapes.{decimal_reference, hexadecimal_reference, number, code_point, by_name, character_reference};
-ghost use Rattle.doc_lines.specs.Meanings.{meaning_of, behind_of};
+ghost use Rattle.doc_lines.specs.MeaningSteps.{meaning_of, behind_of};
 
 use super::number::{code_point, decimal_number, hexadecimal_number};
 use crate::entities::Entities;

@@ -4,7 +4,7 @@ ghost use Rattle.std.specs.Char.{is_ascii_alphabetic, is_ascii_control};
 ghost use Rattle.doc_rules.specs.Characters.{one_of, first_or, last_or};
 ghost use Rattle.doc_rules.specs.Parsers.{is, ◌then◌, repeated};
 ghost use Rattle.doc_rules.specs.Autolinks.{is_scheme_char, scheme, uri, is_local_char, is_domain_char, is_domain_part, domain_part, mail};
-ghost use Rattle.doc_lines.specs.Rests.{rest_of};
+ghost use Rattle.doc_lines.specs.RestSteps.{rest_of};
 
 use super::character::{is, last_char, next_char, one};
 use super::front::front;

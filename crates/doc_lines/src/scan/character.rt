@@ -3,7 +3,7 @@ ghost use Rattle.std.specs.Prelude.{◌≡◌, [], ◌∷◌, ◌++◌, ℕ, Boo
 ghost use Rattle.std.specs.Char.{encode_utf8};
 ghost use Rattle.doc_rules.proofs.ParserLaws.{IsRest};
 ghost use Rattle.doc_rules.specs.Parsers.{one, is};
-ghost use Rattle.doc_lines.specs.Rests.{rest_of, IsTestOf};
+ghost use Rattle.doc_lines.specs.RestSteps.{rest_of, IsTestOf};
 
 /// The first character, and the text behind it.
 #[tactic(auto, using(std::proofs::lemmas::Str::chars_past_char))]

@@ -5,7 +5,7 @@
 ghost use Rattle.std.specs.Prelude.{◌≡◌, ◌==◌, not, chars, codes};
 ghost use Rattle.doc_rules.specs.Parsers.{is, word, ◌then◌, through};
 ghost use Rattle.doc_rules.specs.Tags.{comment, instruction, declaration, cdata, raw_html};
-ghost use Rattle.doc_lines.specs.Rests.{rest_of};
+ghost use Rattle.doc_lines.specs.RestSteps.{rest_of};
 
 use super::character::{is, one};
 use super::run::many;

@@ -2,7 +2,7 @@
 ghost use Rattle.std.specs.Prelude.{◌≡◌, ℕ, Bool, Some, IfSome, chars};
 ghost use Rattle.doc_rules.proofs.ParserLaws.{IsRest};
 ghost use Rattle.doc_rules.specs.Parsers.{one, many, some, at_most};
-ghost use Rattle.doc_lines.specs.Rests.{rest_of, IsTestOf};
+ghost use Rattle.doc_lines.specs.RestSteps.{rest_of, IsTestOf};
 
 use super::character::{next_char, one};
 

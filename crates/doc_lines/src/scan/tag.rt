@@ -4,7 +4,7 @@ ghost use Rattle.std.specs.Char.{is_ascii_alphabetic, is_ascii_alphanumeric};
 ghost use Rattle.doc_rules.specs.Characters.{one_of, none_of};
 ghost use Rattle.doc_rules.specs.Parsers.{is, ◌then◌, repeated, spacing};
 ghost use Rattle.doc_rules.specs.Tags.{tag_name, attribute_name, quoted_by, attribute_value, attribute, open_tag, closing_tag, html_tag};
-ghost use Rattle.doc_lines.specs.Rests.{rest_of};
+ghost use Rattle.doc_lines.specs.RestSteps.{rest_of};
 
 use super::character::{is, one};
 use super::run::{many, some};

@@ -2,7 +2,7 @@
 ghost use Rattle.std.specs.Prelude.{◌≡◌, Some, chars};
 ghost use Rattle.doc_rules.specs.Characters.{is_space_or_tab};
 ghost use Rattle.doc_rules.specs.Parsers.{◌then◌, many, maybe, line_ending, spacing, some_spacing};
-ghost use Rattle.doc_lines.specs.Rests.{rest_of};
+ghost use Rattle.doc_lines.specs.RestSteps.{rest_of};
 
 use super::character::is;
 use super::run::{many, some};

@@ -2,7 +2,7 @@
 ghost use Rattle.std.specs.Prelude.{◌≡◌, ◌==◌, chars};
 ghost use Rattle.std.specs.Char.{to_ascii_lowercase};
 ghost use Rattle.doc_rules.specs.Parsers.{Parser, one, word, word_in_any_case, through};
-ghost use Rattle.doc_lines.specs.Rests.{rest_of, IsScannerOf};
+ghost use Rattle.doc_lines.specs.RestSteps.{rest_of, IsScannerOf};
 
 use super::character::{is, next_char, one};
 

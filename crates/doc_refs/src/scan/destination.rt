@@ -4,8 +4,8 @@ ghost use Rattle.doc_rules.specs.Characters.{none_of};
 ghost use Rattle.doc_rules.specs.Parsers.{is, passing};
 ghost use Rattle.doc_rules.specs.Destinations.{is_bare, angled, balanced, bare, destination};
 ghost use Rattle.doc_rules.proofs.ParserLaws.{IsRest};
-ghost use Rattle.doc_lines.specs.Rests.{rest_of};
-ghost use Rattle.doc_refs.specs.Parentheses.{end_of_run, IsNextPlace};
+ghost use Rattle.doc_lines.specs.RestSteps.{rest_of};
+ghost use Rattle.doc_refs.specs.ParenthesisSteps.{end_of_run, IsNextPlace};
 
 use super::escaped::{escaped_or_one, many_or_escaped};
 use doc_lines::scan::character::is;

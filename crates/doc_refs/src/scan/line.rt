@@ -2,7 +2,7 @@
 ghost use Rattle.std.specs.Prelude.{◌≡◌, Some, chars};
 ghost use Rattle.doc_rules.specs.Parsers.{is, maybe};
 ghost use Rattle.doc_rules.specs.Definitions.{end_of_line, rest_of_line, margin};
-ghost use Rattle.doc_lines.specs.Rests.{rest_of};
+ghost use Rattle.doc_lines.specs.RestSteps.{rest_of};
 
 use doc_lines::scan::character::is;
 use doc_lines::scan::run::many;

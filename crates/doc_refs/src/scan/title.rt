@@ -3,7 +3,7 @@ ghost use Rattle.std.specs.Prelude.{◌≡◌, ◌==◌, ◌||◌, not, chars};
 ghost use Rattle.doc_rules.specs.Characters.{is_space_or_tab};
 ghost use Rattle.doc_rules.specs.Parsers.{begins, line_ending, many, ◌then◌, ◌or◌};
 ghost use Rattle.doc_rules.specs.Destinations.{title_in, has_blank_line, title};
-ghost use Rattle.doc_lines.specs.Rests.{rest_of};
+ghost use Rattle.doc_lines.specs.RestSteps.{rest_of};
 
 use super::escaped::many_or_escaped;
 use doc_lines::scan::character::{is, next_char};

@@ -5,7 +5,7 @@ ghost use Rattle.doc_rules.specs.Characters.{Text};
 ghost use Rattle.doc_rules.specs.Parsers.{begins, begins_before, is, one, word, ◌then◌, maybe};
 ghost use Rattle.doc_rules.specs.Tags.{open_tag, closing_tag};
 ghost use Rattle.doc_rules.specs.HtmlStarts.{is_named, raw_text_names, ends_raw_text_name, ends_element_name, is_raw_text_start, is_element_start, is_tag_line, html_start};
-ghost use Rattle.doc_lines.specs.Rests.{rest_of};
+ghost use Rattle.doc_lines.specs.RestSteps.{rest_of};
 ghost use Rattle.doc_starts.specs.HtmlKinds.{kind_of, names_of, IsRestTestOf};
 
 use super::HtmlKind;

@@ -4,7 +4,7 @@ ghost use Rattle.doc_rules.specs.Characters.{one_of};
 ghost use Rattle.doc_rules.specs.ContainerStarts.{digits_of, bullet_marker, ordered_marker, list_marker};
 ghost use Rattle.doc_lines.specs.Cursors.{left_of};
 ghost use Rattle.doc_starts.specs.Lines.{IsPlain};
-ghost use Rattle.doc_starts.specs.Items.{marker_of, AreDigits, IsDigitTaken};
+ghost use Rattle.doc_starts.specs.ItemSteps.{marker_of, AreDigits, IsDigitTaken};
 
 use super::kind::ListKind;
 use doc_lines::cursor::Cursor;

@@ -1,5 +1,5 @@
 use Rattle.std.proofs.Common.{ap, sym, subst, ◌∙◌}
-use Rattle.doc_refs.specs.Entries.{targets_shown, AreGrown}
+use Rattle.doc_refs.specs.EntrySteps.{targets_shown, AreGrown}
 use Rattle.doc_refs.specs.Targets.{joined}
 use Rattle.doc_refs.proofs.EntryLaws.{grown-none, grown-with, joined-next}
 use Rattle.doc_refs.proofs.MapLaws.{joined-empty}

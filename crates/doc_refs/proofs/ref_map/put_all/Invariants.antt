@@ -1,5 +1,5 @@
 use Rattle.std.proofs.Common.{◌≡◌}
-use Rattle.doc_refs.specs.Entries.{targets_shown, AreGrown}
+use Rattle.doc_refs.specs.EntrySteps.{targets_shown, AreGrown}
 use Rattle.doc_refs.specs.Targets.{joined}
 use Rattle.doc_refs.proofs.ref_map.put_all.Given as goal
 

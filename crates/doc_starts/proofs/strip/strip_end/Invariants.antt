@@ -2,7 +2,7 @@ use Rattle.std.proofs.Common.{◌≡◌, ℕ, Bool, chars, length}
 use denote.Text.{Utf8}
 use denote.Shadow.{shadow}
 use Rattle.doc_rules.specs.Characters.{strip_end}
-use Rattle.doc_lines.specs.Rests.{IsTestOf}
+use Rattle.doc_lines.specs.RestSteps.{IsTestOf}
 use Rattle.doc_starts.proofs.strip.strip_end.Given as goal
 
 abbrev pub invariant-characters : goal.invariant-characters

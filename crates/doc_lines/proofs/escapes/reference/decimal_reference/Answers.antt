@@ -2,7 +2,7 @@ use Rattle.std.specs.Prelude.{None}
 use Rattle.std.proofs.Common.{rules, ◌≡◌, ◌∙◌, ap, arith}
 use Rattle.std.specs.Char.{is_ascii_digit}
 use Rattle.doc_rules.specs.Escapes.{number, code_point}
-use Rattle.doc_lines.specs.Meanings.{behind_of}
+use Rattle.doc_lines.specs.MeaningSteps.{behind_of}
 use Rattle.doc_rules.proofs.ParserLaws.{is_rest_again}
 use Rattle.doc_lines.proofs.Digits.{decimal_is, digits_before, number_is_inside, rest_behind}
 use Rattle.doc_lines.proofs.escapes.reference.decimal_reference.Goals as goal

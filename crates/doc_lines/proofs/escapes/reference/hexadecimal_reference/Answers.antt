@@ -3,7 +3,7 @@ use Rattle.std.specs.Prelude.{codes, None}
 use Rattle.std.specs.Char.{is_ascii_hexdigit}
 use Rattle.doc_rules.specs.Characters.{one_of}
 use Rattle.doc_rules.specs.Escapes.{number, code_point}
-use Rattle.doc_lines.specs.Meanings.{behind_of}
+use Rattle.doc_lines.specs.MeaningSteps.{behind_of}
 use Rattle.doc_rules.proofs.ParserLaws.{is_rest_again}
 use Rattle.doc_lines.proofs.Digits.{hexadecimal_is, digits_before, number_is_inside_mark, rest_behind}
 use Rattle.doc_lines.proofs.escapes.reference.hexadecimal_reference.Goals as goal

@@ -3,7 +3,7 @@ use denote.Text.{Utf8}
 use denote.Shadow.{shadow}
 use Rattle.doc_rules.specs.Parsers.{one, at_most}
 use Rattle.doc_rules.proofs.ParserLaws.{IsRest}
-use Rattle.doc_lines.specs.Rests.{IsTestOf}
+use Rattle.doc_lines.specs.RestSteps.{IsTestOf}
 use Rattle.doc_lines.proofs.scan.run.at_most.Given as goal
 
 abbrev pub invariant-loop-left : goal.invariant-loop-left

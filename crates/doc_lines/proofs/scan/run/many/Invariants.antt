@@ -3,7 +3,7 @@ use denote.Text.{Utf8}
 use denote.Shadow.{shadow}
 use Rattle.doc_rules.specs.Parsers.{many}
 use Rattle.doc_rules.proofs.ParserLaws.{IsRest}
-use Rattle.doc_lines.specs.Rests.{IsTestOf}
+use Rattle.doc_lines.specs.RestSteps.{IsTestOf}
 use Rattle.doc_lines.proofs.scan.run.many.Given as goal
 
 abbrev pub invariant-loop-c : goal.invariant-loop-c

@@ -1,5 +1,5 @@
 use Rattle.std.proofs.Common.{rules, ap, ◌∙◌, sym}
-use Rattle.doc_lines.specs.Rests.{rest_of}
+use Rattle.doc_lines.specs.RestSteps.{rest_of}
 use Rattle.doc_lines.proofs.Steps.{through_here, through_further, through_ends}
 use Rattle.doc_lines.proofs.scan.word.through_first.Goals as goal
 

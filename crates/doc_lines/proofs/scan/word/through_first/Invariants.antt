@@ -2,7 +2,7 @@ use Rattle.std.proofs.Common.{◌≡◌, chars, length}
 use denote.Text.{Utf8}
 use denote.Shadow.{shadow}
 use Rattle.doc_rules.specs.Parsers.{Parser, through}
-use Rattle.doc_lines.specs.Rests.{IsScannerOf}
+use Rattle.doc_lines.specs.RestSteps.{IsScannerOf}
 use Rattle.doc_lines.proofs.scan.word.through_first.Given as goal
 
 abbrev pub invariant-places : goal.invariant-places

@@ -1,5 +1,5 @@
 use Rattle.std.proofs.Common.{ap, sym, subst, ◌∙◌}
-use Rattle.doc_refs.specs.Entries.{targets_shown, AreEntries}
+use Rattle.doc_refs.specs.EntrySteps.{targets_shown, AreEntries}
 use Rattle.doc_refs.proofs.EntryLaws.{restored}
 use Rattle.doc_refs.proofs.ref_map.RefMap.join.Goals as goal
 

@@ -1,6 +1,6 @@
 use Rattle.std.proofs.Common.{refl, ap, sym, ◌∙◌, Some, arith}
 use Rattle.doc_rules.proofs.GrammarLaws.{balanced_leaves}
-use Rattle.doc_refs.specs.Parentheses.{finish}
+use Rattle.doc_refs.specs.ParenthesisSteps.{finish}
 use Rattle.doc_refs.proofs.scan.destination.balanced.Goals as goal
 
 pub characters-init : goal.characters-init

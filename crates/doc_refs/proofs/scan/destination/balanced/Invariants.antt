@@ -1,6 +1,6 @@
 use Rattle.std.proofs.Common.{◌≡◌, ◌≤◌, chars, length}
 use Rattle.doc_rules.specs.Destinations.{balanced}
-use Rattle.doc_refs.specs.Parentheses.{run_behind}
+use Rattle.doc_refs.specs.ParenthesisSteps.{run_behind}
 use Rattle.doc_refs.proofs.scan.destination.balanced.Given as goal
 
 abbrev pub invariant-characters : goal.invariant-characters

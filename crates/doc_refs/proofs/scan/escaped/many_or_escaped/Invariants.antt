@@ -3,7 +3,7 @@ use denote.Text.{Utf8}
 use denote.Shadow.{shadow}
 use Rattle.doc_rules.specs.Destinations.{many_or_escaped}
 use Rattle.doc_rules.proofs.ParserLaws.{IsRest}
-use Rattle.doc_lines.specs.Rests.{IsTestOf}
+use Rattle.doc_lines.specs.RestSteps.{IsTestOf}
 use Rattle.doc_refs.proofs.scan.escaped.many_or_escaped.Given as goal
 
 abbrev pub invariant-characters : goal.invariant-characters

@@ -1,5 +1,5 @@
 use Rattle.std.proofs.Common.{rules, ◌≡◌, true, false, sym, ◌∙◌, None, arith}
-use Rattle.doc_starts.specs.Items.{marker_of}
+use Rattle.doc_starts.specs.ItemSteps.{marker_of}
 use Rattle.doc_starts.proofs.ContainerSteps.{one_cell, no_bullet_at_end, bullet_at}
 use Rattle.doc_starts.proofs.item.marker.bullet_marker.Goals as goal
 

@@ -1,6 +1,6 @@
 use Rattle.std.proofs.Common.{refl, sym, subst}
 use Rattle.doc_lines.specs.Cursors.{left_of}
-use Rattle.doc_starts.specs.Items.{IsDigitTaken}
+use Rattle.doc_starts.specs.ItemSteps.{IsDigitTaken}
 use Rattle.doc_starts.proofs.ContainerSteps.{no_digits_at_end, no_digit_at, digit_at}
 use Rattle.doc_starts.proofs.item.marker.take_digit.Goals as goal
 
