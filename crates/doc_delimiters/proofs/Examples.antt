@@ -1,0 +1,28 @@
+-- Examples: one pass gives the emphasis (CommonMark 0.31.2, section 6.2).
+use Rattle.std.proofs.Common.{◌≡◌, refl, codes, List, [], ℕ, reverse}
+use Rattle.doc_rules.proofs.Computing.{inline_words}
+use Rattle.doc_rules.specs.Entities.{built_in}
+use Rattle.doc_rules.specs.Inlines.{Inline}
+use Rattle.doc_rules.specs.Emphasis.{emphasis_of}
+use Rattle.doc_rules.specs.Reading.{read}
+use Rattle.doc_delimiters.specs.OnePass.{kept, closed, passed, passed_once}
+
+-- the inlines of a text before emphasis is sought
+abbrev read_of : List ℕ → List Inline
+read_of text = reverse (read built_in [] 10 [] 0 text)
+
+-- one pass over the text's inlines gives their emphasis
+abbrev Agrees : List ℕ → Type 0
+Agrees text = passed_once (read_of text) ≡ emphasis_of (read_of text)
+
+in_one_pass :
+    Agrees (codes "*foo**bar*baz") ×
+    Agrees (codes "*foo _bar* baz_") ×
+    Agrees (codes "foo******bar*********baz") ×
+    Agrees (codes "**a*b*c**") ×
+    Agrees (codes "*foo __bar *baz bim__ bam*") ×
+    Agrees (codes "**foo **bar baz**") ×
+    Agrees (codes "***foo** bar*") ×
+    Agrees (codes "_(bar_ a *b [ c* ")
+unfolding inline_words kept closed passed passed_once
+in_one_pass = (refl, refl, refl, refl, refl, refl, refl, refl)

@@ -1,0 +1,5 @@
+mod Examples
+pub mod Settled
+pub mod Wrapping
+pub mod Quiet
+pub mod OnePassLaws

@@ -1,0 +1,11 @@
+//! Emphasis in one pass over the delimiter runs (the procedure "process emphasis" in the appendix of CommonMark 0.31.2): the
+//! definitions stand in `specs/`, and the laws say that they give `doc_rules`' emphasis.
+#![tactic(auto)]
+
+ghost use Rattle.doc_delimiters.specs.Laws.{OnePassSuffices};
+
+/// One pass over the inlines wraps what wrapping the first run that has an opener wraps, again and again.
+#[tactic(auto, using(crate::proofs::OnePassLaws::one_pass_suffices))]
+pub fn one_pass_gives_the_emphasis()
+    ensures { OnePassSuffices }
+{}
