@@ -3,3 +3,4 @@ pub mod Settled
 pub mod Wrapping
 pub mod Quiet
 pub mod OnePassLaws
+pub mod BoundLaws

@@ -1,2 +1,3 @@
 pub mod OnePass
+pub mod Openers
 pub mod Laws

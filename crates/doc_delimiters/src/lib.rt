@@ -2,10 +2,16 @@
 //! definitions stand in `specs/`, and the laws say that they give `doc_rules`' emphasis.
 #![tactic(auto)]
 
-ghost use Rattle.doc_delimiters.specs.Laws.{OnePassSuffices};
+ghost use Rattle.doc_delimiters.specs.Laws.{OnePassSuffices, BoundsSuffice};
 
 /// One pass over the inlines wraps what wrapping the first run that has an opener wraps, again and again.
 #[tactic(auto, using(crate::proofs::OnePassLaws::one_pass_suffices))]
 pub fn one_pass_gives_the_emphasis()
     ensures { OnePassSuffices }
+{}
+
+/// A search for an opener that ends at the lower bound of the closer's kind finds the nearest opener.
+#[tactic(auto, using(crate::proofs::BoundLaws::bounds_suffice))]
+pub fn bounds_pass_over_no_opener()
+    ensures { BoundsSuffice }
 {}
