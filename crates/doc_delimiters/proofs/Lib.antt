@@ -4,3 +4,6 @@ pub mod Wrapping
 pub mod Quiet
 pub mod OnePassLaws
 pub mod BoundLaws
+pub mod Passing
+pub mod Stretches
+pub mod Pairs

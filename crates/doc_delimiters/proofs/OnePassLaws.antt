@@ -17,7 +17,7 @@ strong_counts false = omega arith
 -- ---- one run
 
 -- what a run becomes, once it is known whether it has an opener
-abbrev after_search : ℕ → Run → List Inline → Option Opener → List Inline
+abbrev pub after_search : ℕ → Run → List Inline → Option Opener → List Inline
 after_search n r before found =
     elim found [
       | None ↦ kept r ++ before
@@ -27,7 +27,7 @@ after_search n r before found =
       ]
     ]
 
-searched : (n : ℕ) (r : Run) (before : List Inline) (found : Option Opener) → opener_of r [] before ≡ found → closed (suc n) r before ≡ after_search n r before found
+pub searched : (n : ℕ) (r : Run) (before : List Inline) (found : Option Opener) → opener_of r [] before ≡ found → closed (suc n) r before ≡ after_search n r before found
 unfolding closed
 searched n r before found e = ap (after_search n r before) e
 

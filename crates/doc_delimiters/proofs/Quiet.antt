@@ -6,7 +6,8 @@ use Rattle.std.proofs.lemmas.List.Concat.{flat_map-cons}
 use Rattle.doc_rules.specs.Inlines.{Inline, Literal, Start, End, Delimiters, Run, run_text, as_text}
 use Rattle.doc_rules.specs.Emphasis.{Opener, opens_and_closes, is_multiple_of_3, matches, opener_of, span_of, less}
 use Rattle.doc_delimiters.specs.OnePass.{kept, behind_pair}
-use Rattle.doc_delimiters.proofs.Settled.{onto, onto_joined, NoRun, after_match}
+use Rattle.doc_delimiters.proofs.Settled.{onto, onto_joined, after_match}
+use Rattle.doc_delimiters.specs.Marks.{NoRun}
 
 -- ---- lists put before others
 
@@ -97,7 +98,7 @@ unfolding opener_of
 text_pushed c zero a between b = refl
 text_pushed c (suc n) a between b = text_pushed c n a (Literal a ∷ between) b ∙ ap (λ t. opener_of c t b) (slid n (Literal a) between)
 
-text_stays : (n a : ℕ) (ys : List Inline) → flat_map as_text (replicate n (Literal a) ++ ys) ≡ replicate n (Literal a) ++ flat_map as_text ys
+pub text_stays : (n a : ℕ) (ys : List Inline) → flat_map as_text (replicate n (Literal a) ++ ys) ≡ replicate n (Literal a) ++ flat_map as_text ys
 unfolding as_text
 text_stays zero a ys = refl
 text_stays (suc n) a ys = flat_map-cons as_text (Literal a) (replicate n (Literal a) ++ ys) ∙ ap (λ t. Literal a ∷ t) (text_stays n a ys)

@@ -3,6 +3,7 @@
 use Rattle.std.proofs.Common.{◌≡◌, ℕ, zero, suc, ◌-◌, Bool, true, false, List, [], ◌∷◌, ◌++◌, refl, ap, sym, ◌∙◌, Option, Some, None, subst, replicate}
 use Rattle.std.specs.Prelude.{nat_lt}
 use Rattle.doc_rules.specs.Inlines.{Inline, Literal, Code, Raw, Reference, SoftBreak, HardBreak, Start, End, Delimiters, Open, Run, Span, run_text}
+use Rattle.doc_delimiters.specs.Marks.{NoRun}
 use Rattle.doc_rules.specs.Emphasis.{Opener, matches, opener_of, wrapped, wrap_first, less}
 
 -- the inlines of xs, the last first, before b
@@ -50,12 +51,6 @@ settled_past b (End s ∷ xs) ys e = settled_past (End s ∷ b) xs ys e
 settled_past b (Open k ∷ xs) ys e = settled_past (Open k ∷ b) xs ys e
 
 -- ---- after a pair is wrapped
-
--- no inline of the list is a run
-abbrev pub NoRun : List Inline → Type 0
-NoRun [] = Unit {0}
-NoRun (Delimiters r ∷ xs) = ⊥
-NoRun (x ∷ xs) = NoRun xs
 
 -- texts settle
 no_run_settles : (b xs ys : List Inline) → NoRun xs → wrap_first b (xs ++ ys) ≡ wrap_first (onto xs b) ys

@@ -1,3 +1,4 @@
 pub mod OnePass
 pub mod Openers
+pub mod Marks
 pub mod Laws
