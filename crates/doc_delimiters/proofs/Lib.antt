@@ -7,3 +7,4 @@ pub mod BoundLaws
 pub mod Passing
 pub mod Stretches
 pub mod Pairs
+pub mod Walks

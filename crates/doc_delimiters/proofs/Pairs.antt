@@ -64,7 +64,7 @@ less_seen next a c lower o n l h p false e =
     ap (seen next a c) (append-nil lower)
     ∙ (seen_until next a o.first c lower p h ∙ ap (λ k. seen next a o.first lower ++ stretch next k (c - k)) g)
 
-back : (xs : List Inline) → onto (onto xs []) [] ≡ xs
+pub back : (xs : List Inline) → onto (onto xs []) [] ≡ xs
 unfolding onto
 back xs = onto_twice xs []
 
@@ -114,7 +114,7 @@ pub record Stands (marks : Marks) (a b : ℕ) (stack : List Placed) (c : Placed)
   pub here : AreDelimiters marks c
   pub behind : ArePlaced marks (c.first + c.run.left) b rest
 
-present_some : (r : Run) → 1 ≤ r.left → present r ≡ Delimiters r ∷ []
+pub present_some : (r : Run) → 1 ≤ r.left → present r ≡ Delimiters r ∷ []
 present_some r h = at (nat_lt 0 r.left) refl
   where
     part : Bool → List Inline

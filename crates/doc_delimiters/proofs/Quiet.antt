@@ -88,7 +88,7 @@ slid : (n : ℕ) (x : Inline) (ys : List Inline) → replicate n x ++ (x ∷ ys)
 slid zero x ys = refl
 slid (suc n) x ys = ap (λ t. x ∷ t) (slid n x ys)
 
-text_onto : (n : ℕ) (x : Inline) (ys : List Inline) → onto (replicate n x) ys ≡ replicate n x ++ ys
+pub text_onto : (n : ℕ) (x : Inline) (ys : List Inline) → onto (replicate n x) ys ≡ replicate n x ++ ys
 unfolding onto
 text_onto zero x ys = refl
 text_onto (suc n) x ys = text_onto n x (x ∷ ys) ∙ slid n x ys

@@ -1,6 +1,6 @@
 -- Delimiter runs in place: each delimiter has a mark of its own in one list of marks, and a pair turns two or four of them into a start
 -- and an end. Nothing is inserted or moved.
-use Rattle.std.specs.Prelude.{◌≡◌, ℕ, zero, suc, ◌+◌, ◌-◌, ◌<◌, ◌≤◌, nat_lt, true, false, List, [], ◌∷◌, ◌++◌}
+use Rattle.std.specs.Prelude.{◌≡◌, ℕ, zero, suc, ◌+◌, ◌-◌, ◌<◌, ◌≤◌, nat_lt, true, false, ◌&&◌, List, [], ◌∷◌, ◌++◌}
 use Rattle.std.proofs.Math.ListN.{get_or}
 use Rattle.doc_rules.specs.Inlines.{Inline, Literal, Start, End, Delimiters, Run}
 use Rattle.doc_rules.specs.Emphasis.{span_of}
@@ -71,3 +71,7 @@ less_closer n placed = record { first = placed.first + n; run = record placed.ru
 -- the present run, where delimiters are left of it
 abbrev pub present : Run → List Inline
 present run = elim (nat_lt 0 run.left) [ true ↦ Delimiters run ∷ [] | false ↦ [] ]
+
+-- the runs that may still open when the present one is passed
+abbrev pub joined : List Placed → Placed → List Placed
+joined stack placed = elim (placed.run.opens && nat_lt 0 placed.run.left) [ true ↦ stack ++ (placed ∷ []) | false ↦ stack ]
