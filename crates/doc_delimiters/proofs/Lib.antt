@@ -8,3 +8,5 @@ pub mod Passing
 pub mod Stretches
 pub mod Pairs
 pub mod Walks
+pub mod InPlaceLaws
+pub mod Numbers

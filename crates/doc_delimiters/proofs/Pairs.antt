@@ -1,15 +1,15 @@
 -- A pair in place is a pair of the pass.
-use Rattle.std.proofs.Common.{◌≡◌, ◌⊎◌, inl, inr, ℕ, zero, suc, ◌+◌, ◌-◌, ◌<◌, ◌≤◌, Bool, true, false, List, [], ◌∷◌, ◌++◌, get_or, reverse, refl, ap, ap₂, sym, ◌∙◌, subst, Option, Some, None, arith, append_assoc, append-nil}
+use Rattle.std.proofs.Common.{◌≡◌, ◌⊎◌, inl, inr, ℕ, suc, ◌+◌, ◌-◌, ◌<◌, ◌≤◌, Bool, true, false, List, [], ◌∷◌, ◌++◌, get_or, refl, ap, ap₂, sym, ◌∙◌, subst, arith, append-nil}
 use Rattle.std.specs.Prelude.{nat_lt, nat_le, ◌&&◌, if◌then◌else◌}
 use Rattle.std.proofs.lemmas.Bool.{ltb-true, ltb-false, leb-true}
-use Rattle.doc_rules.specs.Inlines.{Inline, Start, End, Delimiters, Run, run_text}
-use Rattle.doc_rules.specs.Emphasis.{Opener, matches, opener_of, strength, span_of, less}
-use Rattle.doc_delimiters.specs.OnePass.{kept, behind_pair, passed}
+use Rattle.doc_rules.specs.Inlines.{Inline, Start, End, Delimiters, Run}
+use Rattle.doc_rules.specs.Emphasis.{Opener, matches, strength, span_of, less}
+use Rattle.doc_delimiters.specs.OnePass.{behind_pair, passed}
 use Rattle.doc_delimiters.specs.Marks.{Marks, Placed, stretch, seen, AreDelimiters, ArePlaced, NoRun, ArePlain, IsPaired, less_opener, less_closer, present}
-use Rattle.doc_delimiters.proofs.Settled.{onto, onto_joined, onto_twice}
+use Rattle.doc_delimiters.proofs.Settled.{onto, onto_twice}
 use Rattle.doc_delimiters.proofs.Quiet.{onto_onto, pair_onto}
-use Rattle.doc_delimiters.proofs.Passing.{passed_none, passed_some, passed_plain}
-use Rattle.doc_delimiters.proofs.Stretches.{Agree, stretch_same, stretch_to, stretch_text, stretch_plain, placed_order, placed_front, placed_at, placed_join, placed_until, placed_same, seen_split, seen_until, seen_same, AllMiss, marks_opener, found_opener, found_none}
+use Rattle.doc_delimiters.proofs.Passing.{passed_some}
+use Rattle.doc_delimiters.proofs.Stretches.{Agree, stretch_same, stretch_to, placed_order, placed_front, placed_at, placed_join, placed_until, placed_same, seen_split, seen_until, seen_same, AllMiss, marks_opener, found_opener}
 
 -- a pair takes one delimiter of each run, or two
 abbrev pub OneOrTwo : ℕ → Type 0

@@ -1,16 +1,16 @@
 -- The walk over the runs in place: an invariant for each run that comes next, one for the present run, and the end.
-use Rattle.std.proofs.Common.{◌≡◌, ◌⊎◌, inl, inr, ℕ, zero, suc, ◌+◌, ◌-◌, ◌<◌, ◌≤◌, Bool, true, false, List, [], ◌∷◌, ◌++◌, reverse, refl, ap, ap₂, sym, ◌∙◌, subst, None, arith, append_assoc, append-nil}
+use Rattle.std.proofs.Common.{◌≡◌, ◌⊎◌, inl, inr, ℕ, ◌+◌, ◌-◌, ◌<◌, ◌≤◌, Bool, true, false, List, [], ◌∷◌, ◌++◌, reverse, refl, ap, sym, ◌∙◌, arith, append-nil}
 use Rattle.std.specs.Prelude.{nat_lt, ◌&&◌, ◌||◌, ◌==◌, not, flat_map, if◌then◌else◌}
 use Rattle.std.proofs.lemmas.Bool.{ltb-true, ltb-false}
 use Rattle.doc_rules.specs.Inlines.{Inline, Literal, Delimiters, Run, run_text, as_text}
-use Rattle.doc_rules.specs.Emphasis.{matches, opener_of, strength, opens_and_closes, is_multiple_of_3, emphasis_of}
+use Rattle.doc_rules.specs.Emphasis.{matches, strength, opens_and_closes, is_multiple_of_3, emphasis_of}
 use Rattle.doc_delimiters.specs.OnePass.{kept, passed, passed_once}
-use Rattle.doc_delimiters.specs.Marks.{Marks, Placed, stretch, seen, AreDelimiters, ArePlaced, ArePlain, IsPaired, less_opener, less_closer, present, joined}
+use Rattle.doc_delimiters.specs.Marks.{Marks, Placed, stretch, seen, ArePlaced, ArePlain, IsPaired, less_opener, less_closer, present, joined}
 use Rattle.doc_delimiters.proofs.Settled.{onto, onto_joined}
 use Rattle.doc_delimiters.proofs.Quiet.{onto_nothing, SameText, text_onto}
 use Rattle.doc_delimiters.proofs.OnePassLaws.{one_pass_suffices}
 use Rattle.doc_delimiters.proofs.Passing.{passed_none, passed_plain}
-use Rattle.doc_delimiters.proofs.Stretches.{stretch_text, stretch_plain, placed_order, placed_join, placed_until, seen_split, seen_until, seen_as_text, AllMiss, found_none}
+use Rattle.doc_delimiters.proofs.Stretches.{stretch_text, stretch_plain, placed_join, placed_until, seen_split, seen_until, seen_as_text, AllMiss, found_none}
 use Rattle.doc_delimiters.proofs.Pairs.{outcome, Stands, present_some, pair_outcome, pair_stands, back}
 
 -- before the next run: the runs of the stack stand before a place, the rest behind it, and the pass makes this of them

@@ -2,6 +2,7 @@
 //! definitions stand in `specs/`, and the laws say that they give `doc_rules`' emphasis.
 #![tactic(auto)]
 
+ghost use Rattle.doc_delimiters.specs.InPlace.{InPlaceSuffices};
 ghost use Rattle.doc_delimiters.specs.Laws.{OnePassSuffices, BoundsSuffice};
 
 /// One pass over the inlines wraps what wrapping the first run that has an opener wraps, again and again.
@@ -14,4 +15,10 @@ pub fn one_pass_gives_the_emphasis()
 #[tactic(auto, using(crate::proofs::BoundLaws::bounds_suffice))]
 pub fn bounds_pass_over_no_opener()
     ensures { BoundsSuffice }
+{}
+
+/// Emphasis in place, on one list of marks with a stack of openers, makes the emphasis of what is seen in the marks.
+#[tactic(auto, using(crate::proofs::InPlaceLaws::in_place_suffices))]
+pub fn in_place_gives_the_emphasis()
+    ensures { InPlaceSuffices }
 {}
