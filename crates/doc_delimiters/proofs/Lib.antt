@@ -10,3 +10,4 @@ pub mod Pairs
 pub mod Walks
 pub mod InPlaceLaws
 pub mod Numbers
+pub mod NumberLoops

@@ -1,5 +1,5 @@
 -- Words for steps over runs by their numbers: a stack of numbers as the runs that they are, and what a pair writes.
-use Rattle.std.specs.Prelude.{ℕ, suc, ◌-◌, nat_lt, true, false, List, map, take}
+use Rattle.std.specs.Prelude.{ℕ, suc, ◌-◌, nat_lt, true, false, ◌&&◌, List, [], ◌∷◌, ◌++◌, map, take}
 use Rattle.std.proofs.Math.ListN.{get_or, set}
 use Rattle.doc_rules.specs.Inlines.{Run}
 use Rattle.doc_delimiters.specs.Marks.{Placed, less_closer}
@@ -31,3 +31,8 @@ paired_runs runs opener closer n = set (set runs opener (taken_opener n (numbere
 abbrev pub paired_openers : List Placed → List ℕ → ℕ → ℕ → List ℕ
 paired_openers runs openers place n =
     elim (nat_lt n (run_numbered runs (get_or openers place 0)).left) [ true ↦ take (suc place) openers | false ↦ take place openers ]
+
+-- the openers when the run of this number is passed: it joins where it may open and delimiters are left of it
+abbrev pub joined_openers : List Placed → List ℕ → ℕ → List ℕ
+joined_openers runs openers number =
+    elim ((run_numbered runs number).opens && nat_lt 0 (run_numbered runs number).left) [ true ↦ openers ++ (number ∷ []) | false ↦ openers ]
