@@ -9,7 +9,7 @@ use Rattle.std.proofs.lemmas.Grind.{get_or-set_at}
 use Rattle.std.proofs.lemmas.Bool.Decides.{eqb_tells}
 use Rattle.doc_rules.specs.Inlines.{Run}
 use Rattle.doc_rules.specs.Emphasis.{opens_and_closes, is_multiple_of_3, matches}
-use Rattle.doc_delimiters.specs.Openers.{closer_kind, IsCloser, misses, MissedFrom, NearestIs, nearest, nearest_above, AreBounds, Ascend, StandBefore, ReachTo, OpenAlike}
+use Rattle.doc_delimiters.specs.Openers.{closer_kind, IsCloser, misses, MissedFrom, NearestIs, nearest, nearest_above, AreBounds, Ascend, StandBefore, AllOpen, ReachTo, OpenAlike}
 use Rattle.doc_delimiters.specs.Laws.{BoundsSuffice}
 
 -- ---- kinds
@@ -183,7 +183,7 @@ bounds_taken bounds runs openers n b closer c place less e =
     let f : slice_index (take n openers) place ≡ slice_index openers place = get_or-take n openers place 0 (omega arith) in
     ap (λ k. matches (runs k) closer) f ∙ b closer c place (omega arith) (omega arith)
 
-last_or_before : (xs : List ℕ) (x place : ℕ) → place < length (xs ++ (x ∷ [])) → ((place < length xs) × (slice_index (xs ++ (x ∷ [])) place ≡ slice_index xs place)) ⊎ ((place ≡ length xs) × (slice_index (xs ++ (x ∷ [])) place ≡ x))
+pub last_or_before : (xs : List ℕ) (x place : ℕ) → place < length (xs ++ (x ∷ [])) → ((place < length xs) × (slice_index (xs ++ (x ∷ [])) place ≡ slice_index xs place)) ⊎ ((place ≡ length xs) × (slice_index (xs ++ (x ∷ [])) place ≡ x))
 last_or_before xs x place h = at (nat_lt place (length xs)) refl
   where
     l : length (xs ++ (x ∷ [])) ≡ length xs + length (x ∷ [])
@@ -277,3 +277,19 @@ before_pushed openers number s place less = at (last_or_before openers number pl
         let h : slice_index openers place < number = s place p.0 in
         omega arith
     at (inr p) = let f : slice_index (openers ++ (number ∷ [])) place ≡ number = p.1 in omega arith
+
+-- ---- the openers open
+
+pub open_taken : (runs next : ℕ → Run) (openers : List ℕ) (n : ℕ) → ((number : ℕ) → OpenAlike (next number) (runs number)) → AllOpen runs openers → AllOpen next (take n openers)
+open_taken runs next openers n same h place less =
+    let l : length (take n openers) ≡ min n (length openers) = length-take n openers in
+    let f : slice_index (take n openers) place ≡ slice_index openers place = get_or-take n openers place 0 (omega arith) in
+    ap (λ k. (next k).opens) f ∙ ((same (slice_index openers place)).2 ∙ h place (omega arith))
+
+pub open_pushed : (runs : ℕ → Run) (openers : List ℕ) (number : ℕ) → AllOpen runs openers → (runs number).opens ≡ true → AllOpen runs (openers ++ (number ∷ []))
+open_pushed runs openers number h e place less = at (last_or_before openers number place less)
+  where
+    at : ((place < length openers) × (slice_index (openers ++ (number ∷ [])) place ≡ slice_index openers place)) ⊎ ((place ≡ length openers) × (slice_index (openers ++ (number ∷ [])) place ≡ number)) →
+        (runs (slice_index (openers ++ (number ∷ [])) place)).opens ≡ true
+    at (inl p) = ap (λ k. (runs k).opens) p.1 ∙ h place p.0
+    at (inr p) = ap (λ k. (runs k).opens) p.1 ∙ e

@@ -11,3 +11,5 @@ pub mod Walks
 pub mod InPlaceLaws
 pub mod Numbers
 pub mod NumberLoops
+pub mod BracketLaws
+pub mod Growing

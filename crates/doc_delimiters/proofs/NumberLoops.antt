@@ -6,15 +6,16 @@ use Rattle.std.proofs.Math.ListN.{drop_of_length-le}
 use Rattle.doc_rules.specs.Inlines.{Inline, Run, as_text}
 use Rattle.doc_rules.specs.Emphasis.{strength, emphasis_of}
 use Rattle.doc_delimiters.specs.OnePass.{passed, passed_once}
-use Rattle.doc_delimiters.specs.Openers.{closer_kind, IsCloser, NearestIs, AreBounds, Ascend, StandBefore, ReachTo}
+use Rattle.doc_delimiters.specs.Openers.{closer_kind, IsCloser, NearestIs, AreBounds, Ascend, StandBefore, AllOpen, ReachTo}
 use Rattle.doc_delimiters.specs.Marks.{Marks, Placed, stretch, seen, ArePlaced, ArePlain, IsPaired, joined}
 use Rattle.doc_delimiters.specs.NumberSteps.{no_run, numbered, run_numbered, stack_of, paired_runs, paired_openers, joined_openers}
 use Rattle.doc_delimiters.proofs.Quiet.{SameText}
 use Rattle.doc_delimiters.proofs.OnePassLaws.{one_pass_suffices}
-use Rattle.doc_delimiters.proofs.BoundLaws.{bounds_of_none, bounds_set, bounds_taken, bounds_pushed, bounds_changed, reach_set, reach_further, ascend_taken, ascend_pushed, before_taken, before_pushed}
+use Rattle.doc_delimiters.proofs.BoundLaws.{bounds_of_none, bounds_set, bounds_taken, bounds_pushed, bounds_changed, reach_set, reach_further, ascend_taken, ascend_pushed, before_taken, before_pushed, open_taken, open_pushed}
 use Rattle.doc_delimiters.proofs.Stretches.{AllMiss}
 use Rattle.doc_delimiters.proofs.Walks.{Walks, Closes, walks_first, closes_first, walks_next, walks_last, none_closes}
-use Rattle.doc_delimiters.proofs.Numbers.{ClosesAt, none_on_stack, stack_pushed, pair_at, pair_alike}
+use Rattle.doc_delimiters.proofs.InPlaceLaws.{pair_before}
+use Rattle.doc_delimiters.proofs.Numbers.{ClosesAt, none_on_stack, stack_split, stack_pushed, pair_alike}
 
 -- the openers and the bounds at the run of this number
 pub record Stacked (runs : List Placed) (openers bounds : List ℕ) (number : ℕ) : Type 0 where
@@ -22,6 +23,7 @@ pub record Stacked (runs : List Placed) (openers bounds : List ℕ) (number : �
   pub ascend : Ascend openers
   pub before : StandBefore number openers
   pub reach : ReachTo number bounds
+  pub opening : AllOpen (run_numbered runs) openers
 
 -- before the run of this number
 abbrev pub WalksAt : Marks → ℕ → ℕ → List Placed → List ℕ → ℕ → List Inline → Type 0
@@ -39,6 +41,7 @@ stacked_first runs bounds number r = record {
   ascend = λ i j l k. absurd (omega arith);
   before = λ place l. absurd (omega arith);
   reach = r;
+  opening = λ place l. absurd (omega arith);
 }
 
 -- ---- a run comes
@@ -65,7 +68,13 @@ stacked_pair runs openers bounds number place n s size l = by (nat_lt n (run_num
     bounded = bounds_changed bounds (run_numbered runs) (run_numbered next) openers (pair_alike runs (get_or openers place 0) number n ahead size) s.bounded
 
     upto : (k : ℕ) → Stacked next (take k openers) bounds number
-    upto k = record { bounded = bounds_taken bounds (run_numbered next) openers k bounded; ascend = ascend_taken openers k s.ascend; before = before_taken openers number k s.before; reach = s.reach }
+    upto k = record {
+      bounded = bounds_taken bounds (run_numbered next) openers k bounded;
+      ascend = ascend_taken openers k s.ascend;
+      before = before_taken openers number k s.before;
+      reach = s.reach;
+      opening = open_taken (run_numbered runs) (run_numbered next) openers k (pair_alike runs (get_or openers place 0) number n ahead size) s.opening;
+    }
 
     by : (m : Bool) → Stacked next (elim m as (λ _. List ℕ) [ true ↦ take (suc place) openers | false ↦ take place openers ]) bounds number
     by true = upto (suc place)
@@ -81,6 +90,7 @@ stacked_failed runs openers bounds number s c h l = record {
   ascend = s.ascend;
   before = s.before;
   reach = reach_set bounds (closer_kind (run_numbered runs number)) number s.reach l;
+  opening = s.opening;
 }
 
 -- ---- a run is passed: it has no delimiters left, or may not close, or has no opener
@@ -107,21 +117,27 @@ pub not_closing_at : (marks : Marks) (a b : ℕ) (runs : List Placed) (openers :
     (run_numbered runs number).closes ≡ false → WalksAt marks a b runs (joined_openers runs openers number) (suc number) goal
 not_closing_at marks a b runs openers number goal h e = passed_at marks a b runs openers number goal h (inr (none_closes (run_numbered runs number) (stack_of runs openers) e))
 
+first_true : (x y : Bool) → (x && y) ≡ true → x ≡ true
+first_true true y e = refl
+first_true false y e = absurd cc
+
 pub stacked_next : (runs : List Placed) (openers bounds : List ℕ) (number : ℕ) → Stacked runs openers bounds number → Stacked runs (joined_openers runs openers number) bounds (suc number)
-stacked_next runs openers bounds number s = by ((run_numbered runs number).opens && nat_lt 0 (run_numbered runs number).left)
+stacked_next runs openers bounds number s = by ((run_numbered runs number).opens && nat_lt 0 (run_numbered runs number).left) refl
   where
-    by : (m : Bool) → Stacked runs (elim m as (λ _. List ℕ) [ true ↦ openers ++ (number ∷ []) | false ↦ openers ]) bounds (suc number)
-    by true = record {
+    by : (m : Bool) → ((run_numbered runs number).opens && nat_lt 0 (run_numbered runs number).left) ≡ m → Stacked runs (elim m as (λ _. List ℕ) [ true ↦ openers ++ (number ∷ []) | false ↦ openers ]) bounds (suc number)
+    by true e = record {
       bounded = bounds_pushed bounds (run_numbered runs) openers number s.bounded s.reach;
       ascend = ascend_pushed openers number s.ascend s.before;
       before = before_pushed openers number s.before;
       reach = reach_further bounds number (suc number) s.reach (omega arith);
+      opening = open_pushed (run_numbered runs) openers number s.opening (first_true (run_numbered runs number).opens (nat_lt 0 (run_numbered runs number).left) e);
     }
-    by false = record {
+    by false e = record {
       bounded = s.bounded;
       ascend = s.ascend;
       before = λ place l. let k : get_or openers place 0 < number = s.before place l in omega arith;
       reach = reach_further bounds number (suc number) s.reach (omega arith);
+      opening = s.opening;
     }
 
 -- ---- the end
@@ -133,3 +149,13 @@ unfolding passed_once
 ends_at marks next a b runs left openers number w l =
     walks_last next a b (stack_of left openers) (passed [] (seen marks a b runs)) (subst (λ t. Walks next a b (stack_of left openers) t (passed [] (seen marks a b runs))) (drop_of_length-le left l) w)
     ∙ one_pass_suffices (seen marks a b runs)
+
+-- and a pair changes no mark before the first place
+pub pair_keeps : (marks next : Marks) (a b : ℕ) (runs : List Placed) (openers : List ℕ) (number place n : ℕ) (goal : List Inline) → ClosesAt marks a b runs openers number goal → place < length openers →
+    IsPaired marks next ((numbered runs (get_or openers place 0)).first + ((run_numbered runs (get_or openers place 0)).left - n)) (numbered runs number).first n →
+    (i : ℕ) → i < a → get_or marks i [] ≡ get_or next i []
+pair_keeps marks next a b runs openers number place n goal h l p i less =
+    let c : Placed = numbered runs number in
+    let placed : ArePlaced marks a c.first (stack_of runs (take place openers) ++ (numbered runs (get_or openers place 0) ∷ stack_of runs (drop (suc place) openers))) =
+    subst (λ t. ArePlaced marks a c.first t) (stack_split runs openers place l) h.stands.before in
+    pair_before marks next a c.first (stack_of runs (take place openers)) (numbered runs (get_or openers place 0)) (stack_of runs (drop (suc place) openers)) n placed p i less

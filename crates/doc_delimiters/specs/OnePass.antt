@@ -1,7 +1,7 @@
 -- Emphasis in one pass over the inlines (CommonMark 0.31.2, section 6.2, as its appendix does it): each run is closed as often as it has
 -- an opener before it, and then passed for good. What is passed stands nearest first.
 use Rattle.std.specs.Prelude.{ℕ, zero, suc, ◌-◌, nat_lt, true, false, List, [], ◌∷◌, ◌++◌, reverse, flat_map, Some, None, if◌then◌else◌}
-use Rattle.doc_rules.specs.Inlines.{Start, End, Run, Inline, Delimiters, run_text, as_text, onto}
+use Rattle.doc_rules.specs.Inlines.{Start, End, Run, Inline, Delimiters, Open, run_text, bracket_text, as_text, onto}
 use Rattle.doc_rules.specs.Emphasis.{Opener, opener_of, strength, span_of, less}
 
 -- what a run is once it is passed: it stays where it may open, else it is text
@@ -33,3 +33,9 @@ passed before (inline ∷ after) = passed (inline ∷ before) after
 -- the inlines with what one pass wraps wrapped; what is left of runs and brackets is text
 unfoldable pub passed_once : List Inline → List Inline
 passed_once inlines = flat_map as_text (passed [] inlines)
+
+-- the inlines with their brackets as the text that they are
+unfoldable pub plain_brackets : List Inline → List Inline
+plain_brackets [] = []
+plain_brackets (Open bracket ∷ more) = bracket_text bracket ++ plain_brackets more
+plain_brackets (inline ∷ more) = inline ∷ plain_brackets more

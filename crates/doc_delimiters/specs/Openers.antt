@@ -59,6 +59,10 @@ Ascend openers = (i j : ℕ) → i < j → j < length openers → slice_index op
 abbrev pub StandBefore : ℕ → List ℕ → Type 0
 StandBefore number openers = (place : ℕ) → place < length openers → slice_index openers place < number
 
+-- each of the openers may open
+abbrev pub AllOpen : (ℕ → Run) → List ℕ → Type 0
+AllOpen runs openers = (place : ℕ) → place < length openers → (runs (slice_index openers place)).opens ≡ true
+
 -- no bound is higher than this run
 abbrev pub ReachTo : ℕ → List ℕ → Type 0
 ReachTo number bounds = (kind : ℕ) → slice_index bounds kind ≤ number

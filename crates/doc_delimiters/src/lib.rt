@@ -3,7 +3,7 @@
 #![tactic(auto)]
 
 ghost use Rattle.doc_delimiters.specs.InPlace.{InPlaceSuffices};
-ghost use Rattle.doc_delimiters.specs.Laws.{OnePassSuffices, BoundsSuffice};
+ghost use Rattle.doc_delimiters.specs.Laws.{OnePassSuffices, BoundsSuffice, BracketsAreText};
 
 /// One pass over the inlines wraps what wrapping the first run that has an opener wraps, again and again.
 #[tactic(auto, using(crate::proofs::OnePassLaws::one_pass_suffices))]
@@ -21,4 +21,10 @@ pub fn bounds_pass_over_no_opener()
 #[tactic(auto, using(crate::proofs::InPlaceLaws::in_place_suffices))]
 pub fn in_place_gives_the_emphasis()
     ensures { InPlaceSuffices }
+{}
+
+/// Brackets as text have the emphasis that they have as brackets.
+#[tactic(auto, using(crate::proofs::BracketLaws::brackets_are_text))]
+pub fn brackets_are_text_to_emphasis()
+    ensures { BracketsAreText }
 {}
