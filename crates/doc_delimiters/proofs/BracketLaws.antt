@@ -1,8 +1,8 @@
 -- To emphasis a bracket is no more than its text.
-use Rattle.std.proofs.Common.{◌≡◌, ℕ, zero, suc, ◌-◌, Bool, true, false, List, [], ◌∷◌, ◌++◌, reverse, replicate, map, refl, ap, sym, ◌∙◌, Option, Some, None, codes}
+use Rattle.std.proofs.Common.{◌≡◌, ℕ, zero, suc, ◌-◌, Bool, true, false, List, [], ◌∷◌, ◌++◌, reverse, replicate, refl, ap, sym, ◌∙◌, Option, Some, None, codes}
 use Rattle.std.specs.Prelude.{nat_lt, flat_map, if◌then◌else◌}
-use Rattle.doc_rules.specs.Inlines.{Inline, Literal, Start, End, Delimiters, Open, Bracket, Run, run_text, bracket_text, as_text, literals}
-use Rattle.doc_rules.specs.Emphasis.{Opener, matches, opener_of, strength, span_of, less, emphasis_of}
+use Rattle.doc_rules.specs.Inlines.{Inline, Literal, Start, End, Delimiters, Open, Run, run_text, bracket_text, as_text, literals}
+use Rattle.doc_rules.specs.Emphasis.{Opener, matches, opener_of, strength, span_of, less}
 use Rattle.doc_delimiters.specs.OnePass.{kept, behind_pair, closed, passed, passed_once, plain_brackets}
 use Rattle.doc_delimiters.specs.Marks.{NoRun}
 use Rattle.doc_delimiters.specs.Laws.{BracketsAreText}

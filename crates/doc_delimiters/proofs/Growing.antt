@@ -1,10 +1,10 @@
 -- Marks that grow at their end, as a text is read.
-use Rattle.std.proofs.Common.{◌≡◌, ℕ, zero, suc, ◌+◌, ◌-◌, ◌<◌, ◌≤◌, Bool, true, false, List, [], ◌∷◌, ◌++◌, length, get_or, drop, refl, ap, ap₂, sym, ◌∙◌, subst, arith, append-nil}
-use Rattle.std.specs.Prelude.{flat_map, nat_lt}
+use Rattle.std.proofs.Common.{◌≡◌, ℕ, zero, suc, ◌+◌, ◌-◌, ◌≤◌, List, [], ◌∷◌, ◌++◌, length, get_or, drop, ap, ap₂, sym, ◌∙◌, subst, arith, append-nil}
+use Rattle.std.specs.Prelude.{flat_map}
 use Rattle.std.proofs.Math.Seq.{drop-cons}
 use Rattle.std.proofs.Math.ListN.{drop_of_length-le}
-use Rattle.doc_rules.specs.Inlines.{Inline, Delimiters}
-use Rattle.doc_delimiters.specs.Marks.{Marks, Placed, stretch, seen, AreDelimiters, ArePlaced, NoRun, ArePlain}
+use Rattle.doc_rules.specs.Inlines.{Delimiters}
+use Rattle.doc_delimiters.specs.Marks.{Marks, Placed, stretch, seen, AreDelimiters, ArePlaced}
 use Rattle.doc_delimiters.proofs.Stretches.{Agree, placed_join, placed_same, placed_until, seen_split, seen_until, seen_same}
 
 one_stretch : (marks : Marks) (a n : ℕ) → n ≡ 1 → stretch marks a n ≡ get_or marks a []

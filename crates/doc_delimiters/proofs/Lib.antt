@@ -13,3 +13,4 @@ pub mod Numbers
 pub mod NumberLoops
 pub mod BracketLaws
 pub mod Growing
+pub mod Finals

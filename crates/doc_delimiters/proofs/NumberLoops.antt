@@ -1,19 +1,18 @@
 -- The loops over runs by their numbers: what holds before each run, and at the present one, with the openers and the bounds.
-use Rattle.std.proofs.Common.{◌≡◌, ◌⊎◌, inl, inr, ℕ, zero, suc, ◌+◌, ◌-◌, ◌<◌, ◌≤◌, Bool, true, false, List, [], ◌∷◌, ◌++◌, length, get_or, set, take, drop, refl, ap, sym, ◌∙◌, subst, Option, Some, None, arith}
+use Rattle.std.proofs.Common.{◌≡◌, ◌⊎◌, inl, inr, ℕ, suc, ◌+◌, ◌-◌, ◌<◌, ◌≤◌, Bool, true, false, List, [], ◌∷◌, ◌++◌, length, get_or, set, take, drop, refl, sym, ◌∙◌, subst, None, arith}
 use Rattle.std.specs.Prelude.{nat_lt, ◌&&◌, flat_map}
 use Rattle.std.proofs.Math.Seq.{drop-cons}
 use Rattle.std.proofs.Math.ListN.{drop_of_length-le}
-use Rattle.doc_rules.specs.Inlines.{Inline, Run, as_text}
-use Rattle.doc_rules.specs.Emphasis.{strength, emphasis_of}
+use Rattle.doc_rules.specs.Inlines.{Inline, as_text}
+use Rattle.doc_rules.specs.Emphasis.{emphasis_of}
 use Rattle.doc_delimiters.specs.OnePass.{passed, passed_once}
 use Rattle.doc_delimiters.specs.Openers.{closer_kind, IsCloser, NearestIs, AreBounds, Ascend, StandBefore, AllOpen, ReachTo}
-use Rattle.doc_delimiters.specs.Marks.{Marks, Placed, stretch, seen, ArePlaced, ArePlain, IsPaired, joined}
+use Rattle.doc_delimiters.specs.Marks.{Marks, Placed, stretch, seen, ArePlaced, ArePlain, IsPaired}
 use Rattle.doc_delimiters.specs.NumberSteps.{no_run, numbered, run_numbered, stack_of, paired_runs, paired_openers, joined_openers}
-use Rattle.doc_delimiters.proofs.Quiet.{SameText}
 use Rattle.doc_delimiters.proofs.OnePassLaws.{one_pass_suffices}
 use Rattle.doc_delimiters.proofs.BoundLaws.{bounds_of_none, bounds_set, bounds_taken, bounds_pushed, bounds_changed, reach_set, reach_further, ascend_taken, ascend_pushed, before_taken, before_pushed, open_taken, open_pushed}
 use Rattle.doc_delimiters.proofs.Stretches.{AllMiss}
-use Rattle.doc_delimiters.proofs.Walks.{Walks, Closes, walks_first, closes_first, walks_next, walks_last, none_closes}
+use Rattle.doc_delimiters.proofs.Walks.{Walks, walks_first, closes_first, walks_next, walks_last, none_closes}
 use Rattle.doc_delimiters.proofs.InPlaceLaws.{pair_before}
 use Rattle.doc_delimiters.proofs.Numbers.{ClosesAt, none_on_stack, stack_split, stack_pushed, pair_alike}
 

@@ -2,7 +2,7 @@
 -- and an end. Nothing is inserted or moved.
 use Rattle.std.specs.Prelude.{◌≡◌, ℕ, zero, suc, ◌+◌, ◌-◌, ◌<◌, ◌≤◌, nat_lt, true, false, ◌&&◌, List, [], ◌∷◌, ◌++◌}
 use Rattle.std.proofs.Math.ListN.{get_or}
-use Rattle.doc_rules.specs.Inlines.{Inline, Literal, Start, End, Delimiters, Run}
+use Rattle.doc_rules.specs.Inlines.{Inline, Literal, Start, End, Delimiters, Open, Run}
 use Rattle.doc_rules.specs.Emphasis.{span_of}
 
 -- what each mark stands for: some inlines, or none
@@ -39,6 +39,13 @@ abbrev pub NoRun : List Inline → Type 0
 NoRun [] = Unit {0}
 NoRun (Delimiters run ∷ more) = ⊥
 NoRun (inline ∷ more) = NoRun more
+
+-- no inline of the list is a run or a bracket: all is read
+abbrev pub IsFinal : List Inline → Type 0
+IsFinal [] = Unit {0}
+IsFinal (Delimiters run ∷ more) = ⊥
+IsFinal (Open bracket ∷ more) = ⊥
+IsFinal (inline ∷ more) = IsFinal more
 
 -- no mark stands for a run
 abbrev pub ArePlain : Marks → Type 0
