@@ -1,10 +1,12 @@
 -- To emphasis a bracket is no more than its text.
-use Rattle.std.proofs.Common.{◌≡◌, ℕ, zero, suc, ◌-◌, Bool, true, false, List, [], ◌∷◌, ◌++◌, reverse, replicate, refl, ap, sym, ◌∙◌, Option, Some, None, codes}
+use Rattle.std.proofs.Common.{◌≡◌, ℕ, zero, suc, ◌-◌, Bool, true, false, List, [], ◌∷◌, ◌++◌, reverse, replicate, map, refl, ap, ap₂, sym, append_assoc, ◌∙◌, Option, Some, None, codes}
 use Rattle.std.specs.Prelude.{nat_lt, flat_map, if◌then◌else◌}
+use Rattle.std.proofs.lemmas.List.{reverse-append}
 use Rattle.doc_rules.specs.Inlines.{Inline, Literal, Start, End, Delimiters, Open, Run, run_text, bracket_text, as_text, literals}
 use Rattle.doc_rules.specs.Emphasis.{Opener, matches, opener_of, strength, span_of, less}
 use Rattle.doc_delimiters.specs.OnePass.{kept, behind_pair, closed, passed, passed_once, plain_brackets}
-use Rattle.doc_delimiters.specs.Marks.{NoRun}
+use Rattle.doc_rules.specs.Links.{without_links}
+use Rattle.doc_delimiters.specs.Marks.{NoRun, IsFinal}
 use Rattle.doc_delimiters.specs.Laws.{BracketsAreText}
 use Rattle.doc_delimiters.proofs.Settled.{onto, onto_joined, after_match}
 use Rattle.doc_delimiters.proofs.Quiet.{onto_reverse, onto_nothing, SameText}
@@ -153,3 +155,38 @@ plain_passed (x ∷ ys) b = plain_passed ys (x ∷ b)
 pub brackets_are_text : BracketsAreText
 unfolding passed_once plain_behind
 brackets_are_text inlines = sym (one_pass_suffices (plain_brackets inlines)) ∙ (plain_passed inlines [] ∙ one_pass_suffices inlines)
+
+-- ---- brackets as text, part by part
+
+pub plain_append : (xs ys : List Inline) → plain_brackets (xs ++ ys) ≡ plain_brackets xs ++ plain_brackets ys
+unfolding plain_brackets
+plain_append [] ys = refl
+plain_append (Open k ∷ xs) ys =
+    ap (λ t. bracket_text k ++ t) (plain_append xs ys) ∙ sym (append_assoc (bracket_text k) (plain_brackets xs) (plain_brackets ys))
+plain_append (x ∷ xs) ys = ap (λ t. x ∷ t) (plain_append xs ys)
+
+-- one inline more
+pub plain_more : (made : List Inline) (x : Inline) → plain_brackets (reverse (x ∷ made)) ≡ plain_brackets (reverse made) ++ plain_brackets (x ∷ [])
+plain_more made x =
+    let e : reverse (x ∷ made) ≡ reverse made ++ (x ∷ []) = reverse-append (x ∷ []) made in
+    ap plain_brackets e ∙ plain_append (reverse made) (x ∷ [])
+
+-- inlines that are read are as they stand
+pub plain_final : (xs : List Inline) → IsFinal xs → plain_brackets xs ≡ xs
+unfolding plain_brackets
+plain_final [] h = refl
+plain_final (Delimiters r ∷ xs) h = absurd h
+plain_final (Open k ∷ xs) h = absurd h
+plain_final (x ∷ xs) h = ap (λ t. x ∷ t) (plain_final xs h)
+
+same_one : (x : Inline) → plain_brackets (without_links x ∷ []) ≡ plain_brackets (x ∷ [])
+unfolding plain_brackets without_links bracket_text
+same_one (Open k) = refl
+same_one x = refl
+
+-- brackets that no longer begin a link are the same text
+pub plain_without_links : (made : List Inline) → plain_brackets (reverse (map without_links made)) ≡ plain_brackets (reverse made)
+plain_without_links [] = refl
+plain_without_links (x ∷ made) =
+    plain_more (map without_links made) (without_links x)
+    ∙ (ap₂ (λ s t. s ++ t) (plain_without_links made) (same_one x) ∙ sym (plain_more made x))

@@ -14,3 +14,4 @@ pub mod NumberLoops
 pub mod BracketLaws
 pub mod Growing
 pub mod Finals
+pub mod IdleRuns

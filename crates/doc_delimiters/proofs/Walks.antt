@@ -126,12 +126,12 @@ kept_opens : (r : Run) → r.opens ≡ true → kept r ≡ Delimiters r ∷ []
 unfolding kept
 kept_opens r e = ap (λ o. if o then Delimiters r ∷ [] else run_text r) e
 
-kept_text : (r : Run) → r.opens ≡ false → kept r ≡ run_text r
+pub kept_text : (r : Run) → r.opens ≡ false → kept r ≡ run_text r
 unfolding kept
 kept_text r e = ap (λ o. if o then Delimiters r ∷ [] else run_text r) e
 
 -- the run's text, put before others, is itself
-text_first : (r : Run) (b : List Inline) → onto (run_text r) b ≡ run_text r ++ b
+pub text_first : (r : Run) (b : List Inline) → onto (run_text r) b ≡ run_text r ++ b
 unfolding run_text
 text_first r b = text_onto r.left (Literal r.char) b
 

@@ -2,7 +2,7 @@
 use Rattle.std.specs.Prelude.{◌≡◌, ℕ, ◌≤◌, List, length, slice_index}
 use Rattle.doc_rules.specs.Inlines.{Inline, Run}
 use Rattle.doc_rules.specs.Emphasis.{emphasis_of}
-use Rattle.doc_delimiters.specs.OnePass.{passed_once, plain_brackets}
+use Rattle.doc_delimiters.specs.OnePass.{passed_once, plain_brackets, without_idle_runs}
 use Rattle.doc_delimiters.specs.Openers.{closer_kind, IsCloser, nearest, nearest_above, AreBounds, Ascend}
 
 abbrev pub OnePassSuffices : Type 0
@@ -16,3 +16,7 @@ BoundsSuffice = (bounds : List ℕ) (runs : ℕ → Run) (openers : List ℕ) (c
 -- to emphasis a bracket is no more than its text
 abbrev pub BracketsAreText : Type 0
 BracketsAreText = (inlines : List Inline) → emphasis_of (plain_brackets inlines) ≡ emphasis_of inlines
+
+-- nor is a run that may neither open nor close
+abbrev pub IdleRunsAreText : Type 0
+IdleRunsAreText = (inlines : List Inline) → emphasis_of (without_idle_runs inlines) ≡ emphasis_of inlines

@@ -1,6 +1,6 @@
 -- Emphasis in one pass over the inlines (CommonMark 0.31.2, section 6.2, as its appendix does it): each run is closed as often as it has
 -- an opener before it, and then passed for good. What is passed stands nearest first.
-use Rattle.std.specs.Prelude.{ℕ, zero, suc, ◌-◌, nat_lt, true, false, List, [], ◌∷◌, ◌++◌, reverse, flat_map, Some, None, if◌then◌else◌}
+use Rattle.std.specs.Prelude.{ℕ, zero, suc, ◌-◌, nat_lt, true, false, ◌||◌, List, [], ◌∷◌, ◌++◌, reverse, flat_map, Some, None, if◌then◌else◌}
 use Rattle.doc_rules.specs.Inlines.{Start, End, Run, Inline, Delimiters, Open, run_text, bracket_text, as_text, onto}
 use Rattle.doc_rules.specs.Emphasis.{Opener, opener_of, strength, span_of, less}
 
@@ -39,3 +39,9 @@ unfoldable pub plain_brackets : List Inline → List Inline
 plain_brackets [] = []
 plain_brackets (Open bracket ∷ more) = bracket_text bracket ++ plain_brackets more
 plain_brackets (inline ∷ more) = inline ∷ plain_brackets more
+
+-- the inlines with the runs that may neither open nor close as the text that they are
+unfoldable pub without_idle_runs : List Inline → List Inline
+without_idle_runs [] = []
+without_idle_runs (Delimiters run ∷ more) = (if run.opens || run.closes then Delimiters run ∷ [] else run_text run) ++ without_idle_runs more
+without_idle_runs (inline ∷ more) = inline ∷ without_idle_runs more

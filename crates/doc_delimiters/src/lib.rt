@@ -3,7 +3,7 @@
 #![tactic(auto)]
 
 ghost use Rattle.doc_delimiters.specs.InPlace.{InPlaceSuffices};
-ghost use Rattle.doc_delimiters.specs.Laws.{OnePassSuffices, BoundsSuffice, BracketsAreText};
+ghost use Rattle.doc_delimiters.specs.Laws.{OnePassSuffices, BoundsSuffice, BracketsAreText, IdleRunsAreText};
 
 /// One pass over the inlines wraps what wrapping the first run that has an opener wraps, again and again.
 #[tactic(auto, using(crate::proofs::OnePassLaws::one_pass_suffices))]
@@ -27,4 +27,10 @@ pub fn in_place_gives_the_emphasis()
 #[tactic(auto, using(crate::proofs::BracketLaws::brackets_are_text))]
 pub fn brackets_are_text_to_emphasis()
     ensures { BracketsAreText }
+{}
+
+/// Runs that may neither open nor close, as text, change nothing in the emphasis.
+#[tactic(auto, using(crate::proofs::IdleRuns::idle_runs_are_text))]
+pub fn idle_runs_are_text_to_emphasis()
+    ensures { IdleRunsAreText }
 {}
