@@ -1,5 +1,5 @@
 -- The lower bounds: a search that fails sets one, and they hold while openers come, go, and lose delimiters.
-use Rattle.std.proofs.Common.{◌≡◌, ◌≢◌, ℕ, zero, suc, ◌+◌, ◌<◌, ◌≤◌, Bool, true, false, List, [], ◌∷◌, ◌++◌, length, take, set, refl, ap, ap₂, sym, ◌∙◌, ◌⊎◌, inl, inr, Option, Some, None, arith, min, get_or-set_other}
+use Rattle.std.proofs.Common.{◌≡◌, ◌≢◌, ℕ, zero, suc, ◌+◌, ◌<◌, ◌≤◌, Bool, true, false, List, [], ◌∷◌, ◌++◌, length, replicate, take, set, refl, ap, ap₂, sym, ◌∙◌, ◌⊎◌, inl, inr, Option, Some, None, arith, min, get_or-set_other}
 use Rattle.std.specs.Prelude.{◌%◌, nat_lt, ◌&&◌, ◌||◌, ◌==◌, not, if◌then◌else◌, slice_index}
 use Rattle.std.proofs.Math.Nat.{mod-lt}
 use Rattle.std.proofs.Math.Seq.{get_or-append_seam}
@@ -293,3 +293,25 @@ open_pushed runs openers number h e place less = at (last_or_before openers numb
         (runs (slice_index (openers ++ (number ∷ [])) place)).opens ≡ true
     at (inl p) = ap (λ k. (runs k).opens) p.1 ∙ h place p.0
     at (inr p) = ap (λ k. (runs k).opens) p.1 ∙ e
+
+-- ---- twelve bounds
+
+below_twelve : (a b : Bool) (r : ℕ) → r < 3 → coded a b r < 12
+below_twelve true true r h = omega arith
+below_twelve true false r h = omega arith
+below_twelve false true r h = omega arith
+below_twelve false false r h = omega arith
+
+-- there are 12 kinds of closers
+pub kind_below : (c : Run) → closer_kind c < 12
+unfolding closer_kind
+kind_below c = below_twelve (c.char == 42) c.opens (c.length % 3) (mod-lt c.length (omega arith))
+
+zero_at : (n k : ℕ) → slice_index (replicate n 0) k ≡ 0
+zero_at zero k = refl
+zero_at (suc n) zero = refl
+zero_at (suc n) (suc k) = zero_at n k
+
+-- bounds of 0 are no higher than any run
+pub reach_first : (n number : ℕ) → ReachTo number (replicate n 0)
+reach_first n number kind = let e : slice_index (replicate n 0) kind ≡ 0 = zero_at n kind in omega arith

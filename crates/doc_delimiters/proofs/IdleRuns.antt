@@ -1,14 +1,13 @@
 -- To emphasis a run that may neither open nor close is no more than its text.
-use Rattle.std.proofs.Common.{◌≡◌, ℕ, zero, suc, Bool, true, false, List, [], ◌∷◌, ◌++◌, replicate, reverse, refl, ap, ap₂, sym, ◌∙◌, append_assoc, append-nil, None}
+use Rattle.std.proofs.Common.{◌≡◌, ℕ, zero, suc, Bool, true, false, List, [], ◌∷◌, ◌++◌, replicate, reverse, refl, ap, sym, ◌∙◌, append_assoc, None}
 use Rattle.std.specs.Prelude.{◌||◌, flat_map, if◌then◌else◌}
 use Rattle.std.proofs.lemmas.List.{reverse-append}
 use Rattle.doc_rules.specs.Inlines.{Inline, Literal, Delimiters, Run, run_text, as_text}
-use Rattle.doc_rules.specs.Emphasis.{matches, opener_of, emphasis_of}
-use Rattle.doc_delimiters.specs.OnePass.{kept, passed, passed_once, without_idle_runs}
+use Rattle.doc_rules.specs.Emphasis.{opener_of}
+use Rattle.doc_delimiters.specs.OnePass.{passed, passed_once, without_idle_runs}
 use Rattle.doc_delimiters.specs.Marks.{NoRun}
 use Rattle.doc_delimiters.specs.Laws.{IdleRunsAreText}
-use Rattle.doc_delimiters.proofs.Settled.{onto, after_match}
-use Rattle.doc_delimiters.proofs.Quiet.{text_onto}
+use Rattle.doc_delimiters.proofs.Settled.{after_match}
 use Rattle.doc_delimiters.proofs.OnePassLaws.{one_pass_suffices}
 use Rattle.doc_delimiters.proofs.Passing.{passed_none, passed_plain}
 use Rattle.doc_delimiters.proofs.Walks.{no_closing, kept_text, text_first}
