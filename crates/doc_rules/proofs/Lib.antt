@@ -24,7 +24,6 @@ pub mod SkipLaws
 pub mod EscapingLaws
 pub mod PieceLaws
 pub mod FillingLaws
-pub mod OnePass
 pub mod QuoteLines
 pub mod QuoteLaws
 pub mod EmphasisLaws

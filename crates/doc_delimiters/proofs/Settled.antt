@@ -3,10 +3,11 @@
 use Rattle.std.proofs.Common.{◌≡◌, ℕ, zero, suc, ◌-◌, Bool, true, false, List, [], ◌∷◌, ◌++◌, refl, ap, sym, ◌∙◌, Option, Some, None, subst, replicate}
 use Rattle.std.specs.Prelude.{nat_lt}
 use Rattle.doc_rules.specs.Inlines.{Inline, Literal, Code, Raw, Reference, SoftBreak, HardBreak, Start, End, Delimiters, Open, Run, Span, run_text}
+use Rattle.doc_delimiters.specs.Marks.{NoRun}
 use Rattle.doc_rules.specs.Emphasis.{Opener, matches, opener_of, wrapped, wrap_first, less}
 
 -- the inlines of xs, the last first, before b
-pub onto : List Inline → List Inline → List Inline
+unfoldable pub onto : List Inline → List Inline → List Inline
 onto [] b = b
 onto (x ∷ xs) b = onto xs (x ∷ b)
 
@@ -15,7 +16,7 @@ abbrev pub IsSettled : List Inline → List Inline → Type 0
 IsSettled b xs = wrap_first b xs ≡ None
 
 -- what one step does at a run, once it is known whether it has an opener
-abbrev after_test : List Inline → Run → List Inline → Option Opener → Option (List Inline)
+abbrev pub after_test : List Inline → Run → List Inline → Option Opener → Option (List Inline)
 after_test b r ys o = elim o [ Some p ↦ Some (wrapped p r ys) | None ↦ wrap_first (Delimiters r ∷ b) ys ]
 
 pub no_opener : (b : List Inline) (r : Run) (xs : List Inline) → IsSettled b (Delimiters r ∷ xs) → opener_of r [] b ≡ None
@@ -51,12 +52,6 @@ settled_past b (Open k ∷ xs) ys e = settled_past (Open k ∷ b) xs ys e
 
 -- ---- after a pair is wrapped
 
--- no inline of the list is a run
-abbrev pub NoRun : List Inline → Type 0
-NoRun [] = Unit {0}
-NoRun (Delimiters r ∷ xs) = ⊥
-NoRun (x ∷ xs) = NoRun xs
-
 -- texts settle
 no_run_settles : (b xs ys : List Inline) → NoRun xs → wrap_first b (xs ++ ys) ≡ wrap_first (onto xs b) ys
 unfolding wrap_first onto
@@ -72,7 +67,7 @@ no_run_settles b (Start s ∷ xs) ys e = no_run_settles (Start s ∷ b) xs ys e
 no_run_settles b (End s ∷ xs) ys e = no_run_settles (End s ∷ b) xs ys e
 no_run_settles b (Open k ∷ xs) ys e = no_run_settles (Open k ∷ b) xs ys e
 
-abbrev after_match : Run → List Inline → Run → List Inline → Bool → Option Opener
+abbrev pub after_match : Run → List Inline → Run → List Inline → Bool → Option Opener
 after_match r between k b m = elim m [ true ↦ Some (record { between = between; run = k; before = b }) | false ↦ opener_of r (run_text k ++ between) b ]
 
 at_run : (r : Run) (between : List Inline) (k : Run) (b : List Inline) (o : Opener) → NoRun between →
@@ -172,12 +167,12 @@ same_search r n between (Open s ∷ b) e = same_search r n (Open s ∷ between) 
 
 -- ---- the steps of one pass
 
-onto-append : (xs b ys : List Inline) → onto xs b ++ ys ≡ onto xs (b ++ ys)
+pub onto_append : (xs b ys : List Inline) → onto xs b ++ ys ≡ onto xs (b ++ ys)
 unfolding onto
-onto-append [] b ys = refl
-onto-append (x ∷ xs) b ys = onto-append xs (x ∷ b) ys
+onto_append [] b ys = refl
+onto_append (x ∷ xs) b ys = onto_append xs (x ∷ b) ys
 
-onto_twice : (xs b : List Inline) → onto (onto xs b) [] ≡ onto b xs
+pub onto_twice : (xs b : List Inline) → onto (onto xs b) [] ≡ onto b xs
 unfolding onto
 onto_twice [] b = refl
 onto_twice (x ∷ xs) b = onto_twice xs (x ∷ b)
@@ -191,7 +186,7 @@ pub step_here : (before : List Inline) (r : Run) (after : List Inline) (o : Open
     wrap_first [] (onto before (Delimiters r ∷ after)) ≡ Some (wrapped o r after)
 unfolding wrap_first onto
 step_here before r after o h e =
-    ap (wrap_first []) (sym (onto-append before [] (Delimiters r ∷ after)))
+    ap (wrap_first []) (sym (onto_append before [] (Delimiters r ∷ after)))
     ∙ (settled_past [] (onto before []) (Delimiters r ∷ after) h
     ∙ (ap (λ b. wrap_first b (Delimiters r ∷ after)) (onto_twice before []) ∙ ap (after_test before r after) e))
 
@@ -199,10 +194,10 @@ step_here before r after o h e =
 pub settled_more : (before : List Inline) (x : Inline) → AreSettled before → wrap_first before (x ∷ []) ≡ None → AreSettled (x ∷ before)
 unfolding onto
 settled_more before x h e =
-    ap (wrap_first []) (sym (onto-append before [] (x ∷ [])))
+    ap (wrap_first []) (sym (onto_append before [] (x ∷ [])))
     ∙ (settled_past [] (onto before []) (x ∷ []) h ∙ (ap (λ b. wrap_first b (x ∷ [])) (onto_twice before []) ∙ e))
 
-onto_joined : (xs ys b : List Inline) → onto (xs ++ ys) b ≡ onto ys (onto xs b)
+pub onto_joined : (xs ys b : List Inline) → onto (xs ++ ys) b ≡ onto ys (onto xs b)
 unfolding onto
 onto_joined [] ys b = refl
 onto_joined (x ∷ xs) ys b = onto_joined xs ys (x ∷ b)
@@ -229,13 +224,13 @@ unfolding onto
 settled_after before r o n s h e =
     let f : Found r [] before o = found r [] before o e in
     let z : List Inline = onto f.raw [] in
-    let split : onto before [] ≡ onto o.before [] ++ (Delimiters o.run ∷ z) = ap (λ b. onto b []) f.at ∙ (onto_joined f.raw (Delimiters o.run ∷ o.before) [] ∙ sym (onto-append o.before [] (Delimiters o.run ∷ z))) in
+    let split : onto before [] ≡ onto o.before [] ++ (Delimiters o.run ∷ z) = ap (λ b. onto b []) f.at ∙ (onto_joined f.raw (Delimiters o.run ∷ o.before) [] ∙ sym (onto_append o.before [] (Delimiters o.run ∷ z))) in
     let whole : IsSettled [] (onto o.before [] ++ (Delimiters o.run ∷ z)) = ap (wrap_first []) (sym split) ∙ h in
     let front : IsSettled [] (onto o.before []) = settled_front [] (onto o.before []) (Delimiters o.run ∷ z) whole in
     let at_run : IsSettled o.before (Delimiters o.run ∷ z) = ap (λ b. wrap_first b (Delimiters o.run ∷ z)) (sym (onto_twice o.before [])) ∙ (sym (settled_past [] (onto o.before []) (Delimiters o.run ∷ z) front) ∙ whole) in
     let lonely : opener_of o.run [] o.before ≡ None = no_opener o.before o.run z at_run in
     let w : List Inline = less n o.run ++ (Start s ∷ o.between ++ (End s ∷ [])) in
-    ap (wrap_first []) (sym (onto-append o.before [] w))
+    ap (wrap_first []) (sym (onto_append o.before [] w))
     ∙ (settled_past [] (onto o.before []) w front
     ∙ (ap (λ b. wrap_first b w) (onto_twice o.before [])
     ∙ (less_passes o.before o.run n (Start s ∷ o.between ++ (End s ∷ [])) lonely
