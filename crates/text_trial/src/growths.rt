@@ -62,17 +62,24 @@ impl Tally {
     }
 }
 
+/// A call's answer with ample memory, how many growths it took, and what came of the calls with growths refused: those after so many,
+/// and one alone.
+#[derive(Drop)]
+struct Trial<T: Drop> {
+    growths: u64,
+    after: Tally,
+    only: Tally,
+    answer: T,
+}
+
 /// Makes a call with ample memory, where it takes some growths, and then for each of them twice more: with this growth and all later ones
 /// refused, and with this one alone refused. It is handed which growths to refuse, and refuses them by [`Refusal::begin`] once it has
 /// got ready.
-///
-/// What is printed: the number of growths; of the calls of the first kind, how many answered `Memory` and how many as with ample memory;
-/// the same of the second kind; the answer of ample memory.
-pub fn tried<T: PartialEq + Debug + Drop, F: Fn(Refusal) -> Result<T, Memory> + Drop>(
+fn trial<T: PartialEq + Drop, F: Fn(Refusal) -> Result<T, Memory>>(
     heap: Heap,
-    call: F,
-) -> Result<String, Memory>
-    requires { F.IsAlwaysCallable call }
+    call: &F,
+) -> Result<Trial<T>, Memory>
+    requires { F.IsAlwaysCallable call.now }
 {
     let answer = call(Refusal::After(MANY));
     let growths = MANY.saturating_sub(heap.left());
@@ -87,10 +94,52 @@ pub fn tried<T: PartialEq + Debug + Drop, F: Fn(Refusal) -> Result<T, Memory> + 
         right: 0,
     };
     for growth in 0..growths {
-        after.count(tried_once(heap, &call, Refusal::After(growth), &answer));
-        only.count(tried_once(heap, &call, Refusal::Only(growth), &answer));
+        after.count(tried_once(heap, call, Refusal::After(growth), &answer));
+        only.count(tried_once(heap, call, Refusal::Only(growth), &answer));
     }
+    Ok(Trial {
+        growths,
+        after,
+        only,
+        answer,
+    })
+}
+
+/// What is printed of a trial: the number of growths; of the calls with all later growths refused, how many answered `Memory` and how
+/// many as with ample memory; the same of those with one growth refused; the answer of ample memory.
+pub fn tried<T: PartialEq + Debug + Drop, F: Fn(Refusal) -> Result<T, Memory> + Drop>(
+    heap: Heap,
+    call: F,
+) -> Result<String, Memory>
+    requires { F.IsAlwaysCallable call }
+{
+    told(heap, trial(heap, &call)?)
+}
+
+fn told<T: Debug + Drop>(heap: Heap, trial: Trial<T>) -> Result<String, Memory> {
+    let Trial {
+        growths,
+        after,
+        only,
+        answer,
+    } = trial;
     Ok(format!(in heap; "{growths} growths; {after}; {only}; {answer:?}")?)
+}
+
+/// The same, where it isn't counted how many growths the call takes: that `Memory` came each time, and the answer of ample memory.
+pub fn refused_each<T: PartialEq + Debug + Drop, F: Fn(Refusal) -> Result<T, Memory> + Drop>(
+    heap: Heap,
+    call: F,
+) -> Result<String, Memory>
+    requires { F.IsAlwaysCallable call }
+{
+    let trial = trial(heap, &call)?;
+    let growths = trial.growths;
+    if growths == 0 || trial.after.memory < growths || trial.only.memory < growths {
+        return told(heap, trial);
+    }
+    let answer = trial.answer;
+    Ok(format!(in heap; "Memory each time; {answer:?}")?)
 }
 
 /// What comes of a call with growths refused.

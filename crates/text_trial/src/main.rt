@@ -1,4 +1,4 @@
-//! Tries the calls of `doc_lines`, `doc_starts` and `doc_refs`: reads calls line by line from standard input, and prints for each line
+//! Tries the calls of `doc_lines`, `doc_starts`, `doc_refs` and `doc_blocks`: reads calls line by line from standard input, and prints for each line
 //! what it answers, on one line.
 //!
 //! - An empty line and a comment, which begins with `#`, are printed as they stand: so the lines of input and output go side by side.
@@ -15,6 +15,7 @@
 mod answer;
 mod growing;
 mod growths;
+mod of_blocks;
 mod of_lines;
 mod of_refs;
 mod of_scanners;
@@ -56,6 +57,7 @@ fn called(heap: Heap, name: &str, text: &str) -> Result<String, Memory> {
         .or_else(|| of_scanners::called(heap, name, text))
         .or_else(|| of_starts::called(heap, name, text))
         .or_else(|| of_refs::called(heap, name, text))
+        .or_else(|| of_blocks::called(heap, name, text))
         .or_else(|| growing::called(heap, name, text))
         .unwrap_or_else(|| answer::no_call(heap))
 }

@@ -11,7 +11,7 @@ use doc_refs::{
 
 /// What a label names.
 #[derive(Clone, Copy, Debug)]
-struct Leads<'a> {
+pub struct Leads<'a> {
     dest: &'a str,
     title: Option<&'a str>,
 }
@@ -81,7 +81,8 @@ pub fn refs_of(heap: Heap, text: &str) -> Result<RefMap, Memory> {
     Ok(refs)
 }
 
-fn shown_target(target: &Target) -> Leads {
+/// A target, for printing.
+pub fn shown_target(target: &Target) -> Leads {
     Leads {
         dest: target.dest.get(),
         title: target.title.as_ref().map(|title| title.get()),
