@@ -1,0 +1,5 @@
+pub mod Forests
+pub mod LevelLemmas
+pub mod PathLaws
+pub mod StateLaws
+pub mod LeafLaws

@@ -1,0 +1,7 @@
+//! The blocks of a document (CommonMark 0.31.2, sections 4 and 5, and the appendix): containers, leaves and definitions, in one pass
+//! over the lines.
+#![tactic(auto)]
+
+pub mod block;
+mod container;
+mod levels;
