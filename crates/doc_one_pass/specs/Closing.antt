@@ -1,9 +1,9 @@
 -- Closing the open blocks of a path, the innermost first.
-use Rattle.std.specs.Prelude.{Bool, true, false, ◌&&◌, not, List, [], Option, Some, None}
+use Rattle.std.specs.Prelude.{Bool, false, ◌&&◌, not, List, Option, Some, None}
 use Rattle.doc_rules.specs.Entities.{Table}
 use Rattle.doc_rules.specs.Definitions.{Definition}
-use Rattle.doc_rules.specs.Forests.{none, ◌▹◌, node}
-use Rattle.doc_rules.specs.Blocks.{Blocks, BlockQuote, ListItem}
+use Rattle.doc_rules.specs.Forests.{node}
+use Rattle.doc_rules.specs.Blocks.{BlockQuote, ListItem}
 use Rattle.doc_one_pass.specs.Leaves.{OpenLeaf, NoLeaf, with_open, open_references}
 use Rattle.doc_one_pass.specs.Paths.{OpenList, Level, OpenContainer, OpenQuote, OpenItem, Path, Here, Inside, finished, with_blocks}
 

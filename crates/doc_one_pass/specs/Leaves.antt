@@ -1,6 +1,6 @@
 -- The open leaf of a document that is read line by line: the last block, where it may take the next line
 -- (CommonMark 0.31.2, sections 4.4 to 4.8, and the phases of its appendix). Its text is gathered as the document will hold it.
-use Rattle.std.specs.Prelude.{ℕ, nat_le, Bool, true, false, ◌&&◌, ◌||◌, List, [], ◌∷◌, ◌++◌}
+use Rattle.std.specs.Prelude.{nat_le, Bool, true, false, ◌&&◌, ◌||◌, List, [], ◌∷◌, ◌++◌}
 use Rattle.doc_rules.specs.Characters.{Text}
 use Rattle.doc_rules.specs.Columns.{Line, text_of, indent, skip, is_blank_line}
 use Rattle.doc_rules.specs.Entities.{Table}
@@ -8,9 +8,9 @@ use Rattle.doc_rules.specs.Escapes.{unescape}
 use Rattle.doc_rules.specs.Definitions.{Definition, definitions_of}
 use Rattle.doc_rules.specs.LeafStarts.{Fence, closes_fence}
 use Rattle.doc_rules.specs.HtmlStarts.{HtmlKind, ends_before_blank, ends_html}
-use Rattle.doc_rules.specs.Forests.{none, ◌▹◌, node}
-use Rattle.doc_rules.specs.Trees.{LeafLines, ParagraphLines, SetextLines, IndentedLines, FencedLines, HtmlLines}
-use Rattle.doc_rules.specs.Blocks.{Leaf, Paragraph, Heading, IndentedCode, FencedCode, HtmlBlock, Blocks, ended, joined, without_last_blanks, with_text}
+use Rattle.doc_rules.specs.Forests.{◌▹◌}
+use Rattle.doc_rules.specs.Trees.{LeafLines, ParagraphLines, IndentedLines, FencedLines, HtmlLines}
+use Rattle.doc_rules.specs.Blocks.{Paragraph, IndentedCode, FencedCode, HtmlBlock, Blocks, ended, joined, without_last_blanks, with_text}
 
 -- Of indented code and HTML blocks the text of all lines, and of those before the last blank ones. Definitions still stand at
 -- a paragraph's front; an info string's escapes and references are read.

@@ -1,12 +1,12 @@
 -- The path of open blocks of a document that is read line by line, with the finished blocks at each of its levels
 -- (the appendix of CommonMark 0.31.2). It says of the lines so far all that the document and the lines to come need.
-use Rattle.std.specs.Prelude.{ℕ, nat_le, Bool, true, false, ◌&&◌, ◌||◌, not, List, [], Option, Some, None}
+use Rattle.std.specs.Prelude.{ℕ, nat_le, Bool, true, false, ◌&&◌, ◌||◌, not, Option, Some, None}
 use Rattle.doc_rules.specs.Characters.{Text}
 use Rattle.doc_rules.specs.Columns.{Line, skip, indent, is_blank_line}
 use Rattle.doc_rules.specs.ContainerStarts.{ListKind, is_same_kind, quote_start}
-use Rattle.doc_rules.specs.Forests.{none, ◌▹◌, node}
+use Rattle.doc_rules.specs.Forests.{none, node}
 use Rattle.doc_rules.specs.Trees.{Situation, NoParagraph, LazyParagraph}
-use Rattle.doc_rules.specs.Blocks.{Blocks, BlockQuote, ListBlock, ListItem, list_start}
+use Rattle.doc_rules.specs.Blocks.{Blocks, ListBlock, list_start}
 use Rattle.doc_one_pass.specs.Leaves.{OpenLeaf, NoLeaf, OpenParagraph}
 
 -- a list that the next item may go on with: its kind, its first number, whether it is tight so far, and its finished items

@@ -1,17 +1,16 @@
 -- One line of a document on the path of open blocks: what is open and goes on with the line, what closes, and what begins
 -- (the appendix of CommonMark 0.31.2, phase 1).
-use Rattle.std.specs.Prelude.{ℕ, zero, suc, ◌-◌, nat_le, Bool, true, false, List, [], ◌∷◌, ◌++◌, Option, Some, None}
+use Rattle.std.specs.Prelude.{ℕ, zero, suc, ◌-◌, nat_le, Bool, true, false, List, [], ◌∷◌, ◌++◌, Some, None}
 use Rattle.doc_rules.specs.Characters.{Text}
 use Rattle.doc_rules.specs.Lines.{lines_of, line_content}
-use Rattle.doc_rules.specs.Columns.{Line, cells_of, text_of, indent, skip, is_blank_line}
+use Rattle.doc_rules.specs.Columns.{Line, cells_of, indent, is_blank_line}
 use Rattle.doc_rules.specs.Entities.{Table}
 use Rattle.doc_rules.specs.Definitions.{Definition, definitions_of}
 use Rattle.doc_rules.specs.ContainerStarts.{ItemStart, item_start, quote_start}
-use Rattle.doc_rules.specs.Forests.{◌▹◌}
 use Rattle.doc_rules.specs.Trees.{LeafLines, Situation, NoParagraph, InParagraph, has_no_paragraph, LeafStart, NewLeaf, Underline, leaf_begins, item_may_begin, line_text}
 use Rattle.doc_rules.specs.Blocks.{Heading, with_text, with_leaf, Document}
 use Rattle.doc_one_pass.specs.Leaves.{OpenLeaf, NoLeaf, OpenParagraph, OpenCode, open_of, code_with, taken, Taken, NotTaken, GoesOn, Closes}
-use Rattle.doc_one_pass.specs.Paths.{Level, OpenContainer, OpenQuote, OpenItem, Path, Here, Inside, empty_level, empty_path, finished, with_blocks, begun_at, item_begun_at, matched_open, gone_on, lazy_path_situation}
+use Rattle.doc_one_pass.specs.Paths.{Level, OpenContainer, OpenQuote, OpenItem, Path, Here, Inside, empty_path, finished, with_blocks, begun_at, item_begun_at, matched_open, gone_on, lazy_path_situation}
 use Rattle.doc_one_pass.specs.Closing.{leaf_closed, closed, path_blank, path_references}
 
 -- the path behind a line, and the definitions that left paragraphs which closed
