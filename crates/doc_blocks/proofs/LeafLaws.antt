@@ -1,6 +1,6 @@
 -- Leaves and lines on a state are those on its path.
 use Rattle.std.proofs.Common.{◌≡◌, ◌∙◌, ℕ, zero, suc, ◌+◌, ◌-◌, ◌<◌, ◌≤◌, nat_le, Bool, true, false, ◌&&◌, ◌||◌, List, [], ◌∷◌, ◌++◌, take, drop, length, refl, ap, sym, arith, subst, Option, Some, None}
-use Rattle.std.proofs.lemmas.List.{take_all, length-take-le}
+use Rattle.std.proofs.lemmas.List.{take_all, drop_all, length-take-le}
 use Rattle.doc_rules.specs.Characters.{Text}
 use Rattle.doc_rules.specs.Lines.{line_content}
 use Rattle.doc_rules.specs.Columns.{Line, cells_of, indent, is_blank_line}
@@ -13,14 +13,14 @@ use Rattle.doc_rules.specs.Trees.{Situation, NoParagraph, InParagraph, LazyParag
 use Rattle.doc_rules.specs.Blocks.{Blocks, Document, with_leaf}
 use Rattle.doc_refs.specs.Targets.{Targets, targets_of, joined}
 use Rattle.doc_refs.proofs.MapLaws.{joins_definitions}
-use Rattle.doc_one_pass.specs.Leaves.{OpenLeaf, NoLeaf, OpenParagraph, OpenCode, OpenFence, OpenHtml, open_of, open_references, code_with, taken, Taken, NotTaken, GoesOn, Closes}
-use Rattle.doc_one_pass.specs.Paths.{Level, OpenContainer, Path, Here, Inside, begun_at, finished}
+use Rattle.doc_one_pass.specs.Leaves.{OpenLeaf, NoLeaf, OpenParagraph, OpenCode, OpenFence, OpenHtml, open_of, open_references, with_open, code_with, kept_with, fence_with, html_with, taken, Taken, NotTaken, GoesOn, Closes}
+use Rattle.doc_one_pass.specs.Paths.{Level, OpenContainer, Path, Here, Inside, begun_at, finished, with_blocks}
 use Rattle.doc_one_pass.specs.Closing.{leaf_closed, closed, path_blank, path_references}
-use Rattle.doc_one_pass.specs.Steps.{Moved, level_for, leaf_put, leaf_begun, underlined_path, paragraph_continued, text_put, leaf_takes, line_step, line_steps, path_document}
+use Rattle.doc_one_pass.specs.Steps.{Moved, start_step, level_for, leaf_put, leaf_begun, underlined_path, paragraph_continued, text_put, leaf_takes, line_step, line_steps, path_document}
 use Rattle.doc_blocks.specs.Stacks.{Outer, Stack, inside, path_at, block_begun, with_inner_blocks}
 use Rattle.doc_blocks.specs.PathSteps.{Descent, descended, moved_within, stopped, room_behind, situation_in, lazy_leaf, GoesDown}
 use Rattle.doc_blocks.specs.StateSteps.{State, below, met, shown, reached, leaf_done, all_closed, leaf_opened, blank_met, leaf_behind, lines_opened, heading_made, after_line, document_left}
-use Rattle.doc_blocks.proofs.PathLaws.{stopped_at, goes_down, room_left, continued_inside, inside_parts}
+use Rattle.doc_blocks.proofs.PathLaws.{stopped_at, stopped_starts, goes_down, room_left, continued_inside, inside_parts}
 use Rattle.doc_blocks.proofs.StateLaws.{pair_of, joined_again, joined_none, reached_done}
 
 abbrev after_move : Targets → Moved → Path × Targets
@@ -82,7 +82,7 @@ pub text_continues : (table : Table) (depth : ℕ) (s : State) (line : Line) (le
 text_continues table depth s line leaf e f g =
     ap (reached depth s) (text_by table (met depth s) line (below depth s) false false _ e f refl)
     ∙ leaf_alone depth s leaf (paragraph_continued line (below depth s))
-        (continued_inside line (drop depth s.stack.outer) (Here s.stack.inner s.leaf s.stack.blank) ∙ ap (inside (drop depth s.stack.outer)) g)
+    (continued_inside line (drop depth s.stack.outer) (Here s.stack.inner s.leaf s.stack.blank) ∙ ap (inside (drop depth s.stack.outer)) g)
 
 -- ---- leaves
 
@@ -146,29 +146,23 @@ abbrev NoReferences : Table → Taken → Type 0
 NoReferences table (Closes leaf blank) = open_references table leaf ≡ []
 NoReferences table answer = Unit {0}
 
+either : (table : Table) (b : Bool) (t u : Taken) → NoReferences table t → NoReferences table u → NoReferences table (elim b as (λ _. Taken) [ true ↦ t | false ↦ u ])
+either table true t u h k = h
+either table false t u h k = k
+
 no_references : (table : Table) (line : Line) (leaf : OpenLeaf) → NoReferences table (taken line leaf)
 unfolding taken open_references
 no_references table line NoLeaf = tt
 no_references table line (OpenParagraph text) = tt
-no_references table line (OpenCode all kept) = go (nat_le 4 (indent line) || is_blank_line line)
-  where
-    go : (b : Bool) → NoReferences table (elim b as (λ _. Taken) [ true ↦ GoesOn (OpenCode _ _) (is_blank_line line) | false ↦ NotTaken ])
-    go true = tt
-    go false = tt
-no_references table line (OpenFence fence info text) = go (closes_fence fence line)
-  where
-    go : (b : Bool) → NoReferences table (elim b as (λ _. Taken) [ true ↦ Closes (OpenFence fence info text) false | false ↦ GoesOn (OpenFence fence info _) false ])
-    go true = refl
-    go false = tt
-no_references table line (OpenHtml kind all kept) = go (ends_before_blank kind && is_blank_line line) (ends_html kind (text_of line))
-  where
-    go : (a b : Bool) → NoReferences table (elim a as (λ _. Taken) [
-        | true ↦ Closes (OpenHtml kind all kept) true
-        | false ↦ elim b as (λ _. Taken) [ true ↦ Closes (OpenHtml kind _ _) (is_blank_line line) | false ↦ GoesOn (OpenHtml kind _ _) (is_blank_line line) ]
-      ])
-    go true b = refl
-    go false true = refl
-    go false false = tt
+no_references table line (OpenCode all kept) =
+    either table (nat_le 4 (indent line) || is_blank_line line) (GoesOn (OpenCode (code_with line all) (kept_with line (code_with line all) kept)) (is_blank_line line)) NotTaken tt tt
+no_references table line (OpenFence fence info text) =
+    either table (closes_fence fence line) (Closes (OpenFence fence info text) false) (GoesOn (OpenFence fence info (fence_with fence line text)) false) refl tt
+no_references table line (OpenHtml kind all kept) =
+    let html = OpenHtml kind (html_with line all) (kept_with line (html_with line all) kept) in
+    let inner = elim (ends_html kind (text_of line)) as (λ _. Taken) [ true ↦ Closes html (is_blank_line line) | false ↦ GoesOn html (is_blank_line line) ] in
+    either table (ends_before_blank kind && is_blank_line line) (Closes (OpenHtml kind all kept) true) inner refl
+    (either table (ends_html kind (text_of line)) (Closes html (is_blank_line line)) (GoesOn html (is_blank_line line)) refl tt)
 
 pub closes_none : (table : Table) (line : Line) (leaf next : OpenLeaf) (blank : Bool) → taken line leaf ≡ Closes next blank → open_references table next ≡ []
 closes_none table line leaf next blank e = subst (NoReferences table) e (no_references table line leaf)
@@ -198,3 +192,59 @@ document_steps table [] m = ap (λ (t : Targets). blocks_and (finished (closed t
 document_steps table (line ∷ more) m =
     let next = line_step 100 table (cells_of (line_content line)) m.path in
     ap (λ (t : Targets). document_left table more (next.path, t)) (joins_definitions m.refs next.refs) ∙ document_steps table more (record { path = next.path; refs = m.refs ++ next.refs })
+
+-- the open leaf took the line and goes on
+pub taken_goes : (room : ℕ) (table : Table) (depth : ℕ) (s : State) (line : Line) (next : OpenLeaf) (blank : Bool) → drop depth s.stack.outer ≡ [] → taken line s.leaf ≡ GoesOn next blank →
+    reached depth s (leaf_takes room table line s.stack.inner s.leaf s.stack.blank (taken line s.leaf)) ≡ shown (record { stack = record s.stack { blank = blank }; leaf = next; refs = s.refs })
+unfolding leaf_takes
+taken_goes room table depth s line next blank e f =
+    ap (λ (t : Taken). reached depth s (leaf_takes room table line s.stack.inner s.leaf s.stack.blank t)) f
+    ∙ (ap (λ (os : List Outer). pair_of (inside (take depth s.stack.outer) (inside os (Here s.stack.inner next blank))) (joined s.refs (targets_of []))) (sym e)
+    ∙ (ap (λ (p : Path). pair_of p (joined s.refs (targets_of []))) (inside_parts depth s.stack.outer (Here s.stack.inner next blank))
+    ∙ ap (pair_of (inside s.stack.outer (Here s.stack.inner next blank))) (joined_none s.refs)))
+
+-- the open leaf took the line and closed
+pub taken_closes : (room : ℕ) (table : Table) (depth : ℕ) (s t : State) (line : Line) (next : OpenLeaf) (blank : Bool) → drop depth s.stack.outer ≡ [] → taken line s.leaf ≡ Closes next blank →
+    t ≡ leaf_done table (record s { leaf = next }) →
+    reached depth s (leaf_takes room table line s.stack.inner s.leaf s.stack.blank (taken line s.leaf)) ≡ shown (record t { stack = record t.stack { blank = blank } })
+unfolding leaf_takes
+taken_closes room table depth s t line next blank e f g =
+    let here = Here (leaf_closed table s.stack.inner next) NoLeaf blank in
+    ap (λ (a : Taken). reached depth s (leaf_takes room table line s.stack.inner s.leaf s.stack.blank a)) f
+    ∙ (ap (λ (os : List Outer). pair_of (inside (take depth s.stack.outer) (inside os here)) (joined s.refs (targets_of []))) (sym e)
+    ∙ (ap (λ (p : Path). pair_of p (joined s.refs (targets_of []))) (inside_parts depth s.stack.outer here)
+    ∙ (ap (λ (ds : List Definition). pair_of (inside s.stack.outer here) (joined s.refs (targets_of ds))) (sym (closes_none table line s.leaf next blank f))
+    ∙ ap (λ (u : State). shown (record u { stack = record u.stack { blank = blank } })) (sym g))))
+
+-- a line that the open leaf takes, or that may begin something
+pub line_taken : (table : Table) (line rest : Line) (depth : ℕ) (old s n : State) → GoesDown old.stack line s.stack depth rest → s.leaf ≡ old.leaf → s.refs ≡ old.refs → depth ≤ length s.stack.outer → length s.stack.outer ≤ depth →
+    ((room : ℕ) → drop depth s.stack.outer ≡ [] → reached depth s (leaf_takes room table rest s.stack.inner s.leaf s.stack.blank (taken rest s.leaf)) ≡ shown n) →
+    after_line table old line ≡ shown n
+line_taken table line rest depth old s n g e f h k t =
+    let nothing : drop depth s.stack.outer ≡ [] = drop_all depth s.stack.outer k in
+    line_reached table line rest depth old s g e f h
+    ∙ (ap (λ (os : List Outer). reached depth s (stopped (100 - depth) table rest os s.stack.inner s.leaf s.stack.blank)) nothing ∙ t (100 - depth) nothing)
+
+pub line_begins : (table : Table) (line rest : Line) (depth : ℕ) (old s n : State) → GoesDown old.stack line s.stack depth rest → s.leaf ≡ old.leaf → s.refs ≡ old.refs → depth ≤ length s.stack.outer →
+    (drop depth s.stack.outer ≡ [] → taken rest s.leaf ≡ NotTaken) → reached depth s (start_step (100 - depth) table (met depth s) rest (below depth s)) ≡ shown n →
+    after_line table old line ≡ shown n
+line_begins table line rest depth old s n g e f h k t =
+    line_reached table line rest depth old s g e f h
+    ∙ (ap (reached depth s) (stopped_starts (100 - depth) table rest (drop depth s.stack.outer) s.stack.inner s.leaf s.stack.blank k) ∙ t)
+
+-- ---- the open leaf closes
+
+pub leaf_closed_none : (table : Table) (s : State) → s.leaf ≡ NoLeaf → s ≡ leaf_done table s
+unfolding leaf_closed open_references
+leaf_closed_none table s e =
+    ap (λ (l : OpenLeaf). record s { leaf = l }) e
+    ∙ (ap (λ (t : Targets). record s { leaf = NoLeaf; refs = t }) (sym (joined_none s.refs)) ∙ ap (λ (l : OpenLeaf). leaf_done table (record s { leaf = l })) (sym e))
+
+-- with the blocks of its level that it leaves behind
+pub leaf_closed_some : (table : Table) (level : Level) (leaf : OpenLeaf) → (leaf ≡ NoLeaf → ⊥) → leaf_closed table level leaf ≡ with_blocks level (with_open table leaf (finished level))
+unfolding leaf_closed
+leaf_closed_some table level NoLeaf h = absurd (h refl)
+leaf_closed_some table level (OpenParagraph text) h = refl
+leaf_closed_some table level (OpenCode all kept) h = refl
+leaf_closed_some table level (OpenFence fence info text) h = refl
+leaf_closed_some table level (OpenHtml kind all kept) h = refl

@@ -1,5 +1,5 @@
 -- What each level has of the stack of finished blocks, as the stack and the open containers change.
-use Rattle.std.proofs.Common.{◌≡◌, ◌∙◌, ℕ, suc, ◌+◌, ◌<◌, ◌≤◌, Bool, true, false, ◌&&◌, not, List, [], ◌∷◌, ◌++◌, take, drop, length, refl, ap, sym, arith, Option, Some, None, Vec, Global}
+use Rattle.std.proofs.Common.{◌≡◌, ◌∙◌, ℕ, suc, ◌+◌, ◌<◌, ◌≤◌, Bool, true, false, ◌&&◌, not, List, [], ◌∷◌, ◌++◌, take, drop, length, refl, ap, sym, subst, arith, zero, get_or, set, Option, Some, None, Vec, Global}
 use denote.Bor.{Bor}
 use Rattle.doc_heap.specs.declared.refusing.Refusing.{Refusing}
 use Rattle.std.proofs.lemmas.List.{take-take, take-append-le, drop-append-le, length-take-le, take_all, drop_all}
@@ -8,7 +8,7 @@ use Rattle.doc_rules.specs.Blocks.{Blocks, BlockQuote, ListBlock, ListItem, list
 use Rattle.doc_rules.specs.ContainerStarts.{ListKind, is_same_kind}
 use Rattle.doc_starts.specs.Items.{kind_of}
 use Rattle.doc_one_pass.specs.Paths as paths
-use Rattle.doc_one_pass.specs.Paths.{empty_level, finished, with_blocks}
+use Rattle.doc_one_pass.specs.Paths.{empty_level, gone_on, finished, with_blocks}
 use Rattle.doc_blocks.specs.declared.block.Block.{Block}
 use Rattle.doc_blocks.specs.declared.block.Block.TheVariants as variants
 use Rattle.doc_blocks.specs.declared.levels.OpenList.{OpenList}
@@ -21,6 +21,7 @@ use Rattle.doc_one_pass.specs.Closing.{container_closed, item_closed}
 use Rattle.doc_blocks.specs.Views.{behind, forest, blocks_shown}
 use Rattle.doc_blocks.specs.Stacks.{Outer, Stack, with_inner_blocks, block_begun, item_begun, container_opened, quote_put, item_put, list_with, container_blank, IsNotOf, ClosesLast}
 use Rattle.doc_blocks.specs.Containers.{container_shown}
+use Rattle.doc_blocks.specs.PathSteps.{gone_on_at}
 use Rattle.doc_blocks.specs.LevelSteps.{list_shown, level_at, level_shown, Leaves, first_base, outers_shown, EndsAt, AreSound}
 use Rattle.doc_blocks.proofs.Forests.{forest_push, behind_list, behind_quote, behind_item}
 
@@ -144,8 +145,13 @@ pub stack_listed : (outer : List Open) (base : ℕ) (done new : List Block) (gap
     new ≡ take l.base done ++ variants.List start l.tight items ∷ [] →
     stack_at outer base new gap list' blank ≡ with_inner_blocks (stack_at outer base done gap list blank) (finished (level_at done base gap list))
 stack_listed outer base done new gap list list' l items start blank sound ends e f g h k =
-    let ends' : EndsAt (length done) base (Some l) = rw e ends in
-    rw (f, ← e) (stack_listed_some outer base done new gap l items blank sound ends'.0 ends'.1 g (k ∙ ap (λ (n : Option ℕ). take l.base done ++ variants.List n l.tight items ∷ []) h))
+    let E : Option OpenList → Type 0 = EndsAt (length done) base in
+    let ends' : EndsAt (length done) base (Some l) = subst E (sym e) ends in
+    let F : Option OpenList → Type 0 = λ o. stack_at outer base new gap o blank ≡ with_inner_blocks (stack_at outer base done gap list blank) (finished (level_at done base gap list)) in
+    let G : Option OpenList → Type 0 = λ o. stack_at outer base new gap None blank ≡ with_inner_blocks (stack_at outer base done gap o blank) (finished (level_at done base gap o)) in
+    subst F (sym f)
+    (subst G e
+    (stack_listed_some outer base done new gap l items blank sound ends'.0 ends'.1 g (k ∙ ap (λ (n : Option ℕ). take l.base done ++ variants.List n l.tight items ∷ []) h)))
 
 -- a block was pushed
 pub stack_pushed : (outer : List Open) (base : ℕ) (done new : List Block) (gap : Bool) (list : Option OpenList) (blank : Bool) (block : Block) →
@@ -284,8 +290,10 @@ pub stack_item_put : (outer : List Open) (base : ℕ) (done new : List Block) (g
     AreSound outer base → EndsAt (length done) base list → list ≡ Some l → new ≡ done ++ variants.Item blocks ∷ [] →
     stack_at outer base new gap (Some (record l { tight = l.tight && not gap' })) blank ≡ item_put (stack_at outer base done gap list blank) gap' (blocks_shown blocks.items)
 stack_item_put outer base done new gap list blank gap' l blocks sound ends e f =
-    let ends' : EndsAt (length done) base (Some l) = rw (← e) ends in
-    rw e (item_put_some outer base done new gap blank gap' l blocks sound ends'.0 ends'.1 f)
+    let E : Option OpenList → Type 0 = EndsAt (length done) base in
+    let ends' : EndsAt (length done) base (Some l) = subst E e ends in
+    let G : Option OpenList → Type 0 = λ o. stack_at outer base new gap (Some (record l { tight = l.tight && not gap' })) blank ≡ item_put (stack_at outer base done gap o blank) gap' (blocks_shown blocks.items) in
+    subst G (sym e) (item_put_some outer base done new gap blank gap' l blocks sound ends'.0 ends'.1 f)
 
 pub quote_behind : (s t : Stack) (blocks : Children) → t ≡ with_inner_blocks s (behind (variants.Quote blocks) (finished s.inner)) → record t { blank = false } ≡ quote_put s (blocks_shown blocks.items)
 quote_behind s t blocks e =
@@ -328,3 +336,49 @@ closes_item old mid new left columns is_empty l e f = record {
 pub length_outers : (outer : List Open) (base : ℕ) (done : List Block) → length (outers_shown outer base done) ≡ length outer
 length_outers [] base done = refl
 length_outers (o ∷ outer) base done = ap suc (length_outers outer base done)
+
+-- ---- one of the open containers
+
+outers_here : (outer : List Open) (n base : ℕ) (done : List Block) (o : Open) → n < length outer → o ≡ get_or outer n o →
+    (l : paths.Level) × (drop n (outers_shown outer base done) ≡ (l, container_shown o.container) ∷ drop (suc n) (outers_shown outer base done))
+outers_here [] n base done o h e = absurd (omega arith)
+outers_here (a ∷ outer) zero base done o h e = (
+  level_shown (take (first_base outer base) done) a.level,
+  ap (λ (x : Open). (level_shown (take (first_base outer base) done) a.level, container_shown x.container) ∷ outers_shown outer base done) (sym e),
+)
+outers_here (a ∷ outer) (suc n) base done o h e = outers_here outer n base done o (omega arith) e
+
+pub outers_at : (outer : List Open) (n base : ℕ) (done : List Block) (o : Open) → n < length outer → o ≡ get_or outer n o →
+    (l : paths.Level) × (drop n (outers_shown outer base done) ≡ (l, container_shown o.container) ∷ drop (n + 1) (outers_shown outer base done))
+outers_at outer n base done o h e =
+    let at = outers_here outer n base done o h e in
+    let next : suc n ≡ n + 1 = omega arith in
+    (at.0, at.1 ∙ ap (λ (m : ℕ). (at.0, container_shown o.container) ∷ drop m (outers_shown outer base done)) next)
+
+-- its container changes
+first_set : (outer : List Open) (n base : ℕ) (o o' : Open) → o ≡ get_or outer n o → o'.level ≡ o.level → first_base (set outer n o') base ≡ first_base outer base
+first_set [] n base o o' e f = refl
+first_set (a ∷ outer) zero base o o' e f = ap (λ (l : Level). l.base) f ∙ ap (λ (x : Open). x.level.base) e
+first_set (a ∷ outer) (suc n) base o o' e f = refl
+
+pub outers_gone : (outer : List Open) (n base : ℕ) (done : List Block) (o p o' : Open) → n < length outer → o ≡ get_or outer n o → p ≡ get_or outer n p → o'.level ≡ o.level →
+    container_shown o'.container ≡ gone_on (container_shown p.container) → outers_shown (set outer n o') base done ≡ gone_on_at n (outers_shown outer base done)
+outers_gone [] n base done o p o' h e f g k = absurd (omega arith)
+outers_gone (a ∷ outer) zero base done o p o' h e f g k =
+    let level : o'.level ≡ a.level = g ∙ ap (λ (x : Open). x.level) e in
+    let container : container_shown o'.container ≡ gone_on (container_shown a.container) = k ∙ ap (λ (x : Open). gone_on (container_shown x.container)) f in
+    ap (λ (l : Level). (level_shown (take (first_base outer base) done) l, container_shown o'.container) ∷ outers_shown outer base done) level
+    ∙ ap (λ (x : paths.OpenContainer). (level_shown (take (first_base outer base) done) a.level, x) ∷ outers_shown outer base done) container
+outers_gone (a ∷ outer) (suc n) base done o p o' h e f g k =
+    ap (λ (m : ℕ). (level_shown (take m done) a.level, container_shown a.container) ∷ outers_shown (set outer n o') base done) (first_set outer n base o o' e g)
+    ∙ ap (λ (os : List Outer). (level_shown (take (first_base outer base) done) a.level, container_shown a.container) ∷ os) (outers_gone outer n base done o p o' (omega arith) e f g k)
+
+pub sound_gone : (outer : List Open) (n base : ℕ) (o o' : Open) → o ≡ get_or outer n o → o'.level ≡ o.level → AreSound outer base → AreSound (set outer n o') base
+sound_gone [] n base o o' e f sound = tt
+sound_gone (a ∷ outer) zero base o o' e f sound =
+    let level : a.level ≡ o'.level = sym (f ∙ ap (λ (x : Open). x.level) e) in
+    let P : Level → Type 0 = λ l. EndsAt (first_base outer base) l.base l.list in
+    (subst P level sound.0, sound.1)
+sound_gone (a ∷ outer) (suc n) base o o' e f sound =
+    let P : ℕ → Type 0 = λ m. EndsAt m a.level.base a.level.list in
+    (subst P (sym (first_set outer n base o o' e f)) sound.0, sound_gone outer n base o o' e f sound.1)

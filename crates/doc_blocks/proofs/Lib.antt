@@ -3,3 +3,4 @@ pub mod LevelLemmas
 pub mod PathLaws
 pub mod StateLaws
 pub mod LeafLaws
+pub mod ContentLaws

@@ -38,11 +38,12 @@ pub goes_down : (room : ℕ) (table : Table) (line : Line) (outer : List Outer) 
     line_step room table line (inside outer (Here level leaf blank)) ≡ stopped_at room table level leaf blank (descended outer line)
 unfolding line_step descended line_matched descent_matched stopped_at
 goes_down room table line [] level leaf blank = refl
-goes_down room table line (o ∷ more) level leaf blank = at_one (matched_open o.1 line)
+goes_down room table line (o ∷ more) level leaf blank = at_one (matched_open o.1 line) (λ rest. goes_down (room - 1) table rest more level leaf blank)
   where
-    at_one : (m : Option Line) → line_matched room table line o (inside more (Here level leaf blank)) m ≡ stopped_at room table level leaf blank (descent_matched line o more m)
-    at_one None = refl
-    at_one (Some rest) = ap (moved_inside o.0 (gone_on o.1)) (goes_down (room - 1) table rest more level leaf blank)
+    at_one : (m : Option Line) → ((rest : Line) → line_step (room - 1) table rest (inside more (Here level leaf blank)) ≡ stopped_at (room - 1) table level leaf blank (descended more rest)) →
+        line_matched room table line o (inside more (Here level leaf blank)) m ≡ stopped_at room table level leaf blank (descent_matched line o more m)
+    at_one None further_down = refl
+    at_one (Some rest) further_down = ap (moved_inside o.0 (gone_on o.1)) (further_down rest)
 
 pub descent_some : (line rest : Line) (o : Outer) (more : List Outer) → matched_open o.1 line ≡ Some rest → descended (o ∷ more) line ≡ further o (descended more rest)
 unfolding descended descent_matched
@@ -70,10 +71,10 @@ situation_lazy (o ∷ more) level leaf blank = situation_lazy more level leaf bl
 -- where the open leaf takes no line, blocks may begin
 pub stopped_starts : (room : ℕ) (table : Table) (line : Line) (outer : List Outer) (level : Level) (leaf : OpenLeaf) (blank : Bool) → (outer ≡ [] → taken line leaf ≡ NotTaken) →
     stopped room table line outer level leaf blank ≡ start_step room table (situation_in outer leaf) line (inside outer (Here level leaf blank))
+unfolding leaf_takes
 stopped_starts room table line [] level leaf blank e = at_leaf leaf (taken line leaf) (e refl)
   where
     at_leaf : (l : OpenLeaf) (t : Taken) → t ≡ NotTaken → leaf_takes room table line level l blank t ≡ start_step room table (situation_in [] l) line (Here level l blank)
-    unfolding leaf_takes
     at_leaf NoLeaf NotTaken f = refl
     at_leaf (OpenParagraph text) NotTaken f = refl
     at_leaf (OpenCode all kept) NotTaken f = refl
@@ -116,13 +117,13 @@ closes_one_more depth old new whole h c e =
     let front : take depth old.outer ≡ take depth new.outer = ap (take depth) c.outer ∙ take-append-le depth new.outer (c.last ∷ []) h in
     let below : drop depth old.outer ≡ drop depth new.outer ++ c.last ∷ [] = ap (drop depth) c.outer ∙ drop-append-le depth new.outer (c.last ∷ []) h in
     let level : closed_in (drop depth old.outer) old.inner ≡ closed_in (drop depth new.outer) new.inner =
-        ap (λ (os : List Outer). closed_in os old.inner) below
-        ∙ (closed_in_push (drop depth new.outer) c.last old.inner ∙ ap (closed_in (drop depth new.outer)) (sym c.inner)) in
+    ap (λ (os : List Outer). closed_in os old.inner) below
+    ∙ (closed_in_push (drop depth new.outer) c.last old.inner ∙ ap (closed_in (drop depth new.outer)) (sym c.inner)) in
     let blank : blank_in (drop depth old.outer) old.blank ≡ blank_in (drop depth new.outer) new.blank =
-        ap (λ (os : List Outer). blank_in os old.blank) below
-        ∙ (blank_in_push (drop depth new.outer) c.last old.blank ∙ ap (blank_in (drop depth new.outer)) (sym c.blank)) in
+    ap (λ (os : List Outer). blank_in os old.blank) below
+    ∙ (blank_in_push (drop depth new.outer) c.last old.blank ∙ ap (blank_in (drop depth new.outer)) (sym c.blank)) in
     sym (ap (λ (os : List Outer). stack_with os (closed_in (drop depth old.outer) old.inner) (blank_in (drop depth old.outer) old.blank)) front
-        ∙ (ap (λ (l : Level). stack_with (take depth new.outer) l (blank_in (drop depth old.outer) old.blank)) level ∙ ap (stack_with (take depth new.outer) (closed_in (drop depth new.outer) new.inner)) blank)) ∙ e
+    ∙ (ap (λ (l : Level). stack_with (take depth new.outer) l (blank_in (drop depth old.outer) old.blank)) level ∙ ap (stack_with (take depth new.outer) (closed_in (drop depth new.outer) new.inner)) blank)) ∙ e
 
 -- nothing is left to close
 pub closes_no_more : (depth : ℕ) (s : Stack) → length s.outer ≤ depth → closed_to depth s ≡ s

@@ -3,7 +3,7 @@ use Rattle.std.proofs.Common.{◌≡◌, ◌∙◌, ℕ, zero, suc, ◌+◌, ◌
 use Rattle.std.specs.FinMap.{empty, get}
 use Rattle.std.proofs.lemmas.List.{take-append-le, take_all, drop_all, length-take-le}
 use Rattle.doc_rules.specs.Characters.{Text}
-use Rattle.doc_rules.specs.Columns.{Line}
+use Rattle.doc_rules.specs.Columns.{Line, is_blank_line}
 use Rattle.doc_rules.specs.Entities.{Table}
 use Rattle.doc_rules.specs.Definitions.{Definition}
 use Rattle.doc_rules.specs.Destinations.{Target}
@@ -58,10 +58,10 @@ first_again (Some t) b c = refl
 pub joined_again : (refs : Targets) (first later : List Definition) → joined (joined refs (targets_of first)) (targets_of later) ≡ joined refs (targets_of (first ++ later))
 joined_again refs first later =
     same_targets (joined (joined refs (targets_of first)) (targets_of later)) (joined refs (joined (targets_of first) (targets_of later))) (λ name.
-        get-joined (joined refs (targets_of first)) (targets_of later) name
-        ∙ (ap (λ (t : Option Target). first_of t (get (targets_of later) name)) (get-joined refs (targets_of first) name)
-        ∙ (first_again (get refs name) (get (targets_of first) name) (get (targets_of later) name)
-        ∙ (ap (first_of (get refs name)) (sym (get-joined (targets_of first) (targets_of later) name)) ∙ sym (get-joined refs (joined (targets_of first) (targets_of later)) name)))))
+    get-joined (joined refs (targets_of first)) (targets_of later) name
+    ∙ (ap (λ (t : Option Target). first_of t (get (targets_of later) name)) (get-joined refs (targets_of first) name)
+    ∙ (first_again (get refs name) (get (targets_of first) name) (get (targets_of later) name)
+    ∙ (ap (first_of (get refs name)) (sym (get-joined (targets_of first) (targets_of later) name)) ∙ sym (get-joined refs (joined (targets_of first) (targets_of later)) name)))))
     ∙ ap (joined refs) (joins_definitions first later)
 
 pub joined_none : (refs : Targets) → joined refs (targets_of []) ≡ refs
@@ -202,8 +202,8 @@ pub steps_text : (table : Table) (room depth : ℕ) (s n : State) (line : Line) 
     reached depth s (text_put table (met depth s) line (below depth s)) ≡ shown n → StepsTo table room depth s line n None
 steps_text table room depth s n line e f g k =
     ap (reached depth s)
-        (start_other room table (met depth s) line (below depth s) e
-        ∙ (other_item table (met depth s) line (below depth s) _ f ∙ item_by table (met depth s) line (below depth s) _ None g))
+    (start_other room table (met depth s) line (below depth s) e
+    ∙ (other_item table (met depth s) line (below depth s) _ f ∙ item_by table (met depth s) line (below depth s) _ None g))
     ∙ k
 
 -- where no container may begin
@@ -216,3 +216,40 @@ pub last_text : (table : Table) (depth : ℕ) (s n : State) (line : Line) → le
     reached depth s (text_put table (met depth s) line (below depth s)) ≡ shown n → reached depth s (leaf_step table (met depth s) line (below depth s)) ≡ shown n
 unfolding leaf_step
 last_text table depth s n line e f = ap (λ (o : Option LeafStart). reached depth s (by_last table (met depth s) line (below depth s) o)) e ∙ f
+
+-- an item begins
+first_by : (line : Line) (inner : Line → Moved) (blank : Bool) → is_blank_line line ≡ blank → item_first line inner ≡ elim blank as (λ _. Moved) [ true ↦ record { path = empty_path; refs = [] } | false ↦ inner line ]
+unfolding item_first
+first_by line inner blank e = ap (λ (b : Bool). elim b as (λ _. Moved) [ true ↦ record { path = empty_path; refs = [] } | false ↦ inner line ]) e
+
+item_steps : (table : Table) (room depth : ℕ) (s : State) (line : Line) (item : ItemStart) (m : Moved) → depth ≤ length s.stack.outer → quote_start line ≡ None → leaf_begins table (met depth s) line ≡ None →
+    Some item ≡ item_met (met depth s) (item_start line) → item_first item.first (λ first. start_step room table NoParagraph first empty_path) ≡ m →
+    reached depth s (start_step (suc room) table (met depth s) line (below depth s))
+    ≡ reached (depth + 1) (item_opened table depth s item.kind item.start item.columns (is_blank_line item.first)) m
+item_steps table room depth s line item m h e f g k =
+    ap (reached depth s)
+    (start_other room table (met depth s) line (below depth s) e
+    ∙ (other_item table (met depth s) line (below depth s) _ f ∙ item_by table (met depth s) line (below depth s) _ (Some item) g))
+    ∙ (ap (λ (inner : Moved). reached depth s (item_moved table (below depth s) item.kind item.start item.columns (is_blank_line item.first) inner)) k
+    ∙ item_reached table depth s item.kind item.start item.columns (is_blank_line item.first) m h)
+
+pub steps_item : (table : Table) (room depth : ℕ) (s : State) (line : Line) (item : ItemStart) → depth ≤ length s.stack.outer → quote_start line ≡ None → leaf_begins table (met depth s) line ≡ None →
+    Some item ≡ item_met (met depth s) (item_start line) → is_blank_line item.first ≡ false →
+    StepsTo table room depth s line (item_opened table depth s item.kind item.start item.columns (is_blank_line item.first)) (Some item.first)
+steps_item table room depth s line item h e f g k =
+    let q = item_opened table depth s item.kind item.start item.columns (is_blank_line item.first) in
+    item_steps table room depth s line item (start_step room table NoParagraph item.first empty_path) h e f g (first_by item.first _ false k)
+    ∙ (ap (λ (p : Path). reached (depth + 1) q (start_step room table NoParagraph item.first p)) (sym (below_item table depth s item.kind item.start item.columns (is_blank_line item.first) h))
+    ∙ ap (λ (t : Situation). reached (depth + 1) q (start_step room table t item.first (below (depth + 1) q))) (sym (met_none (drop (depth + 1) q.stack.outer))))
+
+-- one of which nothing stands on the line
+pub steps_blank_item : (table : Table) (room depth : ℕ) (s : State) (line : Line) (item : ItemStart) → depth ≤ length s.stack.outer → quote_start line ≡ None → leaf_begins table (met depth s) line ≡ None →
+    Some item ≡ item_met (met depth s) (item_start line) → is_blank_line item.first ≡ true →
+    StepsTo table room depth s line (item_opened table depth s item.kind item.start item.columns (is_blank_line item.first)) None
+steps_blank_item table room depth s line item h e f g k =
+    let q = item_opened table depth s item.kind item.start item.columns (is_blank_line item.first) in
+    let c = all_closed table depth s in
+    item_steps table room depth s line item (record { path = empty_path; refs = [] }) h e f g (first_by item.first _ true k)
+    ∙ (ap (λ (os : List Outer). pair_of (inside os empty_path) (joined q.refs (targets_of [])))
+    (whole_outer depth s.stack.outer (item_begun_at c.stack.inner c.stack.blank item.kind item.start, OpenItem item.columns (is_blank_line item.first)) h)
+    ∙ ap (pair_of (path_at q.stack NoLeaf)) (joined_none q.refs))

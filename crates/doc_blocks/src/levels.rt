@@ -237,7 +237,7 @@ impl Levels {
         ensures outer { OnOk result (self.new.outer ≡ self.old.outer) }
     {
         self.put(Some(Block::Quote(blocks)))?;
-        self.blank = false;
+        self.set_blank(false);
         Ok(())
     }
 
@@ -315,6 +315,17 @@ impl Levels {
         ensures { MatchesAt place (stack_of self.now).outer (left_of line.now) (line_of result) }
     {
         self.outer[place].container.matched(line)
+    }
+
+    /// The blocks of the innermost level, whose list closes.
+    pub(crate) fn into_blocks(mut self) -> Result<Vec<Block>, Memory>
+        requires { IsSound self }
+        ensures { IfOk result (λ blocks. blocks_shown blocks.items ≡ finished (stack_of self).inner) }
+    {
+        self.finish_list()?;
+        let base = self.inner.base;
+        let blocks = self.done.split_off(base)?;
+        Ok(blocks)
     }
 
     /// A line goes on with the container at this place.

@@ -4,4 +4,5 @@
 
 pub mod block;
 mod container;
+mod content;
 mod levels;

@@ -1,3 +1,4 @@
+use Rattle.doc_blocks.specs.declared.block.Block.TheVariants as variants
 use Rattle.std.proofs.Common.{rules, ◌≡◌, ◌+◌, ◌<◌, ◌≤◌, ◌∙◌, ap, sym, arith, ℕ, Bool, true, false, List, [], ◌∷◌, ◌++◌, length, take, drop, refl, Option, Some, None}
 use Rattle.doc_rules.specs.Blocks.{Blocks}
 use Rattle.doc_one_pass.specs.Paths as paths
@@ -20,4 +21,4 @@ returns-clause-stack c =
     let front = c.in_ok-items.ensures.items in
     stack_listed s.outer.items s.inner.base s.done.items c.push.new.self.items s.inner.gap s.inner.list c.take.new.self c.in-Some.list c.in_ok-items.items c.start_of.result s.blank
     c.requires.outer c.requires.inner c.in-Some.ensures.value c.in-Some.ensures.after c.in_ok-items.ensures.tail c.start_of.ensures
-    (c.in_ok-push.ensures.items ∙ ap (λ (d : List Block). d ++ _ ∷ []) front)
+    (c.in_ok-push.ensures.items ∙ ap (λ (d : List Block). d ++ variants.List c.start_of.result c.in-Some.list.tight c.in_ok-items.items ∷ []) front)

@@ -12,13 +12,13 @@ pub containers-preserved : goal.containers-preserved
 containers-preserved c =
     let s = c.containers.self in
     let n = c.go_on_at.new.self in
-    let at = c.matched_at.ensures in
+    let at = c.in-Some.ensures in
     let gone = c.go_on_at.ensures.stack in
     record {
       sound = c.go_on_at.ensures.sound;
       within = omega arith;
       descent = goes_further c.containers.depth (stack_of s).outer (stack_of n).outer _ at.here (left_of c.containers.rest) (left_of c.in-Some.inside) _ at.split
-          (sym c.in-Some.ensures.found_is) (ap (λ (t : Stack). t.outer) gone) c.containers.invariant.descent;
+          (sym at.found_is) (ap (λ (t : Stack). t.outer) gone) c.containers.invariant.descent;
       inner = ap (λ (t : Stack). t.inner) gone ∙ c.containers.invariant.inner;
       blank = ap (λ (t : Stack). t.blank) gone ∙ c.containers.invariant.blank;
     }
@@ -26,9 +26,9 @@ containers-preserved c =
 pub returns-in-None-clause-goes : goal.returns-in-None-clause-goes
 returns-in-None-clause-goes c =
     let s = c.containers.self in
-    let at = c.matched_at.ensures in
+    let at = c.in-None.ensures in
     record {
-      descent = goes_no_further c.containers.depth (stack_of s).outer _ at.here (left_of c.containers.rest) _ at.split (sym c.in-None.ensures.found_is) c.containers.invariant.descent;
+      descent = goes_no_further c.containers.depth (stack_of s).outer _ at.here (left_of c.containers.rest) _ at.split (sym at.found_is) c.containers.invariant.descent;
       inner = c.containers.invariant.inner;
       blank = c.containers.invariant.blank;
     }

@@ -6,4 +6,4 @@ use Rattle.doc_blocks.proofs.levels.Levels.put_quote.Goals as goal
 
 pub returns-clause-stack : goal.returns-clause-stack
 unfolding with_block
-returns-clause-stack c = quote_behind (stack_of c.args.self.now) (stack_of c.put.new.self) c.args.blocks c.in_ok-put.ensures.stack
+returns-clause-stack c = c.set_blank.ensures.stack ∙ quote_behind (stack_of c.args.self.now) (stack_of c.put.new.self) c.args.blocks c.in_ok-put.ensures.stack
