@@ -72,3 +72,7 @@ secured before rest text behind out out' c d e f g h k = (
     map-push : (xs : Text) (x : ℕ) → map secure_char (xs ++ x ∷ []) ≡ map secure_char xs ++ secure_char x ∷ []
     map-push [] x = refl
     map-push (y ∷ xs) x = ap (λ (ys : Text). secure_char y ∷ ys) (map-push xs x)
+
+-- no more characters
+pub secured_all : (before rest text out : Text) → text ≡ before ++ rest → rest ≡ [] → out ≡ map secure_char before → out ≡ map secure_char text
+secured_all before rest text out e f g = g ∙ ap (map secure_char) (sym (e ∙ (ap (λ (xs : Text). before ++ xs) f ∙ append-nil before)))
