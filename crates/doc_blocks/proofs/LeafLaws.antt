@@ -2,7 +2,7 @@
 use Rattle.std.proofs.Common.{◌≡◌, ◌∙◌, ℕ, zero, suc, ◌+◌, ◌-◌, ◌<◌, ◌≤◌, nat_le, Bool, true, false, ◌&&◌, ◌||◌, List, [], ◌∷◌, ◌++◌, take, drop, length, refl, ap, sym, arith, subst, Option, Some, None}
 use Rattle.std.proofs.lemmas.List.{take_all, drop_all, length-take-le}
 use Rattle.doc_rules.specs.Characters.{Text}
-use Rattle.doc_rules.specs.Lines.{line_content}
+use Rattle.doc_rules.specs.Lines.{line_content, lines_of}
 use Rattle.doc_rules.specs.Columns.{Line, cells_of, indent, is_blank_line}
 use Rattle.doc_rules.specs.Entities.{Table}
 use Rattle.doc_rules.specs.Definitions.{Definition, definitions_of}
@@ -10,18 +10,19 @@ use Rattle.doc_rules.specs.LeafStarts.{closes_fence}
 use Rattle.doc_rules.specs.HtmlStarts.{ends_before_blank, ends_html}
 use Rattle.doc_rules.specs.Columns.{text_of}
 use Rattle.doc_rules.specs.Trees.{Situation, NoParagraph, InParagraph, LazyParagraph, has_no_paragraph, LeafLines, NewLeaf, Underline, line_text}
-use Rattle.doc_rules.specs.Blocks.{Blocks, Document, with_leaf}
+use Rattle.doc_rules.specs.Blocks.{Blocks, Document, document_of, with_leaf}
 use Rattle.doc_refs.specs.Targets.{Targets, targets_of, joined}
 use Rattle.doc_refs.proofs.MapLaws.{joins_definitions}
 use Rattle.doc_one_pass.specs.Leaves.{OpenLeaf, NoLeaf, OpenParagraph, OpenCode, OpenFence, OpenHtml, open_of, open_references, with_open, code_with, kept_with, fence_with, html_with, taken, Taken, NotTaken, GoesOn, Closes}
-use Rattle.doc_one_pass.specs.Paths.{Level, OpenContainer, Path, Here, Inside, begun_at, finished, with_blocks}
+use Rattle.doc_one_pass.specs.Paths.{Level, OpenContainer, Path, empty_path, Here, Inside, begun_at, finished, with_blocks}
 use Rattle.doc_one_pass.specs.Closing.{leaf_closed, closed, path_blank, path_references}
-use Rattle.doc_one_pass.specs.Steps.{Moved, start_step, level_for, leaf_put, leaf_begun, underlined_path, paragraph_continued, text_put, leaf_takes, line_step, line_steps, path_document}
+use Rattle.doc_one_pass.specs.Steps.{Moved, start_step, level_for, leaf_put, leaf_begun, underlined_path, paragraph_continued, text_put, leaf_takes, line_step, line_steps, path_document, one_pass}
+use Rattle.doc_one_pass.proofs.OnePassLaws.{one_pass_suffices}
 use Rattle.doc_blocks.specs.Stacks.{Outer, Stack, inside, path_at, block_begun, with_inner_blocks}
 use Rattle.doc_blocks.specs.PathSteps.{Descent, descended, moved_within, stopped, room_behind, situation_in, lazy_leaf, GoesDown}
 use Rattle.doc_blocks.specs.StateSteps.{State, below, met, shown, reached, leaf_done, all_closed, leaf_opened, blank_met, leaf_behind, lines_opened, heading_made, after_line, document_left}
 use Rattle.doc_blocks.proofs.PathLaws.{stopped_at, stopped_starts, goes_down, room_left, continued_inside, inside_parts}
-use Rattle.doc_blocks.proofs.StateLaws.{pair_of, joined_again, joined_none, reached_done}
+use Rattle.doc_blocks.proofs.StateLaws.{pair_of, joined_again, joined_none, reached_done, closed_below, references_below}
 
 abbrev after_move : Targets → Moved → Path × Targets
 after_move refs m = (m.path, joined refs (targets_of m.refs))
@@ -248,3 +249,26 @@ leaf_closed_some table level (OpenParagraph text) h = refl
 leaf_closed_some table level (OpenCode all kept) h = refl
 leaf_closed_some table level (OpenFence fence info text) h = refl
 leaf_closed_some table level (OpenHtml kind all kept) h = refl
+
+-- the document when no line is left
+pub nothing_left : (table : Table) (s m : State) (bs : Blocks) → m ≡ all_closed table 0 s → bs ≡ finished m.stack.inner → blocks_and bs m.refs ≡ document_left table [] (shown s)
+unfolding document_left
+nothing_left table s m bs e f =
+    ap (λ (x : Blocks). blocks_and x m.refs) (f ∙ (ap (λ (t : State). finished t.stack.inner) e ∙ ap finished (sym (closed_below table 0 s))))
+    ∙ ap (blocks_and (finished (closed table (below 0 s)))) (ap (λ (t : State). t.refs) e ∙ ap (λ (ds : List Definition). joined s.refs (targets_of ds)) (sym (references_below table 0 s)))
+
+-- ---- the whole text
+
+pub one_line : (table : Table) (s n : State) (line : Text) (more : List Text) → after_line table s (cells_of (line_content line)) ≡ shown n → document_left table (line ∷ more) (shown s) ≡ document_left table more (shown n)
+unfolding document_left
+one_line table s n line more e = ap (document_left table more) e
+
+-- what is left of all lines is the document
+pub document_is : (table : Table) (text : Text) (found : Blocks × Targets) → found ≡ document_left table (lines_of text) (empty_path, targets_of []) →
+    (found.0 ≡ (document_of table text).blocks) × (found.1 ≡ targets_of (document_of table text).refs)
+unfolding document_of one_pass
+document_is table text found e =
+    let start : Moved = record { path = empty_path; refs = [] } in
+    let all = e ∙ document_steps table (lines_of text) start in
+    let same = one_pass_suffices 100 table text in
+    (ap (λ (p : Blocks × Targets). p.0) all ∙ ap (λ (d : Document). d.blocks) same, ap (λ (p : Blocks × Targets). p.1) all ∙ ap (λ (d : Document). targets_of d.refs) same)

@@ -9,8 +9,8 @@ use Rattle.doc_rules.specs.ContainerStarts.{ListKind, is_same_kind}
 use Rattle.doc_starts.specs.Items.{kind_of}
 use Rattle.doc_one_pass.specs.Paths as paths
 use Rattle.doc_one_pass.specs.Paths.{empty_level, gone_on, finished, with_blocks}
-use Rattle.doc_blocks.specs.declared.block.Block.{Block}
-use Rattle.doc_blocks.specs.declared.block.Block.TheVariants as variants
+use Rattle.doc_leaves.specs.declared.block.Block.{Block}
+use Rattle.doc_leaves.specs.declared.block.Block.TheVariants as variants
 use Rattle.doc_blocks.specs.declared.levels.OpenList.{OpenList}
 use Rattle.doc_blocks.specs.declared.levels.Level.{Level}
 use Rattle.doc_blocks.specs.declared.container.Container.{Container}
@@ -18,12 +18,12 @@ use Rattle.doc_blocks.specs.declared.container.Container.TheVariants.{Quote, Ite
 use Rattle.doc_blocks.specs.declared.levels.Open.{Open}
 use Rattle.doc_blocks.specs.declared.levels.Left.{Left}
 use Rattle.doc_one_pass.specs.Closing.{container_closed, item_closed}
-use Rattle.doc_blocks.specs.Views.{behind, forest, blocks_shown}
+use Rattle.doc_leaves.specs.Views.{behind, forest, blocks_shown}
 use Rattle.doc_blocks.specs.Stacks.{Outer, Stack, with_inner_blocks, block_begun, item_begun, container_opened, quote_put, item_put, list_with, container_blank, IsNotOf, ClosesLast}
 use Rattle.doc_blocks.specs.Containers.{container_shown}
 use Rattle.doc_blocks.specs.PathSteps.{gone_on_at}
 use Rattle.doc_blocks.specs.LevelSteps.{list_shown, level_at, level_shown, Leaves, first_base, outers_shown, EndsAt, AreSound}
-use Rattle.doc_blocks.proofs.Forests.{forest_push, behind_list, behind_quote, behind_item}
+use Rattle.doc_leaves.proofs.Forests.{forest_push, behind_list, behind_quote, behind_item}
 
 abbrev pub Children : Type 0
 Children = Vec Block (Bor (Refusing Global))

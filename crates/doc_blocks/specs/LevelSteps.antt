@@ -4,8 +4,8 @@ use Rattle.doc_starts.specs.Items.{kind_of}
 use Rattle.doc_one_pass.specs.Paths as paths
 use Rattle.doc_blocks.specs.Stacks.{Outer, Stack}
 use Rattle.doc_blocks.specs.Containers.{container_shown}
-use Rattle.doc_blocks.specs.Views.{blocks_shown}
-use Rattle.doc_blocks.specs.declared.block.Block.{Block}
+use Rattle.doc_leaves.specs.Views.{blocks_shown}
+use Rattle.doc_leaves.specs.declared.block.Block.{Block}
 use Rattle.doc_blocks.specs.declared.levels.OpenList.{OpenList}
 use Rattle.doc_blocks.specs.declared.levels.Level.{Level}
 use Rattle.doc_blocks.specs.declared.levels.Open.{Open}

@@ -1,6 +1,6 @@
-pub mod Views
 pub mod Stacks
 pub mod Containers
 pub mod LevelSteps
 pub mod PathSteps
 pub mod StateSteps
+pub mod BuilderSteps

@@ -3,7 +3,7 @@ ghost use Rattle.std.specs.Prelude.{◌≡◌, ◌+◌, ◌<◌, ◌≤◌, ℕ,
 ghost use Rattle.doc_starts.specs.Items.{kind_of};
 ghost use Rattle.doc_rules.specs.Blocks.{list_start};
 ghost use Rattle.doc_one_pass.specs.Paths.{finished};
-ghost use Rattle.doc_blocks.specs.Views.{with_block, blocks_shown};
+ghost use Rattle.doc_leaves.specs.Views.{with_block, blocks_shown};
 ghost use Rattle.doc_blocks.specs.Stacks.{empty_stack, with_inner_blocks, block_begun, item_begun, container_opened, quote_put, item_put, IsNotOf, ClosesLast};
 ghost use Rattle.doc_blocks.specs.PathSteps.{gone_on_at, closed_to, GoesDown, MatchesAt};
 ghost use Rattle.doc_lines.specs.Cursors.{left_of};
@@ -11,9 +11,9 @@ ghost use Rattle.doc_starts.specs.Lines.{line_of};
 ghost use Rattle.doc_blocks.specs.Containers.{container_shown};
 ghost use Rattle.doc_blocks.specs.LevelSteps.{stack_of, IsSound, Leaves};
 
-use crate::block::Block;
 use crate::container::Container;
 use doc_heap::{Heap, Vec};
+use doc_leaves::block::Block;
 use doc_lines::cursor::Cursor;
 use doc_page::failure::Memory;
 use doc_starts::item::ListKind;
@@ -63,7 +63,7 @@ struct Left {
 }
 
 impl Levels {
-    #[tactic(auto, unfolding(crate::specs::Views::forest))]
+    #[tactic(auto, unfolding(doc_leaves::specs::Views::forest))]
     pub(crate) fn new(heap: Heap) -> Levels
         ensures stack { stack_of result ≡ empty_stack }
         ensures sound { IsSound result }
@@ -103,7 +103,7 @@ impl Levels {
     }
 
     /// A block comes behind the blocks of the innermost level, whose list closes in any case.
-    #[tactic(auto, unfolding(crate::specs::Views::with_block))]
+    #[tactic(auto, unfolding(doc_leaves::specs::Views::with_block))]
     pub(crate) fn put(&mut self, block: Option<Block>) -> Result<(), Memory>
         requires { IsSound self.old }
         ensures stack { OnOk result (stack_of self.new ≡ with_inner_blocks (stack_of self.old) (with_block block (finished (stack_of self.old).inner))) }

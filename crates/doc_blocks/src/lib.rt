@@ -2,7 +2,11 @@
 //! over the lines.
 #![tactic(auto)]
 
-pub mod block;
+mod builder;
 mod container;
 mod content;
+mod document;
 mod levels;
+
+pub use doc_leaves::block::Block;
+pub use document::{Document, blocks};

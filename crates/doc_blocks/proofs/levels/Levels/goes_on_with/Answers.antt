@@ -2,8 +2,8 @@ use Rattle.std.proofs.Common.{rules, ◌≡◌, ◌+◌, ◌<◌, ◌≤◌, ◌
 use Rattle.doc_rules.specs.Blocks.{Blocks}
 use Rattle.doc_one_pass.specs.Paths as paths
 use Rattle.doc_starts.specs.Items.{kind_of}
-use Rattle.doc_blocks.specs.declared.block.Block.{Block}
-use Rattle.doc_blocks.specs.Views.{behind, with_block, blocks_shown}
+use Rattle.doc_leaves.specs.declared.block.Block.{Block}
+use Rattle.doc_leaves.specs.Views.{behind, with_block, blocks_shown}
 use Rattle.doc_blocks.specs.Stacks.{Stack, with_inner_blocks}
 use Rattle.doc_blocks.specs.LevelSteps.{stack_of, level_shown, level_at}
 use Rattle.doc_blocks.proofs.LevelLemmas.{stack_going_on}

@@ -1,6 +1,6 @@
 use Rattle.std.proofs.Common.{◌≡◌, ◌∙◌, ap, sym}
 use Rattle.doc_blocks.specs.Stacks.{Stack}
-use Rattle.doc_blocks.specs.Views.{blocks_shown}
+use Rattle.doc_leaves.specs.Views.{blocks_shown}
 use Rattle.doc_blocks.proofs.LevelLemmas.{bare_blocks}
 use Rattle.doc_blocks.proofs.levels.Levels.into_blocks.Goals as goal
 

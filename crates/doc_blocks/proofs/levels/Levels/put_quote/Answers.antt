@@ -1,5 +1,5 @@
 use Rattle.std.proofs.Common.{◌≡◌, ◌<◌, ◌≤◌, ◌∙◌, ap, sym, arith, ℕ, length, refl}
-use Rattle.doc_blocks.specs.Views.{with_block}
+use Rattle.doc_leaves.specs.Views.{with_block}
 use Rattle.doc_blocks.specs.LevelSteps.{stack_of}
 use Rattle.doc_blocks.proofs.LevelLemmas.{quote_behind}
 use Rattle.doc_blocks.proofs.levels.Levels.put_quote.Goals as goal
