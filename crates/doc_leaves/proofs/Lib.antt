@@ -1,0 +1,7 @@
+pub mod DefinitionSteps
+pub mod Forests
+pub mod GatheredSteps
+pub mod LeafSteps
+pub mod LineSteps
+pub mod StartSteps
+pub mod Tests

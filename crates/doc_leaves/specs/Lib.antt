@@ -1,0 +1,3 @@
+pub mod OpenLeaves
+pub mod Starts
+pub mod Views
