@@ -1,0 +1,6 @@
+pub mod LevelLemmas
+pub mod PathLaws
+pub mod StateLaws
+pub mod LeafLaws
+pub mod ContentLaws
+pub mod BuilderLaws

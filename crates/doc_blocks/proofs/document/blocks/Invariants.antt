@@ -1,0 +1,14 @@
+use Rattle.std.proofs.Common.{◌≡◌, [], map, chars}
+use Rattle.doc_rules.specs.Lines.{lines_of}
+use Rattle.doc_refs.specs.Targets.{targets_of}
+use Rattle.doc_one_pass.specs.Paths.{empty_path}
+use Rattle.doc_blocks.specs.StateSteps.{shown, document_left}
+use Rattle.doc_blocks.specs.BuilderSteps.{state_of}
+use Rattle.doc_blocks.specs.LevelSteps.{IsSound}
+use Rattle.doc_blocks.proofs.document.blocks.Given as goal
+
+abbrev pub invariant-lines : goal.invariant-lines
+invariant-lines l = record {
+  sound : IsSound l.builder.levels;
+  left : document_left l.entities (lines_of (chars l.text)) (empty_path, targets_of []) ≡ document_left l.entities (map chars l.line-iterator) (shown (state_of l.builder));
+}

@@ -1,0 +1,6 @@
+pub mod Stacks
+pub mod Containers
+pub mod LevelSteps
+pub mod PathSteps
+pub mod StateSteps
+pub mod BuilderSteps

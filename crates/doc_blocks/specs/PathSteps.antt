@@ -1,0 +1,102 @@
+-- What a line does on a path, said of the open containers in a row: those that go on with it, and the rest.
+use Rattle.std.specs.Prelude.{◌≡◌, ℕ, zero, suc, ◌+◌, ◌-◌, Bool, true, false, List, [], ◌∷◌, ◌++◌, take, drop, Option, Some, None}
+use Rattle.doc_rules.specs.Columns.{Line}
+use Rattle.doc_rules.specs.Entities.{Table}
+use Rattle.doc_rules.specs.Definitions.{Definition}
+use Rattle.doc_rules.specs.ContainerStarts.{ListKind}
+use Rattle.doc_rules.specs.Trees.{Situation, NoParagraph, InParagraph, LazyParagraph}
+use Rattle.doc_one_pass.specs.Leaves.{OpenLeaf, OpenParagraph, taken}
+use Rattle.doc_one_pass.specs.Paths.{Level, OpenContainer, OpenItem, Path, Here, Inside, item_begun_at, matched_open, gone_on, lazy_path_situation}
+use Rattle.doc_one_pass.specs.Closing.{container_closed, leaf_closed, closed, path_blank, path_references}
+use Rattle.doc_one_pass.specs.Steps.{Moved, start_step, leaf_takes}
+use Rattle.doc_blocks.specs.Stacks.{Outer, Stack, inside, container_blank}
+
+-- ---- going down
+
+-- the open containers that go on with a line, those below, and the line inside the former
+pub record Descent : Type 0 where
+  pub passed : List Outer
+  pub below : List Outer
+  pub rest : Line
+
+abbrev pub further : Outer → Descent → Descent
+further o d = record d { passed = (o.0, gone_on o.1) ∷ d.passed }
+
+-- behind containers that went on with the line already
+abbrev pub behind_these : List Outer → Descent → Descent
+behind_these outer d = record d { passed = outer ++ d.passed }
+
+unfoldable pub descended : List Outer → Line → Descent
+descended [] line = record { passed = []; below = []; rest = line }
+descended (o ∷ more) line =
+    elim (matched_open o.1 line) [ Some rest ↦ further o (descended more rest) | None ↦ record { passed = []; below = o ∷ more; rest = line } ]
+
+-- a line went down a stack, so many containers
+pub record GoesDown (old : Stack) (line : Line) (new : Stack) (depth : ℕ) (rest : Line) : Type 0 where
+  pub descent : descended old.outer line ≡ record { passed = take depth new.outer; below = drop depth new.outer; rest = rest }
+  pub inner : new.inner ≡ old.inner
+  pub blank : new.blank ≡ old.blank
+
+-- these containers, of which the one at this place went on with a line
+abbrev pub gone_on_at : ℕ → List Outer → List Outer
+gone_on_at n [] = []
+gone_on_at zero (o ∷ more) = (o.0, gone_on o.1) ∷ more
+gone_on_at (suc n) (o ∷ more) = o ∷ gone_on_at n more
+
+-- a move inside open containers
+abbrev pub moved_within : List Outer → Moved → Moved
+moved_within outer m = record { path = inside outer m.path; refs = m.refs }
+
+-- the room that containers leave
+abbrev pub room_behind : ℕ → List Outer → ℕ
+room_behind room [] = room
+room_behind room (o ∷ more) = room_behind (room - 1) more
+
+-- what the line does where it stops, above these containers
+abbrev pub stopped : ℕ → Table → Line → List Outer → Level → OpenLeaf → Bool → Moved
+stopped room table line [] level leaf blank = leaf_takes room table line level leaf blank (taken line leaf)
+stopped room table line (o ∷ more) level leaf blank =
+    start_step room table (lazy_path_situation (inside more (Here level leaf blank))) line (inside (o ∷ more) (Here level leaf blank))
+
+-- the paragraph that the line meets there
+abbrev pub lazy_leaf : OpenLeaf → Situation
+lazy_leaf (OpenParagraph text) = LazyParagraph
+lazy_leaf leaf = NoParagraph
+
+abbrev pub situation_in : List Outer → OpenLeaf → Situation
+situation_in [] (OpenParagraph text) = InParagraph text
+situation_in [] leaf = NoParagraph
+situation_in (o ∷ more) leaf = lazy_leaf leaf
+
+-- ---- closing
+
+-- the level of the outermost of these containers when all have closed, the innermost level being this one
+abbrev pub closed_in : List Outer → Level → Level
+closed_in [] level = level
+closed_in (o ∷ more) level = container_closed o.0 o.1 (closed_in more level)
+
+-- whether a blank line stands behind its last block then
+abbrev pub blank_in : List Outer → Bool → Bool
+blank_in [] blank = blank
+blank_in (o ∷ more) blank = container_blank o.1 (blank_in more blank)
+
+-- all but the first so many containers have closed
+abbrev pub closed_to : ℕ → Stack → Stack
+closed_to depth s = record { outer = take depth s.outer; inner = closed_in (drop depth s.outer) s.inner; blank = blank_in (drop depth s.outer) s.blank }
+
+-- ---- what begins
+
+-- an item begins behind a path, and this is inside
+abbrev pub item_moved : Table → Path → ListKind → ℕ → (columns : ℕ) → (is_empty : Bool) → Moved → Moved
+item_moved table path kind start columns is_empty m = record {
+  path = Inside (item_begun_at (closed table path) (path_blank path) kind start) (OpenItem columns is_empty) m.path;
+  refs = path_references table path ++ m.refs;
+}
+
+-- ---- places
+
+-- this is what the container at this place makes of the line
+pub record MatchesAt (place : ℕ) (outer : List Outer) (line : Line) (found : Option Line) : Type 0 where
+  pub here : Outer
+  pub split : drop place outer ≡ here ∷ drop (place + 1) outer
+  pub found_is : found ≡ matched_open here.1 line

@@ -1,0 +1,392 @@
+//! A document that is read line by line.
+ghost use Rattle.std.specs.Prelude.{◌≡◌, ◌+◌, ◌-◌, ℕ, true, false, not, OnOk, IfOk, vec_len};
+ghost use Rattle.std.specs.FinMap as finite;
+ghost use Rattle.doc_rules.specs.Columns.{is_blank_line};
+ghost use Rattle.doc_rules.specs.ContainerStarts.{item_start};
+ghost use Rattle.doc_rules.specs.Trees as rules;
+ghost use Rattle.doc_one_pass.specs.Leaves.{NoLeaf, NotTaken, taken};
+ghost use Rattle.doc_one_pass.specs.Steps.{leaf_begun, leaf_step, text_put, start_step};
+ghost use Rattle.doc_lines.specs.Cursors.{left_of};
+ghost use Rattle.doc_starts.specs.Lines.{line_of};
+ghost use Rattle.doc_starts.specs.Items.{item_of_start, kind_of};
+ghost use Rattle.doc_leaves.specs.Starts.{situation_of, start_shown, leaf_lines};
+ghost use Rattle.doc_blocks.specs.Stacks.{empty_stack};
+ghost use Rattle.doc_blocks.specs.StateSteps.{below, met, shown, reached, leaf_done, all_closed, quote_opened, item_opened, lines_opened, item_met, StepsTo, after_line};
+ghost use Rattle.doc_blocks.specs.BuilderSteps.{state_of, IsReady, IsBegun, IsInParagraph, IsTaken};
+ghost use Rattle.doc_blocks.specs.LevelSteps.{IsSound};
+
+use crate::container::Container;
+use crate::levels::Levels;
+use doc_heap::Heap;
+use doc_leaves::leaf::{LineTaken, OpenLeaf};
+use doc_leaves::line::is_indented;
+use doc_leaves::start::{LeafStart, NewLeaf, Situation, leaf_start};
+use doc_lines::cursor::Cursor;
+use doc_lines::entities::Entities;
+use doc_page::failure::Memory;
+use doc_refs::RefMap;
+use doc_starts::indentation::is_blank_line;
+use doc_starts::item::{ItemStart, item_start};
+use doc_starts::quote::quote_start;
+
+/// At most so many quotes and items are open at once.
+const MOST: usize = 100;
+
+/// The open containers, the open leaf, and what labels name so far.
+#[derive(Drop)]
+pub(crate) struct Builder {
+    pub(crate) levels: Levels,
+    pub(crate) leaf: OpenLeaf,
+    pub(crate) refs: RefMap,
+}
+
+impl Builder {
+    pub(crate) fn new(heap: Heap) -> Builder
+        ensures state { state_of result ≡ record { stack = empty_stack; leaf = NoLeaf; refs = finite.empty } }
+        ensures ready { IsReady result 0 }
+    {
+        Builder {
+            levels: Levels::new(heap),
+            leaf: OpenLeaf::new(heap),
+            refs: RefMap::new(heap),
+        }
+    }
+
+    /// The open leaf closes.
+    fn close_leaf(&mut self, heap: Heap, entities: &Entities) -> Result<(), Memory>
+        requires { IsSound self.old.levels }
+        ensures state { OnOk result (state_of self.new ≡ leaf_done entities.now (state_of self.old)) }
+        ensures sound { OnOk result (IsSound self.new.levels) }
+        ensures outer { OnOk result (self.new.levels.outer ≡ self.old.levels.outer) }
+    {
+        if !self.leaf.is_open() {
+            return Ok(());
+        }
+        let block = self.leaf.close(heap, entities, &mut self.refs)?;
+        self.levels.put(block)?;
+        Ok(())
+    }
+
+    /// All that is open inside the first so many containers closes.
+    pub(crate) fn close_to(
+        &mut self,
+        heap: Heap,
+        entities: &Entities,
+        depth: usize,
+    ) -> Result<(), Memory>
+        requires { IsReady self.old depth }
+        ensures state { OnOk result (state_of self.new ≡ all_closed entities.now depth (state_of self.old)) }
+        ensures sound { OnOk result (IsSound self.new.levels) }
+        ensures depth { OnOk result (vec_len self.new.levels.outer ≡ depth) }
+    {
+        self.close_leaf(heap, entities)?;
+        self.levels.close_to(depth)?;
+        Ok(())
+    }
+
+    /// Then a quote opens.
+    fn begin_quote(&mut self, heap: Heap, entities: &Entities, depth: usize) -> Result<(), Memory>
+        requires { IsReady self.old depth }
+        ensures state { OnOk result (state_of self.new ≡ quote_opened entities.now depth (state_of self.old)) }
+        ensures ready { OnOk result (IsReady self.new (depth + 1)) }
+    {
+        self.close_to(heap, entities, depth)?;
+        self.levels.begin_block()?;
+        self.levels.open(Container::Quote)?;
+        Ok(())
+    }
+
+    /// Then an item opens.
+    fn begin_item(
+        &mut self,
+        heap: Heap,
+        entities: &Entities,
+        depth: usize,
+        item: &ItemStart,
+    ) -> Result<(), Memory>
+        requires { IsReady self.old depth }
+        ensures state { OnOk result (state_of self.new
+            ≡ item_opened entities.now depth (state_of self.old) (kind_of item.now.kind) item.now.start item.now.columns (is_blank_line (left_of item.now.first))) }
+        ensures ready { OnOk result (IsReady self.new (depth + 1)) }
+    {
+        self.close_to(heap, entities, depth)?;
+        self.levels.begin_item(item.kind, item.start)?;
+        self.levels.open(Container::Item {
+            columns: item.columns,
+            is_empty: is_blank_line(&item.first),
+        })?;
+        Ok(())
+    }
+
+    /// The paragraph that a line meets inside the first so many containers.
+    fn met(&self, depth: usize) -> Situation<'_>
+        requires { IsReady self.now depth }
+        ensures { situation_of result ≡ met depth (state_of self.now) }
+    {
+        let text = match self.leaf.paragraph() {
+            Some(text) => text,
+            None => return Situation::NoParagraph,
+        };
+        if depth < self.levels.depth() {
+            return Situation::LazyParagraph;
+        }
+        Situation::InParagraph(text)
+    }
+
+    /// A line begins this leaf.
+    fn begin_leaf(
+        &mut self,
+        heap: Heap,
+        entities: &Entities,
+        depth: usize,
+        line: &Cursor,
+        start: LeafStart,
+    ) -> Result<(), Memory>
+        requires { IsReady self.old depth }
+        ensures reached { OnOk result (reached depth (state_of self.old) (leaf_begun entities.now (below depth (state_of self.old)) (start_shown (left_of line.now) start.entry)) ≡ shown (state_of self.new)) }
+        ensures sound { OnOk result (IsSound self.new.levels) }
+    {
+        match start {
+            LeafStart::New(leaf) => {
+                self.begin_new(heap, entities, depth, line, leaf)?;
+                Ok(())
+            }
+            LeafStart::Underline { level } => {
+                self.underline(heap, entities, depth, level)?;
+                Ok(())
+            }
+        }
+    }
+
+    fn begin_new(
+        &mut self,
+        heap: Heap,
+        entities: &Entities,
+        depth: usize,
+        line: &Cursor,
+        leaf: NewLeaf,
+    ) -> Result<(), Memory>
+        requires { IsReady self.old depth }
+        ensures state { OnOk result (state_of self.new ≡ lines_opened entities.now depth (state_of self.old) (leaf_lines (left_of line.now) leaf.entry)) }
+        ensures sound { OnOk result (IsSound self.new.levels) }
+    {
+        self.close_to(heap, entities, depth)?;
+        self.levels.begin_block()?;
+        let block = self.leaf.begin(heap, line, leaf, entities)?;
+        self.levels.put(block)?;
+        Ok(())
+    }
+
+    /// The open paragraph becomes a heading.
+    fn underline(
+        &mut self,
+        heap: Heap,
+        entities: &Entities,
+        depth: usize,
+        level: u8,
+    ) -> Result<(), Memory>
+        requires { IsReady self.old depth }
+        ensures reached { OnOk result (reached depth (state_of self.old) (leaf_begun entities.now (below depth (state_of self.old)) (rules.Underline level)) ≡ shown (state_of self.new)) }
+        ensures sound { OnOk result (IsSound self.new.levels) }
+    {
+        if !self.is_in_paragraph(depth) {
+            return Ok(());
+        }
+        let block = self.leaf.underline(heap, level, entities, &mut self.refs)?;
+        self.levels.put(block)?;
+        self.levels.set_blank(false);
+        Ok(())
+    }
+
+    fn is_in_paragraph(&self, depth: usize) -> bool
+        requires { IsReady self.now depth }
+        ensures { IsInParagraph (met depth (state_of self.now)) result }
+    {
+        matches!(self.met(depth), Situation::InParagraph(_))
+    }
+
+    /// A line that begins nothing: a blank line, a line of the open paragraph, indented code, or a new paragraph.
+    fn put_text(
+        &mut self,
+        heap: Heap,
+        entities: &Entities,
+        depth: usize,
+        line: &Cursor,
+    ) -> Result<(), Memory>
+        requires { IsReady self.old depth }
+        ensures reached { OnOk result (reached depth (state_of self.old) (text_put entities.now (met depth (state_of self.old)) (left_of line.now) (below depth (state_of self.old))) ≡ shown (state_of self.new)) }
+        ensures sound { OnOk result (IsSound self.new.levels) }
+    {
+        if is_blank_line(line) {
+            self.close_to(heap, entities, depth)?;
+            self.levels.set_blank(true);
+            return Ok(());
+        }
+        if self.meets_paragraph() {
+            self.leaf.continue_paragraph(line)?;
+            return Ok(());
+        }
+        self.close_to(heap, entities, depth)?;
+        self.levels.begin_block()?;
+        if is_indented(line) {
+            self.leaf.begin_code(line)?;
+            return Ok(());
+        }
+        self.leaf.begin_paragraph(line)?;
+        Ok(())
+    }
+
+    /// Whether a paragraph is open, at the innermost level or for a lazy line.
+    fn meets_paragraph(&self) -> bool
+        ensures { (depth : ℕ) → rules.has_no_paragraph (met depth (state_of self.now)) ≡ not result }
+    {
+        match self.leaf.paragraph() {
+            Some(_) => true,
+            None => false,
+        }
+    }
+
+    /// A line in front of which no more containers may begin, or that begins none: a leaf or text.
+    fn put_leaf(
+        &mut self,
+        heap: Heap,
+        entities: &Entities,
+        depth: usize,
+        line: &Cursor,
+    ) -> Result<(), Memory>
+        requires { IsReady self.old depth }
+        ensures reached { OnOk result (reached depth (state_of self.old) (leaf_step entities.now (met depth (state_of self.old)) (left_of line.now) (below depth (state_of self.old))) ≡ shown (state_of self.new)) }
+        ensures sound { OnOk result (IsSound self.new.levels) }
+    {
+        match leaf_start(heap, self.met(depth), line, entities)? {
+            Some(start) => {
+                self.begin_leaf(heap, entities, depth, line, start)?;
+                Ok(())
+            }
+            None => {
+                self.put_text(heap, entities, depth, line)?;
+                Ok(())
+            }
+        }
+    }
+
+    /// One step of what a line begins: where a container began, the answer is the line inside it.
+    fn begin_one<'a>(
+        &mut self,
+        heap: Heap,
+        entities: &Entities,
+        depth: usize,
+        line: &Cursor<'a>,
+    ) -> Result<Option<Cursor<'a>>, Memory>
+        requires { IsReady self.old depth }
+        ensures steps { IfOk result (λ rest. (room : ℕ) → StepsTo entities.now room depth (state_of self.old) (left_of line.now) (state_of self.new) (line_of rest)) }
+        ensures ready { IfOk result (λ rest. IsBegun self.new (depth + 1) (line_of rest)) }
+    {
+        if let Some(rest) = quote_start(line) {
+            self.begin_quote(heap, entities, depth)?;
+            return Ok(Some(rest));
+        }
+        if let Some(start) = leaf_start(heap, self.met(depth), line, entities)? {
+            self.begin_leaf(heap, entities, depth, line, start)?;
+            return Ok(None);
+        }
+        let item = match self.item_met(depth, line) {
+            Some(item) => item,
+            None => {
+                self.put_text(heap, entities, depth, line)?;
+                return Ok(None);
+            }
+        };
+        self.begin_item(heap, entities, depth, &item)?;
+        if is_blank_line(&item.first) {
+            return Ok(None);
+        }
+        Ok(Some(item.first))
+    }
+
+    /// The item that a line may begin: some may not interrupt a paragraph of their own containers.
+    fn item_met<'a>(&self, depth: usize, line: &Cursor<'a>) -> Option<ItemStart<'a>>
+        requires { IsReady self.now depth }
+        ensures { item_of_start result ≡ item_met (met depth (state_of self.now)) (item_start (left_of line.now)) }
+    {
+        let item = item_start(line)?;
+        if !self.is_in_paragraph(depth) {
+            return Some(item);
+        }
+        if !item.may_interrupt() {
+            return None;
+        }
+        Some(item)
+    }
+
+    /// What a line begins inside the first so many containers, which it goes on with.
+    fn begin<'a>(
+        &mut self,
+        heap: Heap,
+        entities: &Entities,
+        from: usize,
+        line: Cursor<'a>,
+    ) -> Result<(), Memory>
+        requires { IsReady self.old from }
+        ensures reached { OnOk result (reached from (state_of self.old) (start_step (100 - from) entities.now (met from (state_of self.old)) (left_of line.entry) (below from (state_of self.old))) ≡ shown (state_of self.new)) }
+        ensures sound { OnOk result (IsSound self.new.levels) }
+    {
+        let mut depth = from;
+        let mut rest = line;
+        'containers: while depth < MOST {
+            let inside = match self.begin_one(heap, entities, depth, &rest)? {
+                Some(inside) => inside,
+                None => return Ok(()),
+            };
+            rest = inside;
+            depth += 1;
+        }
+        self.put_leaf(heap, entities, depth, &rest)?;
+        Ok(())
+    }
+
+    /// A line, without its ending.
+    pub(crate) fn add(
+        &mut self,
+        heap: Heap,
+        entities: &Entities,
+        line: &Cursor,
+    ) -> Result<(), Memory>
+        requires { IsSound self.old.levels }
+        ensures line { OnOk result (after_line entities.now (state_of self.old) (left_of line.now) ≡ shown (state_of self.new)) }
+        ensures sound { OnOk result (IsSound self.new.levels) }
+    {
+        let (depth, rest) = self.levels.go_down(line);
+        if depth < self.levels.depth() {
+            self.begin(heap, entities, depth, rest)?;
+            return Ok(());
+        }
+        if self.is_taken(heap, entities, &rest)? {
+            return Ok(());
+        }
+        self.begin(heap, entities, depth, rest)?;
+        Ok(())
+    }
+
+    /// Offers a line to the open leaf, and answers whether it took it.
+    fn is_taken(&mut self, heap: Heap, entities: &Entities, line: &Cursor) -> Result<bool, Memory>
+        requires { IsSound self.old.levels }
+        ensures yes { IfOk result (λ b. b ≡ true → IsTaken entities.now (state_of self.old) (left_of line.now) (state_of self.new)) }
+        ensures no { IfOk result (λ b. b ≡ false → (state_of self.new ≡ state_of self.old) × (taken (left_of line.now) (state_of self.old).leaf ≡ NotTaken)) }
+        ensures sound { OnOk result (IsSound self.new.levels) }
+        ensures outer { OnOk result (self.new.levels.outer ≡ self.old.levels.outer) }
+    {
+        match self.leaf.take(line)? {
+            LineTaken::No => Ok(false),
+            LineTaken::GoesOn { blank } => {
+                self.levels.set_blank(blank);
+                Ok(true)
+            }
+            LineTaken::Closes { blank } => {
+                self.close_leaf(heap, entities)?;
+                self.levels.set_blank(blank);
+                Ok(true)
+            }
+        }
+    }
+}

@@ -1,0 +1,81 @@
+//! The document of a text.
+ghost use Rattle.std.specs.Prelude.{◌≡◌, [], chars, IfOk, OnOk};
+ghost use Rattle.doc_rules.specs.Blocks.{document_of};
+ghost use Rattle.doc_rules.specs.Columns.{cells_of};
+ghost use Rattle.doc_rules.specs.Lines.{line_content};
+ghost use Rattle.doc_refs.specs.Targets.{targets_of};
+ghost use Rattle.doc_leaves.specs.Views.{blocks_shown};
+ghost use Rattle.doc_blocks.specs.StateSteps.{shown, after_line, document_left};
+ghost use Rattle.doc_blocks.specs.BuilderSteps.{state_of};
+ghost use Rattle.doc_blocks.specs.LevelSteps.{IsSound};
+
+use crate::builder::Builder;
+use crate::content::{holds_null, secure_text, without_ending};
+use doc_heap::{Heap, Vec};
+use doc_leaves::block::Block;
+use doc_lines::cursor::Cursor;
+use doc_lines::entities::Entities;
+use doc_lines::lines::Lines;
+use doc_page::failure::Memory;
+use doc_refs::RefMap;
+
+/// The blocks of a document, and what its labels name.
+#[derive(Drop)]
+pub struct Document {
+    pub blocks: Vec<Block>,
+    pub refs: RefMap,
+}
+
+/// The document of a text (CommonMark 0.31.2, sections 4 and 5). At most 100 quotes and items are open at once: past that a marker is
+/// text. Texts of blocks are without line endings of their own but LF, and inlines are still to be read in those of paragraphs and
+/// headings.
+pub fn blocks(heap: Heap, text: &str, entities: &Entities) -> Result<Document, Memory>
+    ensures blocks { IfOk result (λ document. blocks_shown document.blocks.items ≡ (document_of entities.now (chars text.now)).blocks) }
+    ensures refs { IfOk result (λ document. document.refs ≡ targets_of (document_of entities.now (chars text.now)).refs) }
+{
+    let mut builder = Builder::new(heap);
+    'lines: for line in Lines::new(text) {
+        add_line(&mut builder, heap, entities, line)?;
+    }
+    let document = finish(builder, heap, entities)?;
+    Ok(document)
+}
+
+/// A line, with its ending.
+fn add_line(
+    builder: &mut Builder,
+    heap: Heap,
+    entities: &Entities,
+    line: &str,
+) -> Result<(), Memory>
+    requires { IsSound builder.old.levels }
+    ensures line { OnOk result (after_line entities.now (state_of builder.old) (cells_of (line_content (chars line.now))) ≡ shown (state_of builder.new)) }
+    ensures sound { OnOk result (IsSound builder.new.levels) }
+{
+    let content = without_ending(line);
+    if !holds_null(content) {
+        builder.add(heap, entities, &Cursor::new(content))?;
+        return Ok(());
+    }
+    let secure = secure_text(heap, content)?;
+    builder.add(heap, entities, &Cursor::new(secure.as_str()))?;
+    Ok(())
+}
+
+/// All that is still open closes.
+fn finish(builder: Builder, heap: Heap, entities: &Entities) -> Result<Document, Memory>
+    requires { IsSound builder.levels }
+    ensures { IfOk result (λ document. (blocks_shown document.blocks.items, document.refs) ≡ document_left entities.now [] (shown (state_of builder))) }
+{
+    let mut builder = builder;
+    builder.close_to(heap, entities, 0)?;
+    let Builder {
+        levels,
+        leaf: _,
+        refs,
+    } = builder;
+    Ok(Document {
+        blocks: levels.into_blocks()?,
+        refs,
+    })
+}

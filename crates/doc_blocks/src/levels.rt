@@ -1,0 +1,353 @@
+//! The open containers of a document that is read line by line, with the finished blocks of all levels on one stack.
+ghost use Rattle.std.specs.Prelude.{◌≡◌, ◌+◌, ◌<◌, ◌≤◌, ℕ, false, None, OnOk, IfOk, IsTrue, vec_len};
+ghost use Rattle.doc_starts.specs.Items.{kind_of};
+ghost use Rattle.doc_rules.specs.Blocks.{list_start};
+ghost use Rattle.doc_one_pass.specs.Paths.{finished};
+ghost use Rattle.doc_leaves.specs.Views.{with_block, blocks_shown};
+ghost use Rattle.doc_blocks.specs.Stacks.{empty_stack, with_inner_blocks, block_begun, item_begun, container_opened, quote_put, item_put, IsNotOf, ClosesLast};
+ghost use Rattle.doc_blocks.specs.PathSteps.{gone_on_at, closed_to, GoesDown, MatchesAt};
+ghost use Rattle.doc_lines.specs.Cursors.{left_of};
+ghost use Rattle.doc_starts.specs.Lines.{line_of};
+ghost use Rattle.doc_blocks.specs.Containers.{container_shown};
+ghost use Rattle.doc_blocks.specs.LevelSteps.{stack_of, IsSound, Leaves};
+
+use crate::container::Container;
+use doc_heap::{Heap, Vec};
+use doc_leaves::block::Block;
+use doc_lines::cursor::Cursor;
+use doc_page::failure::Memory;
+use doc_starts::item::ListKind;
+use std::mem;
+
+/// A list that the next item may go on with. Its finished items stand on the stack from `base` on.
+#[derive(Drop)]
+pub(crate) struct OpenList {
+    pub(crate) kind: ListKind,
+    pub(crate) start: u32,
+    pub(crate) tight: bool,
+    pub(crate) base: usize,
+}
+
+/// A level of open containers. Its finished blocks stand on the stack from `base` on, up to its list's items.
+#[derive(Drop)]
+pub(crate) struct Level {
+    pub(crate) base: usize,
+    pub(crate) list: Option<OpenList>,
+    pub(crate) gap: bool,
+}
+
+/// An open container and the level that it stands in.
+#[derive(Drop)]
+pub(crate) struct Open {
+    pub(crate) level: Level,
+    pub(crate) container: Container,
+}
+
+/// The open containers, the outermost first, the level inside them, whether a blank line stands behind the last block there, and the
+/// finished blocks of all levels, of which a container that closes takes its own off the end.
+#[derive(Drop)]
+pub(crate) struct Levels {
+    heap: Heap,
+    outer: Vec<Open>,
+    inner: Level,
+    blank: bool,
+    done: Vec<Block>,
+}
+
+/// A container that was left: the blocks in it, and whether a blank line stands between two of them.
+#[derive(Drop)]
+struct Left {
+    container: Container,
+    blocks: Vec<Block>,
+    gap: bool,
+}
+
+impl Levels {
+    #[tactic(auto, unfolding(doc_leaves::specs::Views::forest))]
+    pub(crate) fn new(heap: Heap) -> Levels
+        ensures stack { stack_of result ≡ empty_stack }
+        ensures sound { IsSound result }
+    {
+        Levels {
+            heap,
+            outer: Vec::new(heap),
+            inner: Level {
+                base: 0,
+                list: None,
+                gap: false,
+            },
+            blank: false,
+            done: Vec::new(heap),
+        }
+    }
+
+    /// The list that is open at the innermost level becomes a block.
+    fn finish_list(&mut self) -> Result<(), Memory>
+        requires { IsSound self.old }
+        ensures stack { OnOk result (stack_of self.new ≡ with_inner_blocks (stack_of self.old) (finished (stack_of self.old).inner)) }
+        ensures sound { OnOk result (IsSound self.new) }
+        ensures bare { OnOk result (self.new.inner.list ≡ None) }
+        ensures outer { OnOk result (self.new.outer ≡ self.old.outer) }
+    {
+        let list = match self.inner.list.take() {
+            Some(list) => list,
+            None => return Ok(()),
+        };
+        let items = self.done.split_off(list.base)?;
+        self.done.push(Block::List {
+            start: start_of(list.kind, list.start),
+            tight: list.tight,
+            items,
+        })?;
+        Ok(())
+    }
+
+    /// A block comes behind the blocks of the innermost level, whose list closes in any case.
+    #[tactic(auto, unfolding(doc_leaves::specs::Views::with_block))]
+    pub(crate) fn put(&mut self, block: Option<Block>) -> Result<(), Memory>
+        requires { IsSound self.old }
+        ensures stack { OnOk result (stack_of self.new ≡ with_inner_blocks (stack_of self.old) (with_block block (finished (stack_of self.old).inner))) }
+        ensures sound { OnOk result (IsSound self.new) }
+        ensures outer { OnOk result (self.new.outer ≡ self.old.outer) }
+    {
+        self.finish_list()?;
+        if let Some(block) = block {
+            self.done.push(block)?;
+        }
+        Ok(())
+    }
+
+    /// A block begins at the innermost level.
+    pub(crate) fn begin_block(&mut self) -> Result<(), Memory>
+        requires { IsSound self.old }
+        ensures stack { OnOk result (stack_of self.new ≡ block_begun (stack_of self.old)) }
+        ensures sound { OnOk result (IsSound self.new) }
+        ensures bare { OnOk result (self.new.inner.list ≡ None) }
+        ensures outer { OnOk result (self.new.outer ≡ self.old.outer) }
+    {
+        self.finish_list()?;
+        self.inner.gap |= self.blank;
+        self.blank = false;
+        Ok(())
+    }
+
+    /// An item begins at the innermost level.
+    pub(crate) fn begin_item(&mut self, kind: ListKind, start: u32) -> Result<(), Memory>
+        requires { IsSound self.old }
+        ensures stack { OnOk result (stack_of self.new ≡ item_begun (stack_of self.old) (kind_of kind) start) }
+        ensures sound { OnOk result (IsSound self.new) }
+        ensures outer { OnOk result (self.new.outer ≡ self.old.outer) }
+    {
+        if self.goes_on_with(kind) {
+            return Ok(());
+        }
+        self.begin_block()?;
+        self.inner.list = Some(OpenList {
+            kind,
+            start,
+            tight: true,
+            base: self.done.len(),
+        });
+        Ok(())
+    }
+
+    /// Whether an item of this kind goes on with the list that is open at the innermost level: then a blank line before it makes the
+    /// list loose.
+    fn goes_on_with(&mut self, kind: ListKind) -> bool
+        requires { IsSound self.old }
+        ensures yes { IsTrue result → (start : ℕ) → stack_of self.new ≡ item_begun (stack_of self.old) (kind_of kind) start }
+        ensures no { result ≡ false → (self.new ≡ self.old) × IsNotOf (kind_of kind) (stack_of self.old).inner.list }
+        ensures sound { IsSound self.new }
+        ensures outer { self.new.outer ≡ self.old.outer }
+    {
+        let Some(list) = &mut self.inner.list else {
+            return false;
+        };
+        if !list.kind.is_same(kind) {
+            return false;
+        }
+        list.tight &= !self.blank;
+        self.blank = false;
+        true
+    }
+
+    /// A container opens at the innermost level.
+    pub(crate) fn open(&mut self, container: Container) -> Result<(), Memory>
+        requires { IsSound self.old }
+        ensures stack { OnOk result (stack_of self.new ≡ container_opened (stack_of self.old) (container_shown container)) }
+        ensures sound { OnOk result (IsSound self.new) }
+        ensures depth { OnOk result (vec_len self.new.outer ≡ vec_len self.old.outer + 1) }
+    {
+        let fresh = Level {
+            base: self.done.len(),
+            list: None,
+            gap: false,
+        };
+        let level = mem::replace(&mut self.inner, fresh);
+        self.outer.push(Open { level, container })?;
+        self.blank = false;
+        Ok(())
+    }
+
+    /// The innermost container closes.
+    pub(crate) fn close_last(&mut self) -> Result<(), Memory>
+        requires sound { IsSound self.old }
+        requires open { 0 < vec_len self.old.outer }
+        ensures closes { OnOk result (ClosesLast (stack_of self.old) (stack_of self.new)) }
+        ensures sound { OnOk result (IsSound self.new) }
+        ensures depth { OnOk result (vec_len self.new.outer + 1 ≡ vec_len self.old.outer) }
+    {
+        let left = self.leave()?;
+        match left.container {
+            Container::Quote => {
+                self.put_quote(left.blocks)?;
+                Ok(())
+            }
+            Container::Item { .. } => {
+                self.put_item(left.blocks, left.gap)?;
+                Ok(())
+            }
+        }
+    }
+
+    /// Takes the innermost container off.
+    fn leave(&mut self) -> Result<Left, Memory>
+        requires sound { IsSound self.old }
+        requires open { 0 < vec_len self.old.outer }
+        ensures left { IfOk result (Leaves (stack_of self.old) (stack_of self.new)) }
+        ensures sound { OnOk result (IsSound self.new) }
+        ensures depth { OnOk result (vec_len self.new.outer + 1 ≡ vec_len self.old.outer) }
+    {
+        self.finish_list()?;
+        let Open { level, container } = self.outer.pop().unwrap();
+        let inside = mem::replace(&mut self.inner, level);
+        let blocks = self.done.split_off(inside.base)?;
+        Ok(Left {
+            container,
+            blocks,
+            gap: inside.gap,
+        })
+    }
+
+    /// A quote of these blocks comes behind the blocks of the innermost level.
+    fn put_quote(&mut self, blocks: Vec<Block>) -> Result<(), Memory>
+        requires { IsSound self.old }
+        ensures stack { OnOk result (stack_of self.new ≡ quote_put (stack_of self.old) (blocks_shown blocks.entry.items)) }
+        ensures sound { OnOk result (IsSound self.new) }
+        ensures outer { OnOk result (self.new.outer ≡ self.old.outer) }
+    {
+        self.put(Some(Block::Quote(blocks)))?;
+        self.set_blank(false);
+        Ok(())
+    }
+
+    /// An item with these blocks comes behind the items of the open list. A blank line between two of its blocks makes the list loose.
+    fn put_item(&mut self, blocks: Vec<Block>, gap: bool) -> Result<(), Memory>
+        requires { IsSound self.old }
+        ensures stack { OnOk result (stack_of self.new ≡ item_put (stack_of self.old) gap (blocks_shown blocks.entry.items)) }
+        ensures sound { OnOk result (IsSound self.new) }
+        ensures outer { OnOk result (self.new.outer ≡ self.old.outer) }
+    {
+        let list = match &mut self.inner.list {
+            Some(list) => list,
+            None => return Ok(()),
+        };
+        list.tight &= !gap;
+        self.done.push(Block::Item(blocks))?;
+        Ok(())
+    }
+
+    /// How many containers are open.
+    pub(crate) fn depth(&self) -> usize
+        ensures { result ≡ vec_len self.now.outer }
+    {
+        self.outer.len()
+    }
+
+    /// Says whether a blank line stands behind the last block of the innermost level.
+    pub(crate) fn set_blank(&mut self, blank: bool)
+        requires { IsSound self.old }
+        ensures stack { stack_of self.new ≡ record (stack_of self.old) { blank = blank } }
+        ensures sound { IsSound self.new }
+        ensures outer { self.new.outer ≡ self.old.outer }
+    {
+        self.blank = blank;
+    }
+
+    /// All open containers but the first so many close.
+    pub(crate) fn close_to(&mut self, depth: usize) -> Result<(), Memory>
+        requires sound { IsSound self.old }
+        requires within { depth ≤ vec_len self.old.outer }
+        ensures stack { OnOk result (stack_of self.new ≡ closed_to depth (stack_of self.old)) }
+        ensures sound { OnOk result (IsSound self.new) }
+        ensures depth { OnOk result (vec_len self.new.outer ≡ depth) }
+    {
+        'containers: while depth < self.outer.len() {
+            self.close_last()?;
+        }
+        Ok(())
+    }
+
+    /// A line goes down the open containers that it goes on with. The answer is how many there are, and the line inside them.
+    pub(crate) fn go_down<'a>(&mut self, line: &Cursor<'a>) -> (usize, Cursor<'a>)
+        requires { IsSound self.old }
+        ensures goes { GoesDown (stack_of self.old) (left_of line.now) (stack_of self.new) result.0 (left_of result.1) }
+        ensures sound { IsSound self.new }
+        ensures depth { result.0 ≤ vec_len self.new.outer }
+    {
+        let mut depth = 0;
+        let mut rest = line.copy();
+        'containers: while depth < self.outer.len() {
+            let inside = match self.matched_at(depth, &rest) {
+                Some(inside) => inside,
+                None => return (depth, rest),
+            };
+            self.go_on_at(depth);
+            rest = inside;
+            depth += 1;
+        }
+        (depth, rest)
+    }
+
+    /// The line inside the container at this place, where it goes on with it.
+    fn matched_at<'a>(&self, place: usize, line: &Cursor<'a>) -> Option<Cursor<'a>>
+        requires { place < vec_len self.now.outer }
+        ensures { MatchesAt place (stack_of self.now).outer (left_of line.now) (line_of result) }
+    {
+        self.outer[place].container.matched(line)
+    }
+
+    /// The blocks of the innermost level, whose list closes.
+    pub(crate) fn into_blocks(mut self) -> Result<Vec<Block>, Memory>
+        requires { IsSound self }
+        ensures { IfOk result (λ blocks. blocks_shown blocks.items ≡ finished (stack_of self).inner) }
+    {
+        self.finish_list()?;
+        let base = self.inner.base;
+        let blocks = self.done.split_off(base)?;
+        Ok(blocks)
+    }
+
+    /// A line goes on with the container at this place.
+    fn go_on_at(&mut self, place: usize)
+        requires sound { IsSound self.old }
+        requires within { place < vec_len self.old.outer }
+        ensures stack { stack_of self.new ≡ record (stack_of self.old) { outer = gone_on_at place (stack_of self.old).outer } }
+        ensures sound { IsSound self.new }
+        ensures depth { vec_len self.new.outer ≡ vec_len self.old.outer }
+    {
+        let container = self.outer[place].container;
+        self.outer[place].container = container.gone_on();
+    }
+}
+
+/// The number that a list has, where it has one.
+#[tactic(auto, unfolding(doc_rules::specs::Blocks::list_start))]
+fn start_of(kind: ListKind, start: u32) -> Option<u32>
+    ensures { result ≡ list_start (kind_of kind) start }
+{
+    match kind {
+        ListKind::Bullet(_) => None,
+        ListKind::Ordered(_) => Some(start),
+    }
+}
