@@ -28,6 +28,7 @@ pub enum Situation<'a> {
 }
 
 /// A leaf that a line begins.
+#[derive(Clone, Copy)]
 pub enum NewLeaf<'a> {
     Heading(Heading<'a>),
     Fenced(FenceStart<'a>),
@@ -37,6 +38,7 @@ pub enum NewLeaf<'a> {
 }
 
 /// What a line begins.
+#[derive(Clone, Copy)]
 pub enum LeafStart<'a> {
     New(NewLeaf<'a>),
     /// The open paragraph becomes a heading of this level.
