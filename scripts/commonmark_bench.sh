@@ -1,26 +1,128 @@
 #!/usr/bin/env bash
-# Measures how the time of a layer of CommonMark grows with the text: `Lines` and `unescape` over 1, 2, 4 and
-# 8 MiB, and `take_definitions` over 10,000, 20,000, 40,000 and 80,000 definitions. Prints the best of five runs
-# of each, and its ratio to the one before (2 is linear). Run `rt run` in crates/commonmark_bench first, which
-# builds the program.
+# Measures how the time of a layer of CommonMark grows with the text: `Lines` and `unescape` over 1, 2, 4 and 8 MiB,
+# `take_definitions` over 10,000 to 80,000 definitions, and `blocks` over 1, 2, 4 and 8 MiB of six texts. Prints the
+# least processor time of five runs of each, and its ratio to the one before (2 is linear). Run `rt run` in
+# crates/commonmark_bench first, which builds the program. With MD2HTML set to the program `md2html` of md4c, each of
+# the six texts is given to it too, and with SPEC set to a file, copies of that file are a seventh.
 set -eu
 cd "$(dirname "$0")/.."
 program=crates/commonmark_bench/out/commonmark_bench
 [ -x "$program" ] || { echo "run 'rt run' in crates/commonmark_bench first" >&2; exit 1; }
 python3 - "$program" <<'PYTHON'
-import subprocess, sys, time
+import os, subprocess, sys, tempfile
 program = sys.argv[1]
-units = {"lines": (1, "MiB"), "unescape": (1, "MiB"), "definitions": (10_000, "definitions")}
-for task, (factor, unit) in units.items():
+MIB = 1 << 20
+peer, spec = os.environ.get("MD2HTML"), os.environ.get("SPEC")
+
+
+def least(command, path=os.devnull):
+    """The least processor time of five runs, in milliseconds."""
+    times = []
+    for _ in range(5):
+        with open(path, "rb") as text:
+            child = subprocess.Popen(command, stdin=text, stdout=subprocess.DEVNULL)
+            _, status, used = os.wait4(child.pid, 0)
+            child.returncode = status
+        if status:
+            sys.exit(f"{command}: status {status}")
+        times.append((used.ru_utime + used.ru_stime) * 1000)
+    return min(times)
+
+
+def row(name, size, took, before, other=None):
+    ratio = "" if before is None else f"  {took / before:.2f} times the one before"
+    beside = "" if other is None else f"  md2html {other:7.1f} ms, {took / other:.2f} of it"
+    print(f"{name:26} {size}: {took:7.1f} ms{ratio}{beside}", flush=True)
+
+
+class Draw:
+    """The same numbers on each machine."""
+
+    def __init__(self):
+        self.state = 7
+
+    def below(self, n):
+        self.state = (self.state * 6364136223846793005 + 1442695040888963407) % 2**64
+        return (self.state >> 33) % n
+
+
+WORDS = """access address agent answer archive batch branch budget cache change channel client cluster config contract cost
+customer deploy design device domain error event export field file flow gateway group guide handbook host import index
+invoice key label ledger level limit list machine member memory message module network node notice office order owner
+page partner password path payment phase plan policy price process profile queue quota reader record release report
+request review role route sample schedule script search section server session signal source stage status store stream
+switch system table target team ticket token topic update user value vendor version volume warning window zone""".split()
+
+
+def sentence(draw):
+    words = []
+    for _ in range(6 + draw.below(14)):
+        word = WORDS[draw.below(len(WORDS))]
+        kind = draw.below(40)
+        words.append({0: f"*{word}*", 1: f"**{word}**", 2: f"`{word}()`", 3: f"[{word}](../{word}.md)", 4: f"[{word}][ref]", 5: f"&amp;{word}"}.get(kind, word))
+    return " ".join(words).capitalize() + "."
+
+
+def paragraph(draw):
+    words = " ".join(sentence(draw) for _ in range(2 + draw.below(5))).split(" ")
+    return "\n".join(" ".join(words[at:at + 11]) for at in range(0, len(words), 11)) + "\n"
+
+
+def part(draw):
+    kind = draw.below(10)
+    if kind < 5:
+        return paragraph(draw)
+    if kind == 5:
+        return "".join(f"- {sentence(draw)}\n" for _ in range(3 + draw.below(5)))
+    if kind == 6:
+        return "".join(f"{n}. {sentence(draw)}\n\n   {sentence(draw)}\n" for n in range(1, 4))
+    if kind == 7:
+        return "```sh\n" + "".join(f"    {WORDS[draw.below(90)]} = {draw.below(999)}\n" for _ in range(3 + draw.below(12))) + "```\n"
+    if kind == 8:
+        return "".join(f"> {line}\n" for line in paragraph(draw).splitlines())
+    return f"- {sentence(draw)}\n  - {sentence(draw)}\n    - {sentence(draw)}\n- {sentence(draw)}\n"
+
+
+def handbook(size):
+    draw, parts, length = Draw(), ["[ref]: https://example.com/ 'reference'\n\n"], 0
+    while length < size:
+        text = "#" * (1 + draw.below(3)) + " " + WORDS[draw.below(90)] + "\n\n" + "\n".join(part(draw) for _ in range(3)) + "\n"
+        parts.append(text)
+        length += len(text)
+    return "".join(parts)
+
+
+def repeated(text):
+    return lambda size: text * (size // len(text))
+
+
+TEXTS = {
+    "a handbook": handbook,
+    "nested lists": repeated("".join("  " * depth + "- " + "item\n" for depth in range(20))),
+    "quotes with lazy lines": repeated("> quoted words and more\nlazy words\n\n"),
+    "one long fence": lambda size: "```\n" + repeated("some code in a fence\n")(size),
+    "a paragraph of short lines": repeated("word\n"),
+    "indented code": lambda size: repeated("    some code\n\n")(size),
+}
+if spec:
+    TEXTS["copies of SPEC"] = repeated(open(spec, encoding="utf-8").read())
+
+UNITS = {"lines": (1, "MiB"), "unescape": (1, "MiB"), "definitions": (10_000, "definitions")}
+for task, (factor, unit) in UNITS.items():
     before = None
     for size in (1, 2, 4, 8):
-        best = None
-        for _ in range(5):
-            start = time.perf_counter()
-            subprocess.run([program, task, str(size)], stdout=subprocess.DEVNULL, check=True)
-            took = time.perf_counter() - start
-            best = took if best is None else min(best, took)
-        ratio = "" if before is None else f"  {best / before:.2f} times the one before"
-        print(f"{task:11} {size * factor:6} {unit}: {best * 1000:7.1f} ms{ratio}")
-        before = best
+        took = least([program, task, str(size)])
+        row(task, f"{size * factor:6} {unit}", took, before)
+        before = took
+
+with tempfile.TemporaryDirectory() as scratch:
+    path = os.path.join(scratch, "text.md")
+    for name, make in TEXTS.items():
+        before = None
+        for size in (1, 2, 4, 8):
+            with open(path, "w", encoding="utf-8") as out:
+                out.write(make(size * MIB))
+            took = least([program, "blocks"], path)
+            row("blocks: " + name, f"{size} MiB", took, before, least([peer], path) if peer else None)
+            before = took
 PYTHON

@@ -1,15 +1,17 @@
-//! Runs a layer of CommonMark over a long text, for `scripts/commonmark_bench.sh` to time.
+//! Runs a layer of CommonMark over a long text, for `scripts/commonmark_bench.sh` to time: one that it makes itself, or for `blocks` one
+//! that it reads from standard input.
 #![tactic(auto)]
 
+use doc_blocks::blocks;
 use doc_heap::{Heap, String, heap};
 use doc_lines::entities::Entities;
 use doc_lines::lines::Lines;
 use doc_lines::unescape;
 use doc_page::failure::Memory;
 use doc_refs::{normalize_label, take_definitions};
-use std::env;
 use std::process::ExitCode;
 use std::rt::Env;
+use std::{env, io};
 
 /// A line of 64 bytes with its ending, which stand for 51 with escapes and references read.
 const LINE: &str = "one &amp; two \\* three &copy; four &#65; and then, plain texts.\n";
@@ -23,19 +25,20 @@ enum Task {
     Lines,
     Unescape,
     Definitions,
+    Blocks,
 }
 
 fn main(rt: HostRuntime) -> ExitCode {
     let Some((task, size)) = named_task(&rt) else {
         let _ = eprintln!(rt;
-            "commonmark_bench: usage: commonmark_bench lines|unescape|definitions 1|2|4|8"
+            "commonmark_bench: usage: commonmark_bench lines|unescape|definitions 1|2|4|8, or commonmark_bench blocks"
         );
         return ExitCode::from(2);
     };
     let Ok(heap) = heap(rt.alloc(), u64::MAX) else {
         return ExitCode::from(2);
     };
-    match measure(heap, task, size) {
+    match measure(&rt, heap, task, size) {
         Ok(count) => {
             let _ = println!(rt; "{count}");
             ExitCode::SUCCESS
@@ -44,7 +47,7 @@ fn main(rt: HostRuntime) -> ExitCode {
     }
 }
 
-/// What the arguments name: a task and a size.
+/// What the arguments name: a task and a size, which `blocks` has none of.
 fn named_task<R: AllocGlobal + Env>(rt: &R) -> Option<(Task, u32)> {
     let mut args = env::args(rt).ok()?;
     let _program = args.next();
@@ -52,6 +55,7 @@ fn named_task<R: AllocGlobal + Env>(rt: &R) -> Option<(Task, u32)> {
         "lines" => Task::Lines,
         "unescape" => Task::Unescape,
         "definitions" => Task::Definitions,
+        "blocks" => return Some((Task::Blocks, 0)),
         _ => return None,
     };
     let size = match args.next()?.as_str() {
@@ -64,9 +68,14 @@ fn named_task<R: AllocGlobal + Env>(rt: &R) -> Option<(Task, u32)> {
     Some((task, size))
 }
 
-/// How many lines a text of so many MiB has, how many bytes it has with escapes and references read, or how many bytes so many times
-/// 10,000 definitions take.
-fn measure(heap: Heap, task: Task, size: u32) -> Result<usize, Memory> {
+/// How many lines a text of so many MiB has, how many bytes it has with escapes and references read, how many bytes so many times
+/// 10,000 definitions take, or how many blocks stand at the outermost level of what standard input holds.
+fn measure<R: AllocGlobal + Input>(
+    rt: &R,
+    heap: Heap,
+    task: Task,
+    size: u32,
+) -> Result<usize, Memory> {
     match task {
         Task::Lines => Ok(count_lines(&lines(heap, size)?)),
         Task::Unescape => {
@@ -74,7 +83,17 @@ fn measure(heap: Heap, task: Task, size: u32) -> Result<usize, Memory> {
             Ok(read.get().len())
         }
         Task::Definitions => take_and_find(heap, &definitions(heap, size)?),
+        Task::Blocks => count_blocks(rt, heap),
     }
+}
+
+/// How many blocks stand at the outermost level of what standard input holds; none where it can't be read.
+fn count_blocks<R: AllocGlobal + Input>(rt: &R, heap: Heap) -> Result<usize, Memory> {
+    let Ok(text) = io::read_to_string(rt.alloc(), rt.reader()) else {
+        return Ok(0);
+    };
+    let document = blocks(heap, &text, &Entities::built_in())?;
+    Ok(document.blocks.len())
 }
 
 /// So many MiB of lines.
