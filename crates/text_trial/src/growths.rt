@@ -75,7 +75,7 @@ struct Trial<T: Drop> {
 /// Makes a call with ample memory, where it takes some growths, and then for each of them twice more: with this growth and all later ones
 /// refused, and with this one alone refused. It is handed which growths to refuse, and refuses them by [`Refusal::begin`] once it has
 /// got ready.
-fn trial<T: PartialEq + Drop, F: Fn(Refusal) -> Result<T, Memory>>(
+fn repeat<T: PartialEq + Drop, F: Fn(Refusal) -> Result<T, Memory>>(
     heap: Heap,
     call: &F,
 ) -> Result<Trial<T>, Memory>
@@ -113,7 +113,7 @@ pub fn tried<T: PartialEq + Debug + Drop, F: Fn(Refusal) -> Result<T, Memory> + 
 ) -> Result<String, Memory>
     requires { F.IsAlwaysCallable call }
 {
-    told(heap, trial(heap, &call)?)
+    told(heap, repeat(heap, &call)?)
 }
 
 fn told<T: Debug + Drop>(heap: Heap, trial: Trial<T>) -> Result<String, Memory> {
@@ -133,7 +133,7 @@ pub fn refused_each<T: PartialEq + Debug + Drop, F: Fn(Refusal) -> Result<T, Mem
 ) -> Result<String, Memory>
     requires { F.IsAlwaysCallable call }
 {
-    let trial = trial(heap, &call)?;
+    let trial = repeat(heap, &call)?;
     let growths = trial.growths;
     if growths == 0 || trial.after.memory < growths || trial.only.memory < growths {
         return told(heap, trial);

@@ -8,11 +8,24 @@ use doc_heap::{Heap, String, Vec};
 use doc_lines::entities::Entities;
 use doc_page::failure::Memory;
 use doc_refs::normalize_label;
+use std::fmt;
+
+/// The blocks of a document, which are printed as they are.
+#[derive(PartialEq, Drop)]
+struct Tree {
+    blocks: Vec<Block>,
+}
+
+impl fmt::Debug for Tree {
+    fn fmt<W: fmt::Write>(&self, f: &mut fmt::Formatter<W>) -> fmt::Result {
+        fmt::Debug::fmt(&self.blocks, f)
+    }
+}
 
 /// What a call of this name answers, if there is one.
 pub fn called(heap: Heap, name: &str, given: &str) -> Option<Result<String, Memory>> {
     Some(match name {
-        "blocks" => tree(heap, given),
+        "blocks" => shown_tree(heap, given),
         "blocks_count" => count(heap, given),
         "blocks_target" => target(heap, given),
         "grow_blocks" => refused_each(heap, |refusal| grown(heap, given, refusal)),
@@ -20,9 +33,14 @@ pub fn called(heap: Heap, name: &str, given: &str) -> Option<Result<String, Memo
     })
 }
 
-fn tree(heap: Heap, text: &str) -> Result<String, Memory> {
+fn shown_tree(heap: Heap, text: &str) -> Result<String, Memory> {
     let document = blocks(heap, text, &Entities::built_in())?;
-    shown(heap, document.blocks)
+    shown(
+        heap,
+        Tree {
+            blocks: document.blocks,
+        },
+    )
 }
 
 /// How many blocks stand at the outermost level.
@@ -41,8 +59,10 @@ fn target(heap: Heap, given: &str) -> Result<String, Memory> {
     shown(heap, document.refs.find(label.get()).map(shown_target))
 }
 
-fn grown(heap: Heap, text: &str, refusal: Refusal) -> Result<Vec<Block>, Memory> {
+fn grown(heap: Heap, text: &str, refusal: Refusal) -> Result<Tree, Memory> {
     refusal.begin(heap);
     let document = blocks(heap, text, &Entities::built_in())?;
-    Ok(document.blocks)
+    Ok(Tree {
+        blocks: document.blocks,
+    })
 }
