@@ -14,7 +14,7 @@ use crate::scan::front::front;
 use doc_heap::{Heap, String};
 use doc_page::failure::Memory;
 use doc_page::text::Text;
-use reference::character_reference;
+pub use reference::character_reference;
 
 /// The text with its backslash escapes and character references read.
 ///

@@ -11,5 +11,5 @@ pub mod pushing;
 pub mod scan;
 mod tags;
 
-pub use escapes::unescape;
+pub use escapes::{character_reference, unescape};
 pub use tags::html_tag;

@@ -1,0 +1,32 @@
+//! Marks.
+
+use doc_page::text::Text;
+use doc_refs::Target;
+
+/// What inlines may stand in (CommonMark 0.31.2, sections 6.2 to 6.4).
+#[derive(Debug, PartialEq, Eq, Drop)]
+pub enum Span {
+    Emphasis,
+    Strong,
+    Link(Target),
+    Image(Target),
+}
+
+/// An inline, or the start or the end of a span of inlines (CommonMark 0.31.2, section 6). Its slices are of the text that was read.
+#[derive(Debug, Drop)]
+pub enum Mark<'t> {
+    /// Text. Of `&`, `<`, `>` and `"` each is a text of its own. It may be empty.
+    Text(&'t str),
+    /// The text of a code span, with its line endings, which stand for spaces.
+    Code(&'t str),
+    /// A soft line break.
+    Soft,
+    /// A hard line break.
+    Hard,
+    /// Raw HTML.
+    Raw(&'t str),
+    /// A character reference: as it stands, and the characters that it stands for.
+    Reference { source: &'t str, text: Text },
+    Start(Span),
+    End(Span),
+}
