@@ -1,0 +1,4 @@
+pub mod EndSteps
+pub mod ReferenceSteps
+pub mod TitleSteps
+mod Examples
