@@ -1,0 +1,2 @@
+pub mod LabelSteps
+pub mod TailSteps
