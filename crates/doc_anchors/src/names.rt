@@ -1,5 +1,5 @@
 //! Names of headings.
-ghost use Rattle.std.specs.Prelude.{◌≡◌, ◌==◌, ◌||◌, ◌++◌, [], codes, chars, string_bytes, flat_map, IfOk, OnOk};
+ghost use Rattle.std.specs.Prelude.{◌≡◌, ◌==◌, ◌||◌, ◌++◌, chars, string_bytes, flat_map, IfOk, OnOk};
 ghost use Rattle.caseless.specs.Caseless.{default_case_fold};
 ghost use Rattle.unicode.specs.GeneralCategory.{general_category};
 ghost use Rattle.doc_rules.specs.Anchors.{anchor_char, anchor_name, is_word_category, or_section};
@@ -7,7 +7,7 @@ ghost use Rattle.doc_rules.specs.Anchors.{anchor_char, anchor_name, is_word_cate
 use caseless::Caseless;
 use doc_heap::{Heap, String};
 use doc_lines::characters::is_white;
-use doc_lines::pushing::{push_char, push_text};
+use doc_lines::pushing::push_char;
 use doc_page::failure::Memory;
 use unicode::properties::{GeneralCategory, GeneralCategoryGroup};
 
