@@ -1,3 +1,4 @@
+pub mod ContentSteps
 pub mod Stacks
 pub mod Containers
 pub mod LevelSteps

@@ -1,38 +1,56 @@
 //! What is read of a line: it is without its ending, and U+0000 reads as U+FFFD (CommonMark 0.31.2, sections 2.1 and 2.3).
-ghost use Rattle.std.specs.Prelude.{◌≡◌, ◌==◌, not, false, chars, map, string_bytes, IfOk};
-ghost use Rattle.std.specs.List.{list_any};
+ghost use Rattle.std.specs.Prelude.{◌≡◌, chars, map, string_bytes, IfOk, IfSome};
 ghost use Rattle.doc_rules.specs.Characters.{is_ending};
-ghost use Rattle.doc_rules.specs.Lines.{without_ending, secure_char};
+ghost use Rattle.doc_rules.specs.Lines.{without_ending, secure_char, line_content};
+ghost use Rattle.doc_blocks.specs.ContentSteps.{ends_plain};
 
 use doc_heap::{Heap, String};
 use doc_lines::pushing::push_char;
-use doc_lines::scan::character::next_char;
+use doc_lines::scan::character::{is, next_char};
 use doc_lines::scan::front::front;
-use doc_lines::scan::run::many;
+use doc_lines::scan::until::until;
 use doc_page::failure::Memory;
 
+/// What is read of a line that holds no U+0000 before its ending: what stands there.
+pub(crate) fn plain_content(line: &str) -> Option<&str>
+    ensures { IfSome result (λ content. chars content.now ≡ line_content (chars line.now)) }
+{
+    let rest = until(line, ends_plain);
+    match is(rest, '\0') {
+        Some(_) => None,
+        None => Some(front(line, rest)),
+    }
+}
+
+#[tactic(auto, unfolding(crate::specs::ContentSteps::ends_plain))]
+fn ends_plain(byte: u8) -> bool
+    ensures { result ≡ ends_plain byte }
+{
+    matches!(byte, b'\0' | b'\n' | b'\r')
+}
+
+/// What is read of a line.
+pub(crate) fn secure_content(heap: Heap, line: &str) -> Result<String, Memory>
+    ensures { IfOk result (λ content. chars (string_bytes content) ≡ line_content (chars line.now)) }
+{
+    secure_text(heap, without_ending(line))
+}
+
 /// The line without its ending.
-pub(crate) fn without_ending(line: &str) -> &str
+fn without_ending(line: &str) -> &str
     ensures { chars result.now ≡ without_ending (chars line.now) }
 {
-    front(line, many(line, is_in_line))
+    front(line, until(line, is_ending))
 }
 
-fn is_in_line(c: char) -> bool
-    ensures { result ≡ not (is_ending c) }
+fn is_ending(byte: u8) -> bool
+    ensures { result ≡ is_ending byte }
 {
-    c != '\n' && c != '\r'
-}
-
-/// Whether the text holds U+0000.
-pub(crate) fn holds_null(text: &str) -> bool
-    ensures { result ≡ list_any (λ c. c == 0) (chars text.now) }
-{
-    text.chars().any(|c| c == '\0')
+    matches!(byte, b'\n' | b'\r')
 }
 
 /// The text with U+FFFD for each U+0000.
-pub(crate) fn secure_text(heap: Heap, text: &str) -> Result<String, Memory>
+fn secure_text(heap: Heap, text: &str) -> Result<String, Memory>
     ensures { IfOk result (λ secure. chars (string_bytes secure) ≡ map secure_char (chars text.now)) }
 {
     let mut secure = String::new(heap);

@@ -10,7 +10,7 @@ ghost use Rattle.doc_blocks.specs.BuilderSteps.{state_of};
 ghost use Rattle.doc_blocks.specs.LevelSteps.{IsSound};
 
 use crate::builder::Builder;
-use crate::content::{holds_null, secure_text, without_ending};
+use crate::content::{plain_content, secure_content};
 use doc_heap::{Heap, Vec};
 use doc_leaves::block::Block;
 use doc_lines::cursor::Cursor;
@@ -52,13 +52,12 @@ fn add_line(
     ensures line { OnOk result (after_line entities.now (state_of builder.old) (cells_of (line_content (chars line.now))) ≡ shown (state_of builder.new)) }
     ensures sound { OnOk result (IsSound builder.new.levels) }
 {
-    let content = without_ending(line);
-    if !holds_null(content) {
+    if let Some(content) = plain_content(line) {
         builder.add(heap, entities, &Cursor::new(content))?;
         return Ok(());
     }
-    let secure = secure_text(heap, content)?;
-    builder.add(heap, entities, &Cursor::new(secure.as_str()))?;
+    let content = secure_content(heap, line)?;
+    builder.add(heap, entities, &Cursor::new(content.as_str()))?;
     Ok(())
 }
 

@@ -2,6 +2,7 @@ mod CursorExamples
 mod TableExamples
 pub mod AnswerLaws
 pub mod BuiltInLaws
+pub mod ByteSearch
 pub mod CursorLaws
 pub mod Digits
 pub mod Ends

@@ -10,5 +10,6 @@ pub mod front;
 pub mod raw_html;
 pub mod run;
 pub mod tag;
+pub mod until;
 pub mod white_space;
 pub mod word;

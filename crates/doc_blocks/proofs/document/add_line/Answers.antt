@@ -2,7 +2,6 @@ use Rattle.std.proofs.Common.{chars, map}
 use Rattle.doc_rules.specs.Columns.{cells_of}
 use Rattle.doc_rules.specs.Lines.{secure_char}
 use Rattle.doc_blocks.specs.StateSteps.{after_line}
-use Rattle.doc_blocks.proofs.ContentLaws.{secure_same}
 use Rattle.std.proofs.Common.{rules, ◌≡◌, ◌∙◌, ℕ, ◌+◌, ◌-◌, ◌<◌, ◌≤◌, Bool, true, false, List, [], ◌∷◌, take, drop, length, vec_len, refl, ap, sym, subst, arith, Option, Some, None}
 use Rattle.std.proofs.lemmas.List.{length-drop}
 use Rattle.doc_rules.specs.Characters.{Text}
@@ -38,10 +37,9 @@ use Rattle.doc_blocks.specs.StateSteps.{item_met}
 use Rattle.doc_blocks.specs.BuilderSteps.{IsBegun}
 use Rattle.doc_blocks.proofs.document.add_line.Goals as goal
 
-pub returns-then-not-holds_null-clause-line : goal.returns-then-not-holds_null-clause-line
-returns-then-not-holds_null-clause-line c =
+pub returns-in-Some-clause-line : goal.returns-in-Some-clause-line
+returns-in-Some-clause-line c =
     let s = state_of c.args.builder.now in
     let table = c.args.entities.now in
-    let content = chars c.without_ending-content.result.now in
-    ap (λ (t : Text). after_line table s (cells_of t)) (ap (map secure_char) (sym c.without_ending-content.ensures) ∙ secure_same content (sym c.holds_null.ensures ∙ c.if-not-holds_null.true))
+    ap (λ (t : Text). after_line table s (cells_of t)) (sym c.in-Some.ensures)
     ∙ (ap (λ (p : Position). after_line table s (left_of p)) (sym c.new.ensures) ∙ c.in_ok-add.ensures.line)
