@@ -1,24 +1,28 @@
 //! Lines of standard input.
 
-use crate::answer::no_call;
 use crate::written::text_of;
 use doc_heap::{Heap, String};
 use doc_page::failure::Memory;
 
-/// What is printed for a line, where a call of a name with what it is given answers so.
-pub fn answer_of<F: Fn(Heap, &str, &str) -> Result<String, Memory>>(
-    heap: Heap,
-    line: &str,
-    call: F,
-) -> Result<String, Memory>
-    requires { F.IsAlwaysCallable call }
-{
+/// A line of input.
+#[derive(Drop)]
+pub enum Line<'a> {
+    /// An empty line or a comment.
+    Comment,
+    /// The name of a call, and what it is given.
+    Call { name: &'a str, given: String },
+    /// What is given is not written as the head of this crate says.
+    Wrong,
+}
+
+/// What a line of input is.
+pub fn read_line<'a>(heap: Heap, line: &'a str) -> Result<Line<'a>, Memory> {
     if line.is_empty() || line.starts_with('#') {
-        return Ok(String::from_str(heap, line)?);
+        return Ok(Line::Comment);
     }
     let (name, given) = line.split_once(' ').unwrap_or((line, ""));
     match text_of(heap, given)? {
-        Some(text) => call(heap, name, &text),
-        None => no_call(heap),
+        Some(given) => Ok(Line::Call { name, given }),
+        None => Ok(Line::Wrong),
     }
 }
