@@ -1,7 +1,5 @@
 //! Calls that are tried while the heap refuses growths.
 
-use crate::answer::{only_char, two_texts, word_and_text};
-use crate::growths::{Refusal, tried};
 use crate::of_lines::Those;
 use crate::of_refs::refs_of;
 use doc_heap::{Heap, String};
@@ -10,6 +8,8 @@ use doc_lines::pushing::{push_char, push_characters, push_text};
 use doc_lines::unescape;
 use doc_page::failure::Memory;
 use doc_refs::{RefMap, normalize_label, take_definitions};
+use doc_trial::answer::{only_char, two_texts, word_and_text};
+use doc_trial::growths::{Refusal, tried};
 
 /// What a call of this name answers, if there is one.
 pub fn called(heap: Heap, name: &str, given: &str) -> Option<Result<String, Memory>> {

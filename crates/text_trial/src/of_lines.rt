@@ -1,6 +1,5 @@
 //! Calls of `doc_lines` that answer for a line, a character or a whole text.
 
-use crate::answer::{number_and_text, only_char, shown, shown_if, two_texts, word_and_text};
 use doc_heap::{Heap, String};
 use doc_lines::characters::{is_punctuation, is_white};
 use doc_lines::cursor::Cursor;
@@ -8,6 +7,7 @@ use doc_lines::entities::{Entities, TableError};
 use doc_lines::lines::Lines;
 use doc_lines::{html_tag, unescape};
 use doc_page::failure::Memory;
+use doc_trial::answer::{number_and_text, only_char, shown, shown_if, two_texts, word_and_text};
 
 /// One or two characters.
 pub type Those = (char, Option<char>);

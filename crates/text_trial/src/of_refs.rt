@@ -1,20 +1,14 @@
 //! Calls of `doc_refs`.
 
-use crate::answer::{no_call, shown, two_texts};
 use doc_heap::{Heap, String};
 use doc_lines::entities::Entities;
 use doc_page::failure::Memory;
 use doc_refs::{
-    RefMap, Target, destination, destination_value, normalize_label, take_definitions, title,
+    RefMap, destination, destination_value, normalize_label, take_definitions, title,
     title_value,
 };
-
-/// What a label names.
-#[derive(Clone, Copy, Debug)]
-pub struct Leads<'a> {
-    dest: &'a str,
-    title: Option<&'a str>,
-}
+use doc_trial::leads::shown_target;
+use doc_trial::answer::{no_call, shown, two_texts};
 
 /// What a call of this name answers, if there is one.
 pub fn called(heap: Heap, name: &str, given: &str) -> Option<Result<String, Memory>> {
@@ -79,12 +73,4 @@ fn joined(heap: Heap, given: &str) -> Result<String, Memory> {
 pub fn refs_of(heap: Heap, text: &str) -> Result<RefMap, Memory> {
     let (refs, _taken) = take_definitions(heap, text, &Entities::built_in())?;
     Ok(refs)
-}
-
-/// A target, for printing.
-pub fn shown_target(target: &Target) -> Leads {
-    Leads {
-        dest: target.dest.get(),
-        title: target.title.as_ref().map(|title| title.get()),
-    }
 }

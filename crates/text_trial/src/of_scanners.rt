@@ -1,6 +1,5 @@
 //! Calls of the scanners of `doc_lines`: what each answers is the text behind what it takes.
 
-use crate::answer::{char_and_text, number_and_text, shown, shown_if, word_and_text};
 use doc_heap::{Heap, String};
 use doc_lines::scan::autolink::{mail, uri};
 use doc_lines::scan::character::{is, last_char, next_char};
@@ -10,6 +9,7 @@ use doc_lines::scan::run::{at_most, many, some};
 use doc_lines::scan::white_space::{line_ending, some_spacing, spacing};
 use doc_lines::scan::word::{through, word, word_in_any_case};
 use doc_page::failure::Memory;
+use doc_trial::answer::{char_and_text, number_and_text, shown, shown_if, word_and_text};
 
 /// What a call of this name answers, if there is one.
 pub fn called(heap: Heap, name: &str, given: &str) -> Option<Result<String, Memory>> {

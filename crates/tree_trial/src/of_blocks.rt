@@ -1,13 +1,13 @@
 //! Calls of `doc_blocks`.
 
-use crate::answer::{no_call, shown, two_texts};
-use crate::growths::{Refusal, refused_each};
-use crate::of_refs::shown_target;
 use doc_blocks::{Block, blocks};
 use doc_heap::{Heap, String, Vec};
 use doc_lines::entities::Entities;
 use doc_page::failure::Memory;
 use doc_refs::normalize_label;
+use doc_trial::answer::{no_call, shown, two_texts};
+use doc_trial::growths::{Refusal, refused_each};
+use doc_trial::leads::shown_target;
 use std::fmt;
 
 /// The blocks of a document, which are printed as they are.

@@ -1,0 +1,28 @@
+//! Lines of standard input.
+
+use crate::written::text_of;
+use doc_heap::{Heap, String};
+use doc_page::failure::Memory;
+
+/// A line of input.
+#[derive(Drop)]
+pub enum Line<'a> {
+    /// An empty line or a comment.
+    Comment,
+    /// The name of a call, and what it is given.
+    Call { name: &'a str, given: String },
+    /// What is given is not written as the head of this crate says.
+    Wrong,
+}
+
+/// What a line of input is.
+pub fn read_line<'a>(heap: Heap, line: &'a str) -> Result<Line<'a>, Memory> {
+    if line.is_empty() || line.starts_with('#') {
+        return Ok(Line::Comment);
+    }
+    let (name, given) = line.split_once(' ').unwrap_or((line, ""));
+    match text_of(heap, given)? {
+        Some(given) => Ok(Line::Call { name, given }),
+        None => Ok(Line::Wrong),
+    }
+}
