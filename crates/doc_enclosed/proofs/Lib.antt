@@ -1,1 +1,9 @@
 pub mod Addresses
+pub mod CodeSpanLaws
+pub mod CodeTextLaws
+pub mod PlainTexts
+pub mod ReadLaws
+pub mod RunCounts
+pub mod RunLaws
+pub mod SearchSteps
+pub mod Sizes

@@ -1,6 +1,10 @@
 pub mod AddressSteps
 pub mod CodeSpans
+pub mod CodeSteps
 pub mod Enclosed
 pub mod Found
+pub mod LearnSteps
+pub mod Reads
+pub mod RunSteps
 pub mod Slices
 pub mod Told

@@ -14,10 +14,13 @@ size text = length (encode_utf8_all text)
 
 -- ---- backticks
 
--- where fewer bytes are left than where the last run of this length begins, no such run stands
+-- so few bytes are left that no run of this length stands there
+abbrev pub Lacks : Backticks → ℕ → ℕ → Type 0
+Lacks learned n left = (left < learned.learned) × (left < get_or learned.places.items n learned.learned)
+
+-- what is learned is so of this text
 abbrev pub TellsOfRuns : Backticks → Text → Type 0
-TellsOfRuns learned whole = (n : ℕ) (rest : Text) → IsRest rest whole → run_length 96 rest ≡ 0 →
-    size rest < learned.learned → size rest < get_or learned.places.items n learned.learned → before_backticks n 0 rest ≡ None
+TellsOfRuns learned whole = (n : ℕ) (rest : Text) → IsRest rest whole → run_length 96 rest ≡ 0 → Lacks learned n (size rest) → before_backticks n 0 rest ≡ None
 
 -- ---- ends of raw HTML
 
