@@ -1,6 +1,7 @@
 pub mod Addresses
 pub mod CodeSpanLaws
 pub mod CodeTextLaws
+pub mod EndLaws
 pub mod PlainTexts
 pub mod ReadLaws
 pub mod RunCounts

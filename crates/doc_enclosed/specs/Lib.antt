@@ -2,6 +2,7 @@ pub mod AddressSteps
 pub mod CodeSpans
 pub mod CodeSteps
 pub mod Enclosed
+pub mod EndSteps
 pub mod Found
 pub mod LearnSteps
 pub mod Reads

@@ -1,7 +1,11 @@
 //! Autolinks and raw HTML (CommonMark 0.31.2, sections 6.5 and 6.6), with the ends that are sought no more.
-ghost use Rattle.std.specs.Prelude.{◌≡◌, chars, IfSome};
+ghost use Rattle.std.specs.Prelude.{◌≡◌, ◌∷◌, chars, IfSome};
 ghost use Rattle.doc_rules.specs.Characters as rules;
+ghost use Rattle.doc_rules.specs.Parsers.{◌or◌};
+ghost use Rattle.doc_rules.specs.Tags.{comment, instruction, declaration, cdata, raw_html};
 ghost use Rattle.doc_rules.proofs.ParserLaws.{IsRest};
+ghost use Rattle.doc_lines.specs.RestSteps.{rest_of};
+ghost use Rattle.doc_enclosed.specs.EndSteps.{Reads};
 ghost use Rattle.doc_enclosed.specs.Slices.{StandsBefore};
 ghost use Rattle.doc_enclosed.specs.Enclosed.{enclosed_at};
 ghost use Rattle.doc_enclosed.specs.Found.{enclosed_found, slice_of};
@@ -9,9 +13,11 @@ ghost use Rattle.doc_enclosed.specs.Told.{TellsOfEnds};
 
 use crate::address::{mail_address, uri_address};
 use crate::enclosed::Enclosed;
-use doc_lines::scan::character::is;
+use crate::seek::{declaration_start, seek, seek_close};
+use doc_lines::scan::character::{is, next_char};
 use doc_lines::scan::front::front;
-use doc_lines::scan::raw_html::raw_html;
+use doc_lines::scan::tag::{closing_tag, open_tag};
+use doc_lines::scan::word::word;
 
 /// Which ends of raw HTML were sought in vain in one text. Of each kind: the text with so many bytes left, and what is shorter, has none.
 #[derive(Clone, Copy)]
@@ -54,7 +60,72 @@ impl MissingEnds {
         if let Some((address, after)) = mail_address(inside) {
             return Some((Enclosed::Mail(address), after));
         }
-        let after = raw_html(text)?;
+        let after = self.raw_html(text, inside)?;
         Some((Enclosed::Raw(front(text, after)), after))
+    }
+
+    /// The raw HTML at the front, by the character behind its `<`.
+    fn raw_html<'t>(&mut self, text: &'t str, inside: &str) -> Option<&'t str>
+        requires { chars text.now ≡ 60 ∷ chars inside.now }
+        ensures { Reads raw_html self.old self.new (chars text.now) (rest_of result) }
+    {
+        let (c, _) = next_char(inside)?;
+        if c == '!' {
+            return self.marked(text);
+        }
+        if c == '?' {
+            return self.instruction(text);
+        }
+        if c == '/' {
+            return closing_tag(text);
+        }
+        open_tag(text)
+    }
+
+    /// What begins with `<!`.
+    fn marked<'t>(&mut self, text: &'t str) -> Option<&'t str>
+        ensures { Reads (comment or declaration or cdata) self.old self.new (chars text.now) (rest_of result) }
+    {
+        if let Some(after) = self.comment(text) {
+            return Some(after);
+        }
+        if let Some(after) = self.declaration(text) {
+            return Some(after);
+        }
+        self.cdata(text)
+    }
+
+    fn comment<'t>(&mut self, text: &'t str) -> Option<&'t str>
+        ensures { Reads comment self.old self.new (chars text.now) (rest_of result) }
+    {
+        if let Some(after) = word(text, b"<!-->") {
+            return Some(after);
+        }
+        if let Some(after) = word(text, b"<!--->") {
+            return Some(after);
+        }
+        let inside = word(text, b"<!--")?;
+        seek(&mut self.comment, inside, b"-->")
+    }
+
+    fn instruction<'t>(&mut self, text: &'t str) -> Option<&'t str>
+        ensures { Reads instruction self.old self.new (chars text.now) (rest_of result) }
+    {
+        let inside = word(text, b"<?")?;
+        seek(&mut self.instruction, inside, b"?>")
+    }
+
+    fn declaration<'t>(&mut self, text: &'t str) -> Option<&'t str>
+        ensures { Reads declaration self.old self.new (chars text.now) (rest_of result) }
+    {
+        let inside = declaration_start(text)?;
+        seek_close(&mut self.declaration, inside)
+    }
+
+    fn cdata<'t>(&mut self, text: &'t str) -> Option<&'t str>
+        ensures { Reads cdata self.old self.new (chars text.now) (rest_of result) }
+    {
+        let inside = word(text, b"<![CDATA[")?;
+        seek(&mut self.cdata, inside, b"]]>")
     }
 }

@@ -12,6 +12,7 @@ mod code;
 mod enclosed;
 mod ends;
 mod runs;
+mod seek;
 
 pub use backticks::Backticks;
 pub use enclosed::Enclosed;
