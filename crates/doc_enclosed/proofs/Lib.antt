@@ -1,0 +1,10 @@
+pub mod Addresses
+pub mod CodeSpanLaws
+pub mod CodeTextLaws
+pub mod EndLaws
+pub mod PlainTexts
+pub mod ReadLaws
+pub mod RunCounts
+pub mod RunLaws
+pub mod SearchSteps
+pub mod Sizes

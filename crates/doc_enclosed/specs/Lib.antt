@@ -1,0 +1,11 @@
+pub mod AddressSteps
+pub mod CodeSpans
+pub mod CodeSteps
+pub mod Enclosed
+pub mod EndSteps
+pub mod Found
+pub mod LearnSteps
+pub mod Reads
+pub mod RunSteps
+pub mod Slices
+pub mod Told
