@@ -1,0 +1,3 @@
+pub mod RunLaws
+pub mod KeepLaws
+pub mod NumberLaws

@@ -1,0 +1,33 @@
+-- The marks made so far and the runs among them, as the rules' emphasis speaks of them.
+use Rattle.std.specs.Prelude.{◌≡◌, ℕ, ◌≤◌, List, length, map, take, drop}
+use Rattle.doc_delimiters.specs.Marks.{Placed, ArePlaced}
+use Rattle.doc_delimiters.specs.Marks as delimiters
+use Rattle.doc_marks.specs.declared.mark.Mark.{Mark}
+use Rattle.doc_marks.specs.Views.{inlines_in}
+use Rattle.doc_emphasis.specs.declared.marks.Marks.{Marks}
+use Rattle.doc_emphasis.specs.declared.marks.Place.{Place}
+use Rattle.doc_emphasis.specs.Runs.{all_placed}
+
+-- what each of the marks stands for
+abbrev pub marks_shown : List Mark → delimiters.Marks
+marks_shown items = map inlines_in items
+
+abbrev pub items_of : Marks → List Mark
+items_of m = m.marks.items
+
+abbrev pub marks_in : Marks → delimiters.Marks
+marks_in m = marks_shown (items_of m)
+
+abbrev pub runs_in : Marks → List Placed
+runs_in m = all_placed m.runs.items
+
+-- the runs stand one after another among the marks
+abbrev pub IsSound : Marks → Type 0
+IsSound m = ArePlaced (marks_in m) 0 (length (items_of m)) (runs_in m)
+
+-- a place among the marks: so many marks and so many runs stand before it
+pub record IsPlace (m : Marks) (place : Place) : Type 0 where
+  pub marks : place.marks ≤ length (items_of m)
+  pub runs : place.runs ≤ length (runs_in m)
+  pub before : ArePlaced (marks_in m) 0 place.marks (take place.runs (runs_in m))
+  pub behind : ArePlaced (marks_in m) place.marks (length (items_of m)) (drop place.runs (runs_in m))
