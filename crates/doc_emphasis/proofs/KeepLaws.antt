@@ -23,16 +23,16 @@ use Rattle.doc_emphasis.specs.Views.{marks_shown}
 
 stand_behind : (front text : rules.Text) (slices : List rules.Text) → StandIn text slices → StandIn (front ++ text) slices
 stand_behind front text [] h = tt
-stand_behind front text (slice ∷ more) h = (front ++ h.0, h.1, ap (λ t. front ++ t) h.2 ∙ sym (append_assoc front h.0 (slice ++ h.1)), h.3)
+stand_behind front text (slice ∷ more) h = (front ++ h.0, h.1, (ap (λ t. front ++ t) h.2.0 ∙ sym (append_assoc front h.0 (slice ++ h.1)), h.2.1))
 
 stand_without : (text : rules.Text) (xs ys : List rules.Text) → StandIn text (xs ++ ys) → StandIn text ys
 stand_without text [] ys h = h
 stand_without text (x ∷ xs) ys h =
-    subst (λ t. StandIn t ys) (sym (h.2 ∙ sym (append_assoc h.0 x h.1))) (stand_behind (h.0 ++ x) h.1 ys (stand_without h.1 xs ys h.3))
+    subst (λ t. StandIn t ys) (sym (h.2.0 ∙ sym (append_assoc h.0 x h.1))) (stand_behind (h.0 ++ x) h.1 ys (stand_without h.1 xs ys h.2.1))
 
 stand_map : (text : rules.Text) (xs ys zs : List rules.Text) → ((t : rules.Text) → StandIn t ys → StandIn t zs) → StandIn text (xs ++ ys) → StandIn text (xs ++ zs)
 stand_map text [] ys zs f h = f text h
-stand_map text (x ∷ xs) ys zs f h = (h.0, h.1, h.2, stand_map h.1 xs ys zs f h.3)
+stand_map text (x ∷ xs) ys zs f h = (h.0, h.1, (h.2.0, stand_map h.1 xs ys zs f h.2.1))
 
 -- a mark without a text, or with an empty one
 pub record IsBare (mark : Mark) : Type 0 where
@@ -41,7 +41,7 @@ pub record IsBare (mark : Mark) : Type 0 where
 
 stand_bare : (text : rules.Text) (own ys : List rules.Text) → (own ≡ []) ⊎ (own ≡ [] ∷ []) → StandIn text ys → StandIn text (own ++ ys)
 stand_bare text own ys (inl e) h = subst (λ xs. StandIn text (xs ++ ys)) (sym e) h
-stand_bare text own ys (inr e) h = subst (λ xs. StandIn text (xs ++ ys)) (sym e) ([], text, refl, h)
+stand_bare text own ys (inr e) h = subst (λ xs. StandIn text (xs ++ ys)) (sym e) ([], text, (refl, h))
 
 slices_set : (marks : List Mark) (i : ℕ) (mark : Mark) → IsBare mark → (text : rules.Text) → AreSlices text marks → AreSlices text (set marks i mark)
 slices_set [] i mark b text h = h

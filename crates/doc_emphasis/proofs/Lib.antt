@@ -1,3 +1,5 @@
 pub mod RunLaws
 pub mod KeepLaws
 pub mod NumberLaws
+pub mod PairLaws
+pub mod PassLaws
