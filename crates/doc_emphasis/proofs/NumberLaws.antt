@@ -32,15 +32,15 @@ char_is run = at run.star
     at false = inr refl
 
 -- a search that fails sets the bound
-pub search_failed : (runs : List Run) (openers bounds : List ℕ) (number kind : ℕ) (d : Run) (found : Option ℕ) → Stacked (all_placed runs) openers bounds number → number < length runs →
-    (run_numbered (all_placed runs) number).closes ≡ true → NearestIs (run_numbered (all_placed runs)) openers (run_shown (get_or runs number d)) found → found ≡ None →
+pub search_failed : (runs : List Run) (openers looked bounds : List ℕ) (number kind : ℕ) (d : Run) → Stacked (all_placed runs) openers bounds number → number < length runs →
+    (run_numbered (all_placed runs) number).closes ≡ true → looked ≡ openers → NearestIs (run_numbered (all_placed runs)) looked (run_shown (get_or runs number d)) None →
     kind ≡ closer_kind (run_shown (get_or runs number d)) → kind < length bounds → Stacked (all_placed runs) openers (set bounds kind number) number
-search_failed runs openers bounds number kind d found s size closes near none e within =
+search_failed runs openers looked bounds number kind d s size closes is near e within =
     let same : run_numbered (all_placed runs) number ≡ run_shown (get_or runs number d) = run_is runs number d size in
     let kinds : closer_kind (run_numbered (all_placed runs) number) ≡ kind = ap closer_kind same ∙ sym e in
     let missed : NearestIs (run_numbered (all_placed runs)) openers (run_numbered (all_placed runs) number) None =
     subst (λ (r : rules.Run). NearestIs (run_numbered (all_placed runs)) openers r None) (sym same)
-    (subst (λ (f : Option ℕ). NearestIs (run_numbered (all_placed runs)) openers (run_shown (get_or runs number d)) f) none near) in
+    (subst (λ xs. NearestIs (run_numbered (all_placed runs)) xs (run_shown (get_or runs number d)) None) is near) in
     subst (λ k. Stacked (all_placed runs) openers (set bounds k number) number) kinds
     (stacked_failed (all_placed runs) openers bounds number s (closes, chars number d size) missed (omega arith))
   where

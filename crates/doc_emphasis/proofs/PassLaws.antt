@@ -11,6 +11,7 @@ use Rattle.doc_delimiters.specs.Marks as delimiters
 use Rattle.doc_delimiters.specs.Openers.{NearestIs}
 use Rattle.doc_delimiters.specs.NumberSteps.{numbered, run_numbered, stack_of, joined_openers}
 use Rattle.doc_delimiters.proofs.BoundLaws.{reach_first}
+use Rattle.doc_delimiters.proofs.Stretches.{placed_order}
 use Rattle.doc_delimiters.proofs.Pairs.{Stands, outcome}
 use Rattle.doc_delimiters.proofs.Numbers.{ClosesAt}
 use Rattle.doc_delimiters.proofs.NumberLoops.{Stacked, WalksAt, starts_at, stacked_first, comes_at, emptied_at, failed_at, not_closing_at, stacked_next}
@@ -130,8 +131,9 @@ shown_from (x ∷ xs) zero = ap (λ t. inlines_in x ++ t) (shown_from xs zero)
 shown_from (x ∷ xs) (suc n) = shown_from xs n
 
 pub wrapped_all : (marks next : List Mark) (runs left : List Run) (openers : List ℕ) (number : ℕ) → WalksOn marks next runs left openers number → length left ≤ number →
-    (place : ℕ) → place ≤ length marks → ArePlaced (marks_shown marks) place (length marks) (all_placed runs) → IsWrapped place marks next runs
-wrapped_all marks next runs left openers number w size place fits h =
+    (place : ℕ) → ArePlaced (marks_shown marks) place (length marks) (all_placed runs) → IsWrapped place marks next runs
+wrapped_all marks next runs left openers number w size place h =
+    let fits : place ≤ length marks = placed_order (marks_shown marks) place (length marks) (all_placed runs) h in
     let k : WalksAt (marks_shown next) place (length marks) (all_placed left) openers number (passed [] (seen (marks_shown marks) place (length marks) (all_placed runs))) × Keeps place marks next = w place h in
     let long : length (marks_shown next) ≡ length marks = length-map next inlines_in ∙ k.1.size in
     record {

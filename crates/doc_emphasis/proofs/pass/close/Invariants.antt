@@ -5,8 +5,8 @@ use Rattle.doc_emphasis.specs.Runs.{all_placed}
 use Rattle.doc_emphasis.specs.Steps.{StandAt, GoesOn}
 use Rattle.doc_emphasis.proofs.pass.close.Given as goal
 
-abbrev pub invariant-loop : goal.invariant-loop
-invariant-loop l = record {
+abbrev pub invariant-loop-runs : goal.invariant-loop-runs
+invariant-loop-runs l = record {
   stands : StandAt l.marks l.runs l.openers.numbers.items l.number;
   stacked : Stacked (all_placed l.runs) l.openers.numbers.items l.openers.bounds l.number;
   size : length l.runs ≡ length l.initial.runs;
@@ -14,5 +14,5 @@ invariant-loop l = record {
   goes : GoesOn l.initial.marks l.marks l.initial.runs l.runs l.initial.openers.numbers.items l.openers.numbers.items l.number;
 }
 
-abbrev pub decreases-loop : goal.decreases-loop
-decreases-loop l = (run_numbered (all_placed l.runs) l.number).left
+abbrev pub decreases-loop-runs : goal.decreases-loop-runs
+decreases-loop-runs l = (run_numbered (all_placed l.runs) l.number).left
