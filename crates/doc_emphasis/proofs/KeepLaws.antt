@@ -21,16 +21,16 @@ use Rattle.doc_emphasis.specs.Views.{marks_shown}
 
 -- ---- texts that stand in a text
 
-stand_behind : (front text : rules.Text) (slices : List rules.Text) → StandIn text slices → StandIn (front ++ text) slices
+pub stand_behind : (front text : rules.Text) (slices : List rules.Text) → StandIn text slices → StandIn (front ++ text) slices
 stand_behind front text [] h = tt
 stand_behind front text (slice ∷ more) h = (front ++ h.0, h.1, (ap (λ t. front ++ t) h.2.0 ∙ sym (append_assoc front h.0 (slice ++ h.1)), h.2.1))
 
-stand_without : (text : rules.Text) (xs ys : List rules.Text) → StandIn text (xs ++ ys) → StandIn text ys
+pub stand_without : (text : rules.Text) (xs ys : List rules.Text) → StandIn text (xs ++ ys) → StandIn text ys
 stand_without text [] ys h = h
 stand_without text (x ∷ xs) ys h =
     subst (λ t. StandIn t ys) (sym (h.2.0 ∙ sym (append_assoc h.0 x h.1))) (stand_behind (h.0 ++ x) h.1 ys (stand_without h.1 xs ys h.2.1))
 
-stand_map : (text : rules.Text) (xs ys zs : List rules.Text) → ((t : rules.Text) → StandIn t ys → StandIn t zs) → StandIn text (xs ++ ys) → StandIn text (xs ++ zs)
+pub stand_map : (text : rules.Text) (xs ys zs : List rules.Text) → ((t : rules.Text) → StandIn t ys → StandIn t zs) → StandIn text (xs ++ ys) → StandIn text (xs ++ zs)
 stand_map text [] ys zs f h = f text h
 stand_map text (x ∷ xs) ys zs f h = (h.0, h.1, (h.2.0, stand_map h.1 xs ys zs f h.2.1))
 
@@ -43,13 +43,13 @@ stand_bare : (text : rules.Text) (own ys : List rules.Text) → (own ≡ []) ⊎
 stand_bare text own ys (inl e) h = subst (λ xs. StandIn text (xs ++ ys)) (sym e) h
 stand_bare text own ys (inr e) h = subst (λ xs. StandIn text (xs ++ ys)) (sym e) ([], text, (refl, h))
 
-slices_set : (marks : List Mark) (i : ℕ) (mark : Mark) → IsBare mark → (text : rules.Text) → AreSlices text marks → AreSlices text (set marks i mark)
+pub slices_set : (marks : List Mark) (i : ℕ) (mark : Mark) → IsBare mark → (text : rules.Text) → AreSlices text marks → AreSlices text (set marks i mark)
 slices_set [] i mark b text h = h
 slices_set (x ∷ xs) zero mark b text h = stand_bare text (slice_in mark) (flat_map slice_in xs) b.slice (stand_without text (slice_in x) (flat_map slice_in xs) h)
 slices_set (x ∷ xs) (suc i) mark b text h =
     stand_map text (slice_in x) (flat_map slice_in xs) (flat_map slice_in (set xs i mark)) (λ t k. slices_set xs i mark b t k) h
 
-cut_set : (marks : List Mark) (i : ℕ) (mark : Mark) → IsBare mark → AreCut marks → AreCut (set marks i mark)
+pub cut_set : (marks : List Mark) (i : ℕ) (mark : Mark) → IsBare mark → AreCut marks → AreCut (set marks i mark)
 cut_set [] i mark b h = h
 cut_set (x ∷ xs) zero mark b h = (b.cut, h.1)
 cut_set (x ∷ xs) (suc i) mark b h = (h.0, cut_set xs i mark b h.1)

@@ -3,3 +3,5 @@ pub mod KeepLaws
 pub mod NumberLaws
 pub mod PairLaws
 pub mod PassLaws
+pub mod MarkLaws
+pub mod WrapLaws

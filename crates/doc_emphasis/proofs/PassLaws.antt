@@ -26,6 +26,7 @@ use Rattle.doc_emphasis.specs.Steps.{Keeps, StandAt, GoesOn, GoesPast, WalksOn, 
 use Rattle.doc_emphasis.specs.Views.{marks_shown}
 use Rattle.doc_emphasis.proofs.NumberLaws.{run_is, as_many}
 use Rattle.doc_emphasis.proofs.KeepLaws.{keeps_all, keeps_on}
+use Rattle.doc_emphasis.proofs.MarkLaws.{placed_from}
 
 -- ---- marks are final
 
@@ -85,11 +86,6 @@ past_not_closing marks runs openers number d size e a b goal fits h =
     (not_closing_at (marks_shown marks) a b (all_placed runs) openers number goal h (ap (λ (r : rules.Run). r.closes) (run_is runs number d size) ∙ e), keeps_all a marks)
 
 -- ---- the runs in turn
-
--- runs that stand behind a place stand behind an earlier one
-pub placed_from : (marks : delimiters.Marks) (a b c : ℕ) (runs : List Placed) → ArePlaced marks a b runs → c ≤ a → ArePlaced marks c b runs
-placed_from marks a b c [] h l = omega arith
-placed_from marks a b c (x ∷ xs) h l = let f : a ≤ x.first = h.0 in (omega arith, h.1, h.2, h.3)
 
 pub walks_start : (marks : List Mark) (runs : List Run) → WalksOn marks marks runs runs [] 0
 walks_start marks runs a h = (starts_at (marks_shown marks) a (length marks) (all_placed runs) 0 (are_plain marks) h, keeps_all a marks)

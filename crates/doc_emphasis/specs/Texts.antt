@@ -1,15 +1,31 @@
 -- The marks of a run's delimiters.
-use Rattle.std.specs.Prelude.{◌≡◌, ℕ, Bool, List, [], ◌∷◌, ◌++◌, chars, ⊤, ⊥}
+use Rattle.std.specs.Prelude.{◌≡◌, ℕ, suc, Bool, List, [], ◌∷◌, ◌++◌, replicate, chars, ⊤, if◌then◌else◌}
 use Rattle.doc_rules.specs.Characters as rules
 use Rattle.doc_delimiters.specs.Marks.{Placed}
 use Rattle.doc_marks.specs.declared.mark.Mark.{Mark}
 use Rattle.doc_marks.specs.declared.mark.Mark.TheVariants.{Text}
 
+-- '*' or '_'
+abbrev pub delimiter : Bool → ℕ
+delimiter star = if star then 42 else 95
+
+-- one or more '*', or one or more '_'
+pub record IsRunText (text : rules.Text) : Type 0 where
+  pub star : Bool
+  pub more : ℕ
+  pub is : text ≡ replicate (suc more) (delimiter star)
+
+-- the text of this character alone
+abbrev pub IsTextOf : ℕ → Mark → Type 0
+IsTextOf c (Text text) = chars text.now ≡ c ∷ []
+IsTextOf c mark = ⊥
+
 -- a text of its own for each of these characters
 abbrev pub AreEach : List Mark → rules.Text → Type 0
 AreEach [] [] = ⊤
-AreEach (Text text ∷ more) (c ∷ rest) = (chars text.now ≡ c ∷ []) × AreEach more rest
-AreEach marks text = ⊥
+AreEach [] (c ∷ rest) = ⊥
+AreEach (mark ∷ more) [] = ⊥
+AreEach (mark ∷ more) (c ∷ rest) = IsTextOf c mark × AreEach more rest
 
 -- such texts come behind the marks
 pub record AddsEach (old new : List Mark) (text : rules.Text) : Type 0 where

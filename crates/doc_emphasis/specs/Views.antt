@@ -25,9 +25,13 @@ runs_in m = all_placed m.runs.items
 abbrev pub IsSound : Marks → Type 0
 IsSound m = ArePlaced (marks_in m) 0 (length (items_of m)) (runs_in m)
 
--- a place among the marks: so many marks and so many runs stand before it
-pub record IsPlace (m : Marks) (place : Place) : Type 0 where
-  pub marks : place.marks ≤ length (items_of m)
-  pub runs : place.runs ≤ length (runs_in m)
-  pub before : ArePlaced (marks_in m) 0 place.marks (take place.runs (runs_in m))
-  pub behind : ArePlaced (marks_in m) place.marks (length (items_of m)) (drop place.runs (runs_in m))
+-- so many of the marks and so many of the runs stand before this place, and the others behind it
+pub record StandsApart (items : List Mark) (runs : List Placed) (place : Place) : Type 0 where
+  pub marks : place.marks ≤ length items
+  pub runs_fit : place.runs ≤ length runs
+  pub before : ArePlaced (marks_shown items) 0 place.marks (take place.runs runs)
+  pub behind : ArePlaced (marks_shown items) place.marks (length items) (drop place.runs runs)
+
+-- a place among the marks
+abbrev pub IsPlace : Marks → Place → Type 0
+IsPlace m place = StandsApart (items_of m) (runs_in m) place
