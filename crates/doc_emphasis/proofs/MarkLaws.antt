@@ -4,7 +4,7 @@ use Rattle.std.specs.Prelude.{flat_map, ⊤, if◌then◌else◌}
 use Rattle.std.specs.Str.{IsUtf8, IsAscii}
 use Rattle.std.proofs.lemmas.List.{append-nil, map-append, get_or_append_left, get_or-append_right, length-map, length-replicate, map-set, take-append-le, drop-append-le, take_all}
 use Rattle.std.proofs.Math.ListN.{drop_of_length-le}
-use Rattle.std.proofs.lemmas.Str.{encodes-chars, encodes-IsAscii}
+use Rattle.std.proofs.lemmas.Str.{encodes-chars, encodes-IsAscii, chars-IsAscii}
 use Rattle.doc_rules.specs.Characters as rules
 use Rattle.doc_rules.specs.Inlines.{Inline, Literal}
 use Rattle.doc_delimiters.specs.Marks.{Placed, AreDelimiters, ArePlaced}
@@ -15,9 +15,11 @@ use Rattle.doc_marks.specs.declared.mark.Mark.{Mark}
 use Rattle.doc_marks.specs.declared.mark.Mark.TheVariants.{Text, Code, Soft, Hard, Raw, Reference, Start, End}
 use Rattle.doc_marks.specs.Slices.{slice_in, is_cut, IsCut, AreCut}
 use Rattle.doc_marks.specs.Views.{inlines_in}
+use Rattle.doc_emphasis.specs.declared.run.Run.{Run}
 use Rattle.doc_emphasis.specs.declared.marks.Place.{Place}
+use Rattle.doc_emphasis.specs.Runs.{char_of, placed_shown, all_placed}
 use Rattle.doc_emphasis.specs.Views.{marks_shown, StandsApart}
-use Rattle.doc_emphasis.specs.Texts.{delimiter, IsRunText, IsTextOf, AreEach, AddsEach}
+use Rattle.doc_emphasis.specs.Texts.{delimiter, IsRunText, IsTextOf, AreEach, AddsEach, fresh_run}
 
 -- ---- texts of one character each
 
@@ -254,3 +256,83 @@ place_behind items runs place h e f =
       before = subst (λ b. ArePlaced (marks_shown items) 0 b (take place.runs runs)) (sym e) (placed_take (marks_shown items) 0 (length items) place.runs runs h);
       behind = subst (λ t. ArePlaced (marks_shown items) place.marks (length items) t) (sym (drop_of_length-le runs (omega arith))) (omega arith);
     }
+
+-- ---- the text of a run
+
+small : (star : Bool) → delimiter star < 128
+small true = omega arith
+small false = omega arith
+
+all_ascii : (n c : ℕ) → c < 128 → IsAscii (replicate n c)
+all_ascii zero c h i = omega arith
+all_ascii (suc n) c h zero = h
+all_ascii (suc n) c h (suc i) = all_ascii n c h i
+
+run_bytes : (bytes : List ℕ) → IsUtf8 bytes → IsRunText (chars bytes) → chars bytes ≡ bytes
+run_bytes bytes u h = sym (encodes-IsAscii (chars bytes) (subst IsAscii (sym h.is) (all_ascii (suc h.more) (delimiter h.star) (small h.star)))) ∙ encodes-chars bytes u
+
+star_is : (star : Bool) → (delimiter star == 42) ≡ star
+star_is true = refl
+star_is false = refl
+
+-- its bytes are its characters, each the same as the first
+pub run_some : (bytes : List ℕ) → IsUtf8 bytes → IsRunText (chars bytes) → 0 < length bytes
+run_some bytes u h =
+    let long : length bytes ≡ length (replicate (suc h.more) (delimiter h.star)) = ap length (sym (run_bytes bytes u h) ∙ h.is) in
+    let size : length (replicate (suc h.more) (delimiter h.star)) ≡ suc h.more = length-replicate (suc h.more) (delimiter h.star) in
+    omega arith
+
+pub run_text : (bytes : List ℕ) → IsUtf8 bytes → IsRunText (chars bytes) → chars bytes ≡ replicate (length bytes) (delimiter (get_or bytes 0 0 == 42))
+run_text bytes u h =
+    let is : bytes ≡ replicate (suc h.more) (delimiter h.star) = sym (run_bytes bytes u h) ∙ h.is in
+    let long : length bytes ≡ suc h.more = ap length is ∙ length-replicate (suc h.more) (delimiter h.star) in
+    let first : get_or bytes 0 0 ≡ delimiter h.star = ap (λ t. get_or t 0 0) is in
+    h.is ∙ ap₂ (λ n b. replicate n (delimiter b)) (sym long) (sym (ap (λ k. k == 42) first ∙ star_is h.star))
+
+-- a run that is known otherwise is the same
+pub run_known : (n m c d : ℕ) → replicate (suc m) d ≡ replicate n c → (n ≡ suc m) × (c ≡ d)
+run_known n m c d e = (long, by n e)
+  where
+    long : n ≡ suc m
+    long = sym (length-replicate n c) ∙ (ap length (sym e) ∙ length-replicate (suc m) d)
+
+    by : (k : ℕ) → replicate (suc m) d ≡ replicate k c → c ≡ d
+    by zero f = absurd cc
+    by (suc k) f = sym (ap (λ t. get_or t 0 0) f)
+
+pub one_char : (c : ℕ) → c < 128 → chars (c ∷ []) ≡ c ∷ []
+one_char c h = chars-IsAscii (c ∷ []) (all_ascii 1 c h)
+
+-- ---- the marks and the run of a text
+
+pub adds_text : (items next : List Mark) (text bytes : List ℕ) → IsUtf8 text → IsRunText (chars text) → bytes ≡ text → AddsEach items next (replicate (length text) (delimiter (get_or bytes 0 0 == 42))) →
+    AddsEach items next (chars text)
+adds_text items next text bytes u h e a = subst (λ t. AddsEach items next t) (ap (λ b. replicate (length text) (delimiter (get_or b 0 0 == 42))) e ∙ sym (run_text text u h)) a
+
+-- the run that the code makes
+abbrev pub run_made : ℕ → List ℕ → List ℕ → Bool → Bool → Run
+run_made first text bytes opens closes = record { first = first; left = length text; length = length text; star = get_or bytes 0 0 == 42; opens = opens; closes = closes }
+
+pub runs_text : (runs left : List Run) (first size : ℕ) (text bytes : List ℕ) (opens closes : Bool) → IsUtf8 text → IsRunText (chars text) → bytes ≡ text → first ≡ size →
+    left ≡ runs ++ (run_made first text bytes opens closes ∷ []) → (n c : ℕ) → chars text ≡ replicate (suc n) c → all_placed left ≡ all_placed runs ++ (fresh_run size c (suc n) opens closes ∷ [])
+runs_text runs left first size text bytes opens closes u h e f g n c k =
+    let d : ℕ = delimiter (get_or bytes 0 0 == 42) in
+    let known : (length text ≡ suc n) × (d ≡ c) =
+    run_known (length text) n d c (sym k ∙ (run_text text u h ∙ ap (λ b. replicate (length text) (delimiter (get_or b 0 0 == 42))) (sym e))) in
+    let one : placed_shown (run_made first text bytes opens closes) ≡ fresh_run size c (suc n) opens closes =
+    ap (λ x. fresh_run x d (length text) opens closes) f ∙ ap₂ (λ x y. fresh_run size x y opens closes) known.1 known.0 in
+    ap all_placed g ∙ (map-append placed_shown runs (run_made first text bytes opens closes ∷ []) ∙ ap (λ p. all_placed runs ++ (p ∷ [])) one)
+
+pub sound_run : (items next : List Mark) (runs left : List Run) (x : Run) → ArePlaced (marks_shown items) 0 (length items) (all_placed runs) → AddsEach items next (replicate x.left (char_of x)) →
+    left ≡ runs ++ (x ∷ []) → x.first ≡ length items → 1 ≤ x.left → ArePlaced (marks_shown next) 0 (length next) (all_placed left)
+sound_run items next runs left x h a e f some =
+    subst (λ t. ArePlaced (marks_shown t) 0 (length t) (all_placed left)) (sym a.behind)
+    (subst (λ t. ArePlaced (marks_shown (items ++ a.added)) 0 (length (items ++ a.added)) t) (sym (ap all_placed e ∙ map-append placed_shown runs (x ∷ [])))
+    (run_behind items a.added 0 (all_placed runs) (placed_shown x) h a.each f some))
+
+pub places_run : (items next : List Mark) (runs left : List Run) (x : Run) (place : Place) → StandsApart items (all_placed runs) place → AddsEach items next (replicate x.left (char_of x)) →
+    left ≡ runs ++ (x ∷ []) → x.first ≡ length items → 1 ≤ x.left → StandsApart next (all_placed left) place
+places_run items next runs left x place h a e f some =
+    subst (λ t. StandsApart t (all_placed left) place) (sym a.behind)
+    (subst (λ t. StandsApart (items ++ a.added) t place) (sym (ap all_placed e ∙ map-append placed_shown runs (x ∷ [])))
+    (place_run items a.added (all_placed runs) (placed_shown x) place h a.each f some))

@@ -1,6 +1,6 @@
 -- Emphasis from a place on: the marks of the code before and after, and the places that stay.
-use Rattle.std.proofs.Common.{◌≡◌, ℕ, suc, ◌+◌, ◌-◌, ◌<◌, ◌≤◌, List, [], ◌∷◌, ◌++◌, length, get_or, take, drop, map, refl, ap, ap₂, sym, ◌∙◌, subst, arith, min}
-use Rattle.std.proofs.lemmas.List.{length-map, get_or-take, take-take, take-map, drop-map, take_rest, drop-take, length-take}
+use Rattle.std.proofs.Common.{◌≡◌, ℕ, suc, ◌+◌, ◌-◌, ◌<◌, ◌≤◌, List, [], ◌∷◌, ◌++◌, length, get_or, take, drop, map, refl, ap, ap₂, sym, ◌∙◌, subst, arith, min, append_assoc}
+use Rattle.std.proofs.lemmas.List.{length-take-le, take-append-le, get_or-take, take-take, take-map, drop-map, take_rest, drop-take, length-take}
 use Rattle.doc_rules.specs.Characters as rules
 use Rattle.doc_rules.specs.Inlines.{Inline}
 use Rattle.doc_rules.specs.Emphasis.{emphasis_of}
@@ -14,6 +14,7 @@ use Rattle.doc_emphasis.specs.declared.marks.Place.{Place}
 use Rattle.doc_emphasis.specs.Runs.{placed_shown, all_placed}
 use Rattle.doc_emphasis.specs.Steps.{Keeps, IsWrapped}
 use Rattle.doc_emphasis.specs.Views.{marks_shown, StandsApart}
+use Rattle.doc_emphasis.proofs.NumberLaws.{as_many}
 use Rattle.doc_emphasis.proofs.MarkLaws.{refilled, placed_from, placed_take, placed_drop, placed_both}
 
 -- ---- what the code passes
@@ -103,3 +104,13 @@ module _ (items next : List Mark) (runs left : List Run) (from : Place) (w : Wra
           placed_until (marks_shown next) place.marks from.marks (length next) (drop place.runs (take from.runs r))
           (placed_same (marks_shown items) (marks_shown next) place.marks from.marks (drop place.runs (take from.runs r)) both (λ i a b. agree i (omega arith) b)) (omega arith);
       })
+
+-- the runs before the place are those that are kept
+pub kept_front : (f n : ℕ) (held runs more rest : List Run) → held ≡ runs → n ≡ length runs → f ≤ length (all_placed runs) → take f (take n ((take f held ++ more) ++ rest)) ≡ take f runs
+kept_front f n held runs more rest e long fits =
+    let many : length (all_placed runs) ≡ length runs = as_many runs in
+    let same : length held ≡ length runs = ap length e in
+    let size : length (take f held) ≡ f = length-take-le f held (omega arith) in
+    take-take f n ((take f held ++ more) ++ rest) (omega arith)
+    ∙ (ap (take f) (append_assoc (take f held) more rest)
+    ∙ (take-append-le f (take f held) (more ++ rest) (omega arith) ∙ (take-take f f held (omega arith) ∙ ap (take f) e)))
