@@ -1,12 +1,12 @@
 -- Marks that grow, and the places among them.
 use Rattle.std.proofs.Common.{◌≡◌, ℕ, zero, suc, ◌+◌, ◌-◌, ◌<◌, ◌≤◌, Bool, true, false, ◌==◌, List, [], ◌∷◌, ◌++◌, length, get_or, set, take, drop, map, replicate, refl, ap, ap₂, sym, ◌∙◌, subst, arith, append_assoc, length-append, get_or-set_other, length-set, chars}
-use Rattle.std.specs.Prelude.{flat_map, ⊤, if◌then◌else◌}
+use Rattle.std.specs.Prelude.{flat_map}
 use Rattle.std.specs.Str.{IsUtf8, IsAscii}
 use Rattle.std.proofs.lemmas.List.{append-nil, map-append, get_or_append_left, get_or-append_right, length-map, length-replicate, map-set, take-append-le, drop-append-le, take_all}
 use Rattle.std.proofs.Math.ListN.{drop_of_length-le}
 use Rattle.std.proofs.lemmas.Str.{encodes-chars, encodes-IsAscii, chars-IsAscii}
 use Rattle.doc_rules.specs.Characters as rules
-use Rattle.doc_rules.specs.Inlines.{Inline, Literal}
+use Rattle.doc_rules.specs.Inlines.{Literal}
 use Rattle.doc_delimiters.specs.Marks.{Placed, AreDelimiters, ArePlaced}
 use Rattle.doc_delimiters.specs.Marks as delimiters
 use Rattle.doc_delimiters.proofs.Stretches.{Agree, placed_order, placed_same, placed_until}
@@ -76,7 +76,7 @@ each_cut [] (c ∷ text) h = absurd h
 each_cut (mark ∷ added) [] h = absurd h
 each_cut (mark ∷ added) (c ∷ text) h = (text_cut c mark h.0, each_cut added text h.1)
 
-each_long : (added : List Mark) (text : rules.Text) → AreEach added text → length added ≡ length text
+pub each_long : (added : List Mark) (text : rules.Text) → AreEach added text → length added ≡ length text
 each_long added text h = sym (length-map added inlines_in) ∙ (ap length (each_shown added text h) ∙ length-map text (λ c. Literal c ∷ []))
 
 -- one more
@@ -100,7 +100,7 @@ adds_more old new last n m c mark h e g k =
 
 -- ---- marks behind all
 
-agree_more : (items added : List Mark) (a b : ℕ) → b ≤ length items → Agree (marks_shown items) (marks_shown (items ++ added)) a b
+pub agree_more : (items added : List Mark) (a b : ℕ) → b ≤ length items → Agree (marks_shown items) (marks_shown (items ++ added)) a b
 agree_more items added a b h i low high =
     let long : length (marks_shown items) ≡ length items = length-map items inlines_in in
     sym (ap (λ t. get_or t i []) (map-append inlines_in items added) ∙ get_or_append_left (marks_shown items) (marks_shown added) [] i (omega arith))
@@ -163,11 +163,11 @@ place_run items added runs p place h each e some =
       marks = omega arith;
       runs_fit = omega arith;
       before =
-        subst (λ t. ArePlaced (marks_shown (items ++ added)) 0 place.marks t) (sym (take-append-le place.runs runs (p ∷ []) h.runs_fit))
-        (placed_same (marks_shown items) (marks_shown (items ++ added)) 0 place.marks (take place.runs runs) h.before (agree_more items added 0 place.marks h.marks));
+          subst (λ t. ArePlaced (marks_shown (items ++ added)) 0 place.marks t) (sym (take-append-le place.runs runs (p ∷ []) h.runs_fit))
+          (placed_same (marks_shown items) (marks_shown (items ++ added)) 0 place.marks (take place.runs runs) h.before (agree_more items added 0 place.marks h.marks));
       behind =
-        subst (λ t. ArePlaced (marks_shown (items ++ added)) place.marks (length (items ++ added)) t) (sym (drop-append-le place.runs runs (p ∷ []) h.runs_fit))
-        (run_behind items added place.marks (drop place.runs runs) p h.behind each e some);
+          subst (λ t. ArePlaced (marks_shown (items ++ added)) place.marks (length (items ++ added)) t) (sym (drop-append-le place.runs runs (p ∷ []) h.runs_fit))
+          (run_behind items added place.marks (drop place.runs runs) p h.behind each e some);
     }
 
 -- ---- a mark set behind all runs
@@ -240,10 +240,10 @@ place_set items at mark runs place h g =
       marks = omega arith;
       runs_fit = g.runs_fit;
       before =
-        placed_alike (marks_shown items) (marks_shown (set items at mark)) 0 place.marks 0 at (take place.runs runs) g.before (placed_take (marks_shown items) 0 at place.runs runs h) (agree_set items at mark 0 at (omega arith));
+          placed_alike (marks_shown items) (marks_shown (set items at mark)) 0 place.marks 0 at (take place.runs runs) g.before (placed_take (marks_shown items) 0 at place.runs runs h) (agree_set items at mark 0 at (omega arith));
       behind =
-        subst (λ b. ArePlaced (marks_shown (set items at mark)) place.marks b (drop place.runs runs)) (sym long)
-        (placed_alike (marks_shown items) (marks_shown (set items at mark)) place.marks (length items) 0 at (drop place.runs runs) g.behind (placed_drop (marks_shown items) 0 at place.runs runs h) (agree_set items at mark 0 at (omega arith)));
+          subst (λ b. ArePlaced (marks_shown (set items at mark)) place.marks b (drop place.runs runs)) (sym long)
+          (placed_alike (marks_shown items) (marks_shown (set items at mark)) place.marks (length items) 0 at (drop place.runs runs) g.behind (placed_drop (marks_shown items) 0 at place.runs runs h) (agree_set items at mark 0 at (omega arith)));
     }
 
 -- ---- the place behind all

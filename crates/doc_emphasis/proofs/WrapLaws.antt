@@ -1,18 +1,15 @@
 -- Emphasis from a place on: the marks of the code before and after, and the places that stay.
-use Rattle.std.proofs.Common.{◌≡◌, ℕ, suc, ◌+◌, ◌-◌, ◌<◌, ◌≤◌, List, [], ◌∷◌, ◌++◌, length, get_or, take, drop, map, refl, ap, ap₂, sym, ◌∙◌, subst, arith, min, append_assoc}
+use Rattle.std.proofs.Common.{◌≡◌, ℕ, ◌+◌, ◌-◌, ◌≤◌, List, [], ◌++◌, length, get_or, take, drop, ap, sym, ◌∙◌, subst, arith, min, append_assoc}
 use Rattle.std.proofs.lemmas.List.{length-take-le, take-append-le, get_or-take, take-take, take-map, drop-map, take_rest, drop-take, length-take}
-use Rattle.doc_rules.specs.Characters as rules
-use Rattle.doc_rules.specs.Inlines.{Inline}
 use Rattle.doc_rules.specs.Emphasis.{emphasis_of}
 use Rattle.doc_delimiters.specs.Marks.{Placed, ArePlaced, seen}
 use Rattle.doc_delimiters.proofs.Stretches.{Agree, placed_same, placed_until}
 use Rattle.doc_marks.specs.declared.mark.Mark.{Mark}
-use Rattle.doc_marks.specs.Slices.{AreSlices, AreCut}
 use Rattle.doc_marks.specs.Views.{inlines_in, inlines_shown}
 use Rattle.doc_emphasis.specs.declared.run.Run.{Run}
 use Rattle.doc_emphasis.specs.declared.marks.Place.{Place}
 use Rattle.doc_emphasis.specs.Runs.{placed_shown, all_placed}
-use Rattle.doc_emphasis.specs.Steps.{Keeps, IsWrapped}
+use Rattle.doc_emphasis.specs.Steps.{IsWrapped}
 use Rattle.doc_emphasis.specs.Views.{marks_shown, StandsApart}
 use Rattle.doc_emphasis.proofs.NumberLaws.{as_many}
 use Rattle.doc_emphasis.proofs.MarkLaws.{refilled, placed_from, placed_take, placed_drop, placed_both}
@@ -98,11 +95,11 @@ module _ (items next : List Mark) (runs left : List Run) (from : Place) (w : Wra
         marks = omega arith;
         runs_fit = omega arith;
         before =
-          subst (λ t. ArePlaced (marks_shown next) 0 place.marks t) (sym (take-take place.runs from.runs r few))
-          (placed_same (marks_shown items) (marks_shown next) 0 place.marks (take place.runs r) h.before (λ i a b. agree i a (omega arith)));
+            subst (λ t. ArePlaced (marks_shown next) 0 place.marks t) (sym (take-take place.runs from.runs r few))
+            (placed_same (marks_shown items) (marks_shown next) 0 place.marks (take place.runs r) h.before (λ i a b. agree i a (omega arith)));
         behind =
-          placed_until (marks_shown next) place.marks from.marks (length next) (drop place.runs (take from.runs r))
-          (placed_same (marks_shown items) (marks_shown next) place.marks from.marks (drop place.runs (take from.runs r)) both (λ i a b. agree i (omega arith) b)) (omega arith);
+            placed_until (marks_shown next) place.marks from.marks (length next) (drop place.runs (take from.runs r))
+            (placed_same (marks_shown items) (marks_shown next) place.marks from.marks (drop place.runs (take from.runs r)) both (λ i a b. agree i (omega arith) b)) (omega arith);
       })
 
 -- the runs before the place are those that are kept

@@ -1,4 +1,4 @@
-use Rattle.std.proofs.Common.{◌∷◌, [], ◌<◌, ap, sym, ◌∙◌, arith}
+use Rattle.std.proofs.Common.{◌∷◌, [], ap, sym, ◌∙◌, arith}
 use Rattle.doc_emphasis.specs.Texts as texts
 use Rattle.doc_emphasis.proofs.MarkLaws.{one_char}
 use Rattle.doc_emphasis.proofs.marks.delimiter.Goals as goal
