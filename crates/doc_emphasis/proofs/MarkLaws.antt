@@ -2,7 +2,7 @@
 use Rattle.std.proofs.Common.{◌≡◌, ℕ, zero, suc, ◌+◌, ◌-◌, ◌<◌, ◌≤◌, Bool, true, false, ◌==◌, List, [], ◌∷◌, ◌++◌, length, get_or, set, take, drop, map, replicate, refl, ap, ap₂, sym, ◌∙◌, subst, arith, append_assoc, length-append, get_or-set_other, length-set, chars}
 use Rattle.std.specs.Prelude.{flat_map}
 use Rattle.std.specs.Str.{IsUtf8, IsAscii}
-use Rattle.std.proofs.lemmas.List.{append-nil, map-append, get_or_append_left, get_or-append_right, length-map, length-replicate, map-set, take-append-le, drop-append-le, take_all}
+use Rattle.std.proofs.lemmas.List.{append-nil, map-append, get_or_append_left, get_or-append_right, length-map, length-replicate, map-set, take-append-le, drop-append-le, take_all, take-map, get_or-take, drop-take}
 use Rattle.std.proofs.Math.ListN.{drop_of_length-le}
 use Rattle.std.proofs.lemmas.Str.{encodes-chars, encodes-IsAscii, chars-IsAscii}
 use Rattle.doc_rules.specs.Characters as rules
@@ -17,9 +17,9 @@ use Rattle.doc_marks.specs.Slices.{slice_in, is_cut, IsCut, AreCut}
 use Rattle.doc_marks.specs.Views.{inlines_in}
 use Rattle.doc_emphasis.specs.declared.run.Run.{Run}
 use Rattle.doc_emphasis.specs.declared.marks.Place.{Place}
-use Rattle.doc_emphasis.specs.Runs.{char_of, placed_shown, all_placed}
+use Rattle.doc_emphasis.specs.Runs.{delimiter, char_of, placed_shown, all_placed}
 use Rattle.doc_emphasis.specs.Views.{marks_shown, StandsApart}
-use Rattle.doc_emphasis.specs.Texts.{delimiter, IsRunText, IsTextOf, AreEach, AddsEach, fresh_run}
+use Rattle.doc_emphasis.specs.Texts.{IsRunText, IsTextOf, AreEach, AddsEach, fresh_run}
 
 -- ---- texts of one character each
 
@@ -245,6 +245,24 @@ place_set items at mark runs place h g =
           subst (λ b. ArePlaced (marks_shown (set items at mark)) place.marks b (drop place.runs runs)) (sym long)
           (placed_alike (marks_shown items) (marks_shown (set items at mark)) place.marks (length items) 0 at (drop place.runs runs) g.behind (placed_drop (marks_shown items) 0 at place.runs runs h) (agree_set items at mark 0 at (omega arith)));
     }
+
+-- ---- between two places
+
+-- the runs between two places stand between them
+pub middle_placed : (items : List Mark) (runs : List Placed) (from place : Place) → StandsApart items runs from → StandsApart items runs place → place.marks ≤ from.marks → place.runs ≤ from.runs →
+    ArePlaced (marks_shown items) place.marks from.marks (drop place.runs (take from.runs runs))
+middle_placed items runs from place g h low few =
+    let split : place.runs + (from.runs - place.runs) ≡ from.runs = omega arith in
+    let middle : drop place.runs (take from.runs runs) ≡ take (from.runs - place.runs) (drop place.runs runs) =
+    ap (λ k. drop place.runs (take k runs)) (sym split) ∙ drop-take place.runs (from.runs - place.runs) runs in
+    let on : ArePlaced (marks_shown items) place.marks (length items) (drop place.runs (take from.runs runs)) =
+    subst (λ t. ArePlaced (marks_shown items) place.marks (length items) t) (sym middle) (placed_take (marks_shown items) place.marks (length items) (from.runs - place.runs) (drop place.runs runs) h.behind) in
+    placed_both (marks_shown items) place.marks (length items) 0 from.marks (drop place.runs (take from.runs runs)) on (placed_drop (marks_shown items) 0 from.marks place.runs (take from.runs runs) g.before) low
+
+pub agree_front : (items next : List Mark) (n : ℕ) → take n next ≡ take n items → Agree (marks_shown items) (marks_shown next) 0 n
+agree_front items next n e i low high =
+    sym (get_or-take n (marks_shown items) i [] high)
+    ∙ (ap (λ t. get_or t i []) (take-map inlines_in n items ∙ (ap marks_shown (sym e) ∙ sym (take-map inlines_in n next))) ∙ get_or-take n (marks_shown next) i [] high)
 
 -- ---- the place behind all
 

@@ -117,7 +117,7 @@ walks_past marks next last runs left fewer openers kept number p w size g a h =
 
 -- ---- the end
 
-shown_from : (marks : List Mark) (place : ℕ) → flat_map (λ (mark : List Inline). mark) (drop place (marks_shown marks)) ≡ inlines_shown (drop place marks)
+pub shown_from : (marks : List Mark) (place : ℕ) → flat_map (λ (mark : List Inline). mark) (drop place (marks_shown marks)) ≡ inlines_shown (drop place marks)
 shown_from [] zero = refl
 shown_from [] (suc n) = refl
 shown_from (x ∷ xs) zero = ap (λ t. inlines_in x ++ t) (shown_from xs zero)

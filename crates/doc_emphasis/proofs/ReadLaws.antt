@@ -1,20 +1,23 @@
 -- What is seen from a place on while marks and runs come behind all, and where their texts stand.
-use Rattle.std.proofs.Common.{◌≡◌, suc, ◌+◌, List, [], ◌∷◌, ◌++◌, length, get_or, drop, replicate, ap, sym, ◌∙◌, subst, arith, map, length-append, append_assoc, append-nil}
+use Rattle.std.proofs.Common.{◌≡◌, ℕ, suc, ◌+◌, List, [], ◌∷◌, ◌++◌, length, get_or, drop, replicate, ap, sym, ◌∙◌, subst, arith, map, length-append, append_assoc, append-nil, ◌-◌, take, ap₂, ◌≤◌}
 use Rattle.std.specs.Prelude.{flat_map}
-use Rattle.std.proofs.lemmas.List.{map-append, length-map, length-replicate}
+use Rattle.std.proofs.lemmas.List.{map-append, length-map, length-replicate, length-take-le, take-append-drop, drop-append-le, take_all}
 use Rattle.std.proofs.Math.Seq.{get_or-append_seam}
 use Rattle.std.proofs.lemmas.Grind.{flat_map-append}
 use Rattle.doc_rules.specs.Characters as rules
-use Rattle.doc_rules.specs.Inlines.{Delimiters}
-use Rattle.doc_delimiters.specs.Marks.{Placed, seen}
-use Rattle.doc_delimiters.proofs.Growing.{seen_mark, seen_run}
+use Rattle.doc_rules.specs.Inlines.{Inline, Delimiters}
+use Rattle.doc_delimiters.specs.Marks.{Placed, ArePlaced, stretch, seen}
+use Rattle.doc_delimiters.specs.Marks as delimiters
+use Rattle.doc_delimiters.proofs.Stretches.{Agree, placed_same, seen_split, seen_until, seen_same}
+use Rattle.doc_delimiters.proofs.Growing.{seen_mark, seen_run, stretch_all}
 use Rattle.doc_marks.specs.declared.mark.Mark.{Mark}
 use Rattle.doc_marks.specs.Slices.{slice_in, StandIn, AreSlices, AreCut}
-use Rattle.doc_marks.specs.Views.{inlines_in}
+use Rattle.doc_marks.specs.Views.{inlines_in, inlines_shown}
 use Rattle.doc_emphasis.specs.declared.marks.Place.{Place}
 use Rattle.doc_emphasis.specs.Views.{marks_shown, StandsApart}
 use Rattle.doc_emphasis.specs.Texts.{AddsEach}
-use Rattle.doc_emphasis.proofs.MarkLaws.{agree_more, each_long, each_slices}
+use Rattle.doc_emphasis.proofs.PassLaws.{shown_from}
+use Rattle.doc_emphasis.proofs.MarkLaws.{agree_more, agree_front, each_long, each_slices, middle_placed}
 
 -- one mark more is seen behind all
 pub shown_push : (items : List Mark) (mark : Mark) (runs : List Placed) (place : Place) → StandsApart items runs place →
@@ -41,6 +44,46 @@ shown_run items next runs p place h a e =
     subst (λ t. seen (marks_shown t) place.marks (length t) (drop place.runs runs ++ (p ∷ [])) ≡ seen (marks_shown items) place.marks (length items) (drop place.runs runs) ++ (Delimiters p.run ∷ [])) (sym a.behind)
     (ap (λ k. seen (marks_shown (items ++ a.added)) place.marks k (drop place.runs runs ++ (p ∷ []))) end
     ∙ seen_run (marks_shown items) (marks_shown (items ++ a.added)) place.marks (length items) (drop place.runs runs) p h.behind (agree_more items a.added place.marks (length items) (omega arith)) e)
+
+-- ---- emphasis from a place on, seen from an earlier one
+
+seen_joined : (marks : delimiters.Marks) (a b c : ℕ) (xs ys : List Placed) → ArePlaced marks a b xs → ArePlaced marks b c ys → seen marks a c (xs ++ ys) ≡ seen marks a b xs ++ seen marks b c ys
+unfolding seen
+seen_joined marks a b c xs [] h g = ap (seen marks a c) (append-nil xs) ∙ seen_until marks a b c xs h g
+seen_joined marks a b c xs (y ∷ ys) h g =
+    seen_split marks a c xs y ys
+    ∙ (ap (λ t. t ++ (Delimiters y.run ∷ seen marks (y.first + y.run.left) c ys)) (seen_until marks a b y.first xs h g.0)
+    ∙ append_assoc (seen marks a b xs) (stretch marks b (y.first - b)) (Delimiters y.run ∷ seen marks (y.first + y.run.left) c ys))
+
+-- before
+pub shown_split : (items : List Mark) (runs : List Placed) (from place : Place) → StandsApart items runs from → StandsApart items runs place → place.marks ≤ from.marks → place.runs ≤ from.runs →
+    seen (marks_shown items) place.marks (length items) (drop place.runs runs)
+    ≡ seen (marks_shown items) place.marks from.marks (drop place.runs (take from.runs runs)) ++ seen (marks_shown items) from.marks (length items) (drop from.runs runs)
+shown_split items runs from place g h low few =
+    let fits : from.runs ≤ length runs = g.runs_fit in
+    let size : length (take from.runs runs) ≡ from.runs = length-take-le from.runs runs g.runs_fit in
+    let parts : drop place.runs runs ≡ drop place.runs (take from.runs runs) ++ drop from.runs runs =
+    ap (drop place.runs) (sym (take-append-drop from.runs runs)) ∙ drop-append-le place.runs (take from.runs runs) (drop from.runs runs) (omega arith) in
+    ap (seen (marks_shown items) place.marks (length items)) parts
+    ∙ seen_joined (marks_shown items) place.marks from.marks (length items) (drop place.runs (take from.runs runs)) (drop from.runs runs) (middle_placed items runs from place g h low few) g.behind
+
+-- and behind
+pub shown_wrapped : (items next : List Mark) (runs : List Placed) (from place : Place) (made : List Inline) → StandsApart items runs from → StandsApart items runs place → place.marks ≤ from.marks →
+    place.runs ≤ from.runs → length next ≡ length items → take from.marks next ≡ take from.marks items → inlines_shown (drop from.marks next) ≡ made →
+    seen (marks_shown next) place.marks (length next) (drop place.runs (take from.runs runs)) ≡ seen (marks_shown items) place.marks from.marks (drop place.runs (take from.runs runs)) ++ made
+shown_wrapped items next runs from place made g h low few long front e =
+    let x : List Placed = drop place.runs (take from.runs runs) in
+    let both : ArePlaced (marks_shown items) place.marks from.marks x = middle_placed items runs from place g h low few in
+    let same : Agree (marks_shown items) (marks_shown next) place.marks from.marks = λ i a b. agree_front items next from.marks front i (omega arith) b in
+    let fits : from.marks ≤ length items = g.marks in
+    let size : length (marks_shown next) ≡ length next = length-map next inlines_in in
+    seen_until (marks_shown next) place.marks from.marks (length next) x (placed_same (marks_shown items) (marks_shown next) place.marks from.marks x both same) (omega arith)
+    ∙ ap₂ (λ s t. s ++ t) (sym (seen_same (marks_shown items) (marks_shown next) place.marks from.marks x both same))
+    (ap (λ n. stretch (marks_shown next) from.marks (n - from.marks)) (sym size) ∙ (stretch_all (marks_shown next) from.marks (omega arith) ∙ (shown_from next from.marks ∙ e)))
+
+-- no run stands behind a place with all runs before it
+pub all_before : (items : List Mark) (runs : List Placed) (place : Place) → StandsApart items runs place → length runs ≤ place.runs → ArePlaced (marks_shown items) 0 place.marks runs
+all_before items runs place h l = subst (λ t. ArePlaced (marks_shown items) 0 place.marks t) (take_all place.runs runs l) h.before
 
 -- cut marks stay so
 pub cut_more : (items added : List Mark) → AreCut items → AreCut added → AreCut (items ++ added)

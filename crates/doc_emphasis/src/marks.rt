@@ -6,8 +6,9 @@ ghost use Rattle.doc_delimiters.specs.Marks.{ArePlaced};
 ghost use Rattle.doc_marks.specs.Slices.{AreSlices, AreCut};
 ghost use Rattle.doc_marks.specs.Views.{inlines_shown};
 ghost use Rattle.doc_emphasis.specs.declared.marks.Place.{Place as Spot};
+ghost use Rattle.doc_emphasis.specs.Runs.{delimiter as character};
 ghost use Rattle.doc_emphasis.specs.Views.{items_of, marks_in, runs_in, shown_between, IsSound, IsPlace};
-ghost use Rattle.doc_emphasis.specs.Texts.{IsRunText, AddsEach, fresh_run, delimiter as character};
+ghost use Rattle.doc_emphasis.specs.Texts.{IsRunText, AddsEach, fresh_run};
 
 use crate::openers::Openers;
 use crate::pair::put;
