@@ -1,0 +1,9 @@
+pub mod RunLaws
+pub mod KeepLaws
+pub mod NumberLaws
+pub mod PairLaws
+pub mod PassLaws
+pub mod MarkLaws
+pub mod WrapLaws
+pub mod ReadLaws
+mod Examples
