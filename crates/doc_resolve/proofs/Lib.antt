@@ -1,0 +1,3 @@
+pub mod DotSteps
+mod Examples
+pub mod ReferenceSteps

@@ -1,0 +1,3 @@
+pub mod DotSegments
+pub mod References
+pub mod Resolution
