@@ -1,3 +1,4 @@
 pub mod DotSteps
 mod Examples
+pub mod JoinSteps
 pub mod ReferenceSteps
