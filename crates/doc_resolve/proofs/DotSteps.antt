@@ -5,7 +5,7 @@ use Rattle.std.specs.List.{slice_split, onto_first}
 use Rattle.std.specs.Option.{option_to_list}
 use Rattle.std.proofs.lemmas.Bool.{cond-false}
 use Rattle.std.proofs.lemmas.Bool.Decides.{nat_tests}
-use Rattle.std.proofs.lemmas.List.{append-nil, map-append, take_more}
+use Rattle.std.proofs.lemmas.List.{append-nil, map-append, take_more, length-map, get_or-map}
 use Rattle.std.proofs.lemmas.List.Splits.{length-slice_split}
 use Rattle.doc_page.specs.Pages.{is_empty}
 use Rattle.doc_page.specs.Paths.{segments}
@@ -99,3 +99,13 @@ put_out-turn path i out new d within known is =
     is
     ∙ ap (λ o. put_out o segment.now) known
     ∙ sym (ap (λ p. put_all [] (texts p)) (take_more path i d within) ∙ ap (put_all []) (map-append (λ s. s.now) (take i path) (segment ∷ [])) ∙ put_all-more [] (texts (take i path)) segment.now)
+
+-- what a slice points to, by its place
+pub text_at : (slices : List (Bor (List ℕ))) (i : ℕ) (d : Bor (List ℕ)) → i < length slices → (i < length (texts slices)) × ((get_or slices i d).now ≡ get_or (texts slices) i (get_or slices i d).now)
+text_at slices i d within =
+    let len = length-map slices (λ (s : Bor (List ℕ)). s.now) in
+    (omega arith, sym (get_or-map (λ s. s.now) slices i d _ within))
+
+pub is_empty-length : (text : List ℕ) → (length text == 0) ≡ is_empty text
+is_empty-length [] = refl
+is_empty-length (b ∷ text) = grind (arith, nat_tests)

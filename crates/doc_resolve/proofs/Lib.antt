@@ -2,3 +2,5 @@ pub mod DotSteps
 mod Examples
 pub mod JoinSteps
 pub mod ReferenceSteps
+pub mod WrittenPathLaws
+pub mod WrittenPathSteps

@@ -1,3 +1,7 @@
 pub mod DotSegments
+pub mod Encoding
+pub mod Links
 pub mod References
 pub mod Resolution
+pub mod WrittenPathSteps
+pub mod WrittenPaths

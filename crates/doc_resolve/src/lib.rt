@@ -2,10 +2,15 @@
 #![tactic(auto)]
 
 mod dot_segments;
+mod link_kind;
+mod links;
 mod reference;
 mod resolution;
 mod resolved;
+mod written_paths;
 
+pub use link_kind::LinkKind;
+pub use links::classify;
 pub use reference::Reference;
 pub use resolution::resolve;
 pub use resolved::Resolved;
