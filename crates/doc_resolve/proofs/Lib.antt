@@ -1,4 +1,5 @@
 pub mod DotSteps
+pub mod EncodingLaws
 mod Examples
 pub mod JoinSteps
 pub mod ReferenceSteps

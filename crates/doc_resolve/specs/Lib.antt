@@ -1,5 +1,6 @@
 pub mod DotSegments
 pub mod Encoding
+pub mod LinkSteps
 pub mod Links
 pub mod References
 pub mod Resolution

@@ -10,9 +10,13 @@ use Rattle.doc_resolve.specs.WrittenPaths.{path_written}
 use Rattle.doc_resolve.specs.declared.link_kind.LinkKind.{LinkKind}
 use Rattle.doc_resolve.specs.declared.link_kind.LinkKind.TheVariants.{External, Page, Nowhere}
 
--- the reference that a page's links are resolved on: `/` and its path, whose segments are percent-encoded
+-- `/` and a path of these segments, as a base
+abbrev pub rooted : List (List ℕ) → Uri
+rooted path = record { scheme = None; authority = None; path = [] ∷ path; query = None; fragment = None }
+
+-- the base of a page's links: `/` and its path, whose segments are percent-encoded
 abbrev pub base_of : List ℕ → Uri
-base_of page = record { scheme = None; authority = None; path = [] ∷ map encoded (segments page); query = None; fragment = None }
+base_of page = rooted (map encoded (segments page))
 
 -- what the text stands for, where that is UTF-8, or else the text
 abbrev pub decoded_text : List ℕ → List ℕ
@@ -33,11 +37,15 @@ abbrev pub kind_of_target : Uri → LinkKind
 kind_of_target target = page_or_nowhere (path_written (drop 1 target.path)) (anchor_of target.fragment)
 
 -- what a reference leads to, by its scheme and authority: with one of them it leaves the site
-abbrev pub kind_by : List ℕ → Uri → Option (List ℕ) → Option (List ℕ) → LinkKind
-kind_by page r (Some scheme) authority = External
-kind_by page r None (Some authority) = External
-kind_by page r None None = kind_of_target (resolve (base_of page) r)
+abbrev pub kind_by : Uri → Uri → Option (List ℕ) → Option (List ℕ) → LinkKind
+kind_by base r (Some scheme) authority = External
+kind_by base r None (Some authority) = External
+kind_by base r None None = kind_of_target (resolve base r)
+
+-- what a destination leads to on this base
+unfoldable pub kind_on : Uri → List ℕ → LinkKind
+kind_on base dest = let r = reference dest in kind_by base r r.scheme r.authority
 
 -- what a destination in the page at this path leads to (this project's choice)
-unfoldable pub classify : List ℕ → List ℕ → LinkKind
-classify page dest = let r = reference dest in kind_by page r r.scheme r.authority
+abbrev pub classify : List ℕ → List ℕ → LinkKind
+classify page dest = kind_on (base_of page) dest

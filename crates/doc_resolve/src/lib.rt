@@ -2,6 +2,7 @@
 #![tactic(auto)]
 
 mod dot_segments;
+mod encoding;
 mod link_kind;
 mod links;
 mod reference;

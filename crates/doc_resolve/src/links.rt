@@ -1,16 +1,85 @@
 //! What the links of a page lead to.
 
-ghost use Rattle.std.specs.Prelude.{◌≡◌, IfOk};
-ghost use Rattle.doc_resolve.specs.Links.{classify};
+ghost use Rattle.std.specs.Prelude.{◌≡◌, IfOk, option_copied};
+ghost use Rattle.doc_page.specs.Paths.{segments};
+ghost use Rattle.doc_resolve.specs.Links.{classify, kind_on, rooted, anchor_of, decoded_text};
+ghost use Rattle.doc_resolve.specs.LinkSteps.{target_on};
 
+use crate::dot_segments::push_segments;
+use crate::encoding::encoded_path;
 use crate::link_kind::LinkKind;
-use doc_heap::Heap;
+use crate::reference::Reference;
+use crate::resolution::path_on;
+use crate::written_paths::written_path;
+use doc_heap::{Heap, Vec};
 use doc_page::failure::Memory;
 use doc_page::path::Path;
+use doc_page::text::Text;
+use percent_encoding::percent_decode;
+use std::str::from_utf8;
 
-/// What a destination in the page at this path leads to.
+/// What a destination in the page at this path leads to. The page's path is copied only where it has bytes that a URI has to encode.
 pub fn classify(heap: Heap, page: &Path, dest: &str) -> Result<LinkKind, Memory>
     ensures { IfOk result (λ kind. kind ≡ classify page.now dest.now) }
 {
-    Err(Memory)
+    let base = encoded_path(heap, page.text())?;
+    kind_on(heap, base.as_str(), dest)
+}
+
+/// What a destination leads to on the encoded path of a page.
+#[tactic(auto, unfolding(crate::specs::Links::kind_on))]
+pub fn kind_on(heap: Heap, base: &str, dest: &str) -> Result<LinkKind, Memory>
+    ensures { IfOk result (λ kind. kind ≡ kind_on (rooted (segments base.now)) dest.now) }
+{
+    let reference = Reference::parse(dest);
+    if let Some(_) = reference.scheme {
+        return Ok(LinkKind::External);
+    }
+    if let Some(_) = reference.authority {
+        return Ok(LinkKind::External);
+    }
+    let Some(path) = target_on(heap, base, reference.path)? else {
+        return Ok(LinkKind::Nowhere);
+    };
+    let anchor = anchor_of(heap, reference.fragment)?;
+    Ok(LinkKind::Page { path, anchor })
+}
+
+/// The page at the path of a reference.
+fn target_on(heap: Heap, base: &str, path: &str) -> Result<Option<Path>, Memory>
+    ensures { IfOk result (λ target. target ≡ target_on (segments base.now) (segments path.now)) }
+{
+    let mut parts = Vec::new(heap);
+    parts.push("")?;
+    push_segments(&mut parts, base)?;
+    let found = path_on(heap, None, parts, path)?;
+    let Some((_, written)) = found.as_slice().split_first() else {
+        return Ok(None);
+    };
+    written_path(heap, written)
+}
+
+/// The anchor that a fragment names.
+fn anchor_of(heap: Heap, fragment: Option<&str>) -> Result<Option<Text>, Memory>
+    ensures { IfOk result (λ anchor. anchor ≡ anchor_of (option_copied fragment.entry)) }
+{
+    let Some(text) = fragment else {
+        return Ok(None);
+    };
+    if text.is_empty() {
+        return Ok(None);
+    }
+    Ok(Some(decoded_text(heap, text)?))
+}
+
+/// What the text stands for, or the text itself where that is no UTF-8.
+fn decoded_text(heap: Heap, text: &str) -> Result<Text, Memory>
+    ensures { IfOk result (λ decoded. decoded ≡ decoded_text text.now) }
+{
+    let mut bytes = Vec::new(heap);
+    percent_decode(text.as_bytes()).append_to(&mut bytes)?;
+    match from_utf8(&bytes) {
+        Ok(decoded) => Text::copy_of(heap, decoded),
+        Err(_) => Text::copy_of(heap, text),
+    }
 }
