@@ -178,4 +178,3 @@ abnormal_18 = refl
 abnormal_19 : resolved (codes "http:g") ≡ codes "http:g"
 unfolding reference put_all without_dots resolve recomposed
 abnormal_19 = refl
-

@@ -71,7 +71,7 @@ with_hierarchy text query fragment =
       authority = authority_by (behind_slashes rest);
       path = segments (path_by rest (behind_slashes rest));
       query = query;
-      fragment = fragment
+      fragment = fragment;
     }
 
 -- appendix B, from its end: `(#(.*))?`, `(\?([^#]*))?`, `([^?#]*)`, `(//([^/?#]*))?`, `(([^:/?#]+):)?`
@@ -87,5 +87,5 @@ uri_of r = record {
   authority = option_copied r.authority;
   path = segments r.path.now;
   query = option_copied r.query;
-  fragment = option_copied r.fragment
+  fragment = option_copied r.fragment;
 }

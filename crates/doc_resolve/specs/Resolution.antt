@@ -47,7 +47,7 @@ on_base base r = record {
   authority = base.authority;
   path = path_on base.authority base.path r.path;
   query = query_on base.query r.path r.query;
-  fragment = r.fragment
+  fragment = r.fragment;
 }
 
 -- section 5.2.2, where it has one of them: its own components with this scheme
@@ -57,7 +57,7 @@ on_its_own scheme r = record {
   authority = r.authority;
   path = without_dots r.path;
   query = r.query;
-  fragment = r.fragment
+  fragment = r.fragment;
 }
 
 -- section 5.2.2, strict, by the reference's scheme and authority
@@ -88,5 +88,5 @@ uri_of_resolved r = record {
   authority = option_copied r.authority;
   path = map (λ s. s.now) r.path.items;
   query = option_copied r.query;
-  fragment = option_copied r.fragment
+  fragment = option_copied r.fragment;
 }

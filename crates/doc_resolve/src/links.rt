@@ -1,9 +1,11 @@
 //! What the links of a page lead to.
 
-ghost use Rattle.std.specs.Prelude.{◌≡◌, IfOk, option_copied};
+ghost use Rattle.std.specs.Prelude.{◌≡◌, [], ◌∷◌, map, IfOk, option_copied};
+ghost use Rattle.percent_encoding.specs.Percent.{percent_decode};
 ghost use Rattle.doc_page.specs.Paths.{segments};
 ghost use Rattle.doc_resolve.specs.Links.{classify, kind_on, rooted, anchor_of, decoded_text};
 ghost use Rattle.doc_resolve.specs.LinkSteps.{target_on};
+ghost use Rattle.doc_resolve.specs.Resolution.{path_on};
 
 use crate::dot_segments::push_segments;
 use crate::encoding::encoded_path;
@@ -49,14 +51,21 @@ pub fn kind_on(heap: Heap, base: &str, dest: &str) -> Result<LinkKind, Memory>
 fn target_on(heap: Heap, base: &str, path: &str) -> Result<Option<Path>, Memory>
     ensures { IfOk result (λ target. target ≡ target_on (segments base.now) (segments path.now)) }
 {
-    let mut parts = Vec::new(heap);
-    parts.push("")?;
-    push_segments(&mut parts, base)?;
-    let found = path_on(heap, None, parts, path)?;
+    let found = rooted_path_on(heap, base, path)?;
     let Some((_, written)) = found.as_slice().split_first() else {
         return Ok(None);
     };
     written_path(heap, written)
+}
+
+/// The path of a reference, on `/` and a path.
+fn rooted_path_on<'a>(heap: Heap, base: &'a str, path: &'a str) -> Result<Vec<&'a str>, Memory>
+    ensures { IfOk result (λ found. map (λ s. s.now) found.items ≡ path_on None ([] ∷ segments base.entry.now) (segments path.entry.now)) }
+{
+    let mut parts = Vec::new(heap);
+    parts.push("")?;
+    push_segments(&mut parts, base)?;
+    path_on(heap, None, parts, path)
 }
 
 /// The anchor that a fragment names.
@@ -76,10 +85,18 @@ fn anchor_of(heap: Heap, fragment: Option<&str>) -> Result<Option<Text>, Memory>
 fn decoded_text(heap: Heap, text: &str) -> Result<Text, Memory>
     ensures { IfOk result (λ decoded. decoded ≡ decoded_text text.now) }
 {
-    let mut bytes = Vec::new(heap);
-    percent_decode(text.as_bytes()).append_to(&mut bytes)?;
+    let bytes = decoded(heap, text)?;
     match from_utf8(&bytes) {
         Ok(decoded) => Text::copy_of(heap, decoded),
         Err(_) => Text::copy_of(heap, text),
     }
+}
+
+/// The bytes that the text stands for.
+fn decoded(heap: Heap, text: &str) -> Result<Vec<u8>, Memory>
+    ensures { IfOk result (λ bytes. bytes.items ≡ percent_decode text.now) }
+{
+    let mut bytes = Vec::new(heap);
+    percent_decode(text.as_bytes()).append_to(&mut bytes)?;
+    Ok(bytes)
 }
