@@ -1,15 +1,17 @@
 -- Percent-encoding a path, segment by segment and as a whole.
-use Rattle.std.proofs.Common.{◌≡◌, ℕ, suc, ◌+◌, ◌<◌, lit<, ◌==◌, not, ◌||◌, true, false, cond, List, [], ◌∷◌, ◌++◌, length, get_or, map, refl, sym, ap, ◌∙◌, arith, inl, inr}
-use Rattle.std.specs.List.{slice_split, onto_first, join_with_byte}
+use Rattle.std.proofs.Common.{◌≡◌, ℕ, suc, ◌+◌, ◌<◌, lit<, ◌==◌, not, ◌||◌, Bool, false, cond, List, [], ◌∷◌, ◌++◌, length, get_or, map, refl, sym, ap, ◌∙◌, arith, inl, inr}
+use Rattle.std.specs.List.{onto_first, join_with_byte, flat_map}
 use Rattle.std.proofs.lemmas.Bool.{agree_below_at, cases_Bool, cond_both}
 use Rattle.std.proofs.lemmas.Bool.Decides.{nat_tests}
 use Rattle.std.proofs.lemmas.List.Splits.{slice_split-cons_yes, slice_split-cons_no, length-slice_split, join_with_byte-slice_split}
+use Rattle.percent_encoding.specs.declared.ascii_set.AsciiSet.{AsciiSet}
 use Rattle.percent_encoding.specs.AsciiSet.{should_percent_encode}
 use Rattle.percent_encoding.specs.Percent.{percent_encode, percent_encode_byte}
 use Rattle.percent_encoding.proofs.PercentLemmas.{percent_encode-nil, percent_encode_escaped, percent_encode_kept, All-percent_encode_byte, IsEscapeByte}
 use Rattle.doc_page.specs.Paths.{segments}
 use Rattle.doc_resolve.specs.Encoding.{is_unreserved, encoded, encoded_path}
-use Rattle.doc_resolve.specs.declared.encoding.TheConstants.{SEGMENT, PATH}
+use Rattle.doc_resolve.specs.Hrefs.{is_kept, destination}
+use Rattle.doc_resolve.specs.declared.encoding.TheConstants.{SEGMENT, PATH, DESTINATION}
 
 -- the sets of the code
 in_segment : (b : ℕ) → b < 256 → should_percent_encode SEGMENT b ≡ not (is_unreserved b)
@@ -19,6 +21,10 @@ in_segment b small = agree_below_at (should_percent_encode SEGMENT) (λ x. not (
 in_path : (b : ℕ) → b < 256 → should_percent_encode PATH b ≡ not (b == 47 || is_unreserved b)
 unfolding should_percent_encode
 in_path b small = agree_below_at (should_percent_encode PATH) (λ x. not (x == 47 || is_unreserved x)) 256 b refl small
+
+in_destination : (b : ℕ) → b < 256 → should_percent_encode DESTINATION b ≡ not (is_kept b)
+unfolding should_percent_encode
+in_destination b small = agree_below_at (should_percent_encode DESTINATION) (λ x. not (is_kept x)) 256 b refl small
 
 -- each byte of the text is one
 abbrev pub IsBytes : List ℕ → Type 0
@@ -39,22 +45,35 @@ encoded-nil : encoded [] ≡ []
 unfolding encoded
 encoded-nil = refl
 
--- by the set of a segment
-pub encoded-by_set : (text : List ℕ) → IsBytes text → percent_encode SEGMENT text ≡ encoded text
-encoded-by_set [] small = percent_encode-nil SEGMENT ∙ sym encoded-nil
-encoded-by_set (b ∷ text) small =
-    let law = in_segment b (small 0 (omega arith)) in
-    let rest = encoded-by_set text (is_bytes-rest b text small) in
-    elim (cases_Bool (is_unreserved b)) [
-      | inl kept ↦
-          percent_encode_kept SEGMENT b text (law ∙ ap not kept)
+-- a text, encoded byte by byte but for those that are kept
+abbrev encoded_but : (ℕ → Bool) → List ℕ → List ℕ
+encoded_but kept text = flat_map (λ b. cond (kept b) (b ∷ []) (percent_encode_byte b)) text
+
+by_set : (set : AsciiSet) (kept : ℕ → Bool) → ((b : ℕ) → b < 256 → should_percent_encode set b ≡ not (kept b)) → (text : List ℕ) → IsBytes text → percent_encode set text ≡ encoded_but kept text
+by_set set kept law [] small = percent_encode-nil set
+by_set set kept law (b ∷ text) small =
+    let here = law b (small 0 (omega arith)) in
+    let rest = by_set set kept law text (is_bytes-rest b text small) in
+    let more = encoded_but kept text in
+    elim (cases_Bool (kept b)) [
+      | inl is ↦
+          percent_encode_kept set b text (here ∙ ap not is)
           ∙ ap (λ r. b ∷ r) rest
-          ∙ sym (encoded-first b text ∙ ap (λ v. cond v (b ∷ []) (percent_encode_byte b) ++ encoded text) kept)
-      | inr escaped ↦
-          percent_encode_escaped SEGMENT b text (law ∙ ap not escaped)
+          ∙ sym (ap (λ v. cond v (b ∷ []) (percent_encode_byte b) ++ more) is)
+      | inr is ↦
+          percent_encode_escaped set b text (here ∙ ap not is)
           ∙ ap (λ r. percent_encode_byte b ++ r) rest
-          ∙ sym (encoded-first b text ∙ ap (λ v. cond v (b ∷ []) (percent_encode_byte b) ++ encoded text) escaped)
+          ∙ sym (ap (λ v. cond v (b ∷ []) (percent_encode_byte b) ++ more) is)
     ]
+
+-- by the set of a segment, and by that of a destination
+pub encoded-by_set : (text : List ℕ) → IsBytes text → percent_encode SEGMENT text ≡ encoded text
+unfolding encoded
+encoded-by_set text small = by_set SEGMENT is_unreserved in_segment text small
+
+pub destination-by_set : (text : List ℕ) → IsBytes text → percent_encode DESTINATION text ≡ destination text
+unfolding destination
+destination-by_set text small = by_set DESTINATION is_kept in_destination text small
 
 -- the parts of a text that begins with these bytes, none of which is `/`
 abbrev onto_all : List ℕ → List (List ℕ) → List (List ℕ)
@@ -96,24 +115,22 @@ encoded-onto b (part ∷ parts) some =
     ap (λ p. p ∷ map encoded parts) (encoded-first b part) ∙ sym (onto_all-cons (in_uri b) (encoded part) (map encoded parts))
 
 -- a path, encoded byte by byte, but for each `/`
-whole : List ℕ → List ℕ
-whole [] = []
-whole (b ∷ text) = cond (b == 47) (b ∷ []) (in_uri b) ++ whole text
+abbrev whole : List ℕ → List ℕ
+whole text = encoded_but (λ b. b == 47 || is_unreserved b) text
 
 segments-whole : (text : List ℕ) → segments (whole text) ≡ map encoded (segments text)
-unfolding whole
 segments-whole [] = sym (ap (λ t. t ∷ []) encoded-nil)
 segments-whole (b ∷ text) =
     elim (cases_Bool (b == 47)) [
       | inl slash ↦
-          ap (λ v. segments (cond v (b ∷ []) (in_uri b) ++ whole text)) slash
+          ap (λ v. segments (cond (v || is_unreserved b) (b ∷ []) (percent_encode_byte b) ++ whole text)) slash
           ∙ slice_split-cons_yes (λ c. c == 47) b (whole text) slash
           ∙ ap (λ parts. [] ∷ parts) (segments-whole text)
           ∙ ap (λ t. t ∷ map encoded (segments text)) (sym encoded-nil)
           ∙ sym (ap (map encoded) (slice_split-cons_yes (λ c. c == 47) b text slash))
       | inr other ↦
           let parts = length-slice_split (λ c. c == 47) text in
-          ap (λ v. segments (cond v (b ∷ []) (in_uri b) ++ whole text)) other
+          ap (λ v. segments (cond (v || is_unreserved b) (b ∷ []) (percent_encode_byte b) ++ whole text)) other
           ∙ segments-onto (in_uri b) (whole text) (in_uri_no_slash b other)
           ∙ ap (onto_all (in_uri b)) (segments-whole text)
           ∙ sym (ap (map encoded) (slice_split-cons_no (λ c. c == 47) b text other) ∙ encoded-onto b (segments text) (omega arith))
@@ -127,29 +144,6 @@ encoded_path-whole text = ap (join_with_byte 47) (sym (segments-whole text)) ∙
 pub segments-encoded_path : (text : List ℕ) → segments (encoded_path text) ≡ map encoded (segments text)
 segments-encoded_path text = ap segments (encoded_path-whole text) ∙ segments-whole text
 
-whole-by_set : (text : List ℕ) → IsBytes text → percent_encode PATH text ≡ whole text
-unfolding whole
-whole-by_set [] small = percent_encode-nil PATH
-whole-by_set (b ∷ text) small =
-    let law = in_path b (small 0 (omega arith)) in
-    let rest = whole-by_set text (is_bytes-rest b text small) in
-    elim (cases_Bool (b == 47)) [
-      | inl slash ↦
-          percent_encode_kept PATH b text (law ∙ ap (λ v. not (v || is_unreserved b)) slash)
-          ∙ ap (λ r. b ∷ r) rest
-          ∙ sym (ap (λ v. cond v (b ∷ []) (in_uri b) ++ whole text) slash)
-      | inr other ↦ elim (cases_Bool (is_unreserved b)) [
-        | inl kept ↦
-            percent_encode_kept PATH b text (law ∙ ap (λ v. not (v || is_unreserved b)) other ∙ ap not kept)
-            ∙ ap (λ r. b ∷ r) rest
-            ∙ sym (ap (λ v. cond v (b ∷ []) (in_uri b) ++ whole text) other ∙ ap (λ v. cond v (b ∷ []) (percent_encode_byte b) ++ whole text) kept)
-        | inr escaped ↦
-            percent_encode_escaped PATH b text (law ∙ ap (λ v. not (v || is_unreserved b)) other ∙ ap not escaped)
-            ∙ ap (λ r. percent_encode_byte b ++ r) rest
-            ∙ sym (ap (λ v. cond v (b ∷ []) (in_uri b) ++ whole text) other ∙ ap (λ v. cond v (b ∷ []) (percent_encode_byte b) ++ whole text) escaped)
-      ]
-    ]
-
 -- by the set of a path
 pub encoded_path-by_set : (text : List ℕ) → IsBytes text → percent_encode PATH text ≡ encoded_path text
-encoded_path-by_set text small = whole-by_set text small ∙ sym (encoded_path-whole text)
+encoded_path-by_set text small = by_set PATH (λ b. b == 47 || is_unreserved b) in_path text small ∙ sym (encoded_path-whole text)

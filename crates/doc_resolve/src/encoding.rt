@@ -3,6 +3,7 @@
 ghost use Rattle.std.specs.Prelude.{◌≡◌, ◌++◌, string_bytes, IfOk, OnOk};
 ghost use Rattle.std.specs.Cow.{cow_str_bytes};
 ghost use Rattle.doc_resolve.specs.Encoding.{encoded, encoded_path};
+ghost use Rattle.doc_resolve.specs.Hrefs.{destination};
 
 use doc_heap::{Heap, String};
 use doc_page::failure::Memory;
@@ -28,6 +29,32 @@ const PATH: AsciiSet = ascii_set!(
         .remove(b'/')
 );
 
+/// What is encoded in the href of a destination.
+const DESTINATION: AsciiSet = ascii_set!(
+    NON_ALPHANUMERIC
+        .remove(b'-')
+        .remove(b'_')
+        .remove(b'.')
+        .remove(b'+')
+        .remove(b'!')
+        .remove(b'*')
+        .remove(b'\'')
+        .remove(b'(')
+        .remove(b')')
+        .remove(b',')
+        .remove(b'%')
+        .remove(b'#')
+        .remove(b'@')
+        .remove(b'?')
+        .remove(b'=')
+        .remove(b';')
+        .remove(b':')
+        .remove(b'/')
+        .remove(b'&')
+        .remove(b'$')
+        .remove(b'~')
+);
+
 /// The path, encoded: the path itself, where no byte of it has to be.
 pub fn encoded_path<'a>(heap: Heap, path: &'a str) -> Result<CowStr<'a, Heap>, Memory>
     ensures { IfOk result (λ text. cow_str_bytes text ≡ encoded_path path.entry.now) }
@@ -47,4 +74,11 @@ pub fn push_encoded(out: &mut String, text: &str) -> Result<(), Memory>
 {
     utf8_percent_encode(text, SEGMENT).append_to(out)?;
     Ok(())
+}
+
+/// The destination as its href has it, before it is escaped: the destination itself, where no byte of it has to be encoded.
+pub fn written_destination<'a>(heap: Heap, dest: &'a str) -> Result<CowStr<'a, Heap>, Memory>
+    ensures { IfOk result (λ text. cow_str_bytes text ≡ destination dest.entry.now) }
+{
+    Ok(utf8_percent_encode(dest, DESTINATION).into_cow(heap)?)
 }

@@ -3,15 +3,19 @@
 
 mod dot_segments;
 mod encoding;
+mod goals;
 mod link_kind;
 mod links;
 mod reference;
 mod resolution;
 mod resolved;
+mod site_linker;
 mod written_paths;
 
+pub use goals::{Goals, decisions};
 pub use link_kind::LinkKind;
 pub use links::classify;
 pub use reference::Reference;
 pub use resolution::resolve;
 pub use resolved::Resolved;
+pub use site_linker::SiteLinker;
