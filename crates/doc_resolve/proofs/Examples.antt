@@ -1,5 +1,5 @@
 -- Worked examples, computed from the definitions alone.
-use Rattle.std.proofs.Common.{◌≡◌, codes, refl, List, ℕ, [], ◌∷◌}
+use Rattle.std.proofs.Common.{◌≡◌, codes, refl, List, ℕ, []}
 use Rattle.std.specs.Prelude.{Some, None}
 use Rattle.std.proofs.Math.Utf8.{encode}
 use Rattle.std.specs.Str.{chars, is_utf8}
@@ -10,9 +10,7 @@ use Rattle.doc_resolve.specs.Encoding.{encoded, encoded_path}
 use Rattle.doc_resolve.specs.Links.{kind_on, classify}
 use Rattle.doc_resolve.specs.References.{reference}
 use Rattle.doc_resolve.specs.Resolution.{resolve, recomposed}
-
 use Rattle.doc_resolve.specs.WrittenPaths.{path_written}
-use Rattle.doc_resolve.specs.declared.link_kind.LinkKind.{LinkKind}
 use Rattle.doc_resolve.specs.declared.link_kind.LinkKind.TheVariants.{External, Page, Nowhere}
 
 -- the reference, resolved on the base of the examples of RFC 3986, section 5.4
@@ -188,6 +186,7 @@ abnormal_18 = refl
 abnormal_19 : resolved (codes "http:g") ≡ codes "http:g"
 unfolding reference put_all without_dots resolve recomposed
 abnormal_19 = refl
+
 -- destinations in the page `guide/x.md`
 -- dot segments above the root go
 link_above_the_root : classify (codes "guide/x.md") (codes "../../../y.md") ≡ Page (codes "y.md") None
@@ -298,4 +297,3 @@ path_encoded = refl
 anchor_encoded : encoded (codes "a/b%") ≡ codes "a%2Fb%25"
 unfolding encoded percent_encode_byte
 anchor_encoded = refl
-

@@ -4,5 +4,6 @@ mod Examples
 pub mod JoinSteps
 pub mod LinkLaws
 pub mod ReferenceSteps
+mod ShownExamples
 pub mod WrittenPathLaws
 pub mod WrittenPathSteps

@@ -1,16 +1,15 @@
 -- What a link leads to, as the code finds it.
-use Rattle.std.proofs.Common.{◌≡◌, ℕ, List, [], ◌∷◌, length, drop, Option, Some, None, refl, sym, ap, ◌∙◌, arith, true, false, cond, map, Bor}
+use Rattle.std.proofs.Common.{◌≡◌, ℕ, List, [], ◌∷◌, length, drop, Option, None, refl, sym, ap, ◌∙◌, arith, Bor}
 use Rattle.std.specs.Str.{IsUtf8, is_utf8}
 use Rattle.std.proofs.lemmas.Bool.{cond_both, cond-true}
 use Rattle.std.proofs.lemmas.Str.{is_utf8-from_IsUtf8, IsUtf8-from_is_utf8}
 use Rattle.percent_encoding.specs.Percent.{percent_decode}
-use Rattle.doc_page.specs.Paths.{is_path, segments}
+use Rattle.doc_page.specs.Paths.{is_path}
 use Rattle.doc_resolve.specs.LinkSteps.{target_on}
 use Rattle.doc_resolve.specs.Links.{rooted, kind_by, kind_on, kind_of_target, page_or_nowhere, anchor_of, decoded_text}
 use Rattle.doc_resolve.specs.References.{Uri, reference}
 use Rattle.doc_resolve.specs.Resolution.{resolve, resolve_by}
 use Rattle.doc_resolve.specs.WrittenPaths.{path_written}
-use Rattle.doc_resolve.specs.declared.link_kind.LinkKind.{LinkKind}
 use Rattle.doc_resolve.proofs.DotSteps.{texts}
 
 -- what a reference with neither scheme nor authority leads to

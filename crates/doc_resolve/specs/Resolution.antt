@@ -1,5 +1,5 @@
 -- How a reference is resolved on a base (RFC 3986, section 5).
-use Rattle.std.specs.Prelude.{ℕ, List, [], ◌∷◌, ◌++◌, map, Bool, true, false, ◌&&◌, codes, Option, Some, None, is_some, if◌then◌else◌}
+use Rattle.std.specs.Prelude.{ℕ, List, [], ◌∷◌, ◌++◌, map, Bool, false, ◌&&◌, codes, Option, Some, None, is_some, if◌then◌else◌}
 use Rattle.std.specs.List.{join_with_byte}
 use Rattle.std.specs.Option.{option_copied}
 use Rattle.doc_page.specs.Pages.{is_empty}

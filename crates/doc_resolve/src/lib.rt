@@ -2,7 +2,7 @@
 #![tactic(auto)]
 
 mod dot_segments;
-mod encoding;
+pub mod encoding;
 mod goals;
 mod link_kind;
 mod links;

@@ -46,12 +46,7 @@ impl<'a, S: Goals> Linker for SiteLinker<'a, S> {
 }
 
 /// A link by what it leads to.
-fn shown_by<S: Goals>(
-    heap: Heap,
-    sight: &S,
-    dest: &str,
-    kind: &LinkKind,
-) -> Result<Shown, Memory>
+fn shown_by<S: Goals>(heap: Heap, sight: &S, dest: &str, kind: &LinkKind) -> Result<Shown, Memory>
     ensures { IfOk result (λ how. how ≡ shown_by (S.goals sight.now) dest.now kind.now) }
 {
     match kind {

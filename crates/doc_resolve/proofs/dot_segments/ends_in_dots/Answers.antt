@@ -1,4 +1,4 @@
-use Rattle.std.proofs.Common.{◌∙◌, ap, sym, map, []}
+use Rattle.std.proofs.Common.{◌∙◌, ap, sym}
 use Rattle.std.proofs.lemmas.List.{map-append}
 use Rattle.doc_resolve.specs.DotSegments.{ends_in_dots}
 use Rattle.doc_resolve.proofs.DotSteps.{texts, ends_in_dots-last}
