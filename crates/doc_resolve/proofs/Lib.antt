@@ -2,6 +2,7 @@ pub mod DotSteps
 pub mod EncodingLaws
 mod Examples
 pub mod JoinSteps
+mod LetterExamples
 pub mod LinkLaws
 pub mod ReferenceSteps
 mod ShownExamples
