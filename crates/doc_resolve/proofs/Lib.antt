@@ -1,3 +1,4 @@
+pub mod DecisionLaws
 pub mod DotSteps
 pub mod EncodingLaws
 mod Examples

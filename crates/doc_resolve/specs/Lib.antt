@@ -2,6 +2,7 @@ pub mod Decisions
 pub mod DotSegments
 pub mod Encoding
 pub mod Hrefs
+pub mod Laws
 pub mod LinkSteps
 pub mod Links
 pub mod References

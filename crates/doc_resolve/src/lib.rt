@@ -4,6 +4,7 @@
 mod dot_segments;
 pub mod encoding;
 mod goals;
+pub mod laws;
 mod link_kind;
 mod links;
 mod reference;
