@@ -1,0 +1,11 @@
+pub mod DecisionLaws
+pub mod DotSteps
+pub mod EncodingLaws
+mod Examples
+pub mod JoinSteps
+mod LetterExamples
+pub mod LinkLaws
+pub mod ReferenceSteps
+mod ShownExamples
+pub mod WrittenPathLaws
+pub mod WrittenPathSteps

@@ -1,0 +1,13 @@
+-- Laws of links; the proofs are in proofs/.
+use Rattle.std.specs.Prelude.{◌≡◌, ℕ, List, Option}
+use Rattle.doc_page.specs.Pages.{filled}
+use Rattle.doc_page.specs.declared.rendered.Rendered.{Rendered}
+use Rattle.doc_resolve.specs.Decisions.{decisions}
+use Rattle.doc_resolve.specs.Hrefs.{shown}
+
+-- a page is filled alike for two readers for whom its links are decided alike
+abbrev pub LinksAreDecided : Type 0
+LinksAreDecided =
+    (one other : List ℕ → Option (List ℕ)) (page : List ℕ) (rendered : Rendered)
+    → decisions one page rendered ≡ decisions other page rendered
+    → filled (shown one page) rendered ≡ filled (shown other page) rendered

@@ -1,0 +1,11 @@
+pub mod Decisions
+pub mod DotSegments
+pub mod Encoding
+pub mod Hrefs
+pub mod Laws
+pub mod LinkSteps
+pub mod Links
+pub mod References
+pub mod Resolution
+pub mod WrittenPathSteps
+pub mod WrittenPaths

@@ -1,0 +1,86 @@
+//! Paths of pages, as the paths of URIs write them.
+
+ghost use Rattle.std.specs.Prelude.{◌≡◌, ◌≤◌, ◌++◌, ◌∷◌, length, map, drop, not, codes, option_map, IfOk, OnOk, if◌then◌else◌};
+ghost use Rattle.percent_encoding.specs.Percent.{percent_decode};
+ghost use Rattle.doc_resolve.specs.WrittenPaths.{path_written, holds_slash};
+ghost use Rattle.doc_resolve.specs.WrittenPathSteps.{decoded_segments, ends_empty, index_of, path_of_bytes};
+
+use doc_heap::{Heap, Vec};
+use doc_page::failure::Memory;
+use doc_page::path::{Path, PathError};
+use percent_encoding::percent_decode;
+use std::str::from_utf8;
+
+const INDEX: &str = "index.md";
+
+/// The path of the page that the segments of a URI's path write, behind its first `/`. `None` where they write none: where one of
+/// them stands for bytes that aren't UTF-8 or that hold `/`, or where the whole is no path of a page.
+pub fn written_path(heap: Heap, parts: &[&str]) -> Result<Option<Path>, Memory>
+    ensures { IfOk result (λ path. path ≡ path_written (map (λ s. s.now) parts.now)) }
+{
+    let Some(mut text) = decoded_segments(heap, parts)? else {
+        return Ok(None);
+    };
+    add_index(&mut text, parts)?;
+    path_after_slash(heap, &text)
+}
+
+/// The segments, decoded, each after a `/`; `None` where one of them holds a `/` then.
+fn decoded_segments(heap: Heap, parts: &[&str]) -> Result<Option<Vec<u8>>, Memory>
+    ensures { IfOk result (λ text. option_map (λ v. v.items) text ≡ decoded_segments (map (λ s. s.now) parts.now)) }
+{
+    let mut text = Vec::new(heap);
+    for segment in parts {
+        if !push_segment(&mut text, segment)? {
+            return Ok(None);
+        }
+    }
+    Ok(Some(text))
+}
+
+/// Adds a `/` and the segment, decoded. False where that holds a `/`.
+fn push_segment(text: &mut Vec<u8>, segment: &str) -> Result<bool, Memory>
+    ensures good { IfOk result (λ good. good ≡ not (holds_slash (percent_decode segment.now))) }
+    ensures text { OnOk result (text.new.items ≡ text.old.items ++ 47 ∷ percent_decode segment.now) }
+{
+    text.push(b'/')?;
+    let start = text.len();
+    percent_decode(segment.as_bytes()).append_to(text)?;
+    Ok(!text[start..].contains(&b'/'))
+}
+
+/// Adds the page of a folder.
+fn add_index(text: &mut Vec<u8>, parts: &[&str]) -> Result<(), Memory>
+    ensures { OnOk result (text.new.items ≡ text.old.items ++ index_of (map (λ s. s.now) parts.now)) }
+{
+    if ends_empty(parts) {
+        text.extend_from_slice(INDEX.as_bytes())?;
+    }
+    Ok(())
+}
+
+fn ends_empty(parts: &[&str]) -> bool
+    ensures { result ≡ ends_empty (map (λ s. s.now) parts.now) }
+{
+    match parts.split_last() {
+        Some((last, _)) => last.is_empty(),
+        None => false,
+    }
+}
+
+/// The path that the bytes after the first are.
+fn path_after_slash(heap: Heap, rooted: &[u8]) -> Result<Option<Path>, Memory>
+    ensures { IfOk result (λ path. path ≡ path_of_bytes (drop 1 rooted.now)) }
+{
+    let Some((_, bytes)) = rooted.split_first() else {
+        return Ok(None);
+    };
+    let Ok(text) = from_utf8(bytes) else {
+        return Ok(None);
+    };
+    match Path::new(heap, text) {
+        Ok(path) => Ok(Some(path)),
+        Err(PathError::BadPath) => Ok(None),
+        Err(PathError::Memory) => Err(Memory),
+    }
+}
