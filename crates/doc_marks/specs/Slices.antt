@@ -20,7 +20,7 @@ slice_in (End span) = []
 -- these texts stand in the text one after another
 abbrev pub StandIn : rules.Text → List rules.Text → Type 0
 StandIn text [] = ⊤
-StandIn text (slice ∷ more) = ∃ (gap : rules.Text) → ∃ (rest : rules.Text) → (text ≡ gap ++ (slice ++ rest)) × StandIn rest more
+StandIn text (slice ∷ more) = (gap : rules.Text) × (rest : rules.Text) × ((text ≡ gap ++ (slice ++ rest)) × StandIn rest more)
 
 -- the slices of the marks stand in the text one after another
 abbrev pub AreSlices : rules.Text → List Mark → Type 0
