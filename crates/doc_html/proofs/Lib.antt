@@ -1,1 +1,4 @@
+pub mod CodeSteps
 pub mod EscapeSteps
+pub mod InlineLaws
+pub mod WriterSteps

@@ -1,0 +1,2 @@
+pub mod InlineSteps
+pub mod Progress
