@@ -1,4 +1,6 @@
 pub mod CodeSteps
 pub mod EscapeSteps
 pub mod InlineLaws
+pub mod TellingSteps
+pub mod WordSteps
 pub mod WriterSteps

@@ -1,2 +1,3 @@
 pub mod InlineSteps
 pub mod Progress
+pub mod Telling

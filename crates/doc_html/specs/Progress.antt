@@ -36,7 +36,7 @@ anchored level text used anchor p = record {
 
 -- a heading is met: where headings get anchors, the next one is written
 unfoldable pub heading_met_at : Option (List Text) → ℕ → Text → Progress → Progress
-heading_met_at None level text p = p
+heading_met_at None level text p = text_met text p
 heading_met_at (Some used) level text p = anchored level text used (free_anchor used (anchor_name text)) p
 
 abbrev pub heading_met : ℕ → Text → Progress → Progress
