@@ -4,3 +4,5 @@ pub mod InlineLaws
 pub mod TellingSteps
 pub mod WordSteps
 pub mod WriterSteps
+pub mod WrittenSteps
+pub mod TellingLaws

@@ -101,6 +101,10 @@ some_class holds a b c d word rest first e f g h =
 
 -- ---- blocks
 
+pub none_told : (P : Progress → Type 0) (table : Table) (refs : List Definition) (tight : Bool) (p : Progress) → P p → P (blocks_told table refs tight none p)
+unfolding blocks_told
+none_told P table refs tight p h = h
+
 module _ {W : Type 0} (holds : W → Progress → Type 0) (table : Table) (refs : List Definition) (tight : Bool) (p : Progress) where
   pub leaf_block : (a b : W) (block : Block) (leaf : Leaf) (before : Blocks) → behind block before ≡ before ▹ leaf →
       holds a (blocks_told table refs tight before p) → Goes holds a b (leaf_told table refs tight leaf) → holds b (blocks_told table refs tight (behind block before) p)

@@ -1,3 +1,4 @@
 pub mod InlineSteps
 pub mod Progress
 pub mod Telling
+pub mod Written

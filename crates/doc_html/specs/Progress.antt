@@ -1,17 +1,19 @@
 -- What was made of a document so far: what is written, and what a page keeps beside it.
 use Rattle.std.specs.Prelude.{ℕ, true, false, List, [], ◌∷◌, ◌++◌, codes, Option, Some, None}
+use Rattle.doc_page.specs.declared.linker.Shown.{Shown}
 use Rattle.doc_rules.specs.Characters.{Text}
 use Rattle.doc_rules.specs.Anchors.{anchor_name, free_anchor}
 use Rattle.doc_rules.specs.Escaping.{html_escape}
 use Rattle.doc_rules.specs.Html.{Output, characters, is_fresh}
 use Rattle.doc_rules.specs.Pages.{PageHeading}
 
--- what is written, the anchors that are used (the last one first) where headings get anchors, and the headings and texts met
+-- what is written, the anchors that are used (the last one first) where headings get anchors, the headings and texts met, and how links are shown
 pub record Progress : Type 0 where
   pub output : Output
   pub used : Option (List Text)
   pub headings : List PageHeading
   pub texts : List Text
+  pub shown : List ℕ → Shown
 
 -- more is written
 abbrev pub told : Output → Progress → Progress
@@ -32,6 +34,7 @@ anchored level text used anchor p = record {
   used = Some (anchor ∷ used);
   headings = p.headings ++ record { level = level; anchor = anchor; text = text } ∷ [];
   texts = p.texts ++ text ∷ [];
+  shown = p.shown;
 }
 
 -- a heading is met: where headings get anchors, the next one is written
@@ -49,3 +52,7 @@ Goes holds old new step = (p : Progress) → holds old p → holds new (step p)
 -- .. and this was written
 abbrev pub Writes : {W : Type 0} → (W → Progress → Type 0) → W → W → Output → Type 0
 Writes holds old new output = Goes holds old new (told output)
+
+-- nothing is written yet, where links are shown like this
+abbrev pub begun : (List ℕ → Shown) → Option (List Text) → Progress
+begun shown used = record { output = []; used = used; headings = []; texts = []; shown = shown }

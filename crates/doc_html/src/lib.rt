@@ -3,8 +3,12 @@
 
 mod blocks;
 mod code;
+mod document;
 mod escaping;
+mod html_writer;
 mod inlines;
 mod leaves;
 mod reading;
 mod writer;
+
+pub use document::to_html;

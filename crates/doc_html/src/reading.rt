@@ -13,6 +13,7 @@ use doc_page::failure::Memory;
 use doc_refs::RefMap;
 
 /// What the inlines of a document are read with.
+#[derive(Drop)]
 pub(crate) struct Source<'d> {
     pub(crate) heap: Heap,
     pub(crate) refs: &'d RefMap,
