@@ -6,3 +6,4 @@ pub mod WordSteps
 pub mod WriterSteps
 pub mod WrittenSteps
 pub mod TellingLaws
+pub mod PlainLinkSteps

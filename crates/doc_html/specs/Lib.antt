@@ -2,3 +2,4 @@ pub mod InlineSteps
 pub mod Progress
 pub mod Telling
 pub mod Written
+pub mod PlainLinks

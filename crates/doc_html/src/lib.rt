@@ -8,7 +8,11 @@ mod escaping;
 mod html_writer;
 mod inlines;
 mod leaves;
+mod plain_linker;
 mod reading;
+mod rendering;
 mod writer;
 
 pub use document::to_html;
+pub use plain_linker::PlainLinker;
+pub use rendering::render_plain;
