@@ -1,0 +1,9 @@
+pub mod CodeSteps
+pub mod EscapeSteps
+pub mod InlineLaws
+pub mod TellingSteps
+pub mod WordSteps
+pub mod WriterSteps
+pub mod WrittenSteps
+pub mod TellingLaws
+pub mod PlainLinkSteps

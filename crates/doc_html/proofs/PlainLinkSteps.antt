@@ -1,0 +1,126 @@
+-- Destinations are escaped by bytes as by characters.
+use Rattle.std.proofs.Common.{◌≡◌, ℕ, ◌+◌, ◌≤◌, ◌<◌, inl, inr, Bool, true, false, List, [], ◌∷◌, ◌++◌, refl, ap, sym, ◌∙◌, subst, arith}
+use Rattle.std.specs.Prelude.{◌||◌, ◌&&◌, ◌==◌, ◌/◌, ◌%◌, nat_lt, flat_map, encode_utf8_all, codes}
+use Rattle.std.specs.Char.{encode_utf8, is_ascii_alphanumeric}
+use Rattle.std.specs.Str.{chars, IsUtf8}
+use Rattle.std.specs.List.{AllByRecursion}
+use Rattle.std.proofs.lemmas.Bool.{ne_eqb, lt-ltb, le-ltb, cases_lt}
+use Rattle.std.proofs.lemmas.Bool.Decides.{nat_tests}
+use Rattle.std.proofs.lemmas.List.Concat.{flat_map-append}
+use Rattle.std.proofs.lemmas.Str.{encodes-chars}
+use Rattle.doc_page.specs.declared.linker.Shown.TheVariants.{Href}
+use Rattle.doc_rules.specs.Characters.{Text, one_of}
+use Rattle.doc_rules.specs.Escaping.{percent, url_char, url_escape}
+use Rattle.doc_rules.specs.Entities.{Table}
+use Rattle.doc_rules.specs.Blocks.{Blocks, document_of}
+use Rattle.doc_rules.specs.Html.{plain_linker, html_of, rendered_plain}
+use Rattle.doc_rules.specs.Pages.{encoded_shown}
+use Rattle.doc_rules.specs.Laws.{ShowsAlike}
+use Rattle.doc_html.specs.InlineSteps.{is_ascii}
+use Rattle.doc_html.specs.PlainLinks.{url_byte, plain_shown}
+
+two : (a b : Bool) → a && b ≡ true → (a ≡ true) × (b ≡ true)
+two true true h = (refl, refl)
+two true false h = cc
+two false b h = cc
+
+no_mark : (set : Text) (c : ℕ) → is_ascii set ≡ true → 128 ≤ c → one_of set c ≡ false
+no_mark [] c h g = refl
+no_mark (d ∷ set) c h g =
+    let both : _ = two (nat_lt d 128) (is_ascii set) h in
+    let low : d < 128 = grind (arith, nat_tests, both.0) in
+    ap (λ b. b || one_of set c) (ne_eqb c d (λ e. omega arith)) ∙ no_mark set c both.1 g
+
+no_letter : (c : ℕ) → 128 ≤ c → is_ascii_alphanumeric c ≡ false
+no_letter c h = grind (arith, nat_tests)
+
+stays_not : (c : ℕ) → 128 ≤ c → (is_ascii_alphanumeric c || one_of (codes "-_.+!*'(),%#@?=;:/$~") c) ≡ false
+stays_not c h = ap (λ b. b || one_of (codes "-_.+!*'(),%#@?=;:/$~") c) (no_letter c h) ∙ no_mark (codes "-_.+!*'(),%#@?=;:/$~") c refl h
+
+abbrev byte_at : ℕ → Bool → Bool → List ℕ
+byte_at b stays and = elim stays [ true ↦ b ∷ [] | false ↦ elim and [ true ↦ codes "&amp;" | false ↦ percent b ] ]
+
+abbrev Percented : ℕ → Type 0
+Percented b = url_byte b ≡ percent b
+
+high_byte : (b : ℕ) → 128 ≤ b → Percented b
+unfolding url_byte
+high_byte b h = ap (λ s. byte_at b s (b == 38)) (stays_not b h) ∙ ap (byte_at b false) (ne_eqb b 38 (λ e. omega arith))
+
+high_sum : (k n : ℕ) → 128 ≤ k → Percented (k + n)
+high_sum k n h = high_byte (k + n) (omega arith)
+
+all_percented : (bytes : List ℕ) → AllByRecursion Percented bytes → flat_map percent bytes ≡ flat_map url_byte bytes
+all_percented [] h = refl
+all_percented (b ∷ bytes) h = ap (λ front. front ++ flat_map percent bytes) (sym h.0) ∙ ap (λ more. url_byte b ++ more) (all_percented bytes h.1)
+
+one_byte : (c : ℕ) → c < 128 → encode_utf8 c ≡ c ∷ []
+unfolding encode_utf8
+one_byte c l = rw (lt-ltb c 128 l)
+
+two_bytes : (c : ℕ) → 128 ≤ c → c < 2048 → encode_utf8 c ≡ (192 + c / 64) ∷ (128 + c % 64) ∷ []
+unfolding encode_utf8
+two_bytes c l h = rw (le-ltb c 128 l, lt-ltb c 2048 h)
+
+three_bytes : (c : ℕ) → 2048 ≤ c → c < 65536 → encode_utf8 c ≡ (224 + c / 4096) ∷ (128 + (c / 64) % 64) ∷ (128 + c % 64) ∷ []
+unfolding encode_utf8
+three_bytes c l h = rw (le-ltb c 128 (omega arith), le-ltb c 2048 l, lt-ltb c 65536 h)
+
+four_bytes : (c : ℕ) → 65536 ≤ c → encode_utf8 c ≡ (240 + c / 262144) ∷ (128 + (c / 4096) % 64) ∷ (128 + (c / 64) % 64) ∷ (128 + c % 64) ∷ []
+unfolding encode_utf8
+four_bytes c l = rw (le-ltb c 128 (omega arith), le-ltb c 2048 (omega arith), le-ltb c 65536 l)
+
+high_bytes : (c : ℕ) → 128 ≤ c → AllByRecursion Percented (encode_utf8 c)
+high_bytes c h =
+    elim (cases_lt c 2048) [
+      | inl l ↦ subst (AllByRecursion Percented) (sym (two_bytes c h l)) (high_sum 192 (c / 64) (omega arith), (high_sum 128 (c % 64) (omega arith), tt))
+      | inr g ↦ elim (cases_lt c 65536) [
+        | inl l ↦ subst (AllByRecursion Percented) (sym (three_bytes c g l)) (high_sum 224 (c / 4096) (omega arith), (high_sum 128 ((c / 64) % 64) (omega arith), (high_sum 128 (c % 64) (omega arith), tt)))
+        | inr k ↦ subst (AllByRecursion Percented) (sym (four_bytes c k))
+            (high_sum 240 (c / 262144) (omega arith), (high_sum 128 ((c / 4096) % 64) (omega arith), (high_sum 128 ((c / 64) % 64) (omega arith), (high_sum 128 (c % 64) (omega arith), tt))))
+      ]
+    ]
+
+abbrev char_at : ℕ → Bool → Bool → List ℕ → List ℕ
+char_at c stays and bytes = elim stays [ true ↦ c ∷ [] | false ↦ elim and [ true ↦ codes "&amp;" | false ↦ flat_map percent bytes ] ]
+
+low_at : (c : ℕ) (stays and : Bool) → char_at c stays and (c ∷ []) ≡ byte_at c stays and ++ []
+low_at c true and = refl
+low_at c false true = refl
+low_at c false false = refl
+
+abbrev stays_of : ℕ → Bool
+stays_of c = is_ascii_alphanumeric c || one_of (codes "-_.+!*'(),%#@?=;:/$~") c
+
+low : (c : ℕ) → c < 128 → url_char c ≡ flat_map url_byte (encode_utf8 c)
+unfolding url_char url_byte
+low c l = ap (char_at c (stays_of c) (c == 38)) (one_byte c l) ∙ (low_at c (stays_of c) (c == 38) ∙ ap (flat_map url_byte) (sym (one_byte c l)))
+
+high : (c : ℕ) → 128 ≤ c → url_char c ≡ flat_map url_byte (encode_utf8 c)
+unfolding url_char
+high c h =
+    ap (λ s. char_at c s (c == 38) (encode_utf8 c)) (stays_not c h)
+    ∙ (ap (λ a. char_at c false a (encode_utf8 c)) (ne_eqb c 38 (λ e. omega arith)) ∙ all_percented (encode_utf8 c) (high_bytes c h))
+
+char_by_bytes : (c : ℕ) → url_char c ≡ flat_map url_byte (encode_utf8 c)
+char_by_bytes c = elim (cases_lt c 128) [ inl l ↦ low c l | inr g ↦ high c g ]
+
+pub url_by_bytes : (text : Text) → url_escape text ≡ flat_map url_byte (encode_utf8_all text)
+unfolding url_escape
+url_by_bytes [] = refl
+url_by_bytes (c ∷ rest) =
+    ap (λ front. front ++ url_escape rest) (char_by_bytes c)
+    ∙ (ap (λ more. flat_map url_byte (encode_utf8 c) ++ more) (url_by_bytes rest) ∙ sym (flat_map-append url_byte (encode_utf8 c) (encode_utf8_all rest)))
+
+pub plain_alike : ShowsAlike plain_shown plain_linker
+unfolding plain_shown plain_linker encoded_shown
+plain_alike dest = ap (λ u. Href (encode_utf8_all u)) (sym (url_by_bytes dest))
+
+pub url_is_shown : (url dest : List ℕ) → IsUtf8 url → IsUtf8 dest → chars url ≡ url_escape (chars dest) → url ≡ encode_utf8_all (flat_map url_byte dest)
+url_is_shown url dest u v e =
+    sym (encodes-chars url u) ∙ (ap encode_utf8_all (e ∙ url_by_bytes (chars dest)) ∙ ap (λ b. encode_utf8_all (flat_map url_byte b)) (encodes-chars dest v))
+
+pub plain_told : (table : Table) (text : Text) (blocks : Blocks) → blocks ≡ (document_of table text).blocks →
+    html_of table plain_linker [] (record { blocks = blocks; refs = (document_of table text).refs }) ≡ rendered_plain table text
+unfolding rendered_plain
+plain_told table text blocks e = ap (λ b. html_of table plain_linker [] (record { blocks = b; refs = (document_of table text).refs })) e

@@ -1,0 +1,6 @@
+use Rattle.doc_html.specs.Telling.{end_told}
+use Rattle.doc_html.proofs.blocks.end_quote.Goals as goal
+
+pub returns : goal.returns
+unfolding end_told
+returns g c = λ p h. c.in_ok-markup.ensures _ (c.in_ok-new_line.ensures p h)

@@ -1,0 +1,5 @@
+pub mod InlineSteps
+pub mod Progress
+pub mod Telling
+pub mod Written
+pub mod PlainLinks

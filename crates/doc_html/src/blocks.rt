@@ -1,0 +1,177 @@
+//! Blocks as HTML (CommonMark 0.31.2, sections 4 and 5).
+ghost use Rattle.std.specs.Prelude.{◌≡◌, [], ◌∷◌, ◌++◌, List, Option, Bool, chars, codes, decimal, OnOk};
+ghost use Rattle.doc_rules.specs.Blocks.{Blocks, BlockQuote, ListBlock, ListItem};
+ghost use Rattle.doc_rules.specs.Definitions.{Definition};
+ghost use Rattle.doc_rules.specs.Html.{characters, list_tag, list_end};
+ghost use Rattle.doc_refs.specs.Targets.{targets_of};
+ghost use Rattle.doc_leaves.specs.Views.{behind, forest};
+ghost use Rattle.doc_html.specs.Progress.{Progress, Goes, Writes};
+ghost use Rattle.doc_html.specs.Telling.{blocks_told, start_told, end_told};
+
+use crate::leaves::{
+    push_break, push_decimal, push_fenced, push_heading, push_html_block, push_indented,
+    push_paragraph,
+};
+use crate::reading::Source;
+use crate::writer::{Writer, markup};
+use doc_heap::Heap;
+use doc_leaves::block::Block;
+use doc_page::failure::Memory;
+
+/// Writes blocks, which stand directly in an item of a tight list or not.
+#[cycle(blocks)]
+pub(crate) fn push_blocks<W: Writer>(
+    writer: &mut W,
+    source: &Source,
+    blocks: &[Block],
+    tight: bool,
+) -> Result<(), Memory>
+    ensures { (definitions : List Definition) (before : Blocks) (p : Progress) → source.now.refs.now ≡ targets_of definitions →
+        W.holds writer.old (blocks_told source.now.entities.now definitions tight before p) →
+        OnOk result (W.holds writer.new (blocks_told source.now.entities.now definitions tight (forest blocks.now before) p)) }
+{
+    for block in blocks {
+        push_block(writer, source, block, tight)?;
+    }
+    Ok(())
+}
+
+/// Writes a block.
+#[cycle(blocks)]
+fn push_block<W: Writer>(
+    writer: &mut W,
+    source: &Source,
+    block: &Block,
+    tight: bool,
+) -> Result<(), Memory>
+    ensures { (definitions : List Definition) (before : Blocks) (p : Progress) → source.now.refs.now ≡ targets_of definitions →
+        W.holds writer.old (blocks_told source.now.entities.now definitions tight before p) →
+        OnOk result (W.holds writer.new (blocks_told source.now.entities.now definitions tight (behind block.now before) p)) }
+{
+    match block {
+        Block::Para(text) => {
+            push_paragraph(writer, source, text.get(), tight)?;
+            Ok(())
+        }
+        Block::Heading { level, text } => {
+            push_heading(writer, source, *level, text.get())?;
+            Ok(())
+        }
+        Block::Code(text) => {
+            push_indented(writer, text.get())?;
+            Ok(())
+        }
+        Block::Fence { info, text } => {
+            push_fenced(writer, info.get(), text.get())?;
+            Ok(())
+        }
+        Block::Html(text) => {
+            push_html_block(writer, text.get())?;
+            Ok(())
+        }
+        Block::Break => {
+            push_break(writer)?;
+            Ok(())
+        }
+        Block::Quote(inside) => {
+            begin_quote(writer)?;
+            push_blocks(writer, source, inside, false)?;
+            end_quote(writer)?;
+            Ok(())
+        }
+        Block::List {
+            start,
+            tight,
+            items,
+        } => {
+            begin_list(writer, source.heap, *start)?;
+            push_blocks(writer, source, items, *tight)?;
+            end_list(writer, *start)?;
+            Ok(())
+        }
+        Block::Item(inside) => {
+            begin_item(writer)?;
+            push_blocks(writer, source, inside, tight)?;
+            end_item(writer)?;
+            Ok(())
+        }
+    }
+}
+
+fn begin_quote<W: Writer>(writer: &mut W) -> Result<(), Memory>
+    ensures { OnOk result (Goes W.holds writer.old writer.new (start_told BlockQuote)) }
+{
+    writer.new_line()?;
+    markup(writer, "<blockquote>\n")?;
+    Ok(())
+}
+
+fn end_quote<W: Writer>(writer: &mut W) -> Result<(), Memory>
+    ensures { OnOk result (Goes W.holds writer.old writer.new (end_told BlockQuote)) }
+{
+    writer.new_line()?;
+    markup(writer, "</blockquote>\n")?;
+    Ok(())
+}
+
+fn begin_list<W: Writer>(writer: &mut W, heap: Heap, start: Option<u32>) -> Result<(), Memory>
+    ensures { (tight : Bool) → OnOk result (Goes W.holds writer.old writer.new (start_told (ListBlock start tight))) }
+{
+    writer.new_line()?;
+    push_list_tag(writer, heap, start)?;
+    Ok(())
+}
+
+/// Writes the opening tag of a list. The first number stands in it where it isn't 1 (section 5.3).
+#[tactic(auto, unfolding(doc_rules::specs::Html::list_tag))]
+fn push_list_tag<W: Writer>(writer: &mut W, heap: Heap, start: Option<u32>) -> Result<(), Memory>
+    ensures { OnOk result (Writes W.holds writer.old writer.new (characters (list_tag start))) }
+{
+    match start {
+        None => markup(writer, "<ul>\n"),
+        Some(1) => markup(writer, "<ol>\n"),
+        Some(start) => push_start(writer, heap, start),
+    }
+}
+
+/// Writes the opening tag of a list with its first number.
+fn push_start<W: Writer>(writer: &mut W, heap: Heap, start: u32) -> Result<(), Memory>
+    ensures { OnOk result (Writes W.holds writer.old writer.new (characters (codes "<ol start=\"" ++ decimal start ++ codes "\">\n"))) }
+{
+    markup(writer, "<ol start=\"")?;
+    push_decimal(writer, heap, start)?;
+    markup(writer, "\">\n")?;
+    Ok(())
+}
+
+fn end_list<W: Writer>(writer: &mut W, start: Option<u32>) -> Result<(), Memory>
+    ensures { (tight : Bool) → OnOk result (Goes W.holds writer.old writer.new (end_told (ListBlock start tight))) }
+{
+    writer.new_line()?;
+    push_list_end(writer, start)?;
+    Ok(())
+}
+
+#[tactic(auto, unfolding(doc_rules::specs::Html::list_end))]
+fn push_list_end<W: Writer>(writer: &mut W, start: Option<u32>) -> Result<(), Memory>
+    ensures { OnOk result (Writes W.holds writer.old writer.new (characters (list_end start))) }
+{
+    match start {
+        None => markup(writer, "</ul>\n"),
+        Some(_) => markup(writer, "</ol>\n"),
+    }
+}
+
+fn begin_item<W: Writer>(writer: &mut W) -> Result<(), Memory>
+    ensures { OnOk result (Goes W.holds writer.old writer.new (start_told ListItem)) }
+{
+    markup(writer, "<li>")?;
+    Ok(())
+}
+
+fn end_item<W: Writer>(writer: &mut W) -> Result<(), Memory>
+    ensures { OnOk result (Goes W.holds writer.old writer.new (end_told ListItem)) }
+{
+    markup(writer, "</li>\n")?;
+    Ok(())
+}

@@ -1,0 +1,38 @@
+//! Documents as HTML.
+ghost use Rattle.std.specs.Prelude.{◌≡◌, [], List, encode_utf8_all, IfOk};
+ghost use Rattle.doc_rules.specs.Definitions.{Definition};
+ghost use Rattle.doc_rules.specs.Html.{html_of};
+ghost use Rattle.doc_rules.specs.Html as rules;
+ghost use Rattle.doc_rules.specs.Laws.{ShowsAlike};
+ghost use Rattle.doc_refs.specs.Targets.{targets_of};
+ghost use Rattle.doc_leaves.specs.Views.{blocks_shown};
+
+use crate::blocks::push_blocks;
+use crate::html_writer::HtmlWriter;
+use crate::reading::Source;
+use doc_blocks::Document;
+use doc_heap::Heap;
+use doc_lines::entities::Entities;
+use doc_page::failure::Memory;
+use doc_page::linker::Linker;
+use doc_page::text::Text;
+
+/// The document as HTML in the form of the examples of CommonMark 0.31.2, its links as the linker shows them. Headings carry no anchors.
+pub fn to_html<L: Linker>(
+    heap: Heap,
+    document: &Document,
+    entities: &Entities,
+    linker: &L,
+) -> Result<Text, Memory>
+    ensures { (definitions : List Definition) (rule : rules.Linker) → document.now.refs ≡ targets_of definitions → ShowsAlike (L.shown linker.now) rule →
+        IfOk result (λ html. html ≡ encode_utf8_all (html_of entities.now rule [] (record { blocks = blocks_shown document.now.blocks.items; refs = definitions }))) }
+{
+    let source = Source {
+        heap,
+        refs: &document.refs,
+        entities,
+    };
+    let mut writer = HtmlWriter::new(heap, linker);
+    push_blocks(&mut writer, &source, document.blocks.as_slice(), false)?;
+    Ok(writer.into_text())
+}

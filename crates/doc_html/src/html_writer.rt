@@ -1,0 +1,134 @@
+//! One buffer into which HTML is written, its links as a linker shows them.
+ghost use Rattle.std.specs.Prelude.{◌≡◌, [], ◌∷◌, ◌++◌, ◌==◌, Bool, chars, string_bytes, OnOk};
+ghost use Rattle.doc_page.specs.Escaping.{escaped};
+ghost use Rattle.doc_page.specs.Pages.{opening_tag, title_attribute};
+ghost use Rattle.doc_html.specs.Progress.{begun};
+ghost use Rattle.doc_html.specs.Written.{HoldsHtml, fresh_behind, read_again};
+
+use crate::writer::Writer;
+use doc_heap::{Heap, String};
+use doc_lines::scan::character::last_char;
+use doc_marks::mark::Mark;
+use doc_page::escaping::push_escaped;
+use doc_page::failure::Memory;
+use doc_page::linker::{Linker, Shown};
+use doc_page::text::Text;
+use doc_refs::Target;
+
+/// HTML so far. It is fresh where nothing was written or a LF was written last.
+#[derive(Drop)]
+pub(crate) struct HtmlWriter<'l, L: Linker> {
+    heap: Heap,
+    out: String,
+    fresh: bool,
+    linker: &'l L,
+}
+
+impl<'l, L: Linker> HtmlWriter<'l, L> {
+    /// Nothing is written yet.
+    pub(crate) fn new(heap: Heap, linker: &'l L) -> Self
+        ensures { HoldsHtml (L.shown result.linker.now) (string_bytes result.out) result.fresh (begun (L.shown linker.now) None) }
+    {
+        HtmlWriter {
+            heap,
+            out: String::new(heap),
+            fresh: true,
+            linker,
+        }
+    }
+
+    pub(crate) fn into_text(self) -> Text
+        ensures { result ≡ string_bytes self.entry.out }
+    {
+        let HtmlWriter {
+            heap: _,
+            out,
+            fresh: _,
+            linker: _,
+        } = self;
+        Text::new(out)
+    }
+}
+
+impl<'l, L: Linker> Writer for HtmlWriter<'l, L> {
+    ghost holds = { λ w p. HoldsHtml (L.shown w.linker.now) (string_bytes w.out) w.fresh p };
+
+    fn text(&mut self, text: &str) -> Result<(), Memory> {
+        self.out.push_str(text)?;
+        self.fresh = fresh_behind(self.fresh, text);
+        Ok(())
+    }
+
+    fn escaped(&mut self, text: &str) -> Result<(), Memory> {
+        push_escaped(&mut self.out, text)?;
+        self.fresh = fresh_behind(self.fresh, text);
+        Ok(())
+    }
+
+    fn link(&mut self, target: &Target) -> Result<(), Memory> {
+        let shown = self.linker.show(self.heap, target.dest.get())?;
+        push_tag(&mut self.out, &target.title, &shown)?;
+        self.fresh = false;
+        Ok(())
+    }
+
+    fn new_line(&mut self) -> Result<(), Memory> {
+        if self.fresh {
+            return Ok(());
+        }
+        self.out.push_str("\n")?;
+        self.fresh = true;
+        Ok(())
+    }
+
+    fn meet_text(&mut self, _text: &str) -> Result<(), Memory> {
+        Ok(())
+    }
+
+    fn meet_paragraph(&mut self, _marks: &[Mark]) -> Result<(), Memory> {
+        Ok(())
+    }
+
+    fn meet_heading(&mut self, _level: u8, _marks: &[Mark]) -> Result<(), Memory> {
+        Ok(())
+    }
+}
+
+/// Whether a LF stands last behind this text, where it did or did not before it.
+fn fresh_behind(fresh: bool, text: &str) -> bool
+    ensures { result ≡ fresh_behind fresh (chars text.now) }
+{
+    match last_char(text) {
+        None => fresh,
+        Some((_, c)) => c == '\n',
+    }
+}
+
+/// Adds the opening tag of a link.
+fn push_tag(out: &mut String, title: &Option<Text>, shown: &Shown) -> Result<(), Memory>
+    ensures { OnOk result (string_bytes out.new ≡ string_bytes out.old ++ opening_tag (read_again title.now) shown.now) }
+{
+    match shown {
+        Shown::Href(href) => {
+            out.push_str("<a href=\"")?;
+            out.push_str(href.get())?;
+            out.push_str("\"")?;
+            push_title(out, title)?;
+            out.push_str(">")?;
+        }
+        Shown::Missing => out.push_str("<a class=\"missing\">")?,
+    }
+    Ok(())
+}
+
+fn push_title(out: &mut String, title: &Option<Text>) -> Result<(), Memory>
+    ensures { OnOk result (string_bytes out.new ≡ string_bytes out.old ++ title_attribute (read_again title.now)) }
+{
+    let Some(title) = title else {
+        return Ok(());
+    };
+    out.push_str(" title=\"")?;
+    push_escaped(out, title.get())?;
+    out.push_str("\"")?;
+    Ok(())
+}

@@ -1,0 +1,171 @@
+//! Leaf blocks as HTML (CommonMark 0.31.2, section 4).
+ghost use Rattle.std.specs.Prelude.{◌≡◌, ℕ, [], ◌∷◌, ◌++◌, List, chars, codes, decimal, Bool, not, OnOk};
+ghost use Rattle.doc_rules.specs.Blocks.{Paragraph, Heading, IndentedCode, FencedCode, HtmlBlock, ThematicBreak};
+ghost use Rattle.doc_rules.specs.Characters.{is_space_or_tab, strip_front};
+ghost use Rattle.doc_rules.specs.Definitions.{Definition};
+ghost use Rattle.doc_rules.specs.Entities.{Table};
+ghost use Rattle.doc_rules.specs.Escaping.{html_escape};
+ghost use Rattle.doc_rules.specs.Html.{characters, class_attribute, first_word, language_class};
+ghost use Rattle.doc_refs.specs.Targets.{targets_of};
+ghost use Rattle.doc_html.specs.Progress.{Goes, Writes};
+ghost use Rattle.doc_html.specs.Telling.{leaf_told, code_told};
+
+use crate::inlines::push_marks;
+use crate::reading::{Source, inlines};
+use crate::writer::{Writer, markup};
+use doc_heap::Heap;
+use doc_lines::scan::character::next_char;
+use doc_lines::scan::front::front;
+use doc_lines::scan::run::many;
+use doc_page::failure::Memory;
+
+/// Writes a paragraph. Directly in an item of a tight list it is its inlines alone (section 5.3).
+pub(crate) fn push_paragraph<W: Writer>(
+    writer: &mut W,
+    source: &Source,
+    text: &str,
+    tight: bool,
+) -> Result<(), Memory>
+    ensures { (definitions : List Definition) → source.now.refs.now ≡ targets_of definitions →
+        OnOk result (Goes W.holds writer.old writer.new (leaf_told source.now.entities.now definitions tight (Paragraph (chars text.now)))) }
+{
+    let marks = inlines(source.heap, text, source.refs, source.entities)?;
+    let marks = marks.as_slice();
+    writer.meet_paragraph(marks)?;
+    if tight {
+        push_marks(writer, source.heap, marks)?;
+        return Ok(());
+    }
+    writer.new_line()?;
+    markup(writer, "<p>")?;
+    push_marks(writer, source.heap, marks)?;
+    markup(writer, "</p>\n")?;
+    Ok(())
+}
+
+/// Writes a heading.
+pub(crate) fn push_heading<W: Writer>(
+    writer: &mut W,
+    source: &Source,
+    level: u8,
+    text: &str,
+) -> Result<(), Memory>
+    ensures { (definitions : List Definition) (tight : Bool) → source.now.refs.now ≡ targets_of definitions →
+        OnOk result (Goes W.holds writer.old writer.new (leaf_told source.now.entities.now definitions tight (Heading level (chars text.now)))) }
+{
+    let marks = inlines(source.heap, text, source.refs, source.entities)?;
+    let marks = marks.as_slice();
+    writer.new_line()?;
+    markup(writer, "<h")?;
+    push_level(writer, source.heap, level)?;
+    writer.meet_heading(level, marks)?;
+    markup(writer, ">")?;
+    push_marks(writer, source.heap, marks)?;
+    markup(writer, "</h")?;
+    push_level(writer, source.heap, level)?;
+    markup(writer, ">\n")?;
+    Ok(())
+}
+
+fn push_level<W: Writer>(writer: &mut W, heap: Heap, level: u8) -> Result<(), Memory>
+    ensures { OnOk result (Writes W.holds writer.old writer.new (characters (decimal level))) }
+{
+    push_decimal(writer, heap, u32::from(level))
+}
+
+/// Writes a number.
+pub(crate) fn push_decimal<W: Writer>(writer: &mut W, heap: Heap, n: u32) -> Result<(), Memory>
+    ensures { OnOk result (Writes W.holds writer.old writer.new (characters (decimal n))) }
+{
+    let digits = format!(in heap; "{n}")?;
+    writer.text(digits.as_str())?;
+    Ok(())
+}
+
+/// Writes indented code.
+pub(crate) fn push_indented<W: Writer>(writer: &mut W, text: &str) -> Result<(), Memory>
+    ensures { OnOk result (Goes W.holds writer.old writer.new (code_told [] (chars text.now))) }
+{
+    writer.meet_text(text)?;
+    writer.new_line()?;
+    markup(writer, "<pre><code")?;
+    push_content(writer, text)?;
+    Ok(())
+}
+
+/// Writes fenced code.
+pub(crate) fn push_fenced<W: Writer>(writer: &mut W, info: &str, text: &str) -> Result<(), Memory>
+    ensures { OnOk result (Goes W.holds writer.old writer.new (code_told (class_attribute (chars info.now)) (chars text.now))) }
+{
+    writer.meet_text(text)?;
+    writer.new_line()?;
+    markup(writer, "<pre><code")?;
+    push_class(writer, first_word(info))?;
+    push_content(writer, text)?;
+    Ok(())
+}
+
+/// Writes the rest of a code block behind its attribute.
+fn push_content<W: Writer>(writer: &mut W, text: &str) -> Result<(), Memory>
+    ensures { OnOk result (Writes W.holds writer.old writer.new (characters (codes ">" ++ html_escape (chars text.now) ++ codes "</code></pre>\n"))) }
+{
+    markup(writer, ">")?;
+    writer.escaped(text)?;
+    markup(writer, "</code></pre>\n")?;
+    Ok(())
+}
+
+/// Writes the class for a language, if there is one.
+#[tactic(auto, unfolding(doc_rules::specs::Html::language_class))]
+fn push_class<W: Writer>(writer: &mut W, word: &str) -> Result<(), Memory>
+    ensures { OnOk result (Writes W.holds writer.old writer.new (characters (language_class (chars word.now)))) }
+{
+    let Some(_) = next_char(word) else {
+        return Ok(());
+    };
+    markup(writer, " class=\"language-")?;
+    writer.escaped(word)?;
+    markup(writer, "\"")?;
+    Ok(())
+}
+
+/// The first word of an info string.
+fn first_word(info: &str) -> &str
+    ensures { chars result.now ≡ first_word (strip_front is_space_or_tab (chars info.now)) }
+{
+    let start = many(info, is_space_or_tab);
+    front(start, many(start, is_in_word))
+}
+
+fn is_space_or_tab(c: char) -> bool
+    ensures { result ≡ is_space_or_tab c }
+{
+    c == ' ' || c == '\t'
+}
+
+fn is_in_word(c: char) -> bool
+    ensures { result ≡ not (is_space_or_tab c) }
+{
+    c != ' ' && c != '\t'
+}
+
+/// Writes an HTML block.
+pub(crate) fn push_html_block<W: Writer>(writer: &mut W, text: &str) -> Result<(), Memory>
+    ensures { (table : Table) (definitions : List Definition) (tight : Bool) →
+        OnOk result (Goes W.holds writer.old writer.new (leaf_told table definitions tight (HtmlBlock (chars text.now)))) }
+{
+    writer.new_line()?;
+    writer.text(text)?;
+    writer.new_line()?;
+    Ok(())
+}
+
+/// Writes a thematic break.
+pub(crate) fn push_break<W: Writer>(writer: &mut W) -> Result<(), Memory>
+    ensures { (table : Table) (definitions : List Definition) (tight : Bool) →
+        OnOk result (Goes W.holds writer.old writer.new (leaf_told table definitions tight ThematicBreak)) }
+{
+    writer.new_line()?;
+    markup(writer, "<hr />\n")?;
+    Ok(())
+}

@@ -1,0 +1,21 @@
+//! Texts as HTML.
+ghost use Rattle.std.specs.Prelude.{◌≡◌, chars, encode_utf8_all, IfOk};
+ghost use Rattle.doc_rules.specs.Html.{rendered_plain};
+
+use crate::document::to_html;
+use crate::plain_linker::PlainLinker;
+use doc_blocks::blocks;
+use doc_heap::Heap;
+use doc_lines::entities::Entities;
+use doc_page::failure::Memory;
+use doc_page::text::Text;
+
+/// The text as HTML, in the form of the examples of CommonMark 0.31.2.
+pub fn render_plain(heap: Heap, text: &str, entities: &Entities) -> Result<Text, Memory>
+    ensures { IfOk result (λ html. html ≡ encode_utf8_all (rendered_plain entities.now (chars text.now))) }
+{
+    let document = blocks(heap, text, entities)?;
+    let linker = PlainLinker;
+    let html = to_html(heap, &document, entities, &linker)?;
+    Ok(html)
+}
