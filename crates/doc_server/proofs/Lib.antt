@@ -1,3 +1,5 @@
+mod ExampleSteps
+mod HtmlSteps
 mod Opening
 mod Puts
 mod Replies
