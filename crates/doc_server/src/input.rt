@@ -95,7 +95,8 @@ fn add_piece(bytes: &mut Vec<u8>, piece: &[u8], limit: usize) -> Result<(), Faul
     Ok(())
 }
 
-fn cannot_read(heap: Heap, name: &str) -> Fault
+/// The fault that an input of this name can't be read.
+pub fn cannot_read(heap: Heap, name: &str) -> Fault
     ensures { IsNamed name.now result }
 {
     match String::from_str(heap, name) {
