@@ -1,18 +1,16 @@
 -- Reading examples: texts character by character and line by line.
-use Rattle.std.proofs.Common.{◌≡◌, ℕ, ◌+◌, ◌≤◌, List, [], ◌∷◌, ◌++◌, ◌<◌, ◌==◌, length, take, drop, map, Bool, true, false, refl, sym, ap, subst, ◌∙◌, append-nil, inr, arith}
+use Rattle.std.proofs.Common.{◌≡◌, ℕ, ◌+◌, ◌≤◌, List, [], ◌∷◌, ◌++◌, ◌<◌, ◌==◌, length, take, drop, map, Bool, true, false, refl, sym, ap, subst, ◌∙◌, append-nil, arith}
 use Rattle.std.proofs.Math.Seq.{take-append-add}
-use Rattle.std.specs.Prelude.{String, string_bytes, IfSome, Option, Some, None, chars, encode_utf8, encode_utf8_all}
+use Rattle.std.specs.Prelude.{Option, Some, None, chars, encode_utf8, encode_utf8_all}
 use Rattle.std.proofs.lemmas.Iterator.{YieldsList}
 use Rattle.std.proofs.lemmas.List.{append_assoc, take-append-drop}
 use Rattle.std.proofs.lemmas.List.Splits.{length-slice_split}
 use Rattle.std.proofs.lemmas.List.Sums.{count_by-le-length}
 use Rattle.std.specs.Io.KnownBytes.{Appends, Keeps}
 use Rattle.std.proofs.KnownBytes.{Appends-nil, Appends-trans, Appends-kept}
-use Rattle.doc_server.specs.Examples.{Example, Place, Between, tab_or, meant, lines, onto, example_before, place_after, examples_from, examples_of, passes, one_more, example_line, lines_from, count_from, no_examples, count_of, report}
+use Rattle.doc_server.specs.Examples.{Example, Place, Between, tab_or, meant, lines, onto, example_before, place_after, examples_from, examples_of, passes, one_more, example_line, lines_from, count_from, no_examples, count_of}
 use Rattle.doc_server.specs.ExampleSteps.{line_before, count_after, StopsAt, HasRoom, IsAt}
 use Rattle.doc_server.specs.Outputs.{AppendsPrefix}
-use Rattle.doc_server.specs.Rendering.{StopsWriting}
-use Rattle.doc_server.proofs.HtmlSteps.{of_string}
 use Rattle.doc_server.specs.declared.count.Count.{Count}
 use Rattle.doc_server.specs.declared.fault.Fault.{Fault}
 use Rattle.doc_server.specs.declared.fault.Fault.TheVariants as faults
@@ -166,12 +164,3 @@ pub report_unflushed : (old mid next new : Option (List ℕ)) (lines more sent :
 report_unflushed old mid next new lines more sent fault is same grew grows kept =
     let whole = Appends-kept old next new (lines ++ more) (Appends-trans old mid next lines more grew (subst (Appends mid next) same grows)) kept in
     subst (StopsAt old new (lines ++ more)) (sym is) (front_is_prefix old new (lines ++ more) (lines ++ more) [] (sym (append-nil (lines ++ more))) whole)
-
--- what stops the command behind its reading
-pub report_stopped : {A : Type 0} (read : String A) (name : List ℕ) (input old new : Option (List ℕ)) (fault : Fault) → IfSome input (λ left. string_bytes read ≡ left) → StopsAt old new (report (string_bytes read)) fault
-    → StopsWriting name input report old new fault
-report_stopped read name input old new faults.CannotWrite is stops = of_string read input (λ text. AppendsPrefix old new (report text)) is stops
-report_stopped read name input old new faults.Memory is stops = inr (of_string read input (λ text. AppendsPrefix old new (report text)) is stops)
-report_stopped read name input old new faults.Usage is stops = absurd stops
-report_stopped read name input old new faults.Refused is stops = absurd stops
-report_stopped read name input old new (faults.CannotRead called) is stops = absurd stops

@@ -7,3 +7,4 @@ mod Results
 mod RunSteps
 mod Stops
 mod Unread
+mod WorkedExamples
