@@ -1,3 +1,5 @@
+mod ExampleSteps
+mod HtmlSteps
 mod Opening
 mod Puts
 mod Replies
@@ -5,3 +7,4 @@ mod Results
 mod RunSteps
 mod Stops
 mod Unread
+mod WorkedExamples

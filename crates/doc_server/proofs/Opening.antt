@@ -1,7 +1,7 @@
 -- A run of the demonstration from its parts.
-use Rattle.std.proofs.Common.{◌≡◌, ℕ, List, ◌∷◌, refl, sym, ap, subst, ◌∙◌, inl, inr, ◌<◌, length}
-use Rattle.std.specs.Prelude.{◌⊎◌, Option, Some, None, IfSome, Result, Ok, Err}
-use Rattle.std.specs.Io.KnownBytes.{Appends, Keeps}
+use Rattle.std.proofs.Common.{◌≡◌, ℕ, List, ◌∷◌, refl, ap, subst, ◌∙◌, inl, inr, ◌<◌, length}
+use Rattle.std.specs.Prelude.{Option, Some, None, IfSome, Result, Ok, Err}
+use Rattle.std.specs.Io.KnownBytes.{Appends}
 use Rattle.doc_hub.specs.Connections.{backlog_limit}
 use Rattle.doc_hub.specs.Replies.{Renders}
 use Rattle.doc_hub.specs.Worlds.{World, connected, last_id}
@@ -11,8 +11,8 @@ use Rattle.doc_hub.specs.declared.refusal.ConnectError.{ConnectError}
 use Rattle.doc_server.specs.declared.fault.Fault.{Fault}
 use Rattle.doc_server.specs.declared.fault.Fault.TheVariants as faults
 use Rattle.doc_server.specs.DemoSite.{demo_world}
-use Rattle.doc_server.specs.Demo.{AreReplies, StepsToEnd, RunSends, Demonstrates, StopsDemo}
-use Rattle.doc_server.specs.DemoSteps.{StepsSend, SendsToEnd, StopsReplies}
+use Rattle.doc_server.specs.Demo.{AreReplies, RunSends, StopsDemo}
+use Rattle.doc_server.specs.DemoSteps.{StepsSend, StopsReplies}
 use Rattle.doc_server.specs.Outputs.{AppendsPrefix}
 
 -- the connection that the demonstration makes

@@ -1,13 +1,13 @@
 -- Replies so far, as steps of one connection.
 use Rattle.std.proofs.Common.{◌≡◌, ℕ, ◌+◌, length, take, List, [], ◌∷◌, ◌++◌, Bool, true, false, refl, sym, ap, ◌∙◌, subst, ◌==◌, append-nil, arith}
-use Rattle.std.specs.Prelude.{All, Option, Ok, Err}
+use Rattle.std.specs.Prelude.{Option, Ok, Err}
 use Rattle.std.specs.Io.KnownBytes.{Appends, Keeps}
 use Rattle.std.proofs.KnownBytes.{Appends-nil, Appends-trans, Appends-kept, Keeps-refl}
 use Rattle.std.proofs.Math.Seq.{take-append-add, take-length}
 use Rattle.std.proofs.lemmas.List.Elements.{All-nil, All-push}
 use Rattle.doc_hub.specs.Replies.{Renders}
 use Rattle.doc_hub.specs.Worlds.{World}
-use Rattle.doc_hub.specs.Runs.{step, Outcome, connecting, pushing, stepping, putting, Happens, Happened, Runs, nothing, bytes_of, sent_by, sent_on}
+use Rattle.doc_hub.specs.Runs.{step, Outcome, connecting, pushing, stepping, putting, Happens, Happened, nothing, bytes_of, sent_by, sent_on}
 use Rattle.doc_hub.specs.declared.event.Step.{Step}
 use Rattle.doc_hub.specs.declared.event.Step.TheVariants as steps
 use Rattle.doc_server.specs.Demo.{Sends, Ends, IsStep, AreReplies}

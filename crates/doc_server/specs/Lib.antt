@@ -1,6 +1,9 @@
 pub mod Demo
 pub mod DemoSite
 pub mod DemoSteps
+pub mod ExampleSteps
+pub mod Examples
 pub mod Faults
 pub mod InputSteps
 pub mod Outputs
+pub mod Rendering

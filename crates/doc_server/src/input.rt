@@ -1,6 +1,6 @@
 //! Reading an input to its end.
 
-ghost use Rattle.std.specs.Prelude.{◌≡◌, ◌<◌, ◌≤◌, ◌++◌, length, IfOk, IfErr, IfSome, OnOk, vec_len};
+ghost use Rattle.std.specs.Prelude.{◌≡◌, ◌<◌, ◌≤◌, ◌++◌, length, IfOk, IfErr, IfSome, OnOk, string_bytes, vec_len};
 ghost use Rattle.std.specs.Io.KnownBytes.{IsAtEnd};
 ghost use Rattle.doc_server.specs.Faults.{IsUnread};
 ghost use Rattle.doc_server.specs.InputSteps.{IsNamed, IsUnadded};
@@ -30,6 +30,29 @@ pub fn read_whole<R: Read>(
 {
     let mut piece = Vec::from_elem(heap, 0u8, PIECE)?;
     read_pieces(heap, name, reader, piece.as_mut_slice(), limit)
+}
+
+/// The whole input as a text. A fault calls it by the name: `CannotRead` also where it isn't UTF-8.
+pub fn read_text<R: Read>(heap: Heap, name: &str, reader: &mut R) -> Result<String, Fault>
+    ensures text { IfOk result (λ text. IfSome (R.remaining reader.old) (λ left. string_bytes text ≡ left)) }
+    ensures end { OnOk result (IsAtEnd (R.remaining reader.new)) }
+    ensures fault { IfErr result (IsNamed name.now) }
+{
+    match read_whole(heap, name, reader, usize::MAX) {
+        Ok(bytes) => text_of(heap, name, bytes),
+        Err(Fault::CannotRead(name)) => Err(Fault::CannotRead(name)),
+        Err(_) => Err(Fault::Memory),
+    }
+}
+
+fn text_of(heap: Heap, name: &str, bytes: Vec<u8>) -> Result<String, Fault>
+    ensures text { IfOk result (λ text. string_bytes text ≡ bytes.entry.items) }
+    ensures fault { IfErr result (IsNamed name.now) }
+{
+    match String::from_utf8(bytes) {
+        Ok(text) => Ok(text),
+        Err(_) => Err(cannot_read(heap, name)),
+    }
 }
 
 /// The same, by reads into this piece.
@@ -72,7 +95,8 @@ fn add_piece(bytes: &mut Vec<u8>, piece: &[u8], limit: usize) -> Result<(), Faul
     Ok(())
 }
 
-fn cannot_read(heap: Heap, name: &str) -> Fault
+/// The fault that an input of this name can't be read.
+pub fn cannot_read(heap: Heap, name: &str) -> Fault
     ensures { IsNamed name.now result }
 {
     match String::from_str(heap, name) {

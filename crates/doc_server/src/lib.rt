@@ -1,8 +1,12 @@
 //! The commands of the program, each a function over a reader and a writer.
 #![tactic(auto)]
 
+pub mod count;
 pub mod demo;
 pub mod demo_site;
+mod example_reader;
+pub mod examples;
 pub mod fault;
 pub mod input;
 pub mod output;
+pub mod rendering;

@@ -3,21 +3,25 @@
 
 ghost use Rattle.std.specs.Prelude.{◌≡◌, ◌≢◌, ◌<◌};
 
-use doc_heap::{Heap, heap};
+use doc_heap::{Heap, String, heap};
 use doc_page::plain::PlainRenderer;
 use doc_server::demo::demo;
+use doc_server::examples::examples;
 use doc_server::fault::Fault;
+use doc_server::input::cannot_read;
 use doc_server::output::Output;
+use doc_server::rendering::render;
 use std::env;
+use std::fs::File;
 use std::io::{self, ErrorKind};
 use std::marker::Brand;
 use std::process::ExitCode;
-use std::rt::Env;
+use std::rt::{Env, Files};
 use std::sync::ledger::{Blank, Ledger};
 
 fn main(rt: HostRuntime) -> ExitCode {
     match run(&rt) {
-        Ok(()) => ExitCode::SUCCESS,
+        Ok(status) => ExitCode::from(status),
         Err(fault) => {
             let _ = eprintln!(rt; "docs_server: {fault}");
             ExitCode::from(2)
@@ -25,26 +29,50 @@ fn main(rt: HostRuntime) -> ExitCode {
     }
 }
 
-/// Runs the command that the arguments name.
-fn run<R: AllocGlobal + Env + Input + Print>(rt: &R) -> Result<(), Fault> {
-    let heap = heap(rt.alloc(), u64::MAX)?;
-    if !is_demo(rt)? {
-        return Err(Fault::Usage);
-    }
-    run_demo::<Brand, R>(rt, heap, Blank::new(1))
+/// What the arguments name.
+enum Command {
+    Demo,
+    Render,
+    /// The examples of the file of this name.
+    Examples(String),
 }
 
-/// Whether the only argument is `demo`.
-fn is_demo<R: AllocGlobal + Env>(rt: &R) -> Result<bool, Fault> {
+/// Runs the command that the arguments name, and answers the status to end with.
+fn run<R: AllocGlobal + Env + Files + Input + Print>(rt: &R) -> Result<u8, Fault> {
+    let heap = heap(rt.alloc(), u64::MAX)?;
+    match named_command(rt, heap)? {
+        Command::Demo => {
+            run_demo::<Brand, R>(rt, heap, Blank::new(1))?;
+            Ok(0)
+        }
+        Command::Render => {
+            render(heap, &mut rt.reader(), &mut Output::new(io::writer(rt)))?;
+            Ok(0)
+        }
+        Command::Examples(name) => run_examples(rt, heap, &name),
+    }
+}
+
+/// The command that the arguments name, as `demo`, `render` or `examples FILE`.
+fn named_command<R: AllocGlobal + Env>(rt: &R, heap: Heap) -> Result<Command, Fault> {
     let mut args = match env::args(rt) {
         Ok(args) => args,
         Err(e) => return Err(argument_fault(e.kind())),
     };
     let _program = args.next();
-    let Some(command) = args.next() else {
-        return Ok(false);
+    let Some(name) = args.next() else {
+        return Err(Fault::Usage);
     };
-    Ok(command.as_str() == "demo" && args.next().is_none())
+    let file = args.next();
+    if args.next().is_some() {
+        return Err(Fault::Usage);
+    }
+    match (name.as_str(), file) {
+        ("demo", None) => Ok(Command::Demo),
+        ("render", None) => Ok(Command::Render),
+        ("examples", Some(file)) => Ok(Command::Examples(String::from_str(heap, &file)?)),
+        _ => Err(Fault::Usage),
+    }
 }
 
 /// What stops the program where its arguments can't be read.
@@ -66,4 +94,11 @@ fn run_demo<L: Ledger, R: Input + Print>(rt: &R, heap: Heap, blank: Blank) -> Re
     let renderer: PlainRenderer<L> = PlainRenderer::new(blank);
     let mut output = Output::new(io::writer(rt));
     demo(heap, renderer, &mut rt.reader(), &mut output)
+}
+
+fn run_examples<R: Files + Print>(rt: &R, heap: Heap, name: &str) -> Result<u8, Fault> {
+    let Ok(mut file) = File::open(rt, name) else {
+        return Err(cannot_read(heap, name));
+    };
+    examples(heap, name, &mut file, &mut Output::new(io::writer(rt)))
 }
