@@ -22,7 +22,7 @@ pub(crate) struct Source<'d> {
 
 /// The inlines of a text.
 pub(crate) fn inlines<'t>(
-    _heap: Heap,
+    heap: Heap,
     text: &'t str,
     refs: &RefMap,
     entities: &Entities,
@@ -30,5 +30,5 @@ pub(crate) fn inlines<'t>(
     ensures inlines { (definitions : List Definition) → refs.now ≡ targets_of definitions → IfOk result (λ marks. inlines_shown marks.items ≡ inlines_of entities.now definitions (chars text.now)) }
     ensures cut { IfOk result (λ marks. AreCut marks.items) }
 {
-    Err(Memory)
+    doc_inlines::inlines(heap, text, refs, entities)
 }

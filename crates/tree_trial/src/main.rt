@@ -1,7 +1,8 @@
-//! Tries the calls of `doc_blocks`, as `doc_trial` says.
+//! Tries the calls of `doc_blocks` and `doc_inlines`, as `doc_trial` says.
 #![tactic(auto)]
 
 mod of_blocks;
+mod of_inlines;
 
 use doc_heap::{Heap, String, heap};
 use doc_page::failure::Memory;
@@ -33,5 +34,7 @@ fn answer_of(heap: Heap, line: &str) -> Result<String, Memory> {
 
 /// What a call answers.
 fn called(heap: Heap, name: &str, text: &str) -> Result<String, Memory> {
-    of_blocks::called(heap, name, text).unwrap_or_else(|| no_call(heap))
+    of_blocks::called(heap, name, text)
+        .or_else(|| of_inlines::called(heap, name, text))
+        .unwrap_or_else(|| no_call(heap))
 }
