@@ -5,5 +5,3 @@ pub mod PairLaws
 pub mod PassLaws
 pub mod MarkLaws
 pub mod WrapLaws
-pub mod ReadLaws
-mod Examples

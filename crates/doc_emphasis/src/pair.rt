@@ -63,13 +63,7 @@ fn take_delimiters(runs: &mut [Run], opener: usize, closer: usize, taken: usize)
 }
 
 /// The opener at this place of the stack, which is the nearest, and the run of this number become a pair.
-pub(crate) fn pair<'t>(
-    marks: &mut [Mark<'t>],
-    runs: &mut [Run],
-    openers: &mut Openers,
-    number: usize,
-    place: usize,
-)
+pub(crate) fn pair<'t>(marks: &mut [Mark<'t>], runs: &mut [Run], openers: &mut Openers, number: usize, place: usize)
     requires stands { StandAt marks.old runs.old openers.old.numbers.items number }
     requires stacked { Stacked (all_placed runs.old) openers.old.numbers.items openers.old.bounds number }
     requires within { number < length runs.old }
@@ -86,12 +80,7 @@ pub(crate) fn pair<'t>(
     let opens = runs[opener];
     let closes = runs[number];
     let taken = opens.strength(closes);
-    write_ends(
-        marks,
-        opens.first + (opens.left - taken),
-        closes.first,
-        taken,
-    );
+    write_ends(marks, opens.first + (opens.left - taken), closes.first, taken);
     take_delimiters(runs, opener, number, taken);
     openers.keep(place, taken < opens.left);
 }

@@ -2,6 +2,7 @@ pub mod Addresses
 pub mod CodeSpanLaws
 pub mod CodeTextLaws
 pub mod EndLaws
+mod Examples
 pub mod PlainTexts
 pub mod ReadLaws
 pub mod RunCounts

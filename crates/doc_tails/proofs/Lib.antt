@@ -1,5 +1,4 @@
 pub mod EndSteps
-mod Examples
-pub mod LabelSteps
 pub mod ReferenceSteps
 pub mod TitleSteps
+mod Examples

@@ -1,2 +1,1 @@
-pub mod LabelSteps
 pub mod TailSteps

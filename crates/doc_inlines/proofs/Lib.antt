@@ -1,0 +1,16 @@
+pub mod ReadingLaws
+pub mod PlainLaws
+pub mod MadeLaws
+pub mod LinkLaws
+pub mod DraftLaws
+pub mod ClosingLaws
+pub mod SliceLaws
+pub mod ReaderLaws
+pub mod EndLaws
+pub mod ItemLaws
+pub mod BracketItemLaws
+pub mod RunLaws
+pub mod EscapeLaws
+pub mod GapLaws
+pub mod EnclosedLaws
+pub mod PlainEndLaws

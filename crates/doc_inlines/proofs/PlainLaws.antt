@@ -1,0 +1,163 @@
+-- Characters that begin nothing become literals, and line breaks take the spaces around them.
+use Rattle.std.proofs.Common.{◌≡◌, ℕ, zero, suc, ◌+◌, Bool, true, false, not, ◌==◌, ◌||◌, ◌&&◌, List, [], ◌∷◌, ◌++◌, drop, replicate, reverse, refl, ap, ap₂, sym, ◌∙◌, append_assoc}
+use Rattle.std.specs.Prelude.{nat_le, if◌then◌else◌}
+use Rattle.std.specs.List.{list_all}
+use Rattle.std.proofs.lemmas.List.{reverse-append}
+use Rattle.std.proofs.lemmas.Bool.{eqb-true, eq-eqb}
+use Rattle.doc_rules.specs.Characters.{Text, last_or}
+use Rattle.doc_rules.specs.Parsers.{run_length}
+use Rattle.doc_rules.specs.Entities.{Table}
+use Rattle.doc_rules.specs.Definitions.{Definition}
+use Rattle.doc_rules.specs.Inlines.{Inline, Literal, SoftBreak, HardBreak, literals, onto}
+use Rattle.doc_rules.specs.Reading.{Kind, Other, as_literal, break_behind, gap, kinds, kind_in, item_of_kind, read_item, read}
+use Rattle.doc_inlines.specs.ReadingSteps.{is_plain, breaks, Quiet}
+
+-- ---- kinds
+
+true_is_false : true ≡ false → ⊥
+true_is_false e = absurd cc
+
+or_false : (a b : Bool) → (a || b) ≡ false → (a ≡ false) × (b ≡ false)
+or_false true b e = absurd cc
+or_false false b e = (refl, e)
+
+not_true : (b : Bool) → not b ≡ true → b ≡ false
+not_true true e = absurd cc
+not_true false e = refl
+
+abbrev AreOthers : List (ℕ × Kind) → ℕ → Type 0
+AreOthers [] c = Unit {0}
+AreOthers (entry ∷ more) c = ((c == entry.0) ≡ false) × AreOthers more c
+
+in_no_entry : (table : List (ℕ × Kind)) (c : ℕ) → AreOthers table c → kind_in table c ≡ Other
+unfolding kind_in
+in_no_entry [] c h = refl
+in_no_entry (entry ∷ more) c h = ap (λ b. elim b [ true ↦ entry.1 | false ↦ kind_in more c ]) h.0 ∙ in_no_entry more c h.1
+
+-- a plain character other than a space begins nothing
+pub plain_begins_nothing : (c : ℕ) → is_plain c ≡ true → (c == 32) ≡ false → kind_in kinds c ≡ Other
+unfolding kinds
+plain_begins_nothing c h space =
+    let p0 = or_false (c == 10) _ (not_true _ h) in
+    let p1 = or_false (c == 42) _ p0.1 in
+    let p2 = or_false (c == 95) _ p1.1 in
+    let p3 = or_false (c == 91) _ p2.1 in
+    let p4 = or_false (c == 93) _ p3.1 in
+    let p5 = or_false (c == 96) _ p4.1 in
+    let p6 = or_false (c == 60) _ p5.1 in
+    let p7 = or_false (c == 38) _ p6.1 in
+    let p8 = or_false (c == 92) _ p7.1 in
+    let p9 = or_false (c == 33) _ p8.1 in
+    in_no_entry kinds c (p8.0, (p7.0, (p5.0, (p6.0, (p1.0, (p2.0, (p3.0, (p9.0, (p4.0, (space, (p0.0, tt)))))))))))
+
+pub plain_is_no_ending : (c : ℕ) → is_plain c ≡ true → (c == 10) ≡ false
+plain_is_no_ending c h = (or_false (c == 10) _ (not_true _ h)).0
+
+pub other_item : (table : Table) (refs : List Definition) (last : ℕ) (made : List Inline) (c : ℕ) (rest : Text) → kind_in kinds c ≡ Other → read_item table refs last made c rest ≡ (Literal c ∷ made, 0)
+unfolding read_item item_of_kind
+other_item table refs last made c rest e = ap (λ kind. item_of_kind kind table refs last made c rest) e
+
+-- ---- spaces
+
+-- spaces that no line ending follows are text
+no_break : (text : Text) (n : ℕ) (made : List Inline) (c : ℕ) → breaks text ≡ false → break_behind n made c (drop (run_length 32 text) text) ≡ (Literal c ∷ made, 0)
+unfolding break_behind run_length breaks
+no_break [] n made c e = refl
+no_break (d ∷ text) n made c e = at (λ f. no_break text n made c f) (32 == d) e
+  where
+    at : (breaks text ≡ false → break_behind n made c (drop (run_length 32 text) text) ≡ (Literal c ∷ made, 0)) → (b : Bool) → (elim b [ true ↦ breaks text | false ↦ d == 10 ]) ≡ false →
+        break_behind n made c (drop (elim b [ true ↦ suc (run_length 32 text) | false ↦ 0 ]) (d ∷ text)) ≡ (Literal c ∷ made, 0)
+    at go true f = go f
+    at go false f = ap (λ b. elim b [ true ↦ ((if nat_le 2 n then HardBreak else SoftBreak) ∷ made, n + run_length 32 text) | false ↦ as_literal c made ]) f
+
+pub space_item : (table : Table) (refs : List Definition) (last : ℕ) (made : List Inline) (rest : Text) → breaks rest ≡ false → read_item table refs last made 32 rest ≡ (Literal 32 ∷ made, 0)
+unfolding read_item item_of_kind kinds kind_in gap run_length breaks
+space_item table refs last made rest e = no_break (32 ∷ rest) (suc (run_length 32 rest)) made 32 e
+
+-- ---- plain characters
+
+and_parts : (a b : Bool) → (a && b) ≡ true → (a ≡ true) × (b ≡ true)
+and_parts true b e = (refl, e)
+and_parts false b e = absurd cc
+
+plain_item : (table : Table) (refs : List Definition) (last : ℕ) (made : List Inline) (c : ℕ) (rest : Text) → is_plain c ≡ true → ((c == 32) ≡ true → breaks rest ≡ false) →
+    read_item table refs last made c rest ≡ (Literal c ∷ made, 0)
+plain_item table refs last made c rest h g = at (c == 32) refl
+  where
+    at : (b : Bool) → (c == 32) ≡ b → read_item table refs last made c rest ≡ (Literal c ∷ made, 0)
+    at true e =
+        let same : c ≡ 32 = eqb-true c 32 e in
+        ap (λ d. read_item table refs last made d rest) same ∙ (space_item table refs last made rest (g e) ∙ ap (λ d. (Literal d ∷ made, 0)) (sym same))
+    at false e = other_item table refs last made c rest (plain_begins_nothing c h e)
+
+literal_onto : (c : ℕ) (run : Text) (made : List Inline) → onto (literals (c ∷ run)) made ≡ onto (literals run) (Literal c ∷ made)
+literal_onto c run made = ap (λ t. t ++ made) (reverse-append (Literal c ∷ []) (literals run)) ∙ append_assoc (reverse (literals run)) (Literal c ∷ []) made
+
+-- they become literals
+pub plain_reads : (table : Table) (refs : List Definition) (last : ℕ) (made : List Inline) (run rest : Text) → list_all is_plain run ≡ true → Quiet run rest →
+    read table refs last made 0 (run ++ rest) ≡ read table refs (last_or last run) (onto (literals run) made) 0 rest
+unfolding read last_or
+plain_reads table refs last made [] rest h q = refl
+plain_reads table refs last made (c ∷ run) rest h q =
+    let p = and_parts (is_plain c) (list_all is_plain run) h in
+    ap (λ step. read table refs c step.0 step.1 (run ++ rest)) (plain_item table refs last made c (run ++ rest) p.0 q.0)
+    ∙ (plain_reads table refs c (Literal c ∷ made) run rest p.1 q.1 ∙ ap (λ those. read table refs (last_or c run) those 0 rest) (sym (literal_onto c run made)))
+
+-- before a rest that begins with no line ending behind spaces
+plain_breaks : (run rest : Text) → list_all is_plain run ≡ true → breaks rest ≡ false → breaks (run ++ rest) ≡ false
+unfolding breaks
+plain_breaks [] rest h e = e
+plain_breaks (c ∷ run) rest h e = at (plain_breaks run rest (and_parts (is_plain c) (list_all is_plain run) h).1 e) (32 == c)
+  where
+    at : breaks (run ++ rest) ≡ false → (b : Bool) → (elim b [ true ↦ breaks (run ++ rest) | false ↦ c == 10 ]) ≡ false
+    at go true = go
+    at go false = plain_is_no_ending c (and_parts (is_plain c) (list_all is_plain run) h).0
+
+pub quiet_before : (run rest : Text) → list_all is_plain run ≡ true → breaks rest ≡ false → Quiet run rest
+quiet_before [] rest h e = tt
+quiet_before (c ∷ run) rest h e =
+    let more = (and_parts (is_plain c) (list_all is_plain run) h).1 in
+    (λ _. plain_breaks run rest more e, quiet_before run rest more e)
+
+-- before anything, where no space stands at their end
+no_space_breaks : (c : ℕ) (run rest : Text) → list_all is_plain (c ∷ run) ≡ true → (last_or c run == 32) ≡ false → breaks ((c ∷ run) ++ rest) ≡ false
+unfolding breaks last_or
+no_space_breaks c [] rest h e = at (32 == c) refl
+  where
+    at : (b : Bool) → (32 == c) ≡ b → (elim b [ true ↦ breaks rest | false ↦ c == 10 ]) ≡ false
+    at true f = absurd (true_is_false (sym (eq-eqb c 32 (sym (eqb-true 32 c f))) ∙ e))
+    at false f = plain_is_no_ending c (and_parts (is_plain c) true h).0
+no_space_breaks c (d ∷ run) rest h e = at (no_space_breaks d run rest (and_parts (is_plain c) (list_all is_plain (d ∷ run)) h).1 e) (32 == c)
+  where
+    at : breaks ((d ∷ run) ++ rest) ≡ false → (b : Bool) → (elim b [ true ↦ breaks ((d ∷ run) ++ rest) | false ↦ c == 10 ]) ≡ false
+    at go true = go
+    at go false = plain_is_no_ending c (and_parts (is_plain c) (list_all is_plain (d ∷ run)) h).0
+
+pub quiet_without_space : (run rest : Text) → list_all is_plain run ≡ true → (last_or 0 run == 32) ≡ false → Quiet run rest
+unfolding last_or
+quiet_without_space [] rest h e = tt
+quiet_without_space (c ∷ []) rest h e = (λ f. absurd (true_is_false (sym f ∙ e)), tt)
+quiet_without_space (c ∷ d ∷ run) rest h e =
+    let more = (and_parts (is_plain c) (list_all is_plain (d ∷ run)) h).1 in
+    (λ _. no_space_breaks d run rest more e, quiet_without_space (d ∷ run) rest more e)
+
+-- ---- line breaks
+
+pub break_item : (table : Table) (refs : List Definition) (last : ℕ) (made : List Inline) (rest : Text) → read_item table refs last made 10 rest ≡ (SoftBreak ∷ made, 0 + run_length 32 rest)
+unfolding read_item item_of_kind kinds kind_in gap break_behind run_length
+break_item table refs last made rest = refl
+
+spaces_before : (n : ℕ) (rest : Text) → run_length 32 (replicate n 32 ++ (10 ∷ rest)) ≡ n
+unfolding run_length
+spaces_before zero rest = refl
+spaces_before (suc n) rest = ap (λ k. suc k) (spaces_before n rest)
+
+behind_spaces : (n : ℕ) (rest : Text) → drop n (replicate n 32 ++ rest) ≡ rest
+behind_spaces zero rest = refl
+behind_spaces (suc n) rest = behind_spaces n rest
+
+pub spaces_item : (table : Table) (refs : List Definition) (last : ℕ) (made : List Inline) (n : ℕ) (rest : Text) →
+    read_item table refs last made 32 (replicate n 32 ++ (10 ∷ rest)) ≡ ((if nat_le 2 (suc n) then HardBreak else SoftBreak) ∷ made, suc n + run_length 32 rest)
+unfolding read_item item_of_kind kinds kind_in gap break_behind run_length
+spaces_item table refs last made n rest =
+    ap₂ (λ k text. break_behind (suc k) made 32 text) (spaces_before n rest) (ap (λ k. drop k (replicate n 32 ++ (10 ∷ rest))) (spaces_before n rest) ∙ behind_spaces n (10 ∷ rest))

@@ -1,0 +1,14 @@
+//! Brackets that are open.
+
+use doc_emphasis::Place;
+
+/// A `[` or `![` that no `]` closed yet (CommonMark 0.31.2, sections 6.3 and 6.4). It has a mark of its own.
+#[derive(Clone, Copy, Drop)]
+pub(crate) struct Bracket<'t> {
+    /// The place in front of its mark.
+    pub(crate) place: Place,
+    /// Whether it is `![`.
+    pub(crate) image: bool,
+    /// The text behind it.
+    pub(crate) behind: &'t str,
+}

@@ -1,0 +1,195 @@
+//! What was made of a text so far.
+ghost use Rattle.std.specs.Prelude.{◌≡◌, ℕ, suc, Bool, true, false, [], ◌∷◌, ◌++◌, chars, reverse, OnOk, IfOk, MatchOption, nat_le, ◌||◌, if◌then◌else◌};
+ghost use Rattle.doc_rules.specs.Inlines.{Delimiters, Open, onto};
+ghost use Rattle.doc_rules.specs.Inlines as images;
+ghost use Rattle.doc_rules.specs.Characters as rules;
+ghost use Rattle.doc_rules.specs.Links.{linked};
+ghost use Rattle.doc_rules.specs.Emphasis.{emphasis_of};
+ghost use Rattle.doc_refs.specs.Targets.{target_shown};
+ghost use Rattle.doc_marks.specs.Slices.{AreSlices, AreCut};
+ghost use Rattle.doc_marks.specs.Views.{inlines_in, inlines_shown, span_shown};
+ghost use Rattle.doc_marks.specs.declared.mark.Mark.TheVariants.{Text};
+ghost use Rattle.doc_emphasis.specs.Views.{items_of, runs_in};
+ghost use Rattle.doc_emphasis.specs.Texts.{IsRunText, AddsEach};
+ghost use Rattle.doc_inlines.specs.Drafts.{IsDraft, made_of, AreOpen, IsRunOf, codes_of_bracket, AddsBracket, IsPopped, last_of};
+
+use crate::bracket::Bracket;
+use doc_emphasis::{Marks, Place};
+use doc_heap::{Heap, Vec};
+use doc_marks::mark::{Mark, Span};
+use doc_page::failure::Memory;
+use doc_refs::Target;
+
+/// The marks that were made of a text so far, and the brackets among them that are open. Of the brackets the first `dead` begin no
+/// link, unless they are images'.
+#[derive(Drop)]
+pub(crate) struct Draft<'t> {
+    pub(crate) marks: Marks<'t>,
+    pub(crate) brackets: Vec<Bracket<'t>>,
+    pub(crate) dead: usize,
+}
+
+impl<'t> Draft<'t> {
+    /// Nothing is made yet. Takes no memory.
+    pub(crate) fn new(heap: Heap) -> Self
+        ensures items { items_of result.marks ≡ [] }
+        ensures brackets { result.brackets.items ≡ [] }
+        ensures made { made_of result ≡ [] }
+        ensures sound { IsDraft result }
+    {
+        Draft {
+            marks: Marks::new(heap),
+            brackets: Vec::new(heap),
+            dead: 0,
+        }
+    }
+
+    /// Lets all go, and keeps the room.
+    pub(crate) fn clear(&mut self)
+        ensures items { items_of self.new.marks ≡ [] }
+        ensures brackets { self.new.brackets.items ≡ [] }
+        ensures made { made_of self.new ≡ [] }
+        ensures sound { IsDraft self.new }
+    {
+        self.marks.clear();
+        self.brackets.clear();
+        self.dead = 0;
+    }
+
+    /// A mark behind all.
+    pub(crate) fn put(&mut self, mark: Mark<'t>) -> Result<(), Memory>
+        requires { IsDraft self.old }
+        ensures items { OnOk result (items_of self.new.marks ≡ items_of self.old.marks ++ (mark.entry ∷ [])) }
+        ensures brackets { OnOk result (self.new.brackets.items ≡ self.old.brackets.items) }
+        ensures made { OnOk result (made_of self.new ≡ onto (inlines_in mark.entry) (made_of self.old)) }
+        ensures sound { OnOk result (IsDraft self.new) }
+    {
+        self.marks.push(mark)?;
+        Ok(())
+    }
+
+    /// A run of delimiters behind all: each has a mark of its own.
+    pub(crate) fn put_run(&mut self, text: &'t str, opens: bool, closes: bool) -> Result<(), Memory>
+        requires sound { IsDraft self.old }
+        requires text { IsRunText (chars text.now) }
+        ensures items { OnOk result (AddsEach (items_of self.old.marks) (items_of self.new.marks) (chars text.now)) }
+        ensures brackets { OnOk result (self.new.brackets.items ≡ self.old.brackets.items) }
+        ensures made { (n c : ℕ) → OnOk result (IsRunOf n c (chars text.now) → made_of self.new ≡ Delimiters (record { char = c; left = suc n; length = suc n; opens = opens; closes = closes }) ∷ made_of self.old) }
+        ensures sound { OnOk result (IsDraft self.new) }
+    {
+        self.marks.push_run(text, opens, closes)?;
+        Ok(())
+    }
+
+    /// A bracket behind all, whose text is `text`, before the text `behind`.
+    pub(crate) fn open(&mut self, text: &'t str, image: bool, behind: &'t str) -> Result<(), Memory>
+        requires sound { IsDraft self.old }
+        requires text { chars text.now ≡ codes_of_bracket image }
+        ensures items { OnOk result (items_of self.new.marks ≡ items_of self.old.marks ++ (Text text.entry ∷ [])) }
+        ensures brackets { OnOk result (AddsBracket self.old.brackets.items self.new.brackets.items (chars behind.now)) }
+        ensures made { OnOk result (made_of self.new ≡ Open (record { image = image; live = true; behind = chars behind.now }) ∷ made_of self.old) }
+        ensures sound { OnOk result (IsDraft self.new) }
+    {
+        let place = self.marks.place();
+        self.brackets.push(Bracket {
+            place,
+            image,
+            behind,
+        })?;
+        self.marks.push(Mark::Text(text))?;
+        Ok(())
+    }
+
+    /// Closes the last bracket: its mark stays the text that it is. Also whether it may begin a link or an image.
+    pub(crate) fn pop(&mut self) -> Option<(Bracket<'t>, bool)>
+        requires { IsDraft self.old }
+        ensures { MatchOption result (self.old.brackets.items ≡ []) (λ found. IsPopped self.old self.new found.0 found.1) }
+    {
+        let bracket = self.brackets.pop()?;
+        let count = self.brackets.as_slice().len();
+        let live = is_live(bracket.image, self.dead, count);
+        self.dead = self.dead.min(count);
+        Some((bracket, live))
+    }
+
+    /// Turns all since the bracket, which was just closed, into a link or an image. Links hold no links.
+    pub(crate) fn link(
+        &mut self,
+        heap: Heap,
+        bracket: Bracket<'t>,
+        target: Target,
+    ) -> Result<(), Memory>
+        requires sound { IsDraft self.old }
+        requires stood { AreOpen (items_of self.old.marks) (runs_in self.old.marks) (self.old.brackets.items ++ (bracket ∷ [])) }
+        ensures made { (live : Bool) → OnOk result (made_of self.new ≡ linked (last_of self.old bracket.entry live) (target_shown target)) }
+        ensures brackets { OnOk result (self.new.brackets.items ≡ self.old.brackets.items) }
+        ensures slices { OnOk result ((text : rules.Text) → AreSlices text (items_of self.old.marks) → AreSlices text (items_of self.new.marks)) }
+        ensures cut { OnOk result (AreCut (items_of self.old.marks) → AreCut (items_of self.new.marks)) }
+        ensures sound { OnOk result (IsDraft self.new) }
+    {
+        let copy = copy_target(heap, &target)?;
+        let all = self.marks.place();
+        let behind = Place {
+            marks: bracket.place.marks + 1,
+            runs: bracket.place.runs,
+        };
+        self.marks.wrap(behind)?;
+        self.marks.turn(
+            bracket.place.marks,
+            Mark::Start(span(bracket.image, target)),
+        );
+        self.marks.push(Mark::End(span(bracket.image, copy)))?;
+        self.dead = dead_behind(bracket.image, self.dead, self.brackets.as_slice().len());
+        Ok(())
+    }
+
+    /// Makes the emphasis, when all is read. Brackets that are still open stay the text that they are.
+    pub(crate) fn finish(&mut self) -> Result<(), Memory>
+        requires { IsDraft self.old }
+        ensures shown { OnOk result (inlines_shown (items_of self.new.marks) ≡ emphasis_of (reverse (made_of self.old))) }
+        ensures slices { OnOk result ((text : rules.Text) → AreSlices text (items_of self.old.marks) → AreSlices text (items_of self.new.marks)) }
+        ensures cut { OnOk result (AreCut (items_of self.old.marks) → AreCut (items_of self.new.marks)) }
+    {
+        self.marks.wrap(Place { marks: 0, runs: 0 })?;
+        Ok(())
+    }
+}
+
+/// A link, or an image.
+#[tactic(auto, unfolding(doc_marks::specs::Views::span_shown))]
+fn span(image: bool, target: Target) -> Span
+    ensures { span_shown result ≡ (if image then images.Image (target_shown target) else images.Link (target_shown target)) }
+{
+    if image {
+        Span::Image(target)
+    } else {
+        Span::Link(target)
+    }
+}
+
+/// Whether the bracket of this number may begin a link or an image.
+fn is_live(image: bool, dead: usize, number: usize) -> bool
+    ensures { result ≡ (image || nat_le dead number) }
+{
+    image || dead <= number
+}
+
+/// How many brackets begin no link behind a link or an image.
+fn dead_behind(image: bool, dead: usize, count: usize) -> usize
+    ensures image { image ≡ true → result ≡ dead }
+    ensures link { image ≡ false → result ≡ count }
+{
+    if image { dead } else { count }
+}
+
+/// The same destination and title again.
+fn copy_target(heap: Heap, target: &Target) -> Result<Target, Memory>
+    ensures { IfOk result (λ copy. target_shown copy ≡ target_shown target.now) }
+{
+    let dest = target.dest.copy(heap)?;
+    let title = match &target.title {
+        Some(title) => Some(title.copy(heap)?),
+        None => None,
+    };
+    Ok(Target { dest, title })
+}

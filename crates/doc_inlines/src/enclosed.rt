@@ -1,0 +1,182 @@
+//! Code spans, autolinks and raw HTML (CommonMark 0.31.2, sections 6.1, 6.5 and 6.6).
+ghost use Rattle.std.specs.Prelude.{◌≡◌, ◌++◌, ◌∷◌, [], chars, Some, OnOk, IfOk, MatchOption};
+ghost use Rattle.doc_rules.specs.Entities.{Table};
+ghost use Rattle.doc_rules.specs.Inlines.{literals, onto};
+ghost use Rattle.doc_rules.specs.Reading.{autolink};
+ghost use Rattle.doc_rules.specs.Reading as rules;
+ghost use Rattle.doc_rules.specs.Parsers.{many};
+ghost use Rattle.doc_rules.proofs.ParserLaws.{IsRest};
+ghost use Rattle.doc_refs.specs.Targets.{Targets};
+ghost use Rattle.doc_marks.specs.Views.{span_shown};
+ghost use Rattle.doc_emphasis.specs.Views.{items_of};
+ghost use Rattle.doc_enclosed.specs.Slices.{StandsBefore};
+ghost use Rattle.doc_enclosed.specs.Found.{slice_of, enclosing_of};
+ghost use Rattle.doc_enclosed.specs.Reads.{enclosed_read};
+ghost use Rattle.doc_inlines.specs.Drafts.{IsDraft, made_of};
+ghost use Rattle.doc_inlines.specs.Readers.{IsReader, GoesOn, state_made};
+ghost use Rattle.doc_inlines.specs.Readers as readers;
+ghost use Rattle.doc_inlines.specs.Pieces.{AddsText, IsPiece};
+
+use crate::draft::Draft;
+use crate::reader::Reader;
+use doc_enclosed::Enclosed;
+use doc_heap::{Heap, String};
+use doc_lines::pushing::push_text;
+use doc_lines::scan::character::next_char;
+use doc_lines::scan::front::front;
+use doc_lines::scan::run::many;
+use doc_marks::mark::{Mark, Span};
+use doc_page::failure::Memory;
+use doc_page::text::Text;
+use doc_refs::Target;
+
+impl<'t> Reader<'t> {
+    /// A code span, or a run of backticks without an end, which is text.
+    pub(crate) fn backticks(&mut self, behind: &'t str) -> Result<(), Memory>
+        requires sound { IsReader self.old }
+        requires first { chars self.old.rest.now ≡ 96 ∷ chars behind.now }
+        ensures { OnOk result ((table : Table) (targets : Targets) → GoesOn table targets self.old self.new) }
+    {
+        let (found, next) = self.backticks.code_span(behind)?;
+        match found {
+            Some(code) => {
+                self.put(Mark::Code(code), next)?;
+                Ok(())
+            }
+            None => {
+                self.pass(next);
+                Ok(())
+            }
+        }
+    }
+
+    /// An autolink, raw HTML, or a `<` that is text.
+    pub(crate) fn left_angle(&mut self, heap: Heap, behind: &'t str) -> Result<(), Memory>
+        requires sound { IsReader self.old }
+        requires first { chars self.old.rest.now ≡ 60 ∷ chars behind.now }
+        ensures { OnOk result ((table : Table) (targets : Targets) → GoesOn table targets self.old self.new) }
+    {
+        match self.missing.enclosed(self.rest) {
+            Some((found, next)) => {
+                self.put_enclosed(heap, found, next)?;
+                Ok(())
+            }
+            None => {
+                self.alone('<', behind)?;
+                Ok(())
+            }
+        }
+    }
+
+    /// What a `<` encloses, which stands in front of this rest.
+    fn put_enclosed(&mut self, heap: Heap, found: Enclosed<'t>, rest: &'t str) -> Result<(), Memory>
+        requires sound { IsReader self.old }
+        requires behind { IsRest (chars rest.now) (chars self.old.rest.now) }
+        requires stands { StandsBefore (slice_of found) (chars rest.now) (chars self.old.rest.now) }
+        ensures text { OnOk result (self.new.text ≡ self.old.text) }
+        ensures rest { OnOk result (self.new.rest ≡ rest.entry) }
+        ensures made { OnOk result (state_made self.new ≡ enclosed_read (state_made self.old) (enclosing_of found.entry)) }
+        ensures sound { OnOk result (IsReader self.new) }
+    {
+        match found {
+            Enclosed::Raw(html) => {
+                self.put(Mark::Raw(html), rest)?;
+                Ok(())
+            }
+            Enclosed::Uri(address) => {
+                self.put_autolink(heap, "", address, rest)?;
+                Ok(())
+            }
+            Enclosed::Mail(address) => {
+                self.put_autolink(heap, "mailto:", address, rest)?;
+                Ok(())
+            }
+        }
+    }
+
+    /// A link over an address, which stands in front of this rest. Its destination is the address behind this scheme.
+    fn put_autolink(
+        &mut self,
+        heap: Heap,
+        scheme: &str,
+        address: &'t str,
+        rest: &'t str,
+    ) -> Result<(), Memory>
+        requires sound { IsReader self.old }
+        requires behind { IsRest (chars rest.now) (chars self.old.rest.now) }
+        requires stands { StandsBefore (chars address.now) (chars rest.now) (chars self.old.rest.now) }
+        ensures text { OnOk result (self.new.text ≡ self.old.text) }
+        ensures rest { OnOk result (self.new.rest ≡ rest.entry) }
+        ensures made { OnOk result (state_made self.new ≡ autolink (chars scheme.now ++ chars address.now) (chars address.now) (state_made self.old)) }
+        ensures sound { OnOk result (IsReader self.new) }
+    {
+        let start = autolink_span(heap, scheme, address)?;
+        let end = autolink_span(heap, scheme, address)?;
+        self.flush()?;
+        self.draft.put(Mark::Start(start))?;
+        self.draft.put_text(address)?;
+        self.draft.put(Mark::End(end))?;
+        self.rest = rest;
+        self.plain = rest;
+        Ok(())
+    }
+}
+
+impl<'t> Draft<'t> {
+    /// A text behind all. What HTML writes otherwise has a mark of its own.
+    fn put_text(&mut self, text: &'t str) -> Result<(), Memory>
+        requires { IsDraft self.old }
+        ensures items { OnOk result (AddsText (items_of self.old.marks) (items_of self.new.marks) (chars text.now)) }
+        ensures brackets { OnOk result (self.new.brackets.items ≡ self.old.brackets.items) }
+        ensures made { OnOk result (made_of self.new ≡ onto (literals (chars text.now)) (made_of self.old)) }
+        ensures sound { OnOk result (IsDraft self.new) }
+    {
+        let mut rest = text;
+        'pieces: while let Some(next) = behind_piece(rest) {
+            let piece = front(rest, next);
+            self.put(Mark::Text(piece))?;
+            rest = next;
+        }
+        Ok(())
+    }
+}
+
+/// The text behind its first character, if HTML writes that otherwise, or else behind the first characters that it writes as they are.
+fn behind_piece(text: &str) -> Option<&str>
+    ensures { MatchOption result (chars text.now ≡ []) (λ rest. IsPiece (chars text.now) (chars rest.now)) }
+{
+    let (c, behind) = next_char(text)?;
+    if is_uncut(c) {
+        Some(behind_uncut(behind))
+    } else {
+        Some(behind)
+    }
+}
+
+/// The text behind the characters at its front that HTML writes as they are.
+fn behind_uncut(text: &str) -> &str
+    ensures value { Some (chars result.now) ≡ many readers.is_uncut (chars text.now) }
+    ensures end { IsRest (chars result.now) (chars text.now) }
+{
+    many(text, is_uncut)
+}
+
+/// Whether HTML writes the character as it is.
+fn is_uncut(c: char) -> bool
+    ensures { result ≡ readers.is_uncut c }
+{
+    !matches!(c, '&' | '<' | '>' | '"')
+}
+
+/// A link to this scheme with this address behind it.
+#[tactic(auto, unfolding(doc_marks::specs::Views::span_shown))]
+fn autolink_span(heap: Heap, scheme: &str, address: &str) -> Result<Span, Memory>
+    ensures { IfOk result (λ span. span_shown span ≡ rules.autolink_span (chars scheme.now ++ chars address.now)) }
+{
+    let mut dest = String::from_str(heap, scheme)?;
+    push_text(&mut dest, address)?;
+    Ok(Span::Link(Target {
+        dest: Text::new(dest),
+        title: None,
+    }))
+}
