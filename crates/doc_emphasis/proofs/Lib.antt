@@ -5,3 +5,5 @@ pub mod PairLaws
 pub mod PassLaws
 pub mod MarkLaws
 pub mod WrapLaws
+pub mod ReadLaws
+mod Examples

@@ -1,12 +1,12 @@
 -- Marks that grow, and the places among them.
 use Rattle.std.proofs.Common.{◌≡◌, ℕ, zero, suc, ◌+◌, ◌-◌, ◌<◌, ◌≤◌, Bool, true, false, ◌==◌, List, [], ◌∷◌, ◌++◌, length, get_or, set, take, drop, map, replicate, refl, ap, ap₂, sym, ◌∙◌, subst, arith, append_assoc, length-append, get_or-set_other, length-set, chars}
-use Rattle.std.specs.Prelude.{flat_map, ⊤, if◌then◌else◌}
+use Rattle.std.specs.Prelude.{flat_map}
 use Rattle.std.specs.Str.{IsUtf8, IsAscii}
-use Rattle.std.proofs.lemmas.List.{append-nil, map-append, get_or_append_left, get_or-append_right, length-map, length-replicate, map-set, take-append-le, drop-append-le, take_all}
+use Rattle.std.proofs.lemmas.List.{append-nil, map-append, get_or_append_left, get_or-append_right, length-map, length-replicate, map-set, take-append-le, drop-append-le, take_all, take-map, get_or-take, drop-take}
 use Rattle.std.proofs.Math.ListN.{drop_of_length-le}
 use Rattle.std.proofs.lemmas.Str.{encodes-chars, encodes-IsAscii, chars-IsAscii}
 use Rattle.doc_rules.specs.Characters as rules
-use Rattle.doc_rules.specs.Inlines.{Inline, Literal}
+use Rattle.doc_rules.specs.Inlines.{Literal}
 use Rattle.doc_delimiters.specs.Marks.{Placed, AreDelimiters, ArePlaced}
 use Rattle.doc_delimiters.specs.Marks as delimiters
 use Rattle.doc_delimiters.proofs.Stretches.{Agree, placed_order, placed_same, placed_until}
@@ -17,9 +17,9 @@ use Rattle.doc_marks.specs.Slices.{slice_in, is_cut, IsCut, AreCut}
 use Rattle.doc_marks.specs.Views.{inlines_in}
 use Rattle.doc_emphasis.specs.declared.run.Run.{Run}
 use Rattle.doc_emphasis.specs.declared.marks.Place.{Place}
-use Rattle.doc_emphasis.specs.Runs.{char_of, placed_shown, all_placed}
+use Rattle.doc_emphasis.specs.Runs.{delimiter, char_of, placed_shown, all_placed}
 use Rattle.doc_emphasis.specs.Views.{marks_shown, StandsApart}
-use Rattle.doc_emphasis.specs.Texts.{delimiter, IsRunText, IsTextOf, AreEach, AddsEach, fresh_run}
+use Rattle.doc_emphasis.specs.Texts.{IsRunText, IsTextOf, AreEach, AddsEach, fresh_run}
 
 -- ---- texts of one character each
 
@@ -76,7 +76,7 @@ each_cut [] (c ∷ text) h = absurd h
 each_cut (mark ∷ added) [] h = absurd h
 each_cut (mark ∷ added) (c ∷ text) h = (text_cut c mark h.0, each_cut added text h.1)
 
-each_long : (added : List Mark) (text : rules.Text) → AreEach added text → length added ≡ length text
+pub each_long : (added : List Mark) (text : rules.Text) → AreEach added text → length added ≡ length text
 each_long added text h = sym (length-map added inlines_in) ∙ (ap length (each_shown added text h) ∙ length-map text (λ c. Literal c ∷ []))
 
 -- one more
@@ -100,7 +100,7 @@ adds_more old new last n m c mark h e g k =
 
 -- ---- marks behind all
 
-agree_more : (items added : List Mark) (a b : ℕ) → b ≤ length items → Agree (marks_shown items) (marks_shown (items ++ added)) a b
+pub agree_more : (items added : List Mark) (a b : ℕ) → b ≤ length items → Agree (marks_shown items) (marks_shown (items ++ added)) a b
 agree_more items added a b h i low high =
     let long : length (marks_shown items) ≡ length items = length-map items inlines_in in
     sym (ap (λ t. get_or t i []) (map-append inlines_in items added) ∙ get_or_append_left (marks_shown items) (marks_shown added) [] i (omega arith))
@@ -163,11 +163,11 @@ place_run items added runs p place h each e some =
       marks = omega arith;
       runs_fit = omega arith;
       before =
-        subst (λ t. ArePlaced (marks_shown (items ++ added)) 0 place.marks t) (sym (take-append-le place.runs runs (p ∷ []) h.runs_fit))
-        (placed_same (marks_shown items) (marks_shown (items ++ added)) 0 place.marks (take place.runs runs) h.before (agree_more items added 0 place.marks h.marks));
+          subst (λ t. ArePlaced (marks_shown (items ++ added)) 0 place.marks t) (sym (take-append-le place.runs runs (p ∷ []) h.runs_fit))
+          (placed_same (marks_shown items) (marks_shown (items ++ added)) 0 place.marks (take place.runs runs) h.before (agree_more items added 0 place.marks h.marks));
       behind =
-        subst (λ t. ArePlaced (marks_shown (items ++ added)) place.marks (length (items ++ added)) t) (sym (drop-append-le place.runs runs (p ∷ []) h.runs_fit))
-        (run_behind items added place.marks (drop place.runs runs) p h.behind each e some);
+          subst (λ t. ArePlaced (marks_shown (items ++ added)) place.marks (length (items ++ added)) t) (sym (drop-append-le place.runs runs (p ∷ []) h.runs_fit))
+          (run_behind items added place.marks (drop place.runs runs) p h.behind each e some);
     }
 
 -- ---- a mark set behind all runs
@@ -240,11 +240,29 @@ place_set items at mark runs place h g =
       marks = omega arith;
       runs_fit = g.runs_fit;
       before =
-        placed_alike (marks_shown items) (marks_shown (set items at mark)) 0 place.marks 0 at (take place.runs runs) g.before (placed_take (marks_shown items) 0 at place.runs runs h) (agree_set items at mark 0 at (omega arith));
+          placed_alike (marks_shown items) (marks_shown (set items at mark)) 0 place.marks 0 at (take place.runs runs) g.before (placed_take (marks_shown items) 0 at place.runs runs h) (agree_set items at mark 0 at (omega arith));
       behind =
-        subst (λ b. ArePlaced (marks_shown (set items at mark)) place.marks b (drop place.runs runs)) (sym long)
-        (placed_alike (marks_shown items) (marks_shown (set items at mark)) place.marks (length items) 0 at (drop place.runs runs) g.behind (placed_drop (marks_shown items) 0 at place.runs runs h) (agree_set items at mark 0 at (omega arith)));
+          subst (λ b. ArePlaced (marks_shown (set items at mark)) place.marks b (drop place.runs runs)) (sym long)
+          (placed_alike (marks_shown items) (marks_shown (set items at mark)) place.marks (length items) 0 at (drop place.runs runs) g.behind (placed_drop (marks_shown items) 0 at place.runs runs h) (agree_set items at mark 0 at (omega arith)));
     }
+
+-- ---- between two places
+
+-- the runs between two places stand between them
+pub middle_placed : (items : List Mark) (runs : List Placed) (from place : Place) → StandsApart items runs from → StandsApart items runs place → place.marks ≤ from.marks → place.runs ≤ from.runs →
+    ArePlaced (marks_shown items) place.marks from.marks (drop place.runs (take from.runs runs))
+middle_placed items runs from place g h low few =
+    let split : place.runs + (from.runs - place.runs) ≡ from.runs = omega arith in
+    let middle : drop place.runs (take from.runs runs) ≡ take (from.runs - place.runs) (drop place.runs runs) =
+    ap (λ k. drop place.runs (take k runs)) (sym split) ∙ drop-take place.runs (from.runs - place.runs) runs in
+    let on : ArePlaced (marks_shown items) place.marks (length items) (drop place.runs (take from.runs runs)) =
+    subst (λ t. ArePlaced (marks_shown items) place.marks (length items) t) (sym middle) (placed_take (marks_shown items) place.marks (length items) (from.runs - place.runs) (drop place.runs runs) h.behind) in
+    placed_both (marks_shown items) place.marks (length items) 0 from.marks (drop place.runs (take from.runs runs)) on (placed_drop (marks_shown items) 0 from.marks place.runs (take from.runs runs) g.before) low
+
+pub agree_front : (items next : List Mark) (n : ℕ) → take n next ≡ take n items → Agree (marks_shown items) (marks_shown next) 0 n
+agree_front items next n e i low high =
+    sym (get_or-take n (marks_shown items) i [] high)
+    ∙ (ap (λ t. get_or t i []) (take-map inlines_in n items ∙ (ap marks_shown (sym e) ∙ sym (take-map inlines_in n next))) ∙ get_or-take n (marks_shown next) i [] high)
 
 -- ---- the place behind all
 

@@ -1,11 +1,11 @@
 -- The runs of the code by their numbers.
-use Rattle.std.proofs.Common.{◌≡◌, ◌⊎◌, inl, inr, ℕ, suc, ◌+◌, ◌-◌, ◌<◌, ◌≤◌, Bool, true, false, List, [], ◌∷◌, length, get_or, set, take, map, refl, ap, ap₂, sym, ◌∙◌, subst, Option, Some, None, arith}
-use Rattle.std.specs.Prelude.{nat_lt, if◌then◌else◌}
+use Rattle.std.proofs.Common.{◌≡◌, ◌⊎◌, inl, inr, ℕ, ◌+◌, ◌-◌, ◌<◌, Bool, true, false, List, length, get_or, set, refl, ap, ap₂, sym, ◌∙◌, subst, None, arith}
+use Rattle.std.specs.Prelude.{if◌then◌else◌}
 use Rattle.std.proofs.lemmas.List.{map-set, get_or-map, length-map}
 use Rattle.doc_rules.specs.Inlines as rules
 use Rattle.doc_delimiters.specs.Marks.{Placed}
 use Rattle.doc_delimiters.specs.Openers.{closer_kind, NearestIs}
-use Rattle.doc_delimiters.specs.NumberSteps.{no_run, numbered, run_numbered, taken_opener, paired_runs, paired_openers}
+use Rattle.doc_delimiters.specs.NumberSteps.{no_run, numbered, run_numbered, taken_opener, paired_runs}
 use Rattle.doc_delimiters.specs.Marks.{less_closer}
 use Rattle.doc_delimiters.proofs.NumberLoops.{Stacked, stacked_failed}
 use Rattle.doc_emphasis.specs.declared.run.Run.{Run}

@@ -1,19 +1,17 @@
 -- A pair as the code writes it is a pair in place.
-use Rattle.std.proofs.Common.{◌≡◌, ◌≢◌, ◌⊎◌, inl, inr, ℕ, suc, ◌+◌, ◌-◌, ◌<◌, ◌≤◌, Bool, true, false, List, [], ◌∷◌, ◌++◌, length, get_or, set, take, drop, refl, ap, ap₂, sym, ◌∙◌, subst, Option, Some, None, arith, get_or-set_same, length-set}
+use Rattle.std.proofs.Common.{◌≡◌, inl, inr, ℕ, suc, ◌+◌, ◌-◌, ◌<◌, ◌≤◌, Bool, true, false, List, ◌∷◌, ◌++◌, length, get_or, set, take, drop, refl, ap, ap₂, sym, ◌∙◌, subst, Some, arith, get_or-set_same, length-set}
 use Rattle.std.specs.Prelude.{nat_lt, if◌then◌else◌}
 use Rattle.std.proofs.lemmas.List.{length-map, get_or_default}
-use Rattle.doc_rules.specs.Inlines.{Inline}
-use Rattle.doc_rules.specs.Inlines as rules
 use Rattle.doc_rules.specs.Emphasis.{strength}
 use Rattle.doc_delimiters.specs.Marks.{Placed, ArePlaced, AreDelimiters, IsPaired, less_closer}
 use Rattle.doc_delimiters.specs.Marks as delimiters
 use Rattle.doc_delimiters.specs.InPlace.{paired}
-use Rattle.doc_delimiters.specs.Openers.{NearestIs, OpenAlike}
+use Rattle.doc_delimiters.specs.Openers.{NearestIs}
 use Rattle.doc_delimiters.specs.NumberSteps.{no_run, numbered, run_numbered, stack_of, taken_opener, paired_runs, paired_openers}
 use Rattle.doc_delimiters.proofs.Stretches.{placed_order, placed_front, placed_at}
 use Rattle.doc_delimiters.proofs.Pairs.{OneOrTwo, Stands, strength_fits, outcome}
 use Rattle.doc_delimiters.proofs.InPlaceLaws.{paired_is}
-use Rattle.doc_delimiters.proofs.Numbers.{ClosesAt, stack_split, pair_at, pair_alike}
+use Rattle.doc_delimiters.proofs.Numbers.{ClosesAt, stack_split, pair_at}
 use Rattle.doc_delimiters.proofs.NumberLoops.{Stacked, stacked_pair}
 use Rattle.doc_marks.specs.declared.mark.Mark.{Mark}
 use Rattle.doc_marks.specs.Views.{inlines_in}

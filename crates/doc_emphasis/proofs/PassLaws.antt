@@ -1,32 +1,29 @@
 -- The pass over the runs of the code: its start, a run closed, a run passed, and its end.
-use Rattle.std.proofs.Common.{◌≡◌, ℕ, zero, suc, ◌+◌, ◌-◌, ◌<◌, ◌≤◌, Bool, true, false, List, [], ◌∷◌, ◌++◌, length, get_or, take, drop, map, replicate, refl, ap, ap₂, sym, ◌∙◌, subst, Option, Some, None, arith}
+use Rattle.std.proofs.Common.{◌≡◌, ℕ, zero, suc, ◌-◌, ◌<◌, ◌≤◌, false, List, [], ◌∷◌, ◌++◌, length, get_or, drop, replicate, refl, ap, sym, ◌∙◌, subst, None, arith}
 use Rattle.std.specs.Prelude.{flat_map, chars}
 use Rattle.std.proofs.lemmas.List.{length-map}
 use Rattle.doc_rules.specs.Inlines.{Inline, Literal}
 use Rattle.doc_rules.specs.Inlines as rules
-use Rattle.doc_rules.specs.Emphasis.{emphasis_of}
 use Rattle.doc_delimiters.specs.OnePass.{passed}
-use Rattle.doc_delimiters.specs.Marks.{Placed, ArePlaced, ArePlain, IsFinal, stretch, seen}
-use Rattle.doc_delimiters.specs.Marks as delimiters
+use Rattle.doc_delimiters.specs.Marks.{ArePlaced, ArePlain, IsFinal, stretch, seen}
 use Rattle.doc_delimiters.specs.Openers.{NearestIs}
 use Rattle.doc_delimiters.specs.NumberSteps.{numbered, run_numbered, stack_of, joined_openers}
 use Rattle.doc_delimiters.proofs.BoundLaws.{reach_first}
 use Rattle.doc_delimiters.proofs.Stretches.{placed_order}
 use Rattle.doc_delimiters.proofs.Pairs.{Stands, outcome}
 use Rattle.doc_delimiters.proofs.Numbers.{ClosesAt}
-use Rattle.doc_delimiters.proofs.NumberLoops.{Stacked, WalksAt, starts_at, stacked_first, comes_at, emptied_at, failed_at, not_closing_at, stacked_next}
+use Rattle.doc_delimiters.proofs.NumberLoops.{Stacked, WalksAt, starts_at, stacked_first, comes_at, emptied_at, failed_at, not_closing_at}
 use Rattle.doc_delimiters.proofs.Growing.{stretch_all}
 use Rattle.doc_delimiters.proofs.Finals.{AreFinal, final_marks, final_plain, final_emphasis}
 use Rattle.doc_marks.specs.declared.mark.Mark.{Mark}
 use Rattle.doc_marks.specs.declared.mark.Mark.TheVariants.{Text, Code, Soft, Hard, Raw, Reference, Start, End}
 use Rattle.doc_marks.specs.Views.{inlines_in, inlines_shown}
 use Rattle.doc_emphasis.specs.declared.run.Run.{Run}
-use Rattle.doc_emphasis.specs.Runs.{run_shown, placed_shown, all_placed}
+use Rattle.doc_emphasis.specs.Runs.{all_placed}
 use Rattle.doc_emphasis.specs.Steps.{Keeps, StandAt, GoesOn, GoesPast, WalksOn, IsWrapped}
 use Rattle.doc_emphasis.specs.Views.{marks_shown}
 use Rattle.doc_emphasis.proofs.NumberLaws.{run_is, as_many}
 use Rattle.doc_emphasis.proofs.KeepLaws.{keeps_all, keeps_on}
-use Rattle.doc_emphasis.proofs.MarkLaws.{placed_from}
 
 -- ---- marks are final
 
@@ -120,7 +117,7 @@ walks_past marks next last runs left fewer openers kept number p w size g a h =
 
 -- ---- the end
 
-shown_from : (marks : List Mark) (place : ℕ) → flat_map (λ (mark : List Inline). mark) (drop place (marks_shown marks)) ≡ inlines_shown (drop place marks)
+pub shown_from : (marks : List Mark) (place : ℕ) → flat_map (λ (mark : List Inline). mark) (drop place (marks_shown marks)) ≡ inlines_shown (drop place marks)
 shown_from [] zero = refl
 shown_from [] (suc n) = refl
 shown_from (x ∷ xs) zero = ap (λ t. inlines_in x ++ t) (shown_from xs zero)
@@ -134,9 +131,9 @@ wrapped_all marks next runs left openers number w size place h =
     let long : length (marks_shown next) ≡ length marks = length-map next inlines_in ∙ k.1.size in
     record {
       emphasis =
-        sym (shown_from next place)
-        ∙ (sym (stretch_all (marks_shown next) place (omega arith))
-        ∙ (ap (λ n. stretch (marks_shown next) place (n - place)) long
-        ∙ final_emphasis (marks_shown marks) (marks_shown next) place (length marks) (all_placed runs) (all_placed left) openers number (are_final next) k.0 (subst (λ m. m ≤ number) (sym (as_many left)) size)));
+          sym (shown_from next place)
+          ∙ (sym (stretch_all (marks_shown next) place (omega arith))
+          ∙ (ap (λ n. stretch (marks_shown next) place (n - place)) long
+          ∙ final_emphasis (marks_shown marks) (marks_shown next) place (length marks) (all_placed runs) (all_placed left) openers number (are_final next) k.0 (subst (λ m. m ≤ number) (sym (as_many left)) size)));
       keeps = k.1;
     }

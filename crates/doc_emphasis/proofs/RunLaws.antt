@@ -1,12 +1,12 @@
 -- The tests of the code on runs are those of the rules.
-use Rattle.std.proofs.Common.{◌≡◌, ℕ, ◌+◌, ◌<◌, Bool, true, false, refl, ap, ap₂, sym, ◌∙◌, arith}
+use Rattle.std.proofs.Common.{◌≡◌, ℕ, ◌+◌, ◌<◌, Bool, true, false, refl, ap, ap₂, sym, arith}
 use Rattle.std.specs.Prelude.{◌%◌, ◌&&◌, ◌||◌, ◌==◌, not, if◌then◌else◌}
 use mathlib.Core.Bool.{beq}
 use Rattle.doc_rules.specs.Emphasis.{matches}
 use Rattle.doc_delimiters.specs.Openers.{closer_kind}
 use Rattle.doc_delimiters.proofs.BoundLaws.{kind_below}
 use Rattle.doc_emphasis.specs.declared.run.Run.{Run}
-use Rattle.doc_emphasis.specs.Runs.{char_of, run_shown}
+use Rattle.doc_emphasis.specs.Runs.{run_shown}
 
 star_is : (star : Bool) → ((if star then 42 else 95) == 42) ≡ star
 star_is true = refl

@@ -1,21 +1,18 @@
 -- Emphasis from a place on: the marks of the code before and after, and the places that stay.
-use Rattle.std.proofs.Common.{◌≡◌, ℕ, suc, ◌+◌, ◌-◌, ◌<◌, ◌≤◌, List, [], ◌∷◌, ◌++◌, length, get_or, take, drop, map, refl, ap, ap₂, sym, ◌∙◌, subst, arith, min, append_assoc}
-use Rattle.std.proofs.lemmas.List.{length-take-le, take-append-le, get_or-take, take-take, take-map, drop-map, take_rest, drop-take, length-take}
-use Rattle.doc_rules.specs.Characters as rules
-use Rattle.doc_rules.specs.Inlines.{Inline}
+use Rattle.std.proofs.Common.{◌≡◌, ℕ, ◌-◌, ◌≤◌, List, ◌++◌, length, take, drop, ap, sym, ◌∙◌, subst, arith, min, append_assoc}
+use Rattle.std.proofs.lemmas.List.{length-take-le, take-append-le, take-take, take-map, drop-map, take_rest, length-take}
 use Rattle.doc_rules.specs.Emphasis.{emphasis_of}
 use Rattle.doc_delimiters.specs.Marks.{Placed, ArePlaced, seen}
 use Rattle.doc_delimiters.proofs.Stretches.{Agree, placed_same, placed_until}
 use Rattle.doc_marks.specs.declared.mark.Mark.{Mark}
-use Rattle.doc_marks.specs.Slices.{AreSlices, AreCut}
-use Rattle.doc_marks.specs.Views.{inlines_in, inlines_shown}
+use Rattle.doc_marks.specs.Views.{inlines_shown}
 use Rattle.doc_emphasis.specs.declared.run.Run.{Run}
 use Rattle.doc_emphasis.specs.declared.marks.Place.{Place}
 use Rattle.doc_emphasis.specs.Runs.{placed_shown, all_placed}
-use Rattle.doc_emphasis.specs.Steps.{Keeps, IsWrapped}
+use Rattle.doc_emphasis.specs.Steps.{IsWrapped}
 use Rattle.doc_emphasis.specs.Views.{marks_shown, StandsApart}
 use Rattle.doc_emphasis.proofs.NumberLaws.{as_many}
-use Rattle.doc_emphasis.proofs.MarkLaws.{refilled, placed_from, placed_take, placed_drop, placed_both}
+use Rattle.doc_emphasis.proofs.MarkLaws.{refilled, placed_from, middle_placed, agree_front}
 
 -- ---- what the code passes
 
@@ -65,10 +62,7 @@ module _ (items next : List Mark) (runs left : List Run) (from : Place) (w : Wra
   wrap_emphasis = w.wrapped.emphasis ∙ ap (λ t. emphasis_of (seen (marks_shown items) from.marks (length items) t)) (part_is from runs)
 
   agree : Agree (marks_shown items) (marks_shown next) 0 from.marks
-  agree i low high =
-      sym (get_or-take from.marks (marks_shown items) i [] high)
-      ∙ (ap (λ t. get_or t i []) (take-map inlines_in from.marks items ∙ (ap marks_shown (sym w.wrapped.keeps.front) ∙ sym (take-map inlines_in from.marks next)))
-      ∙ get_or-take from.marks (marks_shown next) i [] high)
+  agree = agree_front items next from.marks w.wrapped.keeps.front
 
   pub wrap_sound : ArePlaced (marks_shown next) 0 (length next) (all_placed left)
   wrap_sound =
@@ -85,24 +79,17 @@ module _ (items next : List Mark) (runs left : List Run) (from : Place) (w : Wra
       let runs_fit : from.runs ≤ length (all_placed runs) = w.place.runs_fit in
       let long : length next ≡ length items = w.wrapped.keeps.size in
       let many : length (take from.runs (all_placed runs)) ≡ min from.runs (length (all_placed runs)) = length-take from.runs (all_placed runs) in
-      let split : place.runs + (from.runs - place.runs) ≡ from.runs = omega arith in
-      let middle : drop place.runs (take from.runs r) ≡ take (from.runs - place.runs) (drop place.runs r) =
-      ap (λ k. drop place.runs (take k r)) (sym split) ∙ drop-take place.runs (from.runs - place.runs) r in
-      let on : ArePlaced (marks_shown items) place.marks (length items) (drop place.runs (take from.runs r)) =
-      subst (λ t. ArePlaced (marks_shown items) place.marks (length items) t) (sym middle) (placed_take (marks_shown items) place.marks (length items) (from.runs - place.runs) (drop place.runs r) h.behind) in
-      let upto : ArePlaced (marks_shown items) 0 from.marks (drop place.runs (take from.runs r)) = placed_drop (marks_shown items) 0 from.marks place.runs (take from.runs r) w.place.before in
-      let both : ArePlaced (marks_shown items) place.marks from.marks (drop place.runs (take from.runs r)) =
-      placed_both (marks_shown items) place.marks (length items) 0 from.marks (drop place.runs (take from.runs r)) on upto low in
+      let both : ArePlaced (marks_shown items) place.marks from.marks (drop place.runs (take from.runs r)) = middle_placed items r from place w.place h low few in
       subst (λ t. StandsApart next t place) (sym wrap_runs)
       (record {
         marks = omega arith;
         runs_fit = omega arith;
         before =
-          subst (λ t. ArePlaced (marks_shown next) 0 place.marks t) (sym (take-take place.runs from.runs r few))
-          (placed_same (marks_shown items) (marks_shown next) 0 place.marks (take place.runs r) h.before (λ i a b. agree i a (omega arith)));
+            subst (λ t. ArePlaced (marks_shown next) 0 place.marks t) (sym (take-take place.runs from.runs r few))
+            (placed_same (marks_shown items) (marks_shown next) 0 place.marks (take place.runs r) h.before (λ i a b. agree i a (omega arith)));
         behind =
-          placed_until (marks_shown next) place.marks from.marks (length next) (drop place.runs (take from.runs r))
-          (placed_same (marks_shown items) (marks_shown next) place.marks from.marks (drop place.runs (take from.runs r)) both (λ i a b. agree i (omega arith) b)) (omega arith);
+            placed_until (marks_shown next) place.marks from.marks (length next) (drop place.runs (take from.runs r))
+            (placed_same (marks_shown items) (marks_shown next) place.marks from.marks (drop place.runs (take from.runs r)) both (λ i a b. agree i (omega arith) b)) (omega arith);
       })
 
 -- the runs before the place are those that are kept

@@ -1,12 +1,15 @@
 -- The delimiter runs of the code, as the rules speak of them.
-use Rattle.std.specs.Prelude.{ℕ, List, map, if◌then◌else◌}
+use Rattle.std.specs.Prelude.{ℕ, Bool, List, map, if◌then◌else◌}
 use Rattle.doc_rules.specs.Inlines as rules
 use Rattle.doc_delimiters.specs.Marks.{Placed}
 use Rattle.doc_emphasis.specs.declared.run.Run.{Run}
 
 -- '*' or '_'
+abbrev pub delimiter : Bool → ℕ
+delimiter star = if star then 42 else 95
+
 abbrev pub char_of : Run → ℕ
-char_of run = if run.star then 42 else 95
+char_of run = delimiter run.star
 
 abbrev pub run_shown : Run → rules.Run
 run_shown run = record { char = char_of run; left = run.left; length = run.length; opens = run.opens; closes = run.closes }

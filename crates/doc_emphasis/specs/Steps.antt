@@ -8,7 +8,7 @@ use Rattle.doc_delimiters.specs.Marks.{ArePlaced, seen}
 use Rattle.doc_delimiters.specs.NumberSteps.{numbered, stack_of, joined_openers}
 use Rattle.doc_delimiters.proofs.Pairs.{Stands}
 use Rattle.doc_delimiters.proofs.Numbers.{ClosesAt}
-use Rattle.doc_delimiters.proofs.NumberLoops.{Stacked, WalksAt}
+use Rattle.doc_delimiters.proofs.NumberLoops.{WalksAt}
 use Rattle.doc_marks.specs.declared.mark.Mark.{Mark}
 use Rattle.doc_marks.specs.Slices.{AreSlices, AreCut}
 use Rattle.doc_marks.specs.Views.{inlines_shown}

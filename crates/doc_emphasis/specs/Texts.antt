@@ -1,13 +1,10 @@
 -- The marks of a run's delimiters.
-use Rattle.std.specs.Prelude.{◌≡◌, ℕ, suc, Bool, List, [], ◌∷◌, ◌++◌, replicate, chars, ⊤, if◌then◌else◌}
+use Rattle.std.specs.Prelude.{◌≡◌, ℕ, suc, Bool, List, [], ◌∷◌, ◌++◌, replicate, chars, ⊤}
 use Rattle.doc_rules.specs.Characters as rules
 use Rattle.doc_delimiters.specs.Marks.{Placed}
+use Rattle.doc_emphasis.specs.Runs.{delimiter}
 use Rattle.doc_marks.specs.declared.mark.Mark.{Mark}
 use Rattle.doc_marks.specs.declared.mark.Mark.TheVariants.{Text}
-
--- '*' or '_'
-abbrev pub delimiter : Bool → ℕ
-delimiter star = if star then 42 else 95
 
 -- one or more '*', or one or more '_'
 pub record IsRunText (text : rules.Text) : Type 0 where

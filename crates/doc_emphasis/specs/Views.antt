@@ -1,6 +1,7 @@
 -- The marks made so far and the runs among them, as the rules' emphasis speaks of them.
-use Rattle.std.specs.Prelude.{◌≡◌, ℕ, ◌≤◌, List, length, map, take, drop}
-use Rattle.doc_delimiters.specs.Marks.{Placed, ArePlaced}
+use Rattle.std.specs.Prelude.{ℕ, ◌≤◌, List, length, map, take, drop}
+use Rattle.doc_rules.specs.Inlines.{Inline}
+use Rattle.doc_delimiters.specs.Marks.{Placed, ArePlaced, seen}
 use Rattle.doc_delimiters.specs.Marks as delimiters
 use Rattle.doc_marks.specs.declared.mark.Mark.{Mark}
 use Rattle.doc_marks.specs.Views.{inlines_in}
@@ -20,6 +21,10 @@ marks_in m = marks_shown (items_of m)
 
 abbrev pub runs_in : Marks → List Placed
 runs_in m = all_placed m.runs.items
+
+-- what is seen in the marks from one place up to another, the delimiters of each of these runs as that run
+abbrev pub shown_between : Marks → ℕ → ℕ → List Placed → List Inline
+shown_between m a b runs = seen (marks_in m) a b runs
 
 -- the runs stand one after another among the marks
 abbrev pub IsSound : Marks → Type 0

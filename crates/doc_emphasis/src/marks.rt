@@ -2,12 +2,13 @@
 ghost use Rattle.std.specs.Prelude.{◌≡◌, ℕ, suc, ◌≤◌, ◌<◌, [], ◌∷◌, ◌++◌, length, take, drop, replicate, chars, slice_set, OnOk};
 ghost use Rattle.doc_rules.specs.Characters as rules;
 ghost use Rattle.doc_rules.specs.Emphasis.{emphasis_of};
-ghost use Rattle.doc_delimiters.specs.Marks.{ArePlaced, seen};
+ghost use Rattle.doc_delimiters.specs.Marks.{ArePlaced};
 ghost use Rattle.doc_marks.specs.Slices.{AreSlices, AreCut};
 ghost use Rattle.doc_marks.specs.Views.{inlines_shown};
 ghost use Rattle.doc_emphasis.specs.declared.marks.Place.{Place as Spot};
-ghost use Rattle.doc_emphasis.specs.Views.{items_of, marks_in, runs_in, IsSound, IsPlace};
-ghost use Rattle.doc_emphasis.specs.Texts.{IsRunText, AddsEach, fresh_run, delimiter as character};
+ghost use Rattle.doc_emphasis.specs.Runs.{delimiter as character};
+ghost use Rattle.doc_emphasis.specs.Views.{items_of, marks_in, runs_in, shown_between, IsSound, IsPlace};
+ghost use Rattle.doc_emphasis.specs.Texts.{IsRunText, AddsEach, fresh_run};
 
 use crate::openers::Openers;
 use crate::pair::put;
@@ -26,7 +27,7 @@ pub struct Marks<'t> {
 }
 
 /// A place among marks: how many marks and how many runs stand before it.
-#[derive(Clone, Copy, PartialEq, Eq)]
+#[derive(Clone, Copy)]
 pub struct Place {
     pub marks: usize,
     pub runs: usize,
@@ -112,13 +113,17 @@ impl<'t> Marks<'t> {
         ensures size { OnOk result (length (items_of self.new) ≡ length (items_of self.old)) }
         ensures before { OnOk result (take from.marks (items_of self.new) ≡ take from.marks (items_of self.old)) }
         ensures runs { OnOk result (runs_in self.new ≡ take from.runs (runs_in self.old)) }
-        ensures emphasis { OnOk result (inlines_shown (drop from.marks (items_of self.new)) ≡ emphasis_of (seen (marks_in self.old) from.marks (length (items_of self.old)) (drop from.runs (runs_in self.old)))) }
+        ensures emphasis { OnOk result (inlines_shown (drop from.marks (items_of self.new)) ≡ emphasis_of (shown_between self.old from.marks (length (items_of self.old)) (drop from.runs (runs_in self.old)))) }
         ensures slices { OnOk result ((text : rules.Text) → AreSlices text (items_of self.old) → AreSlices text (items_of self.new)) }
         ensures cut { OnOk result (AreCut (items_of self.old) → AreCut (items_of self.new)) }
         ensures sound { OnOk result (IsSound self.new) }
         ensures places { OnOk result ((place : Spot) → place.marks ≤ from.marks → place.runs ≤ from.runs → IsPlace self.old place → IsPlace self.new place) }
     {
-        pass(&mut self.marks, &mut self.runs[from.runs..], &mut self.openers)?;
+        pass(
+            &mut self.marks,
+            &mut self.runs[from.runs..],
+            &mut self.openers,
+        )?;
         self.runs.truncate(from.runs);
         Ok(())
     }

@@ -81,7 +81,13 @@ impl Openers {
 }
 
 /// The place of the last of these runs that opens for the closer.
-fn nearest(runs: &[Run], numbers: &[usize], bounds: &[usize; 12], closer: Run, looked: &mut u64) -> Option<usize>
+fn nearest(
+    runs: &[Run],
+    numbers: &[usize],
+    bounds: &[usize; 12],
+    closer: Run,
+    looked: &mut u64,
+) -> Option<usize>
     requires bounded { AreBounds bounds.now (run_numbered (all_placed runs.now)) numbers.now }
     requires ascend { Ascend numbers.now }
     requires within { StandBefore (length runs.now) numbers.now }

@@ -1,13 +1,11 @@
 //! A pair of runs, in place: the last delimiters that are left of one and the first ones of the other become a start and an end.
 ghost use Rattle.std.specs.Prelude.{◌≡◌, ℕ, ◌+◌, ◌<◌, ◌≤◌, ◌^◌, length, slice_set, Some};
 ghost use Rattle.doc_delimiters.specs.InPlace.{paired};
-ghost use Rattle.doc_delimiters.specs.Marks.{IsPaired};
 ghost use Rattle.doc_delimiters.specs.Openers.{NearestIs};
 ghost use Rattle.doc_delimiters.specs.NumberSteps.{numbered, run_numbered, paired_runs};
 ghost use Rattle.doc_delimiters.proofs.NumberLoops.{Stacked};
 ghost use Rattle.doc_delimiters.proofs.Pairs.{OneOrTwo};
-ghost use Rattle.doc_rules.specs.Emphasis.{strength};
-ghost use Rattle.doc_emphasis.specs.Runs.{run_shown, placed_shown, all_placed};
+ghost use Rattle.doc_emphasis.specs.Runs.{all_placed};
 ghost use Rattle.doc_emphasis.specs.Steps.{Keeps, StandAt, GoesOn};
 ghost use Rattle.doc_emphasis.specs.Views.{marks_shown};
 
@@ -63,7 +61,13 @@ fn take_delimiters(runs: &mut [Run], opener: usize, closer: usize, taken: usize)
 }
 
 /// The opener at this place of the stack, which is the nearest, and the run of this number become a pair.
-pub(crate) fn pair<'t>(marks: &mut [Mark<'t>], runs: &mut [Run], openers: &mut Openers, number: usize, place: usize)
+pub(crate) fn pair<'t>(
+    marks: &mut [Mark<'t>],
+    runs: &mut [Run],
+    openers: &mut Openers,
+    number: usize,
+    place: usize,
+)
     requires stands { StandAt marks.old runs.old openers.old.numbers.items number }
     requires stacked { Stacked (all_placed runs.old) openers.old.numbers.items openers.old.bounds number }
     requires within { number < length runs.old }
@@ -80,7 +84,12 @@ pub(crate) fn pair<'t>(marks: &mut [Mark<'t>], runs: &mut [Run], openers: &mut O
     let opens = runs[opener];
     let closes = runs[number];
     let taken = opens.strength(closes);
-    write_ends(marks, opens.first + (opens.left - taken), closes.first, taken);
+    write_ends(
+        marks,
+        opens.first + (opens.left - taken),
+        closes.first,
+        taken,
+    );
     take_delimiters(runs, opener, number, taken);
     openers.keep(place, taken < opens.left);
 }

@@ -33,7 +33,11 @@ fn close<'t>(marks: &mut [Mark<'t>], runs: &mut [Run], openers: &mut Openers, nu
 }
 
 /// Each of the runs in turn.
-pub(crate) fn pass<'t>(marks: &mut [Mark<'t>], runs: &mut [Run], openers: &mut Openers) -> Result<(), Memory>
+pub(crate) fn pass<'t>(
+    marks: &mut [Mark<'t>],
+    runs: &mut [Run],
+    openers: &mut Openers,
+) -> Result<(), Memory>
     requires { ArePlaced (marks_shown marks.old) 0 (length marks.old) (all_placed runs.old) }
     ensures { OnOk result ((place : ℕ) → ArePlaced (marks_shown marks.old) place (length marks.old) (all_placed runs.old) → IsWrapped place marks.old marks.new runs.old) }
 {

@@ -25,7 +25,7 @@ impl Run {
         ensures kind { result ≡ closer_kind (run_shown self) }
         ensures below { result < 12 }
     {
-        where_so(self.star, 6) + (where_so(self.opens, 3) + self.length % 3)
+        number_if(self.star, 6) + (number_if(self.opens, 3) + self.length % 3)
     }
 
     /// Whether it may open for the closer (rules 9 and 10).
@@ -49,7 +49,7 @@ impl Run {
     }
 }
 
-fn where_so(so: bool, number: usize) -> usize
+fn number_if(so: bool, number: usize) -> usize
     ensures { result ≡ (if so then number else 0) }
 {
     if so {

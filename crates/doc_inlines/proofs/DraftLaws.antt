@@ -14,7 +14,8 @@ use Rattle.doc_marks.specs.declared.mark.Mark.{Mark}
 use Rattle.doc_marks.specs.declared.mark.Mark.TheVariants as mark
 use Rattle.doc_marks.specs.Views.{inlines_in}
 use Rattle.doc_emphasis.specs.Views.{marks_shown}
-use Rattle.doc_emphasis.specs.Texts.{delimiter, IsRunText, AreEach, AddsEach, fresh_run}
+use Rattle.doc_emphasis.specs.Runs.{delimiter}
+use Rattle.doc_emphasis.specs.Texts.{IsRunText, AreEach, AddsEach, fresh_run}
 use Rattle.doc_inlines.specs.declared.bracket.Bracket.{Bracket}
 use Rattle.doc_inlines.specs.Made.{text_of_bracket, made_below, AreBrackets}
 use Rattle.doc_inlines.specs.Drafts.{bracket_in, brackets_shown, made_by, AreOpen, IsRunOf, codes_of_bracket, AddsBracket}

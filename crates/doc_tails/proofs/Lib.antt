@@ -1,4 +1,5 @@
 pub mod EndSteps
+mod Examples
+pub mod LabelSteps
 pub mod ReferenceSteps
 pub mod TitleSteps
-mod Examples

@@ -3,7 +3,7 @@ use Rattle.std.proofs.Common.{◌≡◌, List, ap, ◌∙◌}
 use Rattle.std.specs.FinMap.{get}
 use Rattle.std.specs.Prelude.{Option, option_map}
 use Rattle.doc_rules.specs.Characters.{Text}
-use Rattle.doc_rules.specs.Definitions.{Definition, find_reference}
+use Rattle.doc_rules.specs.Definitions.{Definition}
 use Rattle.doc_rules.specs.Destinations.{Target}
 use Rattle.doc_rules.specs.Labels.{normal_label}
 use Rattle.doc_rules.specs.Links.{reference_target}

@@ -1,9 +1,9 @@
 -- A title behind a destination, from what the scanners say.
-use Rattle.std.proofs.Common.{◌≡◌, Bool, true, false, [], ap, ◌∙◌, sym}
+use Rattle.std.proofs.Common.{◌≡◌, true, false, [], ap, ◌∙◌}
 use Rattle.std.specs.Prelude.{Option, Some, None, option_and_then}
 use Rattle.std.specs.Option.{is_some}
 use Rattle.doc_rules.specs.Characters.{Text}
-use Rattle.doc_rules.specs.Parsers.{is, ◌then◌, before, spacing, some_spacing}
+use Rattle.doc_rules.specs.Parsers.{is, before, spacing, some_spacing}
 use Rattle.doc_rules.specs.Entities.{Table}
 use Rattle.doc_rules.specs.Destinations.{destination, title, target_of}
 use Rattle.doc_rules.specs.Links.{Tail, closed, title_tail, destination_tail, inline_tail}

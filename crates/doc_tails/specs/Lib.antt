@@ -1,1 +1,2 @@
+pub mod LabelSteps
 pub mod TailSteps

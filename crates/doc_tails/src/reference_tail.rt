@@ -6,13 +6,13 @@ ghost use Rattle.doc_rules.specs.Links.{reference_target, behind_empty_label, re
 ghost use Rattle.doc_refs.specs.Targets.{targets_of};
 ghost use Rattle.doc_tails.specs.TailSteps.{tail_shown};
 
+use crate::label::{is_label, label};
 use crate::target::copy_target;
 use doc_heap::Heap;
 use doc_lines::scan::front::front;
 use doc_lines::scan::word::word;
 use doc_page::failure::Memory;
 use doc_refs::scan::inside::inside;
-use doc_refs::scan::label::{is_label, label};
 use doc_refs::{RefMap, Target, normalize_label};
 
 /// The tail of a reference: the label that follows, or else the text between the brackets itself, `[]` behind it or not. Where a label

@@ -1,5 +1,6 @@
-use Rattle.std.proofs.Common.{◌≡◌, ℕ, suc, ◌+◌, replicate, subst, arith}
-use Rattle.doc_emphasis.specs.Texts.{delimiter, AddsEach}
+use Rattle.std.proofs.Common.{◌≡◌, ◌+◌, replicate, subst, arith}
+use Rattle.doc_emphasis.specs.Runs.{delimiter}
+use Rattle.doc_emphasis.specs.Texts.{AddsEach}
 use Rattle.doc_emphasis.proofs.MarkLaws.{adds_none, adds_more}
 use Rattle.doc_emphasis.proofs.marks.push_delimiters.Goals as goal
 

@@ -1,5 +1,6 @@
 use Rattle.std.proofs.Common.{replicate}
-use Rattle.doc_emphasis.specs.Texts.{delimiter, AddsEach}
+use Rattle.doc_emphasis.specs.Runs.{delimiter}
+use Rattle.doc_emphasis.specs.Texts.{AddsEach}
 use Rattle.doc_emphasis.proofs.marks.push_delimiters.Given as goal
 
 abbrev pub invariant-loop : goal.invariant-loop

@@ -1,4 +1,4 @@
-use Rattle.std.proofs.Common.{ℕ, ◌≤◌, length}
+use Rattle.std.proofs.Common.{◌≤◌, length}
 use Rattle.doc_delimiters.specs.Openers.{MissedFrom}
 use Rattle.doc_delimiters.specs.NumberSteps.{run_numbered}
 use Rattle.doc_emphasis.specs.Runs.{run_shown, all_placed}

@@ -1,11 +1,11 @@
-use Rattle.std.proofs.Common.{◌≡◌, ℕ, ◌+◌, ◌<◌, ◌≤◌, List, false, length, get_or, refl, ap, sym, ◌∙◌, subst, arith}
+use Rattle.std.proofs.Common.{◌≡◌, ◌+◌, ◌<◌, ◌≤◌, false, length, get_or, ap, sym, ◌∙◌, subst, arith}
 use Rattle.doc_emphasis.specs.declared.run.Run.{Run}
-use Rattle.doc_emphasis.specs.Runs.{run_shown, placed_shown, all_placed}
+use Rattle.doc_emphasis.specs.Runs.{placed_shown, all_placed}
 use Rattle.doc_rules.specs.Inlines as rules
 use Rattle.doc_delimiters.specs.Marks.{Placed}
-use Rattle.doc_delimiters.specs.NumberSteps.{numbered, run_numbered, paired_runs}
+use Rattle.doc_delimiters.specs.NumberSteps.{numbered, paired_runs}
 use Rattle.doc_emphasis.proofs.NumberLaws.{numbered_is, run_is}
-use Rattle.doc_emphasis.proofs.PairLaws.{MayPair, may_pair, place_is, opens_at, opens_is, IsPairMade, pair_goes, pair_stacked, pair_size, pair_closes, pair_less, stands_on}
+use Rattle.doc_emphasis.proofs.PairLaws.{MayPair, may_pair, place_is, opens_at, opens_is, IsPairMade, pair_goes, pair_stacked, stands_on}
 use Rattle.doc_emphasis.proofs.pair.pair.Goals as goal
 
 abbrev blank : Run

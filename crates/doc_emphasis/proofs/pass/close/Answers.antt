@@ -1,8 +1,6 @@
-use Rattle.std.proofs.Common.{◌≡◌, ℕ, ◌≤◌, false, length, get_or, ap, sym, ◌∙◌, subst, arith}
+use Rattle.std.proofs.Common.{◌≡◌, false, length, get_or, ap, sym, ◌∙◌, subst, arith}
 use Rattle.doc_rules.specs.Inlines as rules
-use Rattle.doc_delimiters.specs.NumberSteps.{run_numbered}
 use Rattle.doc_emphasis.specs.declared.run.Run.{Run}
-use Rattle.doc_emphasis.specs.Runs.{all_placed}
 use Rattle.doc_emphasis.specs.Steps.{GoesOn, GoesPast}
 use Rattle.doc_emphasis.proofs.NumberLaws.{run_is}
 use Rattle.doc_emphasis.proofs.PassLaws.{goes_more, goes_long, past_emptied, past_failed, past_not_closing}
@@ -27,10 +25,10 @@ loop-runs-preserved c = record {
   size = c.pair.ensures.size ∙ c.loop-runs.invariant.size;
   closes = c.pair.ensures.closes ∙ c.loop-runs.invariant.closes;
   goes =
-    goes_more c.args.marks.now c.loop-runs.marks c.pair.new.marks c.args.runs.now c.loop-runs.runs c.pair.new.runs c.args.openers.now.numbers.items c.loop-runs.openers.numbers.items c.pair.new.openers.numbers.items c.args.number
-    (goes_long c.args.marks.now c.loop-runs.marks c.args.runs.now c.loop-runs.runs c.args.openers.now.numbers.items c.loop-runs.openers.numbers.items c.args.number c.requires.stands c.loop-runs.invariant.goes)
-    c.loop-runs.invariant.goes
-    (subst (λ v. GoesOn c.loop-runs.marks c.pair.new.marks c.loop-runs.runs c.pair.new.runs v.items c.pair.new.openers.numbers.items c.args.number) c.search.ensures.numbers c.pair.ensures.goes);
+      goes_more c.args.marks.now c.loop-runs.marks c.pair.new.marks c.args.runs.now c.loop-runs.runs c.pair.new.runs c.args.openers.now.numbers.items c.loop-runs.openers.numbers.items c.pair.new.openers.numbers.items c.args.number
+      (goes_long c.args.marks.now c.loop-runs.marks c.args.runs.now c.loop-runs.runs c.args.openers.now.numbers.items c.loop-runs.openers.numbers.items c.args.number c.requires.stands c.loop-runs.invariant.goes)
+      c.loop-runs.invariant.goes
+      (subst (λ v. GoesOn c.loop-runs.marks c.pair.new.marks c.loop-runs.runs c.pair.new.runs v.items c.pair.new.openers.numbers.items c.args.number) c.search.ensures.numbers c.pair.ensures.goes);
 }
 
 pub returns-clause-past : goal.returns-clause-past

@@ -1,4 +1,4 @@
-use Rattle.std.proofs.Common.{◌≡◌, ◌<◌, length, true}
+use Rattle.std.proofs.Common.{◌≡◌, length, true}
 use Rattle.doc_delimiters.specs.NumberSteps.{run_numbered}
 use Rattle.doc_delimiters.proofs.NumberLoops.{Stacked}
 use Rattle.doc_emphasis.specs.Runs.{all_placed}

@@ -1,4 +1,4 @@
-use Rattle.std.proofs.Common.{◌≡◌, ℕ, suc, ◌+◌, ◌<◌, ◌≤◌, length, refl, sym, ◌∙◌, subst, arith}
+use Rattle.std.proofs.Common.{◌≡◌, suc, ◌+◌, length, refl, sym, ◌∙◌, subst, arith}
 use Rattle.doc_delimiters.proofs.NumberLoops.{Stacked, stacked_next}
 use Rattle.doc_emphasis.specs.Runs.{all_placed}
 use Rattle.doc_emphasis.specs.Steps.{WalksOn}
@@ -23,13 +23,13 @@ loop-number-preserved c =
     let next : suc c.loop-number.number ≡ c.loop-number.number + 1 = omega arith in
     record {
       walks =
-        subst (λ k. WalksOn c.args.marks.now c.close.new.marks c.args.runs.now c.close.new.runs c.join.new.self.numbers.items k) next
-        (subst (λ t. WalksOn c.args.marks.now c.close.new.marks c.args.runs.now c.close.new.runs t (suc c.loop-number.number)) (sym c.in_ok-join.ensures.numbers)
-        (walks_past c.args.marks.now c.loop-number.marks c.close.new.marks c.args.runs.now c.loop-number.runs c.close.new.runs c.loop-number.openers.numbers.items c.close.new.openers.numbers.items c.loop-number.number
-        c.requires c.loop-number.invariant.walks (omega arith) c.close.ensures.past));
+          subst (λ k. WalksOn c.args.marks.now c.close.new.marks c.args.runs.now c.close.new.runs c.join.new.self.numbers.items k) next
+          (subst (λ t. WalksOn c.args.marks.now c.close.new.marks c.args.runs.now c.close.new.runs t (suc c.loop-number.number)) (sym c.in_ok-join.ensures.numbers)
+          (walks_past c.args.marks.now c.loop-number.marks c.close.new.marks c.args.runs.now c.loop-number.runs c.close.new.runs c.loop-number.openers.numbers.items c.close.new.openers.numbers.items c.loop-number.number
+          c.requires c.loop-number.invariant.walks (omega arith) c.close.ensures.past));
       stacked =
-        subst (λ k. Stacked (all_placed c.close.new.runs) c.join.new.self.numbers.items c.join.new.self.bounds k) next
-        (rw (c.in_ok-join.ensures.numbers, c.in_ok-join.ensures.bounds) (stacked_next (all_placed c.close.new.runs) c.close.new.openers.numbers.items c.close.new.openers.bounds c.loop-number.number c.close.ensures.stacked));
+          subst (λ k. Stacked (all_placed c.close.new.runs) c.join.new.self.numbers.items c.join.new.self.bounds k) next
+          (rw (c.in_ok-join.ensures.numbers, c.in_ok-join.ensures.bounds) (stacked_next (all_placed c.close.new.runs) c.close.new.openers.numbers.items c.close.new.openers.bounds c.loop-number.number c.close.ensures.stacked));
       size = c.close.ensures.size ∙ c.loop-number.invariant.size;
     }
 

@@ -1,4 +1,4 @@
-use Rattle.std.proofs.Common.{◌≡◌, ◌<◌, length, sym, ◌∙◌, subst, arith}
+use Rattle.std.proofs.Common.{◌<◌, length, sym, ◌∙◌, subst}
 use Rattle.doc_emphasis.proofs.MarkLaws.{run_some, adds_text, run_made, runs_text, sound_run, places_run}
 use Rattle.doc_emphasis.proofs.marks.Marks.push_run.Goals as goal
 

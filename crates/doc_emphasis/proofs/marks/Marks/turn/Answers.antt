@@ -1,4 +1,4 @@
-use Rattle.std.proofs.Common.{◌≡◌, ◌++◌, List, length, set, take, drop, sym, subst}
+use Rattle.std.proofs.Common.{length, sym, subst}
 use Rattle.doc_delimiters.specs.Marks.{ArePlaced}
 use Rattle.doc_emphasis.specs.Runs.{all_placed}
 use Rattle.doc_emphasis.specs.Views.{marks_shown, StandsApart}

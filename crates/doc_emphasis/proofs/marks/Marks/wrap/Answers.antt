@@ -1,4 +1,4 @@
-use Rattle.std.proofs.Common.{◌≡◌, ◌++◌, List, length, take, drop, refl, sym, ◌∙◌, subst}
+use Rattle.std.proofs.Common.{◌++◌, length, take, drop, refl, ◌∙◌}
 use Rattle.doc_emphasis.proofs.WrapLaws.{passed_part, Wraps, wraps, wrap_runs, wrap_emphasis, wrap_sound, wrap_place, kept_front}
 use Rattle.doc_emphasis.proofs.marks.Marks.wrap.Goals as goal
 

@@ -1,4 +1,4 @@
-use Rattle.std.proofs.Common.{arith, ℕ, ◌<◌, length, false}
+use Rattle.std.proofs.Common.{arith, false}
 use Rattle.doc_emphasis.specs.declared.run.Run.{Run}
 use Rattle.doc_emphasis.proofs.NumberLaws.{search_failed}
 use Rattle.doc_emphasis.proofs.openers.Openers.search.Goals as goal
