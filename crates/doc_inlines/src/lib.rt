@@ -22,10 +22,9 @@ mod runs;
 
 use doc_heap::{Heap, Vec};
 use doc_lines::entities::Entities;
+pub use doc_marks::mark::{Mark, Span};
 use doc_page::failure::Memory;
 use doc_refs::RefMap;
-
-pub use doc_marks::mark::{Mark, Span};
 pub use reader::Reader;
 
 /// The inlines of a text. The slices of the marks stand in the text one after another, and each `&`, `<`, `>` and `"` is a text of

@@ -4,11 +4,10 @@ use doc_heap::{Heap, String};
 use doc_lines::entities::Entities;
 use doc_page::failure::Memory;
 use doc_refs::{
-    RefMap, destination, destination_value, normalize_label, take_definitions, title,
-    title_value,
+    RefMap, destination, destination_value, normalize_label, take_definitions, title, title_value,
 };
-use doc_trial::leads::shown_target;
 use doc_trial::answer::{no_call, shown, two_texts};
+use doc_trial::leads::shown_target;
 
 /// What a call of this name answers, if there is one.
 pub fn called(heap: Heap, name: &str, given: &str) -> Option<Result<String, Memory>> {

@@ -10,7 +10,9 @@ use doc_starts::indentation::{after_indent, indent_up_to, is_blank_line, marker_
 use doc_starts::item::{ListKind, item_start};
 use doc_starts::quote::quote_start;
 use doc_starts::thematic_break::is_thematic_break;
-use doc_trial::answer::{char_and_text, number_and_text, only_char, shown, shown_if, word_and_text};
+use doc_trial::answer::{
+    char_and_text, number_and_text, only_char, shown, shown_if, word_and_text,
+};
 
 /// What stands behind a marker of a block quote: its columns of indentation, 9 at most, and the text behind them.
 type Quoted<'a> = (usize, &'a str);
