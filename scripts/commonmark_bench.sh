@@ -1,10 +1,9 @@
 #!/usr/bin/env bash
 # Measures how the time of a layer of CommonMark grows with the text: `Lines` and `unescape` over 1, 2, 4 and 8 MiB,
-# `take_definitions` over 10,000 to 80,000 definitions, `blocks` over 1, 2, 4 and 8 MiB of six texts, and `inlines` over
-# as much of the paragraphs of a handbook and over hostile texts of one paragraph at four sizes. Prints the
+# `take_definitions` over 10,000 to 80,000 definitions, and `blocks` over 1, 2, 4 and 8 MiB of six texts. Prints the
 # least processor time of five runs of each, and its ratio to the one before (2 is linear). Run `rt run` in
 # crates/commonmark_bench first, which builds the program. With MD2HTML set to the program `md2html` of md4c, each of
-# these texts is given to it too, and with SPEC set to a file, copies of that file are a seventh text for `blocks`.
+# the six texts is given to it too, and with SPEC set to a file, copies of that file are a seventh.
 set -eu
 cd "$(dirname "$0")/.."
 program=crates/commonmark_bench/out/commonmark_bench
@@ -33,7 +32,7 @@ def least(command, path=os.devnull):
 def row(name, size, took, before, other=None):
     ratio = "" if before is None else f"  {took / before:.2f} times the one before"
     beside = "" if other is None else f"  md2html {other:7.1f} ms, {took / other:.2f} of it"
-    print(f"{name:40} {size}: {took:7.1f} ms{ratio}{beside}", flush=True)
+    print(f"{name:26} {size}: {took:7.1f} ms{ratio}{beside}", flush=True)
 
 
 class Draw:
@@ -108,37 +107,6 @@ TEXTS = {
 if spec:
     TEXTS["copies of SPEC"] = repeated(open(spec, encoding="utf-8").read())
 
-
-
-def paragraphs(size):
-    draw, parts, length = Draw(), ["[ref]: https://example.com/ 'reference'\n\n"], 0
-    while length < size:
-        text = paragraph(draw) + "\n"
-        parts.append(text)
-        length += len(text)
-    return "".join(parts)
-
-
-# texts of one paragraph in which much is begun and little found; each of as many bytes as it is told, or a little less
-ONE_PARAGRAPH = {
-    "opening brackets": repeated("["),
-    "brackets that are no links": repeated("[a] "),
-    "links that don't end": repeated("[a](b "),
-    "images in images": lambda size: "![" * (size // 8) + "a" + "](u)" * (size // 8),
-    "one long run": repeated("*"),
-    "openers and other closers": repeated("*a_ "),
-    "openers alone": repeated("_a "),
-    "emphasis in emphasis": lambda size: "*a " * (size // 6) + "b" + " a*" * (size // 6),
-    "backticks of all lengths": lambda size: " ".join("`" * n for n in range(1, int((2 * size) ** 0.5))),
-    "comments without an end": repeated("a <!-- "),
-    "instructions without an end": repeated("a <? "),
-    "declarations without an end": repeated("a <!A "),
-    "sections without an end": repeated("a <![CDATA[ "),
-    "tags without an end": repeated("<a b='c' "),
-    "references": repeated("&amp;&x;"),
-    "escapes": repeated("\\*\\a"),
-}
-
 UNITS = {"lines": (1, "MiB"), "unescape": (1, "MiB"), "definitions": (10_000, "definitions")}
 for task, (factor, unit) in UNITS.items():
     before = None
@@ -156,15 +124,5 @@ with tempfile.TemporaryDirectory() as scratch:
                 out.write(make(size * MIB))
             took = least([program, "blocks"], path)
             row("blocks: " + name, f"{size} MiB", took, before, least([peer], path) if peer else None)
-            before = took
-    for name, make, sizes in [("a handbook's paragraphs", paragraphs, (1024, 2048, 4096, 8192))] + [
-        (name, make, (128, 256, 512, 1024)) for name, make in ONE_PARAGRAPH.items()
-    ]:
-        before = None
-        for size in sizes:
-            with open(path, "w", encoding="utf-8") as out:
-                out.write(make(size * 1024))
-            took = least([program, "inlines"], path)
-            row("inlines: " + name, f"{size:4} KiB", took, before, least([peer], path) if peer else None)
             before = took
 PYTHON

@@ -45,13 +45,12 @@ fn look_at(heap: Heap, given: &str) -> Result<String, Memory> {
     shown(heap, looked <= most as u64)
 }
 
-/// `DEFINITIONS | TEXT`, with growths refused while the text is read.
+/// `DEFINITIONS | TEXT`, with growths refused while the text is read and its marks are written.
 fn grown(heap: Heap, given: &str, refusal: Refusal) -> Result<String, Memory> {
     let (definitions, text) = two_texts(given).unwrap_or(("", ""));
     let (refs, _taken) = take_definitions(heap, definitions, &Entities::built_in())?;
     refusal.begin(heap);
     let marks = inlines(heap, text, &refs, &Entities::built_in())?;
-    heap.refuse_after(u64::MAX);
     written_marks(heap, &marks)
 }
 
