@@ -6,4 +6,5 @@ pub mod ParagraphSteps
 pub mod Paths
 pub mod Plain
 pub mod Refusals
+pub mod Sights
 pub mod Tokens

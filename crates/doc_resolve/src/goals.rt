@@ -1,6 +1,6 @@
 //! Which pages the links of a page lead to.
 
-ghost use Rattle.std.specs.Prelude.{◌≡◌, ◌++◌, ℕ, List as Seq, Option as Maybe, option_copied, IfOk, OnOk};
+ghost use Rattle.std.specs.Prelude.{◌≡◌, ◌++◌, ℕ, IfOk, OnOk};
 ghost use Rattle.std.specs.List.{flat_map};
 ghost use Rattle.doc_page.specs.Paths.{segments};
 ghost use Rattle.doc_resolve.specs.Links.{kind_on, rooted};
@@ -13,20 +13,11 @@ use doc_heap::{Heap, Vec};
 use doc_page::failure::Memory;
 use doc_page::path::Path;
 use doc_page::rendered::{Piece, Rendered};
-
-/// The pages that paths lead to for a reader.
-pub trait Goals {
-    /// The page that a path leads to.
-    ghost goals: { Self → Seq ℕ → Maybe (Seq ℕ) };
-
-    /// The path of the page that a path leads to, or `None` where the reader sees none there.
-    fn goal(&self, path: &Path) -> Option<&Path>
-        ensures { option_copied result ≡ goals self.now path.now };
-}
+use doc_page::sight::Sight;
 
 /// The page that each link of the page at this path leads to for a reader, in the order of the links; `None` of a link that leads to
 /// no page that the reader sees, and of one out of the site.
-pub fn decisions<S: Goals>(
+pub fn decisions<S: Sight>(
     heap: Heap,
     page: &Path,
     rendered: &Rendered,
@@ -39,7 +30,7 @@ pub fn decisions<S: Goals>(
 }
 
 /// The page that each link of these pieces leads to, on the encoded path of their page.
-fn decisions_on<S: Goals>(
+fn decisions_on<S: Sight>(
     heap: Heap,
     base: &str,
     pieces: &[Piece],
@@ -56,7 +47,7 @@ fn decisions_on<S: Goals>(
 }
 
 /// Adds the page that a piece leads to, where it is a link.
-fn push_decision<S: Goals>(
+fn push_decision<S: Sight>(
     heap: Heap,
     all: &mut Vec<Option<Path>>,
     base: &str,
@@ -77,7 +68,7 @@ fn push_decision<S: Goals>(
 }
 
 /// The page that a link leads to.
-fn goal_of<S: Goals>(heap: Heap, kind: &LinkKind, sight: &S) -> Result<Option<Path>, Memory>
+fn goal_of<S: Sight>(heap: Heap, kind: &LinkKind, sight: &S) -> Result<Option<Path>, Memory>
     ensures { IfOk result (λ goal. goal ≡ goal_of (S.goals sight.now) kind.now) }
 {
     let LinkKind::Page { path, anchor: _ } = kind else {

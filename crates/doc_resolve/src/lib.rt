@@ -13,7 +13,7 @@ mod resolved;
 mod site_linker;
 mod written_paths;
 
-pub use goals::{Goals, decisions};
+pub use goals::decisions;
 pub use link_kind::LinkKind;
 pub use links::classify;
 pub use reference::Reference;

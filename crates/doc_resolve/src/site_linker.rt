@@ -6,7 +6,6 @@ ghost use Rattle.doc_page.specs.declared.linker.Shown.TheVariants.{Href};
 ghost use Rattle.doc_resolve.specs.Hrefs.{shown_by, shown_page, page_href, destination, fragment_of};
 
 use crate::encoding::{push_encoded, push_encoded_path, written_destination};
-use crate::goals::Goals;
 use crate::link_kind::LinkKind;
 use crate::links::classify;
 use doc_heap::{Heap, String};
@@ -14,6 +13,7 @@ use doc_page::escaping::push_escaped;
 use doc_page::failure::Memory;
 use doc_page::linker::{Linker, Shown};
 use doc_page::path::Path;
+use doc_page::sight::Sight;
 use doc_page::text::Text;
 
 /// Shows the links of one page to one reader: a link to a page that the reader sees with that page's address, a link out of the site as
@@ -24,7 +24,7 @@ pub struct SiteLinker<'a, S> {
     sight: &'a S,
 }
 
-impl<'a, S: Goals> SiteLinker<'a, S> {
+impl<'a, S: Sight> SiteLinker<'a, S> {
     /// Shows the links of the page at this path.
     pub fn new(page: &'a Path, sight: &'a S) -> Self
         ensures page { result.page.now ≡ page.entry.now }
@@ -34,7 +34,7 @@ impl<'a, S: Goals> SiteLinker<'a, S> {
     }
 }
 
-impl<'a, S: Goals> Linker for SiteLinker<'a, S> {
+impl<'a, S: Sight> Linker for SiteLinker<'a, S> {
     ghost use Rattle.doc_resolve.specs.Hrefs.{shown as shown_in};
 
     ghost shown = { λ l dest. shown_in (S.goals l.sight.now) l.page.now dest };
@@ -46,7 +46,7 @@ impl<'a, S: Goals> Linker for SiteLinker<'a, S> {
 }
 
 /// A link by what it leads to.
-fn shown_by<S: Goals>(heap: Heap, sight: &S, dest: &str, kind: &LinkKind) -> Result<Shown, Memory>
+fn shown_by<S: Sight>(heap: Heap, sight: &S, dest: &str, kind: &LinkKind) -> Result<Shown, Memory>
     ensures { IfOk result (λ how. how ≡ shown_by (S.goals sight.now) dest.now kind.now) }
 {
     match kind {
