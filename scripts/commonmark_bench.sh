@@ -1,17 +1,20 @@
 #!/usr/bin/env bash
 # Measures how the time of a layer of CommonMark grows with the text: `Lines` and `unescape` over 1, 2, 4 and 8 MiB,
-# `take_definitions` over 10,000 to 80,000 definitions, and `blocks` over 1, 2, 4 and 8 MiB of six texts. Prints the
+# `take_definitions` over 10,000 to 80,000 definitions, `blocks` over 1, 2, 4 and 8 MiB of six texts, and `inlines` over
+# as much of the paragraphs of a handbook and over hostile texts of one paragraph at four sizes. Prints the
 # least processor time of five runs of each, and its ratio to the one before (2 is linear). Run `rt run` in
 # crates/commonmark_bench first, which builds the program. With MD2HTML set to the program `md2html` of md4c, each of
-# the six texts is given to it too, and with SPEC set to a file, copies of that file are a seventh.
+# these texts is given to it too, and with SPEC set to a file, copies of that file are a seventh text for `blocks`. With
+# names of tasks for arguments (lines, unescape, definitions, blocks, inlines) only these are run.
 set -eu
 cd "$(dirname "$0")/.."
 program=crates/commonmark_bench/out/commonmark_bench
 [ -x "$program" ] || { echo "run 'rt run' in crates/commonmark_bench first" >&2; exit 1; }
-python3 - "$program" <<'PYTHON'
+python3 - "$program" "$@" <<'PYTHON'
 import os, subprocess, sys, tempfile
 program = sys.argv[1]
 MIB = 1 << 20
+TASKS = set(sys.argv[2:]) or {"lines", "unescape", "definitions", "blocks", "inlines"}
 peer, spec = os.environ.get("MD2HTML"), os.environ.get("SPEC")
 
 
@@ -32,7 +35,7 @@ def least(command, path=os.devnull):
 def row(name, size, took, before, other=None):
     ratio = "" if before is None else f"  {took / before:.2f} times the one before"
     beside = "" if other is None else f"  md2html {other:7.1f} ms, {took / other:.2f} of it"
-    print(f"{name:26} {size}: {took:7.1f} ms{ratio}{beside}", flush=True)
+    print(f"{name:40} {size}: {took:7.1f} ms{ratio}{beside}", flush=True)
 
 
 class Draw:
@@ -107,10 +110,73 @@ TEXTS = {
 if spec:
     TEXTS["copies of SPEC"] = repeated(open(spec, encoding="utf-8").read())
 
+
+def paragraphs(size):
+    draw, parts, length = Draw(), ["[ref]: https://example.com/ 'reference'\n\n"], 0
+    while length < size:
+        text = paragraph(draw) + "\n"
+        parts.append(text)
+        length += len(text)
+    return "".join(parts)
+
+
+def runs_of_rising_length(between):
+    """Runs of backticks of the lengths 1, 2, 3 and so on."""
+
+    def make(size):
+        parts, length = ["a"], 1
+        while length < size:
+            parts.append(between + "`" * len(parts))
+            length += len(parts[-1])
+        return "".join(parts)
+
+    return make
+
+
+def around(before, middle, behind):
+    return lambda size: before * (size // len(before + behind)) + middle + behind * (size // len(before + behind))
+
+
+# texts of one paragraph in which much is begun and little found; each of about as many bytes as it is told
+ONE_PARAGRAPH = {
+    "opening brackets": repeated("["),
+    "brackets in brackets": around("[", "a", "]"),
+    "brackets behind brackets": around("[", "", "]"),
+    "brackets that are no links": repeated("[a] "),
+    "opening brackets with text": repeated("[a"),
+    "closing brackets alone": repeated("a]"),
+    "brackets and parentheses": repeated("[ (]("),
+    "links that don't end": repeated("[a](b "),
+    "links that don't end, set close": repeated("[a](b"),
+    "links that don't end, with <": repeated("[a](<b"),
+    "a destination of parentheses": lambda size: "[a](" + "(" * (size // 2) + ")" * (size // 2) + ")",
+    "a long label": lambda size: "[" + "x" * size + "]",
+    "images in images": around("![", "a", "](u)"),
+    "one long run": lambda size: "a" + "*" * size,
+    "openers and other closers": repeated("*a_ "),
+    "openers alone": repeated("_a "),
+    "closers alone": repeated("a_ "),
+    "openers, then other closers": lambda size: "*a " * (size // 8) + "_a*_ " * (size // 8),
+    "lengths that add up to 3": lambda size: "a**b" + "c* " * (size // 3),
+    "brackets and closers": repeated("[ a_"),
+    "emphasis in emphasis": around("*a ", "b", " a*"),
+    "strong in emphasis": around("*a **a ", "b", " a** a*"),
+    "backticks of all lengths": runs_of_rising_length(" "),
+    "backticks behind letters": runs_of_rising_length("e"),
+    "comments without an end": repeated("a <!-- "),
+    "instructions without an end": repeated("a <? "),
+    "declarations without an end": repeated("a <!A "),
+    "sections without an end": repeated("a <![CDATA[ "),
+    "tags without an end": repeated("<a b='c' "),
+    "references": repeated("&amp;&x;"),
+    "escapes": repeated("\\*\\a"),
+    "spaces": lambda size: "a" + " " * size + "b",
+}
+
 UNITS = {"lines": (1, "MiB"), "unescape": (1, "MiB"), "definitions": (10_000, "definitions")}
 for task, (factor, unit) in UNITS.items():
     before = None
-    for size in (1, 2, 4, 8):
+    for size in (1, 2, 4, 8) if task in TASKS else ():
         took = least([program, task, str(size)])
         row(task, f"{size * factor:6} {unit}", took, before)
         before = took
@@ -119,10 +185,20 @@ with tempfile.TemporaryDirectory() as scratch:
     path = os.path.join(scratch, "text.md")
     for name, make in TEXTS.items():
         before = None
-        for size in (1, 2, 4, 8):
+        for size in (1, 2, 4, 8) if "blocks" in TASKS else ():
             with open(path, "w", encoding="utf-8") as out:
                 out.write(make(size * MIB))
             took = least([program, "blocks"], path)
             row("blocks: " + name, f"{size} MiB", took, before, least([peer], path) if peer else None)
+            before = took
+    for name, make, sizes in [("a handbook's paragraphs", paragraphs, (1024, 2048, 4096, 8192))] + [
+        (name, make, (128, 256, 512, 1024)) for name, make in ONE_PARAGRAPH.items()
+    ]:
+        before = None
+        for size in sizes if "inlines" in TASKS else ():
+            with open(path, "w", encoding="utf-8") as out:
+                out.write(make(size * 1024))
+            took = least([program, "inlines"], path)
+            row("inlines: " + name, f"{size:4} KiB", took, before, least([peer], path) if peer else None)
             before = took
 PYTHON

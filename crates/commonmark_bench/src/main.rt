@@ -1,14 +1,15 @@
-//! Runs a layer of CommonMark over a long text, for `scripts/commonmark_bench.sh` to time: one that it makes itself, or for `blocks` one
-//! that it reads from standard input.
+//! Runs a layer of CommonMark over a long text, for `scripts/commonmark_bench.sh` to time: one that it makes itself, or for `blocks` and
+//! `inlines` one that it reads from standard input.
 #![tactic(auto)]
 
 use doc_blocks::blocks;
 use doc_heap::{Heap, String, heap};
+use doc_inlines::Reader;
 use doc_lines::entities::Entities;
 use doc_lines::lines::Lines;
 use doc_lines::unescape;
 use doc_page::failure::Memory;
-use doc_refs::{normalize_label, take_definitions};
+use doc_refs::{RefMap, normalize_label, take_definitions};
 use std::process::ExitCode;
 use std::rt::Env;
 use std::{env, io};
@@ -26,12 +27,13 @@ enum Task {
     Unescape,
     Definitions,
     Blocks,
+    Inlines,
 }
 
 fn main(rt: HostRuntime) -> ExitCode {
     let Some((task, size)) = named_task(&rt) else {
         let _ = eprintln!(rt;
-            "commonmark_bench: usage: commonmark_bench lines|unescape|definitions 1|2|4|8, or commonmark_bench blocks"
+            "commonmark_bench: usage: commonmark_bench lines|unescape|definitions 1|2|4|8, or commonmark_bench blocks|inlines"
         );
         return ExitCode::from(2);
     };
@@ -47,7 +49,7 @@ fn main(rt: HostRuntime) -> ExitCode {
     }
 }
 
-/// What the arguments name: a task and a size, which `blocks` has none of.
+/// What the arguments name: a task and a size, which `blocks` and `inlines` have none of.
 fn named_task<R: AllocGlobal + Env>(rt: &R) -> Option<(Task, u32)> {
     let mut args = env::args(rt).ok()?;
     let _program = args.next();
@@ -56,6 +58,7 @@ fn named_task<R: AllocGlobal + Env>(rt: &R) -> Option<(Task, u32)> {
         "unescape" => Task::Unescape,
         "definitions" => Task::Definitions,
         "blocks" => return Some((Task::Blocks, 0)),
+        "inlines" => return Some((Task::Inlines, 0)),
         _ => return None,
     };
     let size = match args.next()?.as_str() {
@@ -69,7 +72,8 @@ fn named_task<R: AllocGlobal + Env>(rt: &R) -> Option<(Task, u32)> {
 }
 
 /// How many lines a text of so many MiB has, how many bytes it has with escapes and references read, how many bytes so many times
-/// 10,000 definitions take, or how many blocks stand at the outermost level of what standard input holds.
+/// 10,000 definitions take, or of what standard input holds how many blocks stand at the outermost level, or how many marks its paragraphs
+/// have.
 fn measure<R: AllocGlobal + Input>(
     rt: &R,
     heap: Heap,
@@ -84,6 +88,7 @@ fn measure<R: AllocGlobal + Input>(
         }
         Task::Definitions => take_and_find(heap, &definitions(heap, size)?),
         Task::Blocks => count_blocks(rt, heap),
+        Task::Inlines => count_marks(rt, heap),
     }
 }
 
@@ -94,6 +99,28 @@ fn count_blocks<R: AllocGlobal + Input>(rt: &R, heap: Heap) -> Result<usize, Mem
     };
     let document = blocks(heap, &text, &Entities::built_in())?;
     Ok(document.blocks.len())
+}
+
+/// How many marks the paragraphs of standard input have, behind the definitions at its front. Empty lines stand between paragraphs. None
+/// where it can't be read.
+fn count_marks<R: AllocGlobal + Input>(rt: &R, heap: Heap) -> Result<usize, Memory> {
+    let Ok(text) = io::read_to_string(rt.alloc(), rt.reader()) else {
+        return Ok(0);
+    };
+    let entities = Entities::built_in();
+    let (refs, taken) = take_definitions(heap, &text, &entities)?;
+    count_in(heap, text.get(taken..).unwrap_or(""), &refs, &entities)
+}
+
+/// How many marks the paragraphs of a text have.
+fn count_in(heap: Heap, text: &str, refs: &RefMap, entities: &Entities) -> Result<usize, Memory> {
+    let mut reader = Reader::new(heap);
+    let mut count = 0usize;
+    for paragraph in text.split("\n\n") {
+        reader.read(heap, entities, refs, paragraph)?;
+        count = count.wrapping_add(reader.marks().len());
+    }
+    Ok(count)
 }
 
 /// So many MiB of lines.

@@ -2,7 +2,7 @@
 use Rattle.std.proofs.Common.{◌≡◌, ℕ, Bool, true, false, List, [], ◌∷◌, ◌++◌, refl, ap, sym, ◌∙◌, append_assoc, append-nil}
 use Rattle.std.specs.Prelude.{◌==◌, ◌&&◌, codes}
 use Rattle.std.specs.Str.{chars, IsUtf8, all_scalars}
-use Rattle.std.proofs.lemmas.Str.{chars-encodes, encodes-chars, scalars-chars, chars-append, chars-nil}
+use Rattle.std.proofs.lemmas.Str.{chars-encodes, encodes-chars, scalars-chars, chars-append}
 use Rattle.std.proofs.Math.Utf8.{scalar}
 use Rattle.doc_page.specs.Escaping.{escaped}
 use Rattle.doc_rules.specs.Characters.{Text}
@@ -71,9 +71,6 @@ amp_chars = refl
 
 pub ampersand : (c : ℕ) → c ≡ 38 → chars (codes "&amp;") ≡ url_char c
 ampersand c e = amp_chars ∙ sym (ap url_char e ∙ at_38)
-
-pub url_begins : (bytes dest : List ℕ) → bytes ≡ [] → chars bytes ++ url_escape (chars dest) ≡ url_escape (chars dest)
-url_begins bytes dest e = ap (λ b. chars b ++ url_escape (chars dest)) e ∙ ap (λ t. t ++ url_escape (chars dest)) chars-nil
 
 pub url_goes_on : (whole text rest : Text) (c : ℕ) (old new : Text) → old ++ url_escape text ≡ whole → text ≡ c ∷ rest → new ≡ old ++ url_char c → new ++ url_escape rest ≡ whole
 url_goes_on whole text rest c old new e t f = url_more whole rest c old new (sym (ap (λ s. old ++ url_escape s) t) ∙ e) f

@@ -142,7 +142,7 @@ unfolding images_along
 along_append n [] ys = refl
 along_append n (x ∷ xs) ys = along_append (images_after n x) xs ys
 
-shown_more : (marks : List Mark) (i : ℕ) (d : Mark) → i < length marks → inlines_shown (take (i + 1) marks) ≡ inlines_shown (take i marks) ++ inlines_in (get_or marks i d)
+pub shown_more : (marks : List Mark) (i : ℕ) (d : Mark) → i < length marks → inlines_shown (take (i + 1) marks) ≡ inlines_shown (take i marks) ++ inlines_in (get_or marks i d)
 shown_more marks i d h =
     ap inlines_shown (take_more marks i d h)
     ∙ (flat_map-append inlines_in (take i marks) (get_or marks i d ∷ []) ∙ ap (λ t. inlines_shown (take i marks) ++ t) (append-nil (inlines_in (get_or marks i d))))

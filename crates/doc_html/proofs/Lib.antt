@@ -1,9 +1,15 @@
 pub mod CodeSteps
+pub mod CutSteps
 pub mod EscapeSteps
 pub mod InlineLaws
+pub mod PlainTextSteps
 pub mod TellingSteps
 pub mod WordSteps
 pub mod WriterSteps
 pub mod WrittenSteps
+pub mod PieceSteps
+pub mod PageSteps
+pub mod UrlSteps
 pub mod TellingLaws
+pub mod PageLaws
 pub mod PlainLinkSteps

@@ -24,7 +24,7 @@ two true true h = (refl, refl)
 two true false h = cc
 two false b h = cc
 
-no_mark : (set : Text) (c : ℕ) → is_ascii set ≡ true → 128 ≤ c → one_of set c ≡ false
+pub no_mark : (set : Text) (c : ℕ) → is_ascii set ≡ true → 128 ≤ c → one_of set c ≡ false
 no_mark [] c h g = refl
 no_mark (d ∷ set) c h g =
     let both : _ = two (nat_lt d 128) (is_ascii set) h in
@@ -54,7 +54,7 @@ all_percented : (bytes : List ℕ) → AllByRecursion Percented bytes → flat_m
 all_percented [] h = refl
 all_percented (b ∷ bytes) h = ap (λ front. front ++ flat_map percent bytes) (sym h.0) ∙ ap (λ more. url_byte b ++ more) (all_percented bytes h.1)
 
-one_byte : (c : ℕ) → c < 128 → encode_utf8 c ≡ c ∷ []
+pub one_byte : (c : ℕ) → c < 128 → encode_utf8 c ≡ c ∷ []
 unfolding encode_utf8
 one_byte c l = rw (lt-ltb c 128 l)
 

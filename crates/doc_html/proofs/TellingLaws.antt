@@ -19,12 +19,12 @@ use Rattle.doc_html.specs.Telling.{paragraph_told, heading_told, code_told, leaf
 use Rattle.doc_html.proofs.WriterSteps.{characters_append}
 
 -- the anchors of headings to come
-pub anchors_for : Option (List Text) → List (ℕ × Text) → List Text
+unfoldable pub anchors_for : Option (List Text) → List (ℕ × Text) → List Text
 anchors_for None headings = []
 anchors_for (Some used) headings = anchors_behind used (map (λ heading. heading.1) headings)
 
 -- what was written, where these headings come
-pub writing_of : Progress → List (ℕ × Text) → Writing
+unfoldable pub writing_of : Progress → List (ℕ × Text) → Writing
 writing_of p headings = record { output = p.output; anchors = anchors_for p.used headings }
 
 line_at : (b : Bool) (p : Progress) (more : List (ℕ × Text)) →

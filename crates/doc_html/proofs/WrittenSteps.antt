@@ -38,7 +38,7 @@ pub tag_last : (xs : Output) (t : Target) → false ≡ is_fresh (xs ++ LinkTag 
 unfolding is_fresh
 tag_last xs t = sym (last_at xs (LinkTag t))
 
-fresh_text : (xs : Output) (text : Text) → fresh_behind (is_fresh xs) text ≡ is_fresh (xs ++ characters text)
+pub fresh_text : (xs : Output) (text : Text) → fresh_behind (is_fresh xs) text ≡ is_fresh (xs ++ characters text)
 unfolding characters fresh_behind
 fresh_text xs [] = ap is_fresh (sym (append-nil xs))
 fresh_text xs (c ∷ rest) =
@@ -48,7 +48,7 @@ fresh_text xs (c ∷ rest) =
 pub text_begins : (fresh old : Bool) (xs : Output) (text : Text) → fresh ≡ fresh_behind old text → old ≡ is_fresh xs → fresh ≡ is_fresh (xs ++ characters text)
 text_begins fresh old xs text e f = e ∙ (ap (λ b. fresh_behind b text) f ∙ fresh_text xs text)
 
-fresh_append : (b : Bool) (x y : Text) → fresh_behind b (x ++ y) ≡ fresh_behind (fresh_behind b x) y
+pub fresh_append : (b : Bool) (x y : Text) → fresh_behind b (x ++ y) ≡ fresh_behind (fresh_behind b x) y
 unfolding fresh_behind
 fresh_append b [] y = refl
 fresh_append b (c ∷ x) y = fresh_append (c == 10) x y

@@ -1,10 +1,10 @@
 //! Blocks as HTML (CommonMark 0.31.2, sections 4 and 5).
-ghost use Rattle.std.specs.Prelude.{◌≡◌, [], ◌∷◌, ◌++◌, List, Option, Bool, chars, codes, decimal, OnOk};
+ghost use Rattle.std.specs.Prelude.{◌≡◌, [], ◌∷◌, ◌++◌, List, Option, Bool, chars, codes, decimal, OnOk, false};
 ghost use Rattle.doc_rules.specs.Blocks.{Blocks, BlockQuote, ListBlock, ListItem};
 ghost use Rattle.doc_rules.specs.Definitions.{Definition};
 ghost use Rattle.doc_rules.specs.Html.{characters, list_tag, list_end};
 ghost use Rattle.doc_refs.specs.Targets.{targets_of};
-ghost use Rattle.doc_leaves.specs.Views.{behind, forest};
+ghost use Rattle.doc_leaves.specs.Views.{behind, blocks_shown, forest};
 ghost use Rattle.doc_html.specs.Progress.{Progress, Goes, Writes};
 ghost use Rattle.doc_html.specs.Telling.{blocks_told, start_told, end_told};
 
@@ -15,15 +15,31 @@ use crate::leaves::{
 use crate::reading::Source;
 use crate::writer::{Writer, markup};
 use doc_heap::Heap;
+use doc_inlines::Reader;
 use doc_leaves::block::Block;
 use doc_page::failure::Memory;
 
-/// Writes blocks, which stand directly in an item of a tight list or not.
-#[cycle(blocks)]
-pub(crate) fn push_blocks<W: Writer>(
+/// Writes the blocks of a document.
+pub(crate) fn push_all<'d, W: Writer>(
     writer: &mut W,
     source: &Source,
-    blocks: &[Block],
+    blocks: &'d [Block],
+) -> Result<(), Memory>
+    ensures { (definitions : List Definition) (p : Progress) → source.now.refs.now ≡ targets_of definitions → W.holds writer.old p →
+        OnOk result (W.holds writer.new (blocks_told source.now.entities.now definitions false (blocks_shown blocks.now) p)) }
+{
+    let mut reader: Reader<'d> = Reader::new(source.heap);
+    push_blocks(writer, source, &mut reader, blocks, false)?;
+    Ok(())
+}
+
+/// Writes blocks, which stand directly in an item of a tight list or not.
+#[cycle(blocks)]
+pub(crate) fn push_blocks<'d, W: Writer>(
+    writer: &mut W,
+    source: &Source,
+    reader: &mut Reader<'d>,
+    blocks: &'d [Block],
     tight: bool,
 ) -> Result<(), Memory>
     ensures { (definitions : List Definition) (before : Blocks) (p : Progress) → source.now.refs.now ≡ targets_of definitions →
@@ -31,17 +47,18 @@ pub(crate) fn push_blocks<W: Writer>(
         OnOk result (W.holds writer.new (blocks_told source.now.entities.now definitions tight (forest blocks.now before) p)) }
 {
     for block in blocks {
-        push_block(writer, source, block, tight)?;
+        push_block(writer, source, reader, block, tight)?;
     }
     Ok(())
 }
 
 /// Writes a block.
 #[cycle(blocks)]
-fn push_block<W: Writer>(
+fn push_block<'d, W: Writer>(
     writer: &mut W,
     source: &Source,
-    block: &Block,
+    reader: &mut Reader<'d>,
+    block: &'d Block,
     tight: bool,
 ) -> Result<(), Memory>
     ensures { (definitions : List Definition) (before : Blocks) (p : Progress) → source.now.refs.now ≡ targets_of definitions →
@@ -50,11 +67,11 @@ fn push_block<W: Writer>(
 {
     match block {
         Block::Para(text) => {
-            push_paragraph(writer, source, text.get(), tight)?;
+            push_paragraph(writer, source, reader, text.get(), tight)?;
             Ok(())
         }
         Block::Heading { level, text } => {
-            push_heading(writer, source, *level, text.get())?;
+            push_heading(writer, source, reader, *level, text.get())?;
             Ok(())
         }
         Block::Code(text) => {
@@ -75,7 +92,7 @@ fn push_block<W: Writer>(
         }
         Block::Quote(inside) => {
             begin_quote(writer)?;
-            push_blocks(writer, source, inside, false)?;
+            push_blocks(writer, source, reader, inside, false)?;
             end_quote(writer)?;
             Ok(())
         }
@@ -85,13 +102,13 @@ fn push_block<W: Writer>(
             items,
         } => {
             begin_list(writer, source.heap, *start)?;
-            push_blocks(writer, source, items, *tight)?;
+            push_blocks(writer, source, reader, items, *tight)?;
             end_list(writer, *start)?;
             Ok(())
         }
         Block::Item(inside) => {
             begin_item(writer)?;
-            push_blocks(writer, source, inside, tight)?;
+            push_blocks(writer, source, reader, inside, tight)?;
             end_item(writer)?;
             Ok(())
         }

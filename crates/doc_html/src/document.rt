@@ -7,7 +7,7 @@ ghost use Rattle.doc_rules.specs.Laws.{ShowsAlike};
 ghost use Rattle.doc_refs.specs.Targets.{targets_of};
 ghost use Rattle.doc_leaves.specs.Views.{blocks_shown};
 
-use crate::blocks::push_blocks;
+use crate::blocks::push_all;
 use crate::html_writer::HtmlWriter;
 use crate::reading::Source;
 use doc_blocks::Document;
@@ -27,12 +27,26 @@ pub fn to_html<L: Linker>(
     ensures { (definitions : List Definition) (rule : rules.Linker) → document.now.refs ≡ targets_of definitions → ShowsAlike (L.shown linker.now) rule →
         IfOk result (λ html. html ≡ encode_utf8_all (html_of entities.now rule [] (record { blocks = blocks_shown document.now.blocks.items; refs = definitions }))) }
 {
+    write_html(heap, document, entities, linker, 0)
+}
+
+/// The same, with room for so many bytes of HTML: a guess, on which nothing rests.
+pub(crate) fn write_html<L: Linker>(
+    heap: Heap,
+    document: &Document,
+    entities: &Entities,
+    linker: &L,
+    room: usize,
+) -> Result<Text, Memory>
+    ensures { (definitions : List Definition) (rule : rules.Linker) → document.now.refs ≡ targets_of definitions → ShowsAlike (L.shown linker.now) rule →
+        IfOk result (λ html. html ≡ encode_utf8_all (html_of entities.now rule [] (record { blocks = blocks_shown document.now.blocks.items; refs = definitions }))) }
+{
     let source = Source {
         heap,
         refs: &document.refs,
         entities,
     };
-    let mut writer = HtmlWriter::new(heap, linker);
-    push_blocks(&mut writer, &source, document.blocks.as_slice(), false)?;
+    let mut writer = HtmlWriter::new(heap, linker, room)?;
+    push_all(&mut writer, &source, document.blocks.as_slice())?;
     Ok(writer.into_text())
 }

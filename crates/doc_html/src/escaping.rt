@@ -7,6 +7,8 @@ ghost use Rattle.doc_rules.specs.Escaping.{html_escape, url_char, url_escape, he
 use doc_heap::{Heap, String};
 use doc_lines::pushing::{push_char, push_text};
 use doc_lines::scan::character::next_char;
+use doc_lines::scan::front::front;
+use doc_lines::scan::run::many;
 use doc_page::escaping::push_escaped;
 use doc_page::failure::Memory;
 use doc_page::text::Text;
@@ -23,7 +25,8 @@ pub(crate) fn url(heap: Heap, dest: &str) -> Result<Text, Memory>
     ensures { IfOk result (λ url. chars url ≡ url_escape (chars dest.now)) }
 {
     let mut out = String::with_capacity(heap, dest.len())?;
-    let mut rest = dest;
+    let mut rest = many(dest, stays);
+    push_text(&mut out, front(dest, rest))?;
     'characters: while let Some((c, behind)) = next_char(rest) {
         push_url_char(&mut out, c)?;
         rest = behind;

@@ -1,13 +1,13 @@
 //! One buffer into which HTML is written, its links as a linker shows them.
-ghost use Rattle.std.specs.Prelude.{◌≡◌, [], ◌∷◌, ◌++◌, ◌==◌, Bool, chars, string_bytes, OnOk};
+ghost use Rattle.std.specs.Prelude.{◌≡◌, ◌++◌, string_bytes, IfOk, OnOk};
 ghost use Rattle.doc_page.specs.Escaping.{escaped};
 ghost use Rattle.doc_page.specs.Pages.{opening_tag, title_attribute};
 ghost use Rattle.doc_html.specs.Progress.{begun};
-ghost use Rattle.doc_html.specs.Written.{HoldsHtml, fresh_behind, read_again};
+ghost use Rattle.doc_html.specs.Written.{HoldsHtml, read_again};
 
+use crate::fresh::fresh_behind;
 use crate::writer::Writer;
 use doc_heap::{Heap, String};
-use doc_lines::scan::character::last_char;
 use doc_marks::mark::Mark;
 use doc_page::escaping::push_escaped;
 use doc_page::failure::Memory;
@@ -25,16 +25,17 @@ pub(crate) struct HtmlWriter<'l, L: Linker> {
 }
 
 impl<'l, L: Linker> HtmlWriter<'l, L> {
-    /// Nothing is written yet.
-    pub(crate) fn new(heap: Heap, linker: &'l L) -> Self
-        ensures { HoldsHtml (L.shown result.linker.now) (string_bytes result.out) result.fresh (begun (L.shown linker.now) None) }
+    /// Nothing is written yet. There is room for so many bytes.
+    pub(crate) fn new(heap: Heap, linker: &'l L, room: usize) -> Result<Self, Memory>
+        ensures { IfOk result (λ writer. HoldsHtml (L.shown writer.linker.now) (string_bytes writer.out) writer.fresh (begun (L.shown linker.now) None)) }
     {
-        HtmlWriter {
+        let out = String::with_capacity(heap, room)?;
+        Ok(HtmlWriter {
             heap,
-            out: String::new(heap),
+            out,
             fresh: true,
             linker,
-        }
+        })
     }
 
     pub(crate) fn into_text(self) -> Text
@@ -91,16 +92,6 @@ impl<'l, L: Linker> Writer for HtmlWriter<'l, L> {
 
     fn meet_heading(&mut self, _level: u8, _marks: &[Mark]) -> Result<(), Memory> {
         Ok(())
-    }
-}
-
-/// Whether a LF stands last behind this text, where it did or did not before it.
-fn fresh_behind(fresh: bool, text: &str) -> bool
-    ensures { result ≡ fresh_behind fresh (chars text.now) }
-{
-    match last_char(text) {
-        None => fresh,
-        Some((_, c)) => c == '\n',
     }
 }
 

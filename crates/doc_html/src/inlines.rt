@@ -1,10 +1,11 @@
 //! Inlines as HTML (CommonMark 0.31.2, section 6).
-ghost use Rattle.std.specs.Prelude.{◌≡◌, ◌<◌, ◌+◌, ◌^◌, [], ◌∷◌, ◌++◌, chars, option_map, IfOk, OnOk};
+ghost use Rattle.std.specs.Prelude.{◌≡◌, ◌<◌, ◌+◌, ◌^◌, [], ◌∷◌, ◌++◌, true, chars, option_map, IfOk, OnOk};
 ghost use Rattle.doc_rules.specs.Escaping.{html_escape};
 ghost use Rattle.doc_rules.specs.Inlines as rules;
 ghost use Rattle.doc_rules.specs.Html.{characters, inline_html, inlines_html, span_start, span_end};
 ghost use Rattle.doc_page.specs.Pages.{title_attribute};
 ghost use Rattle.doc_refs.specs.Targets.{target_shown};
+ghost use Rattle.doc_marks.specs.Slices.{AreCut, IsCut, is_cut};
 ghost use Rattle.doc_marks.specs.Views.{inlines_in, inlines_shown, span_shown};
 ghost use Rattle.doc_html.specs.Progress.{Writes};
 ghost use Rattle.doc_html.specs.InlineSteps.{images_behind, mark_html, mark_plain};
@@ -24,6 +25,7 @@ pub(crate) fn push_marks<W: Writer>(
     heap: Heap,
     marks: &[Mark],
 ) -> Result<(), Memory>
+    requires { AreCut marks.now }
     ensures { OnOk result (Writes W.holds writer.old writer.new (inlines_html 0 (inlines_shown marks.now))) }
 {
     let mut images = 0;
@@ -40,7 +42,8 @@ fn push_mark<W: Writer>(
     mark: &Mark,
     images: usize,
 ) -> Result<usize, Memory>
-    requires { images + 1 < 2 ^ 64 }
+    requires few { images + 1 < 2 ^ 64 }
+    requires cut { IsCut mark.now }
     ensures written { OnOk result (Writes W.holds writer.old writer.new (inlines_html images (inlines_in mark.now))) }
     ensures behind { IfOk result (λ behind. behind ≡ images_behind images mark.now) }
 {
@@ -67,10 +70,11 @@ fn images_behind(mark: &Mark, images: usize) -> usize
 
 /// Writes the plain text of a mark.
 fn push_plain<W: Writer>(writer: &mut W, mark: &Mark) -> Result<(), Memory>
+    requires { IsCut mark.now }
     ensures { OnOk result (Writes W.holds writer.old writer.new (characters (html_escape (mark_plain mark.now)))) }
 {
     match mark {
-        Mark::Text(text) => writer.escaped(text),
+        Mark::Text(text) => push_cut(writer, text),
         Mark::Code(text) => push_spaced(writer, text),
         Mark::Soft => push_space(writer),
         Mark::Hard => push_space(writer),
@@ -83,10 +87,11 @@ fn push_plain<W: Writer>(writer: &mut W, mark: &Mark) -> Result<(), Memory>
 
 /// Writes a mark that stands in no image.
 fn push_whole<W: Writer>(writer: &mut W, heap: Heap, mark: &Mark) -> Result<(), Memory>
+    requires { IsCut mark.now }
     ensures { OnOk result (Writes W.holds writer.old writer.new (mark_html mark.now)) }
 {
     match mark {
-        Mark::Text(text) => writer.escaped(text),
+        Mark::Text(text) => push_cut(writer, text),
         Mark::Code(text) => push_code(writer, text),
         Mark::Soft => push_soft(writer),
         Mark::Hard => push_hard(writer),
@@ -95,6 +100,17 @@ fn push_whole<W: Writer>(writer: &mut W, heap: Heap, mark: &Mark) -> Result<(), 
         Mark::Start(span) => push_start(writer, heap, span),
         Mark::End(span) => push_end(writer, span),
     }
+}
+
+/// Writes a text of which each `&`, `<`, `>` and `"` is a text of its own, as it stands where it is longer than they are.
+fn push_cut<W: Writer>(writer: &mut W, text: &str) -> Result<(), Memory>
+    requires { is_cut (chars text.now) ≡ true }
+    ensures { OnOk result (Writes W.holds writer.old writer.new (characters (html_escape (chars text.now)))) }
+{
+    if text.len() == 1 {
+        return writer.escaped(text);
+    }
+    writer.text(text)
 }
 
 #[tactic(auto, unfolding(doc_rules::specs::Html::inline_html))]

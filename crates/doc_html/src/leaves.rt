@@ -11,26 +11,28 @@ ghost use Rattle.doc_html.specs.Progress.{Goes, Writes};
 ghost use Rattle.doc_html.specs.Telling.{leaf_told, code_told};
 
 use crate::inlines::push_marks;
-use crate::reading::{Source, inlines};
+use crate::reading::Source;
 use crate::writer::{Writer, markup};
 use doc_heap::Heap;
+use doc_inlines::Reader;
 use doc_lines::scan::character::next_char;
 use doc_lines::scan::front::front;
 use doc_lines::scan::run::many;
 use doc_page::failure::Memory;
 
 /// Writes a paragraph. Directly in an item of a tight list it is its inlines alone (section 5.3).
-pub(crate) fn push_paragraph<W: Writer>(
+pub(crate) fn push_paragraph<'d, W: Writer>(
     writer: &mut W,
     source: &Source,
-    text: &str,
+    reader: &mut Reader<'d>,
+    text: &'d str,
     tight: bool,
 ) -> Result<(), Memory>
     ensures { (definitions : List Definition) → source.now.refs.now ≡ targets_of definitions →
         OnOk result (Goes W.holds writer.old writer.new (leaf_told source.now.entities.now definitions tight (Paragraph (chars text.now)))) }
 {
-    let marks = inlines(source.heap, text, source.refs, source.entities)?;
-    let marks = marks.as_slice();
+    reader.read(source.heap, source.entities, source.refs, text)?;
+    let marks = reader.marks();
     writer.meet_paragraph(marks)?;
     if tight {
         push_marks(writer, source.heap, marks)?;
@@ -44,17 +46,18 @@ pub(crate) fn push_paragraph<W: Writer>(
 }
 
 /// Writes a heading.
-pub(crate) fn push_heading<W: Writer>(
+pub(crate) fn push_heading<'d, W: Writer>(
     writer: &mut W,
     source: &Source,
+    reader: &mut Reader<'d>,
     level: u8,
-    text: &str,
+    text: &'d str,
 ) -> Result<(), Memory>
     ensures { (definitions : List Definition) (tight : Bool) → source.now.refs.now ≡ targets_of definitions →
         OnOk result (Goes W.holds writer.old writer.new (leaf_told source.now.entities.now definitions tight (Heading level (chars text.now)))) }
 {
-    let marks = inlines(source.heap, text, source.refs, source.entities)?;
-    let marks = marks.as_slice();
+    reader.read(source.heap, source.entities, source.refs, text)?;
+    let marks = reader.marks();
     writer.new_line()?;
     markup(writer, "<h")?;
     push_level(writer, source.heap, level)?;

@@ -3,16 +3,23 @@
 
 mod blocks;
 mod code;
+mod common_mark;
 mod document;
 mod escaping;
+mod fresh;
 mod html_writer;
 mod inlines;
+pub mod laws;
 mod leaves;
+mod page_writer;
+mod pages;
 mod plain_linker;
+mod plain_text;
 mod reading;
 mod rendering;
 mod writer;
 
+pub use common_mark::CommonMark;
 pub use document::to_html;
 pub use plain_linker::PlainLinker;
 pub use rendering::render_plain;

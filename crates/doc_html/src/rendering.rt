@@ -2,7 +2,7 @@
 ghost use Rattle.std.specs.Prelude.{◌≡◌, chars, encode_utf8_all, IfOk};
 ghost use Rattle.doc_rules.specs.Html.{rendered_plain};
 
-use crate::document::to_html;
+use crate::document::write_html;
 use crate::plain_linker::PlainLinker;
 use doc_blocks::blocks;
 use doc_heap::Heap;
@@ -16,6 +16,11 @@ pub fn render_plain(heap: Heap, text: &str, entities: &Entities) -> Result<Text,
 {
     let document = blocks(heap, text, entities)?;
     let linker = PlainLinker;
-    let html = to_html(heap, &document, entities, &linker)?;
+    let html = write_html(heap, &document, entities, &linker, room_of(text))?;
     Ok(html)
+}
+
+/// How many bytes the HTML of a text takes, mostly: a guess, on which nothing rests.
+fn room_of(text: &str) -> usize {
+    text.len().saturating_add(text.len() / 2)
 }

@@ -4,7 +4,7 @@ use Rattle.std.specs.Prelude.{Option, Some, None, Result, Ok, Err, MatchBool, na
 use Rattle.std.specs.FinMap as map
 use Rattle.doc_page.specs.Refusals.{Gives}
 use Rattle.doc_store.specs.Pages.{Page}
-use Rattle.doc_store.specs.Store.{put_by, fits}
+use Rattle.doc_store.specs.Store.{put_by, fits_in}
 use Rattle.doc_store.specs.declared.store.EditError.{EditError}
 use Rattle.doc_store.specs.declared.store.EditError.TheVariants as edit_errors
 use Rattle.doc_store.specs.declared.store.Put.{Put}
@@ -106,7 +106,7 @@ next_of render w (push id bytes) v (pushing r) enough h =
 next_of render w (step id) v (stepping r) enough h = step_next render w id (map.get w.connections id) v r enough h
 next_of render w (put path page) v (putting r) enough h =
     let given = world_put w path page in
-    let stands = map.contains_key w.store.site path in
+    let stands = map.contains_key w.store.site.pages path in
     ap (shown putting) (exactly edit_errors.Memory given.0 w v given.1 r h enough
-    (put_keeps w path page stands (fits (map.len w.store.site) stands w.store.puts page.text)))
+    (put_keeps w path page stands (fits_in w.store path page.text)))
 next_of render w event v outcome enough h = absurd h

@@ -22,7 +22,7 @@ use Rattle.doc_hub.specs.Laws.{Agree, StepsAlike, site_seen, only_reader, open_w
 
 pub same_answer : (render : Renders) (w v : World) (request : Request) → Agree w v request → answer_in render w request ≡ answer_in render v request
 same_answer render w v request agree =
-    λ i. answer_of render (map.entries (agree.sites i)) (agree.reader i) (agree.keep_alive i) request
+    λ i. answer_of render (record { pages = map.entries (agree.sites i).pages; aliases = map.entries (agree.sites i).aliases }) (agree.reader i) (agree.keep_alive i) request
 
 pub steps_alike : StepsAlike
 steps_alike render w v c d one other nexts.More agree = refl

@@ -2,7 +2,7 @@
 use Rattle.std.specs.Prelude.{◌≡◌, ℕ, All, Bool, List, [], ◌∷◌, false, Option, Some, None, Ok, ⊤}
 use Rattle.std.specs.FinMap as map
 use Rattle.doc_store.specs.declared.reader.Reader.{Reader}
-use Rattle.doc_store.specs.Sites.{Site, visible_to}
+use Rattle.doc_store.specs.Sites.{Site, empty_site, visible_to}
 use Rattle.doc_store.specs.Readers.{ReaderTable}
 use Rattle.doc_http.specs.Bearers.{bearer_of}
 use Rattle.doc_http.specs.Requests.{IsNext}
@@ -50,12 +50,12 @@ open_with unread = record { unread = unread; closed = false }
 -- a server that never held more than this site and this reader, with one connection
 abbrev pub fresh : Site → Option (List ℕ) → Option Reader → Bool → List ℕ → World
 fresh site token reader keep_alive unread =
-    record { store = record { site = site; puts = 0 }; readers = only_reader token reader; keep_alive = keep_alive; given = 1; connections = map.insert map.empty 1 (open_with unread) }
+    record { store = record { site = site; stamps = map.empty; puts = 0 }; readers = only_reader token reader; keep_alive = keep_alive; given = 1; connections = map.insert map.empty 1 (open_with unread) }
 
 -- the fresh server for a request, of what its reader may see in this world; where there is no request, any will do
 abbrev pub fresh_for : World → List ℕ → Next → World
 fresh_for w unread (nexts.Request used request) = fresh (site_seen w request) (bearer_of request) (reader_of w request) w.keep_alive unread
-fresh_for w unread next = fresh map.empty None None w.keep_alive unread
+fresh_for w unread next = fresh empty_site None None w.keep_alive unread
 
 -- what a step answered is what the step of that fresh server answers
 abbrev pub SendsAsFresh : Renders → Happened → Type 0

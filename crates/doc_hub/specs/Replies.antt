@@ -3,11 +3,11 @@
 use Rattle.std.specs.Prelude.{ℕ, List, [], Bool, true, false, not, ◌||◌, bytes_eq, codes, Option, Some, None, if◌then◌else◌}
 use Rattle.doc_page.specs.Pages.{body_of}
 use Rattle.doc_page.specs.declared.linker.Shown.{Shown}
-use Rattle.doc_page.specs.declared.linker.Shown.TheVariants.{Missing}
 use Rattle.doc_page.specs.declared.rendered.Rendered.{Rendered}
 use Rattle.doc_store.specs.Pages.{Page}
 use Rattle.doc_store.specs.declared.reader.Reader.{Reader}
-use Rattle.doc_store.specs.Sites.{View, page_at}
+use Rattle.doc_store.specs.Sites.{View, page_at, goal_in}
+use Rattle.doc_resolve.specs.Hrefs.{shown}
 use Rattle.doc_http.specs.declared.reply.Allow.TheVariants.{Page as page_methods}
 use Rattle.doc_http.specs.declared.reply.Reply.{Reply}
 use Rattle.doc_http.specs.declared.request.Request.{Request}
@@ -37,9 +37,9 @@ page_reply body = record { code = 200; html = true; allow = None; body = body }
 abbrev pub not_allowed : Reply
 not_allowed = record (status_reply 405) { allow = Some page_methods }
 
--- how a link to a destination is shown in a page: as missing, until links are resolved
+-- how a link to a destination is shown in the page at this path: by what the reader sees, whatever else stands in the site
 abbrev pub link_shown : View → List ℕ → List ℕ → Shown
-link_shown view path dest = Missing
+link_shown view path dest = shown (goal_in view) path dest
 
 -- a page that the reader sees, or none: a hidden page and an absent one are the same here
 abbrev pub page_or_none : Renders → View → List ℕ → Option Page → Reply
@@ -49,7 +49,7 @@ page_or_none render view path (Some page) = page_reply (body_of path (link_shown
 -- the path that the target writes, or none
 abbrev pub at_path : Renders → View → Option (List ℕ) → Reply
 at_path render view None = status_reply 404
-at_path render view (Some path) = page_or_none render view path (page_at view path)
+at_path render view (Some path) = page_or_none render view path (page_at view.pages path)
 
 -- the route, then the method
 abbrev pub on_route : Renders → View → Option (List ℕ) → Method → Reply

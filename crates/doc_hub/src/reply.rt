@@ -1,7 +1,9 @@
 //! Replies to requests: each is made from what the request's reader may see.
 
-ghost use Rattle.std.specs.Prelude.{◌≡◌, ◌||◌, not, IsTrue, Some, IfOk, option_copied, option_and_then};
+ghost use Rattle.std.specs.Prelude.{◌≡◌, ◌||◌, not, IsTrue, Some, IfOk, option_copied, option_map, option_and_then};
 ghost use Rattle.std.specs.FinMap as map;
+ghost use Rattle.doc_page.specs.Pages.{body_of};
+ghost use Rattle.doc_resolve.specs.Hrefs.{shown};
 ghost use Rattle.doc_store.specs.Sites.{page_at, view_of};
 ghost use Rattle.doc_http.specs.Bearers.{bearer_of};
 ghost use Rattle.doc_http.specs.Laws.{is_fault_code};
@@ -16,9 +18,11 @@ use doc_http::reply::{Allow, Reply};
 use doc_http::request::Request;
 use doc_page::bytes::Bytes;
 use doc_page::failure::Memory;
-use doc_page::linker::{Linker, Shown};
 use doc_page::path::Path;
+use doc_page::rendered::Rendered;
 use doc_page::renderer::Renderer;
+use doc_page::sight::Sight;
+use doc_resolve::SiteLinker;
 use doc_store::page::Page;
 use doc_store::reader::Reader;
 use doc_store::readers::Readers;
@@ -106,14 +110,21 @@ fn reply_to<R: Renderer>(
         None => Ok(status_reply(heap, 404)),
         Some(page) => {
             let rendered = renderer.render(heap, page.text())?;
-            Ok(page_reply(body(heap, &path, &rendered, &NoLinks)?))
+            Ok(page_reply(body_seen(heap, &path, &rendered, &store.sight(reader))?))
         }
     }
 }
 
+/// The document of a page, its links shown by what a reader sees.
+fn body_seen<S: Sight>(heap: Heap, path: &Path, page: &Rendered, sight: &S) -> Result<Bytes, Memory>
+    ensures { IfOk result (λ body. body ≡ body_of path.now (shown (S.goals sight.now) path.now) page.now) }
+{
+    body(heap, path, page, &SiteLinker::new(path, sight))
+}
+
 /// The page, where there is one that the reader may see.
 fn visible_page<'a>(store: &'a Store, reader: &Reader, path: &Path) -> Option<&'a Page>
-    ensures { option_copied result ≡ page_at (view_of store.now.site (Some reader.now)) path.now }
+    ensures { option_map (λ page. page.now.page) result ≡ page_at (view_of store.now.site (Some reader.now)).pages path.now }
 {
     let Some(page) = store.get(path) else {
         return None;
@@ -155,18 +166,5 @@ fn page_reply(body: Bytes) -> Reply
         html: true,
         allow: None,
         body,
-    }
-}
-
-/// Shows each link as missing, until links are resolved.
-struct NoLinks;
-
-impl Linker for NoLinks {
-    ghost use Rattle.doc_page.specs.declared.linker.Shown.TheVariants.{Missing};
-
-    ghost shown = { λ _ _. Missing };
-
-    fn show(&self, _heap: Heap, _dest: &str) -> Result<Shown, Memory> {
-        Ok(Shown::Missing)
     }
 }

@@ -15,9 +15,11 @@ use Rattle.doc_marks.specs.declared.mark.Mark.TheVariants as mark
 use Rattle.doc_marks.specs.Slices.{slice_in, StandIn, IsCut}
 use Rattle.doc_marks.specs.Views.{inlines_in}
 use Rattle.doc_inlines.specs.ReadingSteps.{is_plain, breaks}
+use Rattle.doc_inlines.specs.PlainSteps.{IsPlainStop}
 use Rattle.doc_inlines.specs.Drafts.{IsRunOf}
 use Rattle.doc_inlines.specs.Readers.{MarkStands, IsPlainRun}
 use Rattle.doc_inlines.proofs.PlainLaws.{break_item, spaces_item, quiet_before}
+use Rattle.doc_inlines.proofs.PlainEndLaws.{run_goes_further}
 use Rattle.doc_inlines.proofs.RunLaws.{behind_first, split_at_run, taken_by, run_taken}
 use Rattle.doc_inlines.proofs.EscapeLaws.{spaces_taken}
 
@@ -128,7 +130,10 @@ spaces_plain : (n : ℕ) → list_all is_plain (replicate n 32) ≡ true
 spaces_plain zero = refl
 spaces_plain (suc n) = spaces_plain n
 
-pub spaces_run : (whole more rest : Text) → whole ≡ 32 ∷ more → Some rest ≡ many (λ d. 32 == d) more → IsRest rest more → None ≡ is 10 rest → IsPlainRun whole rest
+pub no_break_there : (more rest : Text) → Some rest ≡ many (λ d. 32 == d) more → None ≡ is 10 rest → breaks rest ≡ false
+no_break_there more rest f g = no_break rest (many_stops (λ d. 32 == d) more rest f) g
+
+spaces_run : (whole more rest : Text) → whole ≡ 32 ∷ more → Some rest ≡ many (λ d. 32 == d) more → IsRest rest more → None ≡ is 10 rest → IsPlainRun whole rest
 spaces_run whole more rest e f r g =
     let run : IsRunOf (run_length 32 more) 32 (before rest whole) = run_taken 32 whole more rest (before rest whole) e f refl in
     let plain : list_all is_plain (before rest whole) ≡ true = ap (list_all is_plain) run.same ∙ spaces_plain (suc (run_length 32 more)) in
@@ -137,6 +142,9 @@ spaces_run whole more rest e f r g =
     record {
       behind = behind_first 32 more whole rest e r;
       plain = plain;
-      quiet = quiet_before (before rest whole) rest plain (no_break rest (many_stops (λ d. 32 == d) more rest f) g);
+      quiet = quiet_before (before rest whole) rest plain (no_break_there more rest f g);
       shorter = omega arith;
     }
+
+pub spaces_and_words : (whole more rest end : Text) → whole ≡ 32 ∷ more → Some rest ≡ many (λ d. 32 == d) more → IsRest rest more → None ≡ is 10 rest → IsPlainStop rest end → IsPlainRun whole end
+spaces_and_words whole more rest end e f r g u = run_goes_further whole rest end (spaces_run whole more rest e f r g) (no_break_there more rest f g) u

@@ -1,5 +1,5 @@
 -- One item is read.
-use Rattle.std.proofs.Common.{◌≡◌, Bool, true, false, not, ◌||◌, ◌&&◌, ◌==◌, chars, ℕ, ◌-◌, ◌≤◌, List, [], ◌∷◌, ◌++◌, length, refl, ap, ap₂, sym, ◌∙◌, subst, arith}
+use Rattle.std.proofs.Common.{◌≡◌, Bool, true, false, not, ◌||◌, ◌&&◌, ◌==◌, chars, ℕ, ◌-◌, ◌≤◌, ◌<◌, List, [], ◌∷◌, ◌++◌, length, refl, ap, ap₂, sym, ◌∙◌, subst, arith}
 use denote.Ref.{Bor}
 use Rattle.std.specs.List.{list_all}
 use Rattle.doc_rules.specs.Characters.{Text, last_or}
@@ -14,7 +14,8 @@ use Rattle.doc_marks.specs.Slices.{AreSlices, is_cut}
 use Rattle.doc_marks.specs.Views.{inlines_in}
 use Rattle.doc_inlines.specs.declared.reader.Reader.{Reader}
 use Rattle.doc_inlines.specs.ReadingSteps.{reading, is_plain}
-use Rattle.doc_inlines.specs.Readers.{is_uncut, state_made, outcome, IsReader, GoesOn, MarkStands, IsPlainRun, ReadsAs}
+use Rattle.doc_inlines.specs.PlainSteps.{IsPlainStop}
+use Rattle.doc_inlines.specs.Readers.{is_uncut, state_made, outcome, IsReader, GoesOn, ReadsOn, MarkStands, IsPlainRun, ReadsAs}
 use Rattle.doc_inlines.proofs.ReadingLaws.{before_is, item_taken}
 use Rattle.doc_inlines.proofs.PlainLaws.{plain_reads, other_item}
 use Rattle.doc_inlines.proofs.ReaderLaws.{before_both, own_slice}
@@ -72,15 +73,16 @@ unfolding last_or
 last_of_append c [] ys = refl
 last_of_append c (x ∷ xs) ys = last_of_append x xs ys
 
-pub run_goes_on : (table : Table) (targets : Targets) (old new : Reader) (next : Text) → IsReader old → IsReader new → new.text ≡ old.text → chars new.rest.now ≡ next → IsPlainRun (chars old.rest.now) next →
-    state_made new ≡ onto (literals (before next (chars old.rest.now))) (state_made old) → GoesOn table targets old new
+pub stop_reads_on : (table : Table) (targets : Targets) (old new : Reader) (next : Text) → IsReader old → IsReader new → new.text ≡ old.text → chars new.rest.now ≡ next → IsPlainStop (chars old.rest.now) next →
+    state_made new ≡ onto (literals (before next (chars old.rest.now))) (state_made old) → ReadsOn table targets old new
 unfolding outcome
-run_goes_on table targets old new next o n t r p m =
+stop_reads_on table targets old new next o n t r p m =
     let rest : IsRest (chars old.rest.now) (chars old.text.now) = is_rest_again (chars old.text.now) (chars old.plain.now) (chars old.rest.now) o.rest o.plain in
     let b : Text = before (chars old.rest.now) (chars old.text.now) in
     let run : Text = before next (chars old.rest.now) in
     let made : List Inline = onto (literals (before next (chars old.rest.now))) (state_made old) in
     let a : length (chars new.rest.now) ≡ length next = ap length r in
+    let l : length next ≤ length (chars old.rest.now) = rest_is_shorter next (chars old.rest.now) p.behind in
     record {
       sound = n;
       text = t;
@@ -91,8 +93,18 @@ run_goes_on table targets old new next o n t r p m =
           ∙ (ap (λ last. read table definitions last made 0 next) (last_of_append 10 b run)
           ∙ (sym (plain_reads table definitions (last_or 10 b) (state_made old) run next p.plain p.quiet)
           ∙ ap (λ x. read table definitions (last_or 10 b) (state_made old) 0 x) (sym (before_rest next (chars old.rest.now) p.behind))))));
-      shorter = omega (arith, p.shorter);
+      no_longer = omega arith;
     }
+
+pub no_longer_then_shorter : (a b c : ℕ) → a ≤ b → b < c → a < c
+no_longer_then_shorter a b c h g = omega arith
+
+pub run_goes_on : (table : Table) (targets : Targets) (old new : Reader) (next : Text) → IsReader old → IsReader new → new.text ≡ old.text → chars new.rest.now ≡ next → IsPlainRun (chars old.rest.now) next →
+    state_made new ≡ onto (literals (before next (chars old.rest.now))) (state_made old) → GoesOn table targets old new
+run_goes_on table targets old new next o n t r p m =
+    let on = stop_reads_on table targets old new next o n t r (record { behind = p.behind; plain = p.plain; quiet = p.quiet }) m in
+    let a : length (chars new.rest.now) ≡ length next = ap length r in
+    record { sound = n; text = t; reads = on.reads; shorter = omega (arith, p.shorter) }
 
 not_false : (b : Bool) → b ≡ false → not b ≡ true
 not_false true e = absurd cc

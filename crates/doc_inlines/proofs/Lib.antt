@@ -13,4 +13,5 @@ pub mod RunLaws
 pub mod EscapeLaws
 pub mod GapLaws
 pub mod EnclosedLaws
+pub mod ClassLaws
 pub mod PlainEndLaws

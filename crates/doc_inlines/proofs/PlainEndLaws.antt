@@ -1,99 +1,159 @@
 -- Where plain text ends, and which characters are plain.
-use Rattle.std.proofs.Common.{◌≡◌, Bool, true, false, not, ◌||◌, ◌&&◌, ◌==◌, ℕ, ◌≤◌, [], ◌∷◌, ◌++◌, length, refl, ap, ap₂, sym, ◌∙◌, subst, arith, Result, Ok, Err}
+use Rattle.std.proofs.Common.{◌≡◌, Bool, true, false, not, ◌||◌, ◌&&◌, ◌==◌, nat_eq, ℕ, ◌+◌, ◌≤◌, ◌<◌, List, [], ◌∷◌, ◌++◌, length, take, drop, get_or, chars, refl, ap, ap₂, sym, ◌∙◌, subst, arith, append_assoc, length-append, Option, Some, None, Result, Ok, Err}
 use Rattle.std.specs.Prelude.{OnOk}
 use Rattle.std.specs.List.{list_all}
+use Rattle.std.specs.Str.{IsUtf8, IsCharBoundary, encode_utf8_all}
 use Rattle.std.proofs.lemmas.List.Folds.{list_all-append}
-use Rattle.std.proofs.lemmas.Bool.{ne_eqb}
+use Rattle.std.proofs.lemmas.List.{take-append-drop, append_cancel_right}
+use Rattle.std.proofs.lemmas.Bool.Decides.{nat_tests}
+use Rattle.std.proofs.Math.Seq.{take-append_seam}
+use Rattle.std.proofs.lemmas.Bool.{ne_eqb, eqb-true}
+use Rattle.std.proofs.lemmas.Str.{encodes-chars, encodes-append, chars-append, IsCharBoundary-from_take}
 use Rattle.doc_rules.specs.Characters.{Text, last_or}
-use Rattle.doc_rules.specs.Parsers.{before}
-use Rattle.doc_rules.proofs.ParserLaws.{IsRest, is_rest_again, rest_is_shorter}
-use Rattle.doc_inlines.specs.ReadingSteps.{is_plain}
-use Rattle.doc_inlines.specs.PlainSteps.{IsPlainEnd, IsPlainUntil}
+use Rattle.doc_rules.specs.Parsers.{before, is}
+use Rattle.doc_rules.proofs.ParserLaws.{IsRest, rest_is_shorter, before_rest, is_rest_again}
+use Rattle.doc_lines.specs.RestSteps.{IsAsciiClass, IsCutBefore, begins_in}
+use Rattle.doc_lines.proofs.Ends.{last_or_end}
+use Rattle.doc_inlines.specs.ReadingSteps.{begins_something, is_plain, breaks, Quiet}
+use Rattle.doc_inlines.specs.PlainSteps.{IsPlainEnd, IsPlainStop, IsWithoutSpaces, StandsInFront}
 use Rattle.doc_inlines.specs.Readers.{IsPlainRun}
-use Rattle.doc_inlines.proofs.ReaderLaws.{before_both, before_all, all_of_itself}
-use Rattle.doc_inlines.proofs.PlainLaws.{quiet_without_space}
-use Rattle.doc_inlines.proofs.ItemLaws.{first_behind, first_before}
+use Rattle.doc_inlines.proofs.ClassLaws.{agree_below, agree_at}
+use Rattle.doc_inlines.proofs.ReadingLaws.{before_is}
+use Rattle.doc_inlines.proofs.ReaderLaws.{before_both}
+use Rattle.doc_inlines.proofs.PlainLaws.{quiet_without_space, quiet_before, plain_breaks}
 use Rattle.doc_inlines.proofs.EscapeLaws.{before_behind}
 use Rattle.doc_inlines.proofs.RunLaws.{behind_first}
 
--- ---- one character more
+-- ---- the front of a text, without the spaces at its end
 
-all_plain : (a b c : Text) (x : ℕ) → a ≡ b ++ (x ∷ []) → list_all is_plain b ≡ true → is_plain x ≡ true → list_all is_plain a ≡ true
-all_plain a b c x e f g =
-    ap (list_all is_plain) e ∙ (list_all-append is_plain b (x ∷ []) ∙ (ap₂ (λ s t. s && (t && true)) f g))
+both_hold : (a b : Bool) → (a && b) ≡ true → (a ≡ true) × (b ≡ true)
+both_hold true b e = (refl, e)
+both_hold false b e = absurd cc
 
-pub ends_at_start : (text : Text) → IsPlainEnd text text
-unfolding last_or
-ends_at_start text = record {
-  behind = all_of_itself text;
-  plain = ap (list_all is_plain) (before_all text);
-  last = ap (λ t. last_or 0 t == 32) (before_all text);
-}
+front_is_plain : (text rest front : Text) → IsCutBefore begins_something text rest → text ≡ front ++ rest → list_all is_plain front ≡ true
+front_is_plain text rest front cut e =
+    let same : front ≡ cut.front = append_cancel_right front cut.front rest (sym e ∙ cut.split) in
+    ap (list_all is_plain) same ∙ cut.outside
 
-pub until_start : (text : Text) → IsPlainUntil text text text
-until_start text = record { until = ends_at_start text; behind = all_of_itself text; plain = ap (list_all is_plain) (before_all text) }
+pub cut_is_rest : (text rest : Text) → IsCutBefore begins_something text rest → IsRest rest text
+cut_is_rest text rest cut = record { front = cut.front; split = cut.split }
 
--- what stands before the text behind the next character
-one_more : (text rest more : Text) (x : ℕ) → IsRest rest text → rest ≡ x ∷ more → before more text ≡ before rest text ++ (x ∷ [])
-one_more text rest more x h e = before_both text rest more h (first_behind x more rest e) ∙ ap (λ t. before rest text ++ t) (first_before x more rest e)
+pub plain_until : (text rest front words end : Text) → IsCutBefore begins_something text rest → text ≡ front ++ rest → IsWithoutSpaces front words → text ≡ words ++ end → IsPlainEnd text end
+plain_until text rest front words end cut e w f =
+    let plain : list_all is_plain front ≡ true = front_is_plain text rest front cut e in
+    let parts = both_hold (list_all is_plain words) (list_all is_plain w.stands.rest) (sym (list_all-append is_plain words w.stands.rest) ∙ (sym (ap (list_all is_plain) w.stands.split) ∙ plain)) in
+    let passed : before end text ≡ words = ap (before end) f ∙ before_is words end in
+    record {
+      behind = record { front = words; split = f };
+      plain = ap (list_all is_plain) passed ∙ parts.0;
+      last = ap (λ t. last_or 0 t == 32) passed ∙ w.last;
+    }
 
-last_of : (c d : ℕ) (front : Text) → last_or c (front ++ (d ∷ [])) ≡ d
-unfolding last_or
-last_of c d [] = refl
-last_of c d (x ∷ front) = last_of x d front
+-- ---- where plain text stops
 
-plain_more : (text rest more : Text) (x : ℕ) → IsRest rest text → rest ≡ x ∷ more → list_all is_plain (before rest text) ≡ true → is_plain x ≡ true → list_all is_plain (before more text) ≡ true
-plain_more text rest more x h e f g = all_plain (before more text) (before rest text) [] x (one_more text rest more x h e) f g
+pub stops_before_spaces : (text end : Text) → IsPlainEnd text end → IsPlainStop text end
+stops_before_spaces text end u = record { behind = u.behind; plain = u.plain; quiet = quiet_without_space (before end text) end u.plain u.last }
 
-joined : (text end rest : Text) → IsRest end text → IsRest rest end → list_all is_plain (before end text) ≡ true → list_all is_plain (before rest end) ≡ true → list_all is_plain (before rest text) ≡ true
-joined text end rest h g e f =
-    ap (list_all is_plain) (before_both text end rest h g) ∙ (list_all-append is_plain (before end text) (before rest end) ∙ ap₂ (λ s t. s && t) e f)
+space_begins_nothing : begins_something 32 ≡ true → ⊥
+space_begins_nothing e = absurd cc
 
-pub until_more : (text end rest more next : Text) (x : ℕ) → IsPlainUntil text end rest → rest ≡ x ∷ more → is_plain x ≡ true → ((x == 32) ≡ true → next ≡ end) → ((x == 32) ≡ false → next ≡ more) → IsPlainUntil text next more
-until_more text end rest more next x u e p s o = at (x == 32) refl
+no_line : (rest : Text) (b : Bool) → ◌≡◌ {A = Option Text} None (elim b [ true ↦ Some rest | false ↦ None ]) → b ≡ false
+no_line rest true f = absurd cc
+no_line rest false f = refl
+
+-- a text that begins with a character that begins something, and with no line ending, begins with no break
+something_else : (rest : Text) → begins_in begins_something rest ≡ true → None ≡ is 10 rest → breaks rest ≡ false
+unfolding breaks
+something_else [] e f = refl
+something_else (c ∷ rest) e f = at (32 == c) refl
   where
-    at : (b : Bool) → (x == 32) ≡ b → IsPlainUntil text next more
-    at true f =
-        subst (λ n. IsPlainUntil text n more) (sym (s f))
-        (record {
-          until = u.until;
-          behind = is_rest_again end rest more (first_behind x more rest e) u.behind;
-          plain = plain_more end rest more x u.behind e u.plain p;
-        })
-    at false f =
-        let whole : IsRest rest text = is_rest_again text end rest u.behind u.until.behind in
-        subst (λ n. IsPlainUntil text n more) (sym (o f))
-        (record {
-          until = record {
-            behind = is_rest_again text rest more (first_behind x more rest e) whole;
-            plain = plain_more text rest more x whole e (joined text end rest u.until.behind u.behind u.until.plain u.plain) p;
-            last = ap (λ t. last_or 0 t == 32) (one_more text rest more x whole e) ∙ (ap (λ t. t == 32) (last_of 0 x (before rest text)) ∙ f);
-          };
-          behind = all_of_itself more;
-          plain = ap (list_all is_plain) (before_all more);
-        })
+    at : (b : Bool) → (32 == c) ≡ b → (elim b [ true ↦ breaks rest | false ↦ c == 10 ]) ≡ false
+    at true g = let space : 32 ≡ c = eqb-true 32 c g in absurd (space_begins_nothing (ap begins_something space ∙ e))
+    at false g = no_line rest (c == 10) f
+
+pub stops_at_something : (text rest : Text) → IsCutBefore begins_something text rest → None ≡ is 10 rest → IsPlainStop text rest
+stops_at_something text rest cut e =
+    let plain : list_all is_plain (before rest text) ≡ true = front_is_plain text rest (before rest text) cut (before_rest rest text (cut_is_rest text rest cut)) in
+    record { behind = cut_is_rest text rest cut; plain = plain; quiet = quiet_before (before rest text) rest plain (something_else rest cut.stop e) }
+
+-- ---- a space at the end
+
+pub no_space_at_end : (text : Text) → text ≡ [] → (last_or 0 text == 32) ≡ false
+unfolding last_or
+no_space_at_end text e = ap (λ t. last_or 0 t == 32) e
+
+pub other_at_end : (text front : Text) (c : ℕ) → text ≡ front ++ (c ∷ []) → (c == 32) ≡ false → (last_or 0 text == 32) ≡ false
+other_at_end text front c e f = ap (λ t. last_or 0 t == 32) e ∙ (ap (λ d. d == 32) (last_or_end 0 front c) ∙ f)
+
+-- ---- the bytes behind a front
+
+bytes_join : (text front : List ℕ) (h : StandsInFront (chars front) (chars text)) → IsUtf8 text → IsUtf8 front → text ≡ front ++ encode_utf8_all h.rest
+bytes_join text front h u v =
+    sym (encodes-chars text u) ∙ (ap encode_utf8_all h.split ∙ (encodes-append (chars front) h.rest ∙ ap (λ f. f ++ encode_utf8_all h.rest) (encodes-chars front v)))
+
+pub front_is_no_longer : (text front : List ℕ) → StandsInFront (chars front) (chars text) → IsUtf8 text → IsUtf8 front → length front ≤ length text
+front_is_no_longer text front h u v =
+    let e : length text ≡ length front + length (encode_utf8_all h.rest) = ap length (bytes_join text front h u v) ∙ length-append front (encode_utf8_all h.rest) in
+    omega arith
+
+front_bytes : (text front : List ℕ) → StandsInFront (chars front) (chars text) → IsUtf8 text → IsUtf8 front → take (length front) text ≡ front
+front_bytes text front h u v = ap (take (length front)) (bytes_join text front h u v) ∙ take-append_seam front (encode_utf8_all h.rest)
+
+pub front_ends_at_boundary : (text front : List ℕ) → StandsInFront (chars front) (chars text) → IsUtf8 text → IsUtf8 front → IsCharBoundary text (length front)
+front_ends_at_boundary text front h u v =
+    IsCharBoundary-from_take text (length front) u (front_is_no_longer text front h u v) (subst IsUtf8 (sym (front_bytes text front h u v)) v)
+
+pub joins_behind : (text front behind : List ℕ) → StandsInFront (chars front) (chars text) → IsUtf8 text → IsUtf8 front → behind ≡ drop (length front) text → chars text ≡ chars front ++ chars behind
+joins_behind text front behind h u v e =
+    let whole : text ≡ front ++ behind = sym (take-append-drop (length front) text) ∙ ap₂ (λ xs ys. xs ++ ys) (front_bytes text front h u v) (sym e) in
+    ap chars whole ∙ chars-append front behind v
+
+-- ---- which characters begin something
+
+pub beginnings_are_ascii : IsAsciiClass begins_something
+beginnings_are_ascii c e = grind (arith, nat_tests)
+
+pub agree_in_table : (table : List ℕ) (b : ℕ) → b < 256 → agree_below (λ k. not (nat_eq (get_or table k 0) 46)) begins_something 256 ≡ true → not (nat_eq (get_or table b 0) 46) ≡ begins_something b
+agree_in_table table b less h = agree_at (λ k. not (nat_eq (get_or table k 0) 46)) begins_something 256 h b less
 
 -- ---- a run of plain characters
-
-last_first : (c : ℕ) (run : Text) → (c == 32) ≡ false → (last_or 0 run == 32) ≡ false → (last_or 0 (c ∷ run) == 32) ≡ false
-unfolding last_or
-last_first c [] e f = e
-last_first c (d ∷ run) e f = f
 
 and_join : (a b : Bool) → a ≡ true → b ≡ true → (a && b) ≡ true
 and_join true b e f = f
 and_join false b e f = absurd cc
 
-pub plain_run : (whole more end : Text) (c : ℕ) → whole ≡ c ∷ more → is_plain c ≡ true → (c == 32) ≡ false → IsPlainEnd more end → IsPlainRun whole end
+true_is_false : true ≡ false → ⊥
+true_is_false e = absurd cc
+
+pub plain_run : (whole more end : Text) (c : ℕ) → whole ≡ c ∷ more → is_plain c ≡ true → (c == 32) ≡ false → IsPlainStop more end → IsPlainRun whole end
 plain_run whole more end c e p s u =
     let run : before end whole ≡ c ∷ before end more = before_behind c whole more end e u.behind in
-    let plain : list_all is_plain (before end whole) ≡ true = ap (list_all is_plain) run ∙ and_join (is_plain c) (list_all is_plain (before end more)) p u.plain in
     let l : length end ≤ length more = rest_is_shorter end more u.behind in
     let k : length whole ≡ length (c ∷ more) = ap length e in
     record {
       behind = behind_first c more whole end e u.behind;
-      plain = plain;
-      quiet = quiet_without_space (before end whole) end plain (ap (λ t. last_or 0 t == 32) run ∙ last_first c (before end more) s u.last);
+      plain = ap (list_all is_plain) run ∙ and_join (is_plain c) (list_all is_plain (before end more)) p u.plain;
+      quiet = subst (λ t. Quiet t end) (sym run) (λ f. absurd (true_is_false (sym f ∙ s)), u.quiet);
+      shorter = omega arith;
+    }
+
+-- ---- spaces, and a run of plain characters behind them
+
+quiet_both : (spaces run end : Text) → list_all is_plain spaces ≡ true → breaks (run ++ end) ≡ false → Quiet run end → Quiet (spaces ++ run) end
+quiet_both [] run end h e q = q
+quiet_both (c ∷ spaces) run end h e q =
+    let more = (both_hold (is_plain c) (list_all is_plain spaces) h).1 in
+    (λ _. ap breaks (append_assoc spaces run end) ∙ plain_breaks spaces (run ++ end) more e, quiet_both spaces run end more e q)
+
+pub run_goes_further : (whole rest end : Text) → IsPlainRun whole rest → breaks rest ≡ false → IsPlainStop rest end → IsPlainRun whole end
+run_goes_further whole rest end r e u =
+    let both : before end whole ≡ before rest whole ++ before end rest = before_both whole rest end r.behind u.behind in
+    let l : length end ≤ length rest = rest_is_shorter end rest u.behind in
+    let k : length rest < length whole = r.shorter in
+    record {
+      behind = is_rest_again whole rest end u.behind r.behind;
+      plain = ap (list_all is_plain) both ∙ (list_all-append is_plain (before rest whole) (before end rest) ∙ and_join (list_all is_plain (before rest whole)) (list_all is_plain (before end rest)) r.plain u.plain);
+      quiet = subst (λ t. Quiet t end) (sym both) (quiet_both (before rest whole) (before end rest) end r.plain (sym (ap breaks (before_rest end rest u.behind)) ∙ e) u.quiet);
       shorter = omega arith;
     }
 

@@ -104,7 +104,7 @@ plain_reads table refs last made (c ∷ run) rest h q =
     ∙ (plain_reads table refs c (Literal c ∷ made) run rest p.1 q.1 ∙ ap (λ those. read table refs (last_or c run) those 0 rest) (sym (literal_onto c run made)))
 
 -- before a rest that begins with no line ending behind spaces
-plain_breaks : (run rest : Text) → list_all is_plain run ≡ true → breaks rest ≡ false → breaks (run ++ rest) ≡ false
+pub plain_breaks : (run rest : Text) → list_all is_plain run ≡ true → breaks rest ≡ false → breaks (run ++ rest) ≡ false
 unfolding breaks
 plain_breaks [] rest h e = e
 plain_breaks (c ∷ run) rest h e = at (plain_breaks run rest (and_parts (is_plain c) (list_all is_plain run) h).1 e) (32 == c)

@@ -5,3 +5,4 @@ pub mod Readers
 pub mod Pieces
 pub mod Closing
 pub mod PlainSteps
+pub mod ClassSteps

@@ -1,5 +1,5 @@
 -- A reader in the middle of a text.
-use Rattle.std.specs.Prelude.{◌≡◌, ℕ, ◌<◌, not, Bool, true, List, [], ◌∷◌, length, chars, codes, ⊤}
+use Rattle.std.specs.Prelude.{◌≡◌, ℕ, ◌<◌, ◌≤◌, not, Bool, true, List, [], ◌∷◌, length, chars, codes, ⊤}
 use Rattle.std.specs.List.{list_all}
 use Rattle.doc_rules.specs.Characters.{Text, one_of, last_or}
 use Rattle.doc_rules.specs.Parsers.{before}
@@ -60,6 +60,13 @@ pub record GoesOn (table : Table) (targets : Targets) (old new : Reader) : Type 
   pub text : new.text ≡ old.text
   pub reads : (definitions : List Definition) → targets ≡ targets_of definitions → outcome table definitions new ≡ outcome table definitions old
   pub shorter : length (chars new.rest.now) < length (chars old.rest.now)
+
+-- the same, where nothing may have been read
+pub record ReadsOn (table : Table) (targets : Targets) (old new : Reader) : Type 0 where
+  pub sound : IsReader new
+  pub text : new.text ≡ old.text
+  pub reads : (definitions : List Definition) → targets ≡ targets_of definitions → outcome table definitions new ≡ outcome table definitions old
+  pub no_longer : length (chars new.rest.now) ≤ length (chars old.rest.now)
 
 -- a mark for the text between two rests: its slice, if it has one, stands there, and it is cut
 pub record MarkStands (mark : Mark) (rest next : Text) : Type 0 where

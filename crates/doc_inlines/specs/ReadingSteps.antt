@@ -11,9 +11,13 @@ use Rattle.std.specs.Prelude.{codes}
 abbrev pub reading : Table → List Definition → Text → List Inline → Text → List Inline
 reading table refs behind made rest = read table refs (last_or 10 behind) made 0 rest
 
+-- a character that begins something, or is written in HTML otherwise
+abbrev pub begins_something : ℕ → Bool
+begins_something c = one_of (codes "\n*_[]`<&\\!>\"") c
+
 -- a character that begins nothing, or a space, and is written in HTML as it is
 abbrev pub is_plain : ℕ → Bool
-is_plain c = not (one_of (codes "\n*_[]`<&\\!>\"") c)
+is_plain c = not (begins_something c)
 
 -- spaces, if any, and then a line ending, stand at the front of a text
 unfoldable pub breaks : Text → Bool

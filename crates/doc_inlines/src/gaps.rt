@@ -8,6 +8,7 @@ ghost use Rattle.doc_marks.specs.Slices.{slice_in, IsCut};
 ghost use Rattle.doc_marks.specs.Views.{inlines_in};
 ghost use Rattle.doc_inlines.specs.Readers.{IsReader, GoesOn};
 
+use crate::plain::behind_plain;
 use crate::reader::Reader;
 use crate::runs::behind_run;
 use doc_lines::scan::character::{is, next_char};
@@ -25,7 +26,7 @@ impl<'t> Reader<'t> {
         Ok(())
     }
 
-    /// Spaces: before a line ending they belong to the break, which is hard where they are two or more. Else they are text.
+    /// Spaces: before a line ending they belong to the break, which is hard where they are two or more. Else they are text, with the plain text behind them.
     pub(crate) fn spaces(&mut self, behind: &'t str) -> Result<(), Memory>
         requires sound { IsReader self.old }
         requires first { chars self.old.rest.now ≡ 32 ∷ chars behind.now }
@@ -33,7 +34,7 @@ impl<'t> Reader<'t> {
     {
         let rest = behind_run(behind, ' ');
         let Some(after) = is(rest, '\n') else {
-            self.pass_plain(rest);
+            self.pass_plain(behind_plain(rest));
             return Ok(());
         };
         let mark = break_mark(begins_with_space(behind));

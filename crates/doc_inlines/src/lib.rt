@@ -12,6 +12,7 @@ ghost use Rattle.doc_marks.specs.Views.{inlines_shown};
 
 mod bracket;
 mod brackets;
+mod classes;
 mod draft;
 mod enclosed;
 mod escapes;

@@ -1,16 +1,19 @@
 //! Characters that begin nothing.
-ghost use Rattle.std.specs.Prelude.{◌≡◌, ◌==◌, ℕ, true, false, ◌∷◌, chars, OnOk};
+ghost use Rattle.std.specs.Prelude.{◌≡◌, ◌==◌, ℕ, true, false, [], ◌∷◌, ◌++◌, chars, OnOk, MatchOption};
+ghost use Rattle.doc_rules.specs.Characters.{last_or};
 ghost use Rattle.doc_rules.specs.Entities.{Table};
 ghost use Rattle.doc_rules.specs.Inlines.{Literal};
 ghost use Rattle.doc_rules.specs.Reading.{Other, kinds, kind_in};
 ghost use Rattle.doc_refs.specs.Targets.{Targets};
-ghost use Rattle.doc_inlines.specs.ReadingSteps.{is_plain};
-ghost use Rattle.doc_inlines.specs.PlainSteps.{IsPlainEnd};
+ghost use Rattle.doc_lines.specs.RestSteps.{IsCutBefore};
+ghost use Rattle.doc_inlines.specs.ReadingSteps.{is_plain, begins_something};
+ghost use Rattle.doc_inlines.specs.PlainSteps.{IsPlainEnd, IsPlainStop, IsWithoutSpaces, StandsInFront};
 ghost use Rattle.doc_inlines.specs.Readers.{IsReader, GoesOn, IsPlainRun, ReadsAs, is_uncut, state_made};
 
 use crate::reader::Reader;
-use doc_lines::scan::character::next_char;
+use doc_lines::scan::character::{is, last_char};
 use doc_lines::scan::front::front;
+use doc_lines::scan::until::until;
 use doc_marks::mark::Mark;
 use doc_page::failure::Memory;
 
@@ -37,7 +40,7 @@ impl<'t> Reader<'t> {
         Ok(())
     }
 
-    /// Plain text: all up to a character that begins something, without the spaces at its end.
+    /// Plain text: all up to a character that begins something, without spaces before a line ending.
     pub(crate) fn plain(&mut self, c: char, behind: &'t str)
         requires sound { IsReader self.old }
         requires first { chars self.old.rest.now ≡ c ∷ chars behind.now }
@@ -45,7 +48,7 @@ impl<'t> Reader<'t> {
         requires other { (c == 32) ≡ false }
         ensures { (table : Table) (targets : Targets) → GoesOn table targets self.old self.new }
     {
-        self.pass_plain(plain_end(behind));
+        self.pass_plain(behind_plain(behind));
     }
 
     /// The first character, which is text that HTML writes as it is.
@@ -68,36 +71,68 @@ impl<'t> Reader<'t> {
     }
 }
 
-/// The text behind plain characters, up to one that begins something, and without the spaces at their end.
-fn plain_end(text: &str) -> &str
+/// The text behind plain characters, up to one that begins something. Spaces before a line ending are that one's.
+pub(crate) fn behind_plain(text: &str) -> &str
+    ensures { IsPlainStop (chars text.now) (chars result.now) }
+{
+    let rest = until(text, begins_something);
+    match is(rest, '\n') {
+        Some(_) => plain_end(text, rest),
+        None => rest,
+    }
+}
+
+/// The text behind plain characters, up to this rest, and without the spaces at their end.
+fn plain_end<'t>(text: &'t str, rest: &str) -> &'t str
+    requires { IsCutBefore begins_something (chars text.now) (chars rest.now) }
     ensures { IsPlainEnd (chars text.now) (chars result.now) }
 {
-    let mut end = text;
-    let mut rest = text;
-    while let Some((c, behind)) = next_char(rest) {
-        if !is_plain(c) {
-            return end;
-        }
-        rest = behind;
-        end = end_behind(c, end, behind);
+    text_behind(text, without_spaces(front(text, rest)))
+}
+
+// Each character that begins something stands at its own place, and a dot at every other place.
+static BEGINNINGS: [u8; 256] = *b"\
+    ..........\n.....................\
+    .!\"...&...*.................<.>.\
+    ...........................[\\]._\
+    `...............................\
+    ................................\
+    ................................\
+    ................................\
+    ................................";
+
+/// Whether a character begins something, or HTML writes it otherwise. A space is none of these.
+fn begins_something(byte: u8) -> bool
+    ensures { result ≡ begins_something byte }
+{
+    BEGINNINGS[byte as usize] != b'.'
+}
+
+/// The text without the spaces at its end.
+fn without_spaces(text: &str) -> &str
+    ensures { IsWithoutSpaces (chars text.now) (chars result.now) }
+{
+    let mut words = text;
+    'spaces: while let Some(before) = before_space(words) {
+        words = before;
     }
-    end
+    words
 }
 
-/// Where plain text ends, behind this character: a space may stand at the end of it.
-fn end_behind<'t>(c: char, end: &'t str, behind: &'t str) -> &'t str
-    ensures space { (c == 32) ≡ true → chars result.now ≡ chars end.now }
-    ensures other { (c == 32) ≡ false → chars result.now ≡ chars behind.now }
+/// The text before a space at its end.
+fn before_space(text: &str) -> Option<&str>
+    ensures { MatchOption result ((last_or 0 (chars text.now) == 32) ≡ false) (λ before. chars text.now ≡ chars before.now ++ (32 ∷ [])) }
 {
-    if c == ' ' { end } else { behind }
+    let Some((before, c)) = last_char(text) else {
+        return None;
+    };
+    if c == ' ' { Some(before) } else { None }
 }
 
-/// Whether a character begins nothing and stands in HTML as it is. A space is one of these.
-fn is_plain(c: char) -> bool
-    ensures { result ≡ is_plain c }
+/// What stands behind the front of a text. It takes no time over the text.
+fn text_behind<'t>(text: &'t str, front: &str) -> &'t str
+    requires { StandsInFront (chars front.now) (chars text.now) }
+    ensures { chars text.now ≡ chars front.now ++ chars result.now }
 {
-    !matches!(
-        c,
-        '\n' | '*' | '_' | '[' | ']' | '`' | '<' | '&' | '\\' | '!' | '>' | '"'
-    )
+    &text[front.len()..]
 }

@@ -6,12 +6,14 @@ ghost use Rattle.doc_rules.specs.Parsers.{before};
 ghost use Rattle.doc_rules.specs.Inlines.{literals, onto};
 ghost use Rattle.doc_rules.specs.Reading.{inlines_of};
 ghost use Rattle.doc_rules.proofs.ParserLaws.{IsRest};
-ghost use Rattle.doc_refs.specs.Targets.{targets_of};
+ghost use Rattle.doc_rules.specs.Entities.{Table};
+ghost use Rattle.doc_refs.specs.Targets.{Targets, targets_of};
 ghost use Rattle.doc_marks.specs.Slices.{AreSlices, AreCut};
 ghost use Rattle.doc_marks.specs.Views.{inlines_in, inlines_shown};
-ghost use Rattle.doc_inlines.specs.Readers.{IsReader, GoesOn, ReadsAll, marks_of, state_made, is_uncut, MarkStands};
+ghost use Rattle.doc_inlines.specs.Readers.{IsReader, GoesOn, ReadsOn, ReadsAll, marks_of, state_made, is_uncut, MarkStands};
 
 use crate::draft::Draft;
+use crate::plain::behind_plain;
 use doc_enclosed::{Backticks, MissingEnds};
 use doc_heap::{Heap, Vec};
 use doc_lines::entities::Entities;
@@ -92,8 +94,17 @@ impl<'t> Reader<'t> {
     {
         'items: while let Some((c, behind)) = next_char(self.rest) {
             self.item(heap, entities, refs, c, behind)?;
+            self.skip_plain();
         }
         Ok(())
+    }
+
+    /// Passes the plain text at the front of the rest, if there is any.
+    fn skip_plain(&mut self)
+        requires { IsReader self.old }
+        ensures { (table : Table) (targets : Targets) → ReadsOn table targets self.old self.new }
+    {
+        self.pass(behind_plain(self.rest));
     }
 
     /// Reads one item, by its first character.

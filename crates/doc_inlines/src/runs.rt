@@ -12,8 +12,8 @@ ghost use Rattle.doc_emphasis.specs.Texts.{IsRunText};
 ghost use Rattle.doc_inlines.specs.Drafts.{IsRunOf};
 ghost use Rattle.doc_inlines.specs.Readers.{IsReader, GoesOn, state_made};
 
+use crate::classes::{is_punctuation, is_white};
 use crate::reader::Reader;
-use doc_lines::characters::{is_punctuation, is_white};
 use doc_lines::scan::character::{last_char, next_char};
 use doc_lines::scan::front::front;
 use doc_lines::scan::run::many;

@@ -11,7 +11,7 @@ use Rattle.doc_store.specs.declared.store.EditError.TheVariants.{StoreFull}
 use Rattle.doc_store.specs.Groups.{groups_of, groups_of_names}
 use Rattle.doc_store.specs.Pages.{Page}
 use Rattle.doc_store.specs.Readers.{readers_in}
-use Rattle.doc_store.specs.Sites.{View, may_see, page_at}
+use Rattle.doc_store.specs.Sites.{View, goal_in, may_see, page_at}
 use Rattle.doc_store.specs.Store.{fits, text_limit, page_limit, put_limit}
 use Rattle.doc_page.specs.Tokens.{is_token}
 
@@ -87,15 +87,27 @@ no_reader_sees_not : may_see None staff_page ≡ false
 no_reader_sees_not = refl
 
 view : View
-view = (codes "a.md", staff_page) ∷ (codes "b/c.md", other_page) ∷ []
+view = record { pages = (codes "a.md", staff_page) ∷ (codes "b/c.md", other_page) ∷ []; aliases = (codes "old.md", codes "a.md") ∷ [] }
 
-page_stands : page_at view (codes "b/c.md") ≡ Some other_page
+page_stands : page_at view.pages (codes "b/c.md") ≡ Some other_page
 unfolding view
 page_stands = refl
 
-page_is_absent : page_at view (codes "b.md") ≡ None
+page_is_absent : page_at view.pages (codes "b.md") ≡ None
 unfolding view
 page_is_absent = refl
+
+path_of_a_page : goal_in view (codes "b/c.md") ≡ Some (codes "b/c.md")
+unfolding view
+path_of_a_page = refl
+
+alias_of_a_page : goal_in view (codes "old.md") ≡ Some (codes "a.md")
+unfolding view
+alias_of_a_page = refl
+
+path_of_nothing : goal_in view (codes "b.md") ≡ None
+unfolding view
+path_of_nothing = refl
 
 -- ---- reader entries
 

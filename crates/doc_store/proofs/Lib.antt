@@ -1,9 +1,19 @@
 mod Examples
+mod StoreExamples
+pub mod AliasSteps
 pub mod EntrySteps
 pub mod GroupLaws
 pub mod GroupSteps
+pub mod KeySteps
 pub mod MapSteps
+pub mod MapValues
+pub mod PageSteps
 pub mod ReaderSteps
 pub mod MeetSteps
+pub mod SightSteps
 pub mod SortedSteps
+pub mod StampLaw
+pub mod StateSteps
+pub mod StoreOnLists
+pub mod StoreSteps
 pub mod ViewLaw

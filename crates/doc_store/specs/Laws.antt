@@ -1,9 +1,12 @@
 -- Laws of groups and of what readers see.
-use Rattle.std.specs.Prelude.{◌≡◌, ℕ, List, bytes_eq, Option}
+use Rattle.std.specs.Prelude.{◌≡◌, ◌≢◌, ◌+◌, ℕ, List, bytes_eq, Option, Some, None, Ok}
+use Rattle.std.specs.FinMap as map
 use Rattle.std.specs.List.{list_any}
 use Rattle.doc_store.specs.declared.reader.Reader.{Reader}
 use Rattle.doc_store.specs.Groups.{IsGroups, different_names}
-use Rattle.doc_store.specs.Sites.{Site, visible_to}
+use Rattle.doc_store.specs.Sites.{Site, empty_site, goal_in, goal_of, view_of, visible_to}
+use Rattle.doc_store.specs.Store.{StoreState, IsStore, put_into, moved_in}
+use Rattle.doc_store.specs.declared.store.Put.{Put}
 
 -- the different ones of some names are these names, and no others
 abbrev pub SameNames : Type 0
@@ -20,3 +23,26 @@ SameGroups = (names others : List (List ℕ)) → IsGroups names → IsGroups ot
 -- a reader sees the whole of what the reader sees
 abbrev pub ViewOfView : Type 0
 ViewOfView = (site : Site) (reader : Option Reader) → visible_to (visible_to site reader) reader ≡ visible_to site reader
+
+-- no reader sees nothing
+abbrev pub NoReaderSeesNothing : Type 0
+NoReaderSeesNothing = (site : Site) → visible_to site None ≡ empty_site
+
+-- a path leads in a view where it leads in what the reader sees
+abbrev pub GoalsOfViews : Type 0
+GoalsOfViews = (site : Site) (reader : Option Reader) (path : List ℕ) → goal_in (view_of site reader) path ≡ goal_of (visible_to site reader) path
+
+-- From one store to the next a page got its path with the next stamp, which no page had; later stamps
+-- are larger, as they count on.
+pub record TakesStamp (old : StoreState) (path : List ℕ) (new : StoreState) : Type 0 where
+  pub taken : map.get new.stamps path ≡ Some old.puts
+  pub fresh : (other : List ℕ) → map.get old.stamps other ≢ Some old.puts
+  pub counted : new.puts ≡ old.puts + 1
+  pub store : IsStore new
+
+-- an accepted put or move takes a stamp so: no stamp comes twice
+pub record StampsAreFresh : Type 0 where
+  pub put : (store : StoreState) (path : List ℕ) (groups : List (List ℕ)) (text : List ℕ) (done : Put) → IsStore store
+      → (put_into store path groups text).1 ≡ Ok done → TakesStamp store path (put_into store path groups text).0
+  pub move : (store : StoreState) (from to : List ℕ) → IsStore store
+      → (moved_in store from to).1 ≡ Ok tt → TakesStamp store to (moved_in store from to).0

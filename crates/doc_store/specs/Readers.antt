@@ -9,8 +9,12 @@ use Rattle.toml.specs.Data.{Data, Items, no_items, item, Members, get, get_membe
 use Rattle.toml.specs.Parse.{parse_document}
 use Rattle.doc_store.specs.declared.entries.Entry.{Entry}
 use Rattle.doc_store.specs.declared.reader.Reader.{Reader}
+use Rattle.doc_store.specs.declared.readers.ReaderError.{ReaderError}
+use Rattle.doc_store.specs.declared.readers.ReaderError.TheVariants.{BadToken}
 use Rattle.doc_store.specs.declared.readers.ReadersError.{ReadersError}
 use Rattle.doc_store.specs.declared.readers.ReadersError.TheVariants.{BadToml, BadRow, Twice}
+use Rattle.doc_store.specs.declared.readers.Set.{Set}
+use Rattle.doc_store.specs.declared.readers.Set.TheVariants.{Added, Replaced}
 use Rattle.doc_store.specs.Groups.{groups_of_names}
 use Rattle.doc_page.specs.Tokens.{is_token}
 
@@ -114,3 +118,11 @@ table_of (Ok readers) = Ok (map.from_entries readers)
 -- the readers of a text
 abbrev pub readers_of : List ℕ → Result ReaderTable ReadersError
 readers_of text = table_of (readers_in (parse_document text))
+
+-- the readers after one is set, and what that did: it was added, or took the place of the one with its
+-- token; only a bearer token can have a reader
+abbrev pub set_reader : ReaderTable → List ℕ → Reader → ReaderTable × Result Set ReaderError
+set_reader readers token reader =
+    if is_token token
+    then (map.insert readers token reader, Ok (if map.contains_key readers token then Replaced else Added))
+    else (readers, Err BadToken)

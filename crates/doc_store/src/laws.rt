@@ -1,6 +1,6 @@
-//! Laws of groups and of what readers see. Each function does nothing: its contract is the law.
+//! Laws of groups, of what readers see, and of stamps. Each function does nothing: its contract is the law.
 
-ghost use Rattle.doc_store.specs.Laws.{EqualSets, SameGroups, SameNames, ViewOfView};
+ghost use Rattle.doc_store.specs.Laws.{EqualSets, GoalsOfViews, NoReaderSeesNothing, SameGroups, SameNames, StampsAreFresh, ViewOfView};
 
 /// The groups of some names are these names, and no others.
 pub fn groups_are_their_names()
@@ -21,4 +21,23 @@ pub fn groups_with_the_same_names_are_equal()
 /// A reader sees the whole of what the reader sees.
 pub fn the_view_of_a_view_is_the_view()
     ensures { ViewOfView }
+{}
+
+/// No reader sees nothing.
+#[tactic(auto, using(crate::proofs::ViewLaw::no_reader_sees_nothing))]
+pub fn no_reader_sees_nothing()
+    ensures { NoReaderSeesNothing }
+{}
+
+/// A path leads in a view where it leads in what the reader sees.
+#[tactic(auto, using(crate::proofs::ViewLaw::goals_of_views))]
+pub fn views_lead_where_sites_lead()
+    ensures { GoalsOfViews }
+{}
+
+/// No stamp comes twice: the one that a put or a move takes is that of no page, and later ones are
+/// larger.
+#[tactic(auto, using(crate::proofs::StampLaw::stamps_are_fresh))]
+pub fn no_stamp_comes_twice()
+    ensures { StampsAreFresh }
 {}

@@ -1,9 +1,12 @@
-//! The pages of a site, the groups that they are for, and the readers: who may see which page.
+//! The pages of a site with their aliases, the groups that they are for, and the readers: who may see
+//! which page.
 #![tactic(auto)]
 
+mod aliases;
 mod entries;
 pub mod groups;
 pub mod laws;
+pub mod moving;
 mod names;
 pub mod page;
 mod pages;

@@ -1,16 +1,17 @@
 //! The pages of a site by their paths.
 
-ghost use Rattle.std.specs.Prelude.{◌≡◌, IsTrue, OnOk, OnErr, option_copied};
+ghost use Rattle.std.specs.Prelude.{◌≡◌, ◌<◌, ◌^◌, Some, IsTrue, IfOk, OnOk, OnErr, option_copied, option_map, if◌then◌else◌};
 ghost use Rattle.std.specs.FinMap as map;
-ghost use Rattle.doc_store.specs.Store.{effect_of, set_page};
+ghost use Rattle.doc_store.specs.MoveSteps.{with_stamped};
 
 use crate::page::Page;
+use crate::store::Put;
 use doc_heap::{BTreeMap, Heap};
 use doc_page::failure::Memory;
 use doc_page::path::Path;
 use std::marker::Model;
 
-/// The pages of a site by their paths. Contracts see the site.
+/// The pages of a site by their paths. Contracts see the map.
 #[derive(Drop)]
 pub struct Pages {
     entries: BTreeMap<Path, Page>,
@@ -19,12 +20,12 @@ pub struct Pages {
 impl Model for Pages {
     ghost use Rattle.std.specs.Coded.{coded_ℕ, coded_list};
     ghost use Rattle.std.specs.FinMap as map;
-    ghost use Rattle.doc_store.specs.contracts.page.Page as one;
-    ghost use Rattle.doc_store.specs.Sites.{Site};
+    ghost use Rattle.doc_store.specs.Maps.{TextMap};
+    ghost use Rattle.doc_store.specs.Pages as pages;
 
-    ghost Value = { Site };
+    ghost Value = { TextMap pages.StampedPage };
 
-    ghost coded = { map.code (coded_list coded_ℕ) one.the_row.coded };
+    ghost coded = { map.code (coded_list coded_ℕ) pages.stamped_code };
 
     ghost view = { λ p. map.from_entries p.entries.entries };
 }
@@ -50,6 +51,14 @@ impl Pages {
         self.entries.get(path)
     }
 
+    /// A page with its path as it stands here.
+    pub fn entry(&self, path: &Path) -> Option<(&Path, &Page)>
+        ensures path { option_map (λ entry. entry.0.now) result ≡ option_map (λ _. path.now) (map.get self.now path.now) }
+        ensures page { option_map (λ entry. entry.1.now) result ≡ map.get self.now path.now }
+    {
+        self.entries.get_key_value(path)
+    }
+
     pub fn contains(&self, path: &Path) -> bool
         ensures { result ≡ map.contains_key self.now path.now }
     {
@@ -57,8 +66,21 @@ impl Pages {
     }
 
     /// Sets the page of a path. It takes memory only for a new path.
-    pub fn insert(&mut self, path: Path, page: Page) -> Result<(), Memory>
-        ensures ok { OnOk result (self.new ≡ effect_of self.old (set_page path page)) }
+    pub fn set(&mut self, heap: Heap, path: &Path, page: Page) -> Result<Put, Memory>
+        ensures ok { OnOk result (self.new ≡ map.insert self.old path.now page) }
+        ensures put { IfOk result (λ put. put ≡ (if map.contains_key self.old path.now then Put.Replaced else Put.Created)) }
+        ensures err { OnErr result (self.new ≡ self.old) }
+    {
+        if self.contains(path) {
+            self.replace(path, page);
+            return Ok(Put::Replaced);
+        }
+        self.insert(path.copy(heap)?, page)?;
+        Ok(Put::Created)
+    }
+
+    fn insert(&mut self, path: Path, page: Page) -> Result<(), Memory>
+        ensures ok { OnOk result (self.new ≡ map.insert self.old path page) }
         ensures err { OnErr result (self.new ≡ self.old) }
     {
         self.entries.insert(path, page)?;
@@ -66,13 +88,35 @@ impl Pages {
     }
 
     /// Sets the page of a path that has one.
-    pub fn replace(&mut self, path: &Path, page: Page)
+    fn replace(&mut self, path: &Path, page: Page)
         requires { IsTrue (map.contains_key self.old path.now) }
-        ensures { self.new ≡ effect_of self.old (set_page path.now page) }
+        ensures { self.new ≡ map.insert self.old path.now page }
     {
         let Some(old) = self.entries.get_mut(path) else {
             return;
         };
         *old = page;
+    }
+
+    /// Takes the page of a path out. It takes no memory.
+    pub fn take(&mut self, path: &Path) -> Option<Page>
+        ensures page { result ≡ map.get self.old path.now }
+        ensures rest { self.new ≡ map.remove self.old path.now }
+    {
+        self.entries.remove(path)
+    }
+
+    /// Takes the page of one path to another, which has none, with another stamp.
+    pub fn rename(&mut self, heap: Heap, from: &Path, to: &Path, stamp: u64) -> Result<(), Memory>
+        requires stands { IsTrue (map.contains_key self.old from.now) }
+        requires free { map.get self.old to.now ≡ None }
+        ensures ok { OnOk result (self.new ≡ with_stamped self.old from.now to.now stamp) }
+        ensures err { OnErr result (self.new ≡ self.old) }
+    {
+        self.insert(to.copy(heap)?, Page::empty(heap))?;
+        if let Some(page) = self.take(from) {
+            self.replace(to, page.stamped(stamp));
+        }
+        Ok(())
     }
 }

@@ -1,8 +1,9 @@
 //! The readers of a site by their tokens.
 
-ghost use Rattle.std.specs.Prelude.{◌≡◌, ◌≢◌, [], IfOk, IfErr, OnOk, Ok, Err, option_copied};
+ghost use Rattle.std.specs.Prelude.{◌≡◌, ◌≢◌, [], IfOk, IfErr, OnOk, OnErr, Ok, Err, option_copied};
 ghost use Rattle.std.specs.FinMap as map;
-ghost use Rattle.doc_store.specs.Readers.{readers_from, readers_of, table_of};
+ghost use Rattle.doc_page.specs.Refusals.{Gives};
+ghost use Rattle.doc_store.specs.Readers.{readers_from, readers_of, set_reader, table_of};
 
 use crate::entries::{Entry, entries_of};
 use crate::reader::Reader;
@@ -10,6 +11,7 @@ use doc_heap::{BTreeMap, Heap, String};
 use doc_page::failure::Memory;
 use doc_page::list::List;
 use doc_page::text::Text;
+use doc_page::token::is_token;
 use std::error::Error;
 use std::fmt;
 use std::marker::Model;
@@ -50,9 +52,50 @@ impl From<Memory> for ReadersError {
     }
 }
 
-/// The readers of a site by their tokens. Contracts see the map.
+/// What setting a reader did.
+#[derive(Clone, Copy, Debug, PartialEq, Eq)]
+pub enum Set {
+    /// No reader had the token.
+    Added,
+    /// The reader with the token is another one now.
+    Replaced,
+}
+
+/// Why a reader was not set.
+#[derive(Clone, Copy, Debug, PartialEq, Eq)]
+pub enum ReaderError {
+    /// The text is no bearer token (RFC 6750, section 2.1).
+    BadToken,
+    Memory,
+}
+
+impl fmt::Display for ReaderError {
+    fn fmt<W: fmt::Write>(&self, f: &mut fmt::Formatter<W>) -> fmt::Result {
+        match self {
+            ReaderError::BadToken => write!(f, "not a bearer token"),
+            ReaderError::Memory => write!(f, "{Memory}"),
+        }
+    }
+}
+
+impl Error for ReaderError {}
+
+impl From<Memory> for ReaderError {
+    ghost use Rattle.std.specs.Prelude.{◌≡◌};
+    ghost use Rattle.doc_store.specs.declared.readers.ReaderError.TheVariants as refusals;
+
+    ghost from_gives = { λ _ e. e ≡ refusals.Memory };
+
+    fn from(_e: Memory) -> ReaderError {
+        ReaderError::Memory
+    }
+}
+
+/// The readers of a site by their tokens. They keep the heap that they were made with. Contracts see
+/// the map.
 #[derive(Drop)]
 pub struct Readers {
+    heap: Heap,
     entries: BTreeMap<String, Reader>,
 }
 
@@ -86,6 +129,7 @@ impl Readers {
         ensures { result ≡ map.empty }
     {
         Readers {
+            heap,
             entries: BTreeMap::new(heap),
         }
     }
@@ -107,9 +151,34 @@ impl Readers {
         Ok(readers)
     }
 
+    /// Sets the reader of a token, and no other. Refused are, in this order, `BadToken` and `Memory`;
+    /// then nothing changes.
+    pub fn set(&mut self, token: &str, reader: &Reader) -> Result<Set, ReaderError>
+        ensures { Gives ReaderError.Memory (set_reader self.old token.now reader.now) self.old self.new result }
+    {
+        if !is_token(token.as_bytes()) {
+            return Err(ReaderError::BadToken);
+        }
+        let reader = reader.copy(self.heap)?;
+        let key = Text::copy_of(self.heap, token)?;
+        let stands = self.find(token).is_some();
+        self.insert(key, reader)?;
+        Ok(if stands { Set::Replaced } else { Set::Added })
+    }
+
+    /// Removes the reader with the token, and no other. `false` says that there is none. It takes no
+    /// memory.
+    pub fn remove(&mut self, token: &str) -> bool
+        ensures answer { result ≡ map.contains_key self.old token.now }
+        ensures readers { self.new ≡ map.remove self.old token.now }
+    {
+        self.entries.remove(token).is_some()
+    }
+
     /// Sets the reader of a token.
     fn insert(&mut self, token: Text, reader: Reader) -> Result<(), Memory>
-        ensures { OnOk result (self.new ≡ map.insert self.old token reader) }
+        ensures ok { OnOk result (self.new ≡ map.insert self.old token reader) }
+        ensures err { OnErr result (self.new ≡ self.old) }
     {
         self.entries.insert(token.into_inner(), reader)?;
         Ok(())

@@ -1,51 +1,75 @@
 //! What a reader sees of a site.
 
-ghost use Rattle.std.specs.Prelude.{◌≡◌, Some};
+ghost use Rattle.std.specs.Prelude.{◌≡◌, Some, None, MatchOption};
+ghost use Rattle.doc_store.specs.Sites.{IsSite};
 
+use crate::aliases::Aliases;
 use crate::pages::Pages;
 use crate::reader::Reader;
 use doc_page::path::Path;
 use doc_page::sight::Sight;
 use std::marker::Model;
 
-/// What a reader sees of a site. Contracts see the set of the paths of the pages that the reader
-/// may see.
+/// What a reader sees of a site. Contracts see the view: the pages that the reader may see, and the
+/// aliases that lead to such pages. An alias of a hidden page leads nowhere.
 #[derive(Drop)]
 pub struct SiteSight<'a> {
     pages: &'a Pages,
+    aliases: &'a Aliases,
     reader: &'a Reader,
 }
 
 impl<'a> Model for SiteSight<'a> {
     ghost use Rattle.std.specs.Prelude.{Some};
-    ghost use Rattle.std.specs.Coded.{coded_ℕ, coded_list};
-    ghost use Rattle.std.specs.FinSet as set;
-    ghost use Rattle.doc_store.specs.Sites.{PathSet, paths_of, visible_to};
+    ghost use Rattle.doc_store.specs.Sites.{IsSite, View, view_code, view_of};
+    ghost use Rattle.doc_store.specs.Store.{site_with};
 
-    ghost Value = { PathSet };
+    ghost Value = { View };
 
-    ghost coded = { set.code (coded_list coded_ℕ) };
+    ghost coded = { view_code };
 
-    ghost view = { λ s. paths_of (visible_to s.pages.now (Some s.reader.now)) };
+    ghost view = { λ s. view_of (site_with s.pages.now s.aliases.now) (Some s.reader.now) };
+
+    ghost invariant = { λ s. IsSite (site_with s.pages.now s.aliases.now) };
 }
 
 impl<'a> SiteSight<'a> {
-    ghost use Rattle.doc_store.specs.Sites.{paths_of, visible_to};
+    ghost use Rattle.doc_store.specs.Sites.{IsSite, view_of};
+    ghost use Rattle.doc_store.specs.Store.{site_with};
 
-    pub(crate) fn new(pages: &'a Pages, reader: &'a Reader) -> SiteSight<'a>
-        ensures { result ≡ paths_of (visible_to pages.now (Some reader.now)) }
+    pub(crate) fn new(pages: &'a Pages, aliases: &'a Aliases, reader: &'a Reader) -> SiteSight<'a>
+        requires { IsSite (site_with pages.now aliases.now) }
+        ensures { result ≡ view_of (site_with pages.now aliases.now) (Some reader.now) }
     {
-        SiteSight { pages, reader }
+        SiteSight {
+            pages,
+            aliases,
+            reader,
+        }
     }
 }
 
 impl<'a> Sight for SiteSight<'a> {
-    ghost seen = { λ s. s };
+    ghost use Rattle.doc_store.specs.Sites.{goal_in};
+
+    ghost goals = { goal_in };
 
     fn sees(&self, path: &Path) -> bool {
         match self.pages.get(path) {
             Some(page) => self.reader.may_see(page),
             None => false,
         }
+    }
+
+    fn goal(&self, path: &Path) -> Option<&Path> {
+        if let Some((path, page)) = self.pages.entry(path) {
+            return if self.reader.may_see(page) {
+                Some(path)
+            } else {
+                None
+            };
+        }
+        let goal = self.aliases.get(path)?;
+        if self.sees(goal) { Some(goal) } else { None }
     }
 }

@@ -1,12 +1,14 @@
-//! The store: the pages of a site, and edits of them.
+//! The store: the pages of a site with their aliases, and edits of them.
 
-ghost use Rattle.std.specs.Prelude.{◌≡◌, ◌+◌, ◌<◌, ◌^◌, Some, OnOk, option_copied};
+ghost use Rattle.std.specs.Prelude.{◌≡◌, ◌+◌, ◌<◌, ◌^◌, Some, OnOk, option_copied, option_map};
 ghost use Rattle.std.specs.FinMap as map;
 ghost use Rattle.doc_page.specs.Refusals.{Gives};
-ghost use Rattle.doc_store.specs.Sites.{paths_of, visible_to};
-ghost use Rattle.doc_store.specs.Store.{StoreState, empty_store, fits, put_into};
+ghost use Rattle.doc_store.specs.Sites.{view_of};
+ghost use Rattle.doc_store.specs.Store.{IsStore, StoreState, empty_store, fits, fits_in, may_move, move_fits, moved_in, put_into, stamp_after, without_page};
 
+use crate::aliases::Aliases;
 use crate::groups::Groups;
+use crate::moving::{MoveError, move_page};
 use crate::page::Page;
 use crate::pages::Pages;
 use crate::reader::Reader;
@@ -21,9 +23,9 @@ use std::marker::Model;
 /// What a put did.
 #[derive(Clone, Copy, Debug, PartialEq, Eq)]
 pub enum Put {
-    /// No page stood under the path.
+    /// No page stood under the path; it may have been an alias.
     Created,
-    /// The page of the path has other groups and another text now.
+    /// The page of the path has other groups and another text now, and its aliases as before.
     Replaced,
 }
 
@@ -32,7 +34,8 @@ pub enum Put {
 pub enum EditError {
     /// The text has more than 1,048,576 bytes.
     TooLong,
-    /// 10,000 pages stand and the path has none, or 2^64 - 1 puts were accepted.
+    /// 10,000 pages stand and the path has none, or no stamp is left: 2^64 - 1 puts and moves were
+    /// accepted.
     StoreFull,
     Memory,
 }
@@ -66,27 +69,30 @@ const TEXT_LIMIT: usize = 1_048_576;
 /// How many pages may stand.
 const PAGE_LIMIT: usize = 10_000;
 
-/// The pages of a site by their paths. It keeps the heap that it was made with. Contracts see the
-/// site, and how many puts were accepted.
+/// How many aliases may stand.
+const ALIAS_LIMIT: usize = 10_000;
+
+/// The pages of a site with their aliases. A move leaves the old path as an alias of the page; no
+/// alias is the path of a page, and each leads to one. It keeps the heap that it was made with.
+/// Contracts see the site, the stamps of the pages, and how many puts and moves were accepted.
 #[derive(Drop)]
 pub struct Store {
     heap: Heap,
     pages: Pages,
+    aliases: Aliases,
     puts: u64,
 }
 
 impl Model for Store {
-    ghost use Rattle.std.specs.Coded.{code_by, coded×, coded_ℕ};
-    ghost use Rattle.std.specs.Prelude.{ℕ, refl};
-    ghost use Rattle.doc_store.specs.contracts.pages.Pages as one;
-    ghost use Rattle.doc_store.specs.Sites.{Site};
-    ghost use Rattle.doc_store.specs.Store.{StoreState};
+    ghost use Rattle.doc_store.specs.Store.{IsStore, StoreState, state_of, store_code};
 
     ghost Value = { StoreState };
 
-    ghost coded = { code_by (Site × ℕ) (coded× one.the_row.coded coded_ℕ) (λ s. (s.site, s.puts)) (λ p. record { site = p.0; puts = p.1 }) (λ _. refl) };
+    ghost coded = { store_code };
 
-    ghost view = { λ s. record { site = s.pages; puts = s.puts } };
+    ghost view = { λ s. state_of s.pages s.aliases s.puts };
+
+    ghost invariant = { λ s. IsStore (state_of s.pages s.aliases s.puts) };
 }
 
 impl Store {
@@ -97,43 +103,112 @@ impl Store {
         Store {
             heap,
             pages: Pages::new(heap),
+            aliases: Aliases::new(heap),
             puts: 0,
         }
     }
 
-    /// Sets the page of a path. A refused put changes nothing.
+    /// Whether `put` refuses a text under a path, but for `Memory`. It takes no memory.
+    pub fn fits(&self, path: &Path, text: &str) -> Result<(), EditError>
+        ensures answer { result ≡ fits_in self.now path.now text.now }
+        ensures room { OnOk result (self.now.puts + 1 < 2 ^ 64) }
+    {
+        fits(self.pages.len(), self.pages.contains(path), self.puts, text)
+    }
+
+    /// Sets the page of a path, and gives it the next stamp. A page that stands there keeps its
+    /// aliases; an alias of another page is taken from it. Refused are, in this order, `TooLong`,
+    /// `StoreFull` and `Memory`; a refused put changes nothing.
     pub fn put(&mut self, path: &Path, groups: &Groups, text: &str) -> Result<Put, EditError>
         ensures { Gives EditError.Memory (put_into self.old path.now groups.now text.now) self.old self.new result }
     {
-        let stands = self.pages.contains(path);
-        fits(self.pages.len(), stands, self.puts, text)?;
-        let page = Page::copy_of(self.heap, groups, text)?;
-        if stands {
-            self.pages.replace(path, page);
-            self.puts += 1;
-            return Ok(Put::Replaced);
-        }
-        self.pages.insert(path.copy(self.heap)?, page)?;
+        self.fits(path, text)?;
+        let page = Page::copy_of(self.heap, groups, text, self.puts)?;
+        let put = self.pages.set(self.heap, path, page)?;
+        self.aliases.remove(path);
         self.puts += 1;
-        Ok(Put::Created)
+        Ok(put)
     }
 
+    /// Removes the page of a path with its aliases. `false` says that no page stands there, also
+    /// where the path is an alias; then nothing changes. It takes no memory.
+    pub fn remove(&mut self, path: &Path) -> bool
+        ensures answer { result ≡ map.contains_key self.old.site.pages path.now }
+        ensures state { self.new ≡ without_page self.old path.now }
+    {
+        if !self.pages.contains(path) {
+            return false;
+        }
+        self.pages.take(path);
+        self.aliases.remove_goal(path);
+        true
+    }
+
+    /// Whether `move_page` refuses, but for `Memory`. It takes no memory.
+    pub fn may_move(&self, from: &Path, to: &Path) -> Result<(), MoveError>
+        ensures answer { result ≡ may_move self.now from.now to.now }
+        ensures room { OnOk result (self.now.puts + 1 < 2 ^ 64) }
+    {
+        move_fits(
+            self.pages.contains(from),
+            self.pages.contains(to),
+            self.aliases.len_after_move(to),
+            self.puts,
+        )
+    }
+
+    /// Takes the page of one path to another, with its groups, text and aliases, and gives it the
+    /// next stamp. The old path becomes an alias of it, and the new one is an alias no more. Refused
+    /// are, in this order, `NoPage`, `Taken`, `StoreFull` and `Memory`; a refused move changes
+    /// nothing.
+    pub fn move_page(&mut self, from: &Path, to: &Path) -> Result<(), MoveError>
+        ensures { Gives MoveError.Memory (moved_in self.old from.now to.now) self.old self.new result }
+    {
+        self.may_move(from, to)?;
+        move_page(
+            self.heap,
+            &mut self.pages,
+            &mut self.aliases,
+            from,
+            to,
+            self.puts,
+        )?;
+        self.puts += 1;
+        Ok(())
+    }
+
+    /// The page that stands under a path, and not one that the path is an alias of.
     pub fn get(&self, path: &Path) -> Option<&Page>
-        ensures { option_copied result ≡ map.get self.now.site path.now }
+        ensures page { option_map (λ page. page.now.page) result ≡ map.get self.now.site.pages path.now }
+        ensures stamp { option_map (λ page. page.now.stamp) result ≡ map.get self.now.stamps path.now }
+        ensures store { IsStore self.now }
     {
         self.pages.get(path)
     }
 
+    /// The stamp that the next put or move takes, which no page has: how many were accepted so far. `None` where no
+    /// stamp is left.
+    #[tactic(auto, unfolding(crate::specs::Store::put_limit))]
+    pub fn next_stamp(&self) -> Option<u64>
+        ensures stamp { result ≡ stamp_after self.now.puts }
+        ensures store { IsStore self.now }
+    {
+        if self.puts == u64::MAX {
+            return None;
+        }
+        Some(self.puts)
+    }
+
     /// What the reader sees of the site.
     pub fn sight<'a>(&'a self, reader: &'a Reader) -> SiteSight<'a>
-        ensures { result ≡ paths_of (visible_to self.now.site (Some reader.now)) }
+        ensures { result ≡ view_of self.now.site (Some reader.now) }
     {
-        SiteSight::new(&self.pages, reader)
+        SiteSight::new(&self.pages, &self.aliases, reader)
     }
 }
 
 /// Whether a put of a text is refused, where so many pages stand, the path has one or not, and so
-/// many puts were accepted.
+/// many puts and moves were accepted.
 #[tactic(auto, unfolding(crate::specs::Store::text_limit, crate::specs::Store::page_limit, crate::specs::Store::put_limit))]
 fn fits(pages: usize, stands: bool, puts: u64, text: &str) -> Result<(), EditError>
     ensures answer { result ≡ fits pages stands puts text.now }
@@ -144,6 +219,25 @@ fn fits(pages: usize, stands: bool, puts: u64, text: &str) -> Result<(), EditErr
     }
     if (!stands && pages >= PAGE_LIMIT) || puts == u64::MAX {
         return Err(EditError::StoreFull);
+    }
+    Ok(())
+}
+
+/// Whether a move is refused, where a page stands under the old path or not, and under the new one,
+/// so many aliases would stand, and so many puts and moves were accepted.
+#[tactic(auto, unfolding(crate::specs::Store::alias_limit, crate::specs::Store::put_limit))]
+fn move_fits(stands: bool, taken: bool, aliases: usize, puts: u64) -> Result<(), MoveError>
+    ensures answer { result ≡ move_fits stands taken aliases puts }
+    ensures room { OnOk result (puts + 1 < 2 ^ 64) }
+{
+    if !stands {
+        return Err(MoveError::NoPage);
+    }
+    if taken {
+        return Err(MoveError::Taken);
+    }
+    if aliases > ALIAS_LIMIT || puts == u64::MAX {
+        return Err(MoveError::StoreFull);
     }
     Ok(())
 }

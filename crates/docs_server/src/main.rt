@@ -4,7 +4,9 @@
 ghost use Rattle.std.specs.Prelude.{◌≡◌, ◌≢◌, ◌<◌};
 
 use doc_heap::{Heap, String, heap};
-use doc_page::plain::PlainRenderer;
+use doc_html::CommonMark;
+use doc_lines::entities::Entities;
+use doc_page::renderer::Renderer;
 use doc_server::demo::demo;
 use doc_server::examples::examples;
 use doc_server::fault::Fault;
@@ -20,11 +22,16 @@ use std::rt::{Env, Files};
 use std::sync::ledger::{Blank, Ledger};
 
 fn main(rt: HostRuntime) -> ExitCode {
-    match run(&rt) {
-        Ok(status) => ExitCode::from(status),
+    ExitCode::from(status_of(&rt, run(&rt)))
+}
+
+/// The status to end with. A fault is printed.
+fn status_of<P: Eprint>(rt: &P, ended: Result<u8, Fault>) -> u8 {
+    match ended {
+        Ok(status) => status,
         Err(fault) => {
             let _ = eprintln!(rt; "docs_server: {fault}");
-            ExitCode::from(2)
+            2
         }
     }
 }
@@ -38,13 +45,10 @@ enum Command {
 }
 
 /// Runs the command that the arguments name, and answers the status to end with.
-fn run<R: AllocGlobal + Env + Files + Input + Print>(rt: &R) -> Result<u8, Fault> {
+fn run<R: AllocGlobal + Env + Eprint + Files + Input + Print>(rt: &R) -> Result<u8, Fault> {
     let heap = heap(rt.alloc(), u64::MAX)?;
     match named_command(rt, heap)? {
-        Command::Demo => {
-            run_demo::<Brand, R>(rt, heap, Blank::new(1))?;
-            Ok(0)
-        }
+        Command::Demo => Ok(run_demo::<Brand, R>(rt, Blank::new(1))),
         Command::Render => {
             render(heap, &mut rt.reader(), &mut Output::new(io::writer(rt)))?;
             Ok(0)
@@ -86,14 +90,36 @@ fn argument_fault(kind: ErrorKind) -> Fault
     }
 }
 
-fn run_demo<L: Ledger, R: Input + Print>(rt: &R, heap: Heap, blank: Blank) -> Result<(), Fault>
+/// Runs `demo` over pages of CommonMark, and answers the status to end with.
+fn run_demo<L: Ledger, P: AllocGlobal + Eprint + Input + Print>(rt: &P, blank: Blank) -> u8
     requires name { blank.name ≡ L.name }
     requires parts { blank.parts ≡ L.parts }
     requires some { 0 < L.parts }
 {
-    let renderer: PlainRenderer<L> = PlainRenderer::new(blank);
-    let mut output = Output::new(io::writer(rt));
-    demo(heap, renderer, &mut rt.reader(), &mut output)
+    let renderer: CommonMark<L> = CommonMark::new(Entities::built_in(), blank);
+    run_demo_with(rt, renderer)
+}
+
+/// The same with any renderer, on a heap of its own: a call that names both a renderer which holds texts and the heap can't be proved.
+fn run_demo_with<R: Renderer + Drop, P: AllocGlobal + Eprint + Input + Print>(
+    rt: &P,
+    renderer: R,
+) -> u8 {
+    status_of(rt, demo_with(rt, renderer))
+}
+
+fn demo_with<R: Renderer + Drop, P: AllocGlobal + Input + Print>(
+    rt: &P,
+    renderer: R,
+) -> Result<u8, Fault> {
+    let heap = heap(rt.alloc(), u64::MAX)?;
+    demo(
+        heap,
+        renderer,
+        &mut rt.reader(),
+        &mut Output::new(io::writer(rt)),
+    )?;
+    Ok(0)
 }
 
 fn run_examples<R: Files + Print>(rt: &R, heap: Heap, name: &str) -> Result<u8, Fault> {

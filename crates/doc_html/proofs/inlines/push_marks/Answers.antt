@@ -2,6 +2,7 @@ use Rattle.std.proofs.Common.{◌+◌, ◌≤◌, arith, sym}
 use Rattle.doc_html.specs.InlineSteps.{images_behind}
 use Rattle.doc_html.proofs.WriterSteps.{same, both, nothing}
 use Rattle.doc_html.proofs.InlineLaws.{html_begins, along_begins, along_more, html_more, few_more}
+use Rattle.doc_html.proofs.CutSteps.{cut_mark}
 use Rattle.doc_html.proofs.inlines.push_marks.Goals as goal
 
 pub loop-mark-init : goal.loop-mark-init
@@ -22,3 +23,6 @@ loop-mark-preserved g c =
           (html_more c.args.marks.now c.loop-mark.mark-index c.mark-item.result c.loop-mark.images (omega arith) c.mark-item.is i.count)
           (both g.W.Writer.holds c.args.writer.now c.loop-mark.writer c.push_mark.new.writer _ _ i.written c.in_ok-images.ensures.written);
     }
+
+pub push_mark-requires-clause-cut : goal.push_mark-requires-clause-cut
+push_mark-requires-clause-cut g c = cut_mark c.args.marks.now c.loop-mark.mark-index c.mark-item.result c.requires (omega arith) c.mark-item.is

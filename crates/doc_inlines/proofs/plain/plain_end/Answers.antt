@@ -1,19 +1,10 @@
-use Rattle.std.proofs.Common.{rules, ◌≡◌, true, chars, sym, ◌∙◌}
-use Rattle.doc_inlines.proofs.PlainEndLaws.{until_start, until_more}
+use Rattle.std.proofs.Common.{chars}
+use Rattle.doc_inlines.proofs.PlainEndLaws.{cut_is_rest, plain_until}
 use Rattle.doc_inlines.proofs.plain.plain_end.Goals as goal
 
-pub loop-c-init : goal.loop-c-init
-loop-c-init c = record {
-  is_text = search rules;
-  end_is_text = search rules;
-  plain = until_start (chars c.args.text.now);
-}
+pub front-requires : goal.front-requires
+front-requires c = cut_is_rest (chars c.args.text.now) (chars c.args.rest.now) c.requires
 
-pub loop-c-preserved : goal.loop-c-preserved
-loop-c-preserved c =
-    let passed : c.is_plain.result ≡ true = search rules in
-    record {
-      is_text = search rules;
-      end_is_text = search rules;
-      plain = until_more _ _ _ _ _ c.in-Some.c c.loop-c.invariant.plain c.in-Some.ensures.characters (sym c.is_plain.ensures ∙ passed) c.end_behind-end.ensures.space c.end_behind-end.ensures.other;
-    }
+pub returns : goal.returns
+returns c =
+    plain_until (chars c.args.text.now) (chars c.args.rest.now) (chars c.front.result.now) (chars c.without_spaces.result.now) (chars c.text_behind.result.now) c.requires c.front.ensures.joins c.without_spaces.ensures c.text_behind.ensures

@@ -5,11 +5,11 @@ use Rattle.doc_rules.proofs.ParserLaws.{is_rest_again}
 use Rattle.doc_inlines.specs.Readers.{state_made}
 use Rattle.doc_inlines.proofs.ItemLaws.{goes_on, first_behind}
 use Rattle.doc_inlines.proofs.RunLaws.{behind_first}
-use Rattle.doc_inlines.proofs.GapLaws.{is_first, bare_stands, break_made, spaces_reads, spaces_run}
+use Rattle.doc_inlines.proofs.GapLaws.{is_first, bare_stands, break_made, spaces_reads, spaces_and_words}
 use Rattle.doc_inlines.proofs.reader.Reader.spaces.Goals as goal
 
 pub pass_plain-requires-clause-run : goal.pass_plain-requires-clause-run
-pass_plain-requires-clause-run c = spaces_run _ _ _ c.requires.first c.behind_run-rest.ensures.value c.behind_run-rest.ensures.end c.in_default.ensures
+pass_plain-requires-clause-run c = spaces_and_words _ _ _ _ c.requires.first c.behind_run-rest.ensures.value c.behind_run-rest.ensures.end c.in_default.ensures c.behind_plain.ensures
 
 pub put-requires-clause-stands : goal.put-requires-clause-stands
 put-requires-clause-stands c =

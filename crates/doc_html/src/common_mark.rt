@@ -1,0 +1,57 @@
+//! The renderer of CommonMark texts.
+ghost use Rattle.std.specs.Prelude.{◌≡◌, ◌<◌, chars};
+ghost use Rattle.doc_rules.specs.Pages.{rendered_of};
+
+use crate::pages::page_of;
+use doc_heap::Heap;
+use doc_lines::entities::Entities;
+use doc_page::count::Count;
+use doc_page::failure::Memory;
+use doc_page::rendered::Rendered;
+use doc_page::renderer::Renderer;
+use std::marker::Model;
+use std::sync::ledger::{Blank, Ledger};
+
+/// Makes pages of CommonMark texts (0.31.2): their HTML, in the form of the specification's examples, cut at the opening tags of
+/// links; each heading with its level, its anchor and its plain text; and the plain text of each paragraph and heading and the content
+/// of each code block. Contracts see its table of character references and how many calls were made.
+#[derive(Drop)]
+pub struct CommonMark<L: Ledger> {
+    entities: Entities,
+    count: Count<L>,
+}
+
+impl<L: Ledger> Model for CommonMark<L> {
+    ghost use Rattle.std.specs.Prelude.{ℕ};
+    ghost use Rattle.doc_rules.specs.Entities.{Table};
+
+    ghost Value = { Table × ℕ };
+
+    ghost view = { λ r. (r.entities, r.count) };
+}
+
+impl<L: Ledger> CommonMark<L> {
+    /// A renderer that made no page yet, which knows these character references and keeps its count in a blank book of the ledger.
+    pub fn new(entities: Entities, blank: Blank) -> Self
+        requires name { blank.name ≡ L.name }
+        requires parts { blank.parts ≡ L.parts }
+        requires some { 0 < L.parts }
+        ensures { result ≡ (entities, 0) }
+    {
+        CommonMark {
+            entities,
+            count: Count::new(blank),
+        }
+    }
+}
+
+impl<L: Ledger> Renderer for CommonMark<L> {
+    ghost page = { λ r text. rendered_of r.0 (chars text) };
+
+    ghost count = { λ r. r.1 };
+
+    fn render(&mut self, heap: Heap, text: &str) -> Result<Rendered, Memory> {
+        self.count.raise();
+        page_of(heap, text, &self.entities)
+    }
+}

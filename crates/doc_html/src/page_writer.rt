@@ -1,0 +1,199 @@
+//! The pieces, headings and texts of a page as they are written (this project's choice).
+ghost use Rattle.std.specs.Prelude.{◌≡◌, [], ◌++◌, List, Some, chars, codes, encode_utf8_all, string_bytes, IfOk, OnOk};
+ghost use Rattle.doc_page.specs.Escaping.{escaped};
+ghost use Rattle.doc_page.specs.Plain.{html_pieces};
+ghost use Rattle.doc_page.specs.declared.linker.Shown.{Shown};
+ghost use Rattle.doc_page.specs.declared.rendered.Piece.TheVariants.{Link};
+ghost use Rattle.doc_rules.specs.Pages.{LinkPiece, encoded_piece};
+ghost use Rattle.doc_refs.specs.Targets.{target_shown};
+ghost use Rattle.doc_html.specs.PlainLinks.{plain_shown};
+ghost use Rattle.doc_html.specs.Progress.{Progress, begun};
+ghost use Rattle.doc_html.specs.Written.{read_again};
+ghost use Rattle.doc_html.specs.WrittenPages.{HoldsPage, page_told};
+
+use crate::fresh::fresh_behind;
+use crate::plain_text::plain_text;
+use crate::writer::Writer;
+use doc_anchors::Anchors;
+use doc_heap::{Heap, String, Vec};
+use doc_marks::mark::Mark;
+use doc_page::escaping::push_escaped;
+use doc_page::failure::Memory;
+use doc_page::list::List;
+use doc_page::rendered::{Heading, LinkSpot, Piece, Rendered};
+use doc_page::text::Text;
+use doc_refs::Target;
+
+/// A page so far: its pieces, the HTML behind the last link, the anchors that are used, its headings and its texts. It is fresh where
+/// nothing was written or a LF was written last.
+#[derive(Drop)]
+pub(crate) struct PageWriter {
+    heap: Heap,
+    pieces: Vec<Piece>,
+    html: String,
+    fresh: bool,
+    anchors: Anchors,
+    headings: Vec<Heading>,
+    texts: Vec<Text>,
+}
+
+impl PageWriter {
+    /// Nothing is written yet.
+    pub(crate) fn new(heap: Heap) -> Self
+        ensures { HoldsPage result.pieces.items (string_bytes result.html) result.fresh result.anchors result.headings.items result.texts.items (begun plain_shown (Some [])) }
+    {
+        PageWriter {
+            heap,
+            pieces: Vec::new(heap),
+            html: String::new(heap),
+            fresh: true,
+            anchors: Anchors::new(heap),
+            headings: Vec::new(heap),
+            texts: Vec::new(heap),
+        }
+    }
+
+    /// The page.
+    pub(crate) fn into_page(self) -> Result<Rendered, Memory>
+        ensures { (p : Progress) → HoldsPage self.pieces.items (string_bytes self.html) self.fresh self.anchors self.headings.items self.texts.items p →
+            IfOk result (λ page. page ≡ page_told p) }
+    {
+        let PageWriter {
+            heap: _,
+            mut pieces,
+            html,
+            fresh: _,
+            anchors: _,
+            headings,
+            texts,
+        } = self;
+        push_last(&mut pieces, html)?;
+        Ok(Rendered {
+            pieces: List::new(pieces),
+            headings: List::new(headings),
+            texts: List::new(texts),
+        })
+    }
+}
+
+impl Writer for PageWriter {
+    ghost holds = { λ w p. HoldsPage w.pieces.items (string_bytes w.html) w.fresh w.anchors w.headings.items w.texts.items p };
+
+    fn text(&mut self, text: &str) -> Result<(), Memory> {
+        self.html.push_str(text)?;
+        self.fresh = fresh_behind(self.fresh, text);
+        Ok(())
+    }
+
+    fn escaped(&mut self, text: &str) -> Result<(), Memory> {
+        push_escaped(&mut self.html, text)?;
+        self.fresh = fresh_behind(self.fresh, text);
+        Ok(())
+    }
+
+    fn link(&mut self, target: &Target) -> Result<(), Memory> {
+        let spot = spot_of(self.heap, target)?;
+        cut(self.heap, &mut self.pieces, &mut self.html)?;
+        self.pieces.push(Piece::Link(spot))?;
+        self.fresh = false;
+        Ok(())
+    }
+
+    fn new_line(&mut self) -> Result<(), Memory> {
+        if self.fresh {
+            return Ok(());
+        }
+        self.html.push_str("\n")?;
+        self.fresh = true;
+        Ok(())
+    }
+
+    fn meet_text(&mut self, text: &str) -> Result<(), Memory> {
+        let text = Text::copy_of(self.heap, text)?;
+        self.texts.push(text)?;
+        Ok(())
+    }
+
+    fn meet_paragraph(&mut self, marks: &[Mark]) -> Result<(), Memory> {
+        let text = plain_text(self.heap, marks)?;
+        self.texts.push(text)?;
+        Ok(())
+    }
+
+    fn meet_heading(&mut self, level: u8, marks: &[Mark]) -> Result<(), Memory> {
+        let text = plain_text(self.heap, marks)?;
+        let anchor = self.anchors.next(self.heap, text.get())?;
+        push_id(&mut self.html, anchor.get())?;
+        self.fresh = false;
+        let heading = Heading {
+            level,
+            anchor,
+            text: text.copy(self.heap)?,
+        };
+        self.headings.push(heading)?;
+        self.texts.push(text)?;
+        Ok(())
+    }
+}
+
+/// Cuts the HTML off as a piece, where there is some. The buffer keeps its room.
+fn cut(heap: Heap, pieces: &mut Vec<Piece>, html: &mut String) -> Result<(), Memory>
+    ensures pieces { OnOk result (pieces.new.items ≡ pieces.old.items ++ html_pieces (string_bytes html.old)) }
+    ensures html { OnOk result (string_bytes html.new ≡ []) }
+{
+    if html.as_str().is_empty() {
+        return Ok(());
+    }
+    let piece = Text::copy_of(heap, html)?;
+    pieces.push(Piece::Html(piece))?;
+    html.clear();
+    Ok(())
+}
+
+/// Adds the last HTML as a piece, where there is some.
+fn push_last(pieces: &mut Vec<Piece>, html: String) -> Result<(), Memory>
+    ensures { OnOk result (pieces.new.items ≡ pieces.old.items ++ html_pieces (string_bytes html.entry)) }
+{
+    if html.as_str().is_empty() {
+        return Ok(());
+    }
+    pieces.push(Piece::Html(Text::new(html)))?;
+    Ok(())
+}
+
+/// The place of a link's opening tag.
+fn spot_of(heap: Heap, target: &Target) -> Result<LinkSpot, Memory>
+    ensures { IfOk result (λ spot. Link spot ≡ encoded_piece (LinkPiece (target_shown target.now))) }
+{
+    let dest = copy_of(heap, &target.dest)?;
+    let title = title_of(heap, &target.title)?;
+    Ok(LinkSpot { dest, title })
+}
+
+fn title_of(heap: Heap, title: &Option<Text>) -> Result<Option<Text>, Memory>
+    ensures { IfOk result (λ copy. copy ≡ read_again title.now) }
+{
+    let Some(title) = title else {
+        return Ok(None);
+    };
+    let copy = copy_of(heap, title)?;
+    Ok(Some(copy))
+}
+
+/// The text, its bytes read as characters.
+fn copy_of(heap: Heap, text: &Text) -> Result<Text, Memory>
+    ensures { IfOk result (λ copy. copy ≡ encode_utf8_all (chars text.now)) }
+{
+    let copy = Text::copy_of(heap, text.get())?;
+    Ok(copy)
+}
+
+/// Adds the attribute with an anchor.
+fn push_id(out: &mut String, anchor: &str) -> Result<(), Memory>
+    ensures { OnOk result (string_bytes out.new ≡ string_bytes out.old ++ (codes " id=\"" ++ escaped anchor.now ++ codes "\"")) }
+{
+    out.push_str(" id=\"")?;
+    push_escaped(out, anchor)?;
+    out.push_str("\"")?;
+    Ok(())
+}

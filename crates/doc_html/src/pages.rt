@@ -1,0 +1,40 @@
+//! Pages of texts (this project's choice).
+ghost use Rattle.std.specs.Prelude.{◌≡◌, List, chars, IfOk};
+ghost use Rattle.doc_rules.specs.Definitions.{Definition};
+ghost use Rattle.doc_rules.specs.Pages.{document_page, encoded, rendered_of};
+ghost use Rattle.doc_refs.specs.Targets.{targets_of};
+ghost use Rattle.doc_leaves.specs.Views.{blocks_shown};
+
+use crate::blocks::push_all;
+use crate::page_writer::PageWriter;
+use crate::reading::Source;
+use doc_blocks::{Document, blocks};
+use doc_heap::Heap;
+use doc_lines::entities::Entities;
+use doc_page::failure::Memory;
+use doc_page::rendered::Rendered;
+
+/// The page of a text.
+pub(crate) fn page_of(heap: Heap, text: &str, entities: &Entities) -> Result<Rendered, Memory>
+    ensures { IfOk result (λ page. page ≡ rendered_of entities.now (chars text.now)) }
+{
+    let document = blocks(heap, text, entities)?;
+    let page = document_page(heap, &document, entities)?;
+    Ok(page)
+}
+
+/// The page of a document.
+fn document_page(heap: Heap, document: &Document, entities: &Entities) -> Result<Rendered, Memory>
+    ensures { (definitions : List Definition) → document.now.refs ≡ targets_of definitions →
+        IfOk result (λ page. page ≡ encoded (document_page entities.now (record { blocks = blocks_shown document.now.blocks.items; refs = definitions }))) }
+{
+    let source = Source {
+        heap,
+        refs: &document.refs,
+        entities,
+    };
+    let mut writer = PageWriter::new(heap);
+    push_all(&mut writer, &source, document.blocks.as_slice())?;
+    let page = writer.into_page()?;
+    Ok(page)
+}

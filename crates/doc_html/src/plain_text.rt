@@ -1,0 +1,88 @@
+//! Plain texts of inlines (this project's choice).
+ghost use Rattle.std.specs.Prelude.{◌≡◌, [], ◌∷◌, ◌++◌, chars, encode_utf8_all, string_bytes, IfOk, OnOk};
+ghost use Rattle.doc_rules.specs.CodeSpans.{spaced};
+ghost use Rattle.doc_rules.specs.PlainTexts.{plain_text};
+ghost use Rattle.doc_marks.specs.Views.{inlines_shown};
+ghost use Rattle.doc_html.specs.InlineSteps.{mark_plain};
+
+use crate::code::first_line;
+use doc_heap::{Heap, String};
+use doc_marks::mark::Mark;
+use doc_page::failure::Memory;
+use doc_page::text::Text;
+
+/// The plain texts of inlines, joined: texts and code as they are, a line break as one space, raw HTML as nothing.
+pub(crate) fn plain_text(heap: Heap, marks: &[Mark]) -> Result<Text, Memory>
+    ensures { IfOk result (λ text. text ≡ encode_utf8_all (plain_text (inlines_shown marks.now))) }
+{
+    let mut out = String::with_capacity(heap, room_of(marks))?;
+    for mark in marks {
+        push_mark(&mut out, mark)?;
+    }
+    Ok(Text::new(out))
+}
+
+/// How many bytes the plain text of marks takes: a guess, on which nothing rests.
+fn room_of(marks: &[Mark]) -> usize {
+    let mut room: usize = 0;
+    for mark in marks {
+        room = room.saturating_add(room_of_mark(mark));
+    }
+    room
+}
+
+fn room_of_mark(mark: &Mark) -> usize {
+    match mark {
+        Mark::Text(text) => text.len(),
+        Mark::Code(text) => text.len(),
+        Mark::Reference { source: _, text } => text.get().len(),
+        Mark::Soft | Mark::Hard => 1,
+        Mark::Raw(_) | Mark::Start(_) | Mark::End(_) => 0,
+    }
+}
+
+/// Adds the plain text of a mark.
+fn push_mark(out: &mut String, mark: &Mark) -> Result<(), Memory>
+    ensures { OnOk result (string_bytes out.new ≡ string_bytes out.old ++ encode_utf8_all (mark_plain mark.now)) }
+{
+    match mark {
+        Mark::Text(text) => push_str(out, text),
+        Mark::Code(text) => push_spaced(out, text),
+        Mark::Soft => push_space(out),
+        Mark::Hard => push_space(out),
+        Mark::Reference { source: _, text } => push_str(out, text.get()),
+        Mark::Raw(_) => Ok(()),
+        Mark::Start(_) => Ok(()),
+        Mark::End(_) => Ok(()),
+    }
+}
+
+/// Adds a text.
+fn push_str(out: &mut String, text: &str) -> Result<(), Memory>
+    ensures { OnOk result (string_bytes out.new ≡ string_bytes out.old ++ encode_utf8_all (chars text.now)) }
+{
+    out.push_str(text)?;
+    Ok(())
+}
+
+/// Adds a space.
+fn push_space(out: &mut String) -> Result<(), Memory>
+    ensures { OnOk result (string_bytes out.new ≡ string_bytes out.old ++ encode_utf8_all (32 ∷ [])) }
+{
+    out.push_str(" ")?;
+    Ok(())
+}
+
+/// Adds a text, with a space for each line ending.
+fn push_spaced(out: &mut String, text: &str) -> Result<(), Memory>
+    ensures { OnOk result (string_bytes out.new ≡ string_bytes out.old ++ encode_utf8_all (spaced (chars text.now))) }
+{
+    let mut rest = text;
+    'lines: while let Some((line, behind)) = first_line(rest) {
+        push_str(out, line)?;
+        push_space(out)?;
+        rest = behind;
+    }
+    push_str(out, rest)?;
+    Ok(())
+}

@@ -1,0 +1,11 @@
+use Rattle.std.proofs.Common.{◌∙◌, ap}
+use Rattle.std.specs.FinMap as map
+use Rattle.std.proofs.lemmas.Cmp.{nat_list_cmp_total}
+use Rattle.std.proofs.lemmas.Map.Lookups.{exact_bytes}
+use Rattle.doc_page.proofs.Maps.{removed}
+use Rattle.doc_store.proofs.aliases.Aliases.remove.Goals as goal
+
+pub returns : goal.returns
+returns c =
+    removed nat_list_cmp_total exact_bytes c.self.inside.entries.entries c.remove.new.self.entries c.args.alias.now c.remove.ensures.updates.0
+    ∙ ap (λ m. map.remove m c.args.alias.now) c.self.view_is
