@@ -1,6 +1,8 @@
 mod ConnectionSteps
+mod DropLaws
 mod FreshLaws
 mod FrontSteps
+mod GivenLaws
 mod NextLaws
 mod NumberSteps
 mod OriginParts
@@ -9,6 +11,7 @@ mod PathSteps
 mod ReplyExamples
 mod Routing
 mod RunLaws
+mod RunSteps
 mod StepLaws
 mod TargetExamples
 mod TargetSteps

@@ -1,20 +1,23 @@
--- Events where memory sufficed: what they leave and answer, as one equation.
-use Rattle.std.proofs.Common.{◌≡◌, ℕ, List, Bool, true, false, refl, ap, sym, ◌∙◌}
+-- Events where memory sufficed: what they leave and answer, as one equation; edits leave the connections alone.
+use Rattle.std.proofs.Common.{◌≡◌, ℕ, List, Bool, true, false, refl, ap, sym, ◌∙◌, subst}
 use Rattle.std.specs.Prelude.{Option, Some, None, Result, Ok, Err, MatchBool, nat_lt, if◌then◌else◌, ⊤}
 use Rattle.std.specs.FinMap as map
 use Rattle.doc_page.specs.Refusals.{Gives}
-use Rattle.doc_store.specs.Pages.{Page}
-use Rattle.doc_store.specs.Store.{put_by, fits_in}
-use Rattle.doc_store.specs.declared.store.EditError.{EditError}
+use Rattle.doc_store.specs.declared.moving.MoveError.TheVariants as move_errors
+use Rattle.doc_store.specs.declared.readers.ReaderError.TheVariants as reader_errors
 use Rattle.doc_store.specs.declared.store.EditError.TheVariants as edit_errors
-use Rattle.doc_store.specs.declared.store.Put.{Put}
 use Rattle.doc_http.specs.Requests.{IsNext}
 use Rattle.doc_http.specs.declared.request.Next.{Next as Front}
 use Rattle.doc_hub.specs.Connections.{Connections, pushed_at, with_pushed}
+use Rattle.doc_hub.specs.Events.{connecting, pushing, stepping}
 use Rattle.doc_hub.specs.declared.connection.Connection.{Connection}
 use Rattle.doc_hub.specs.declared.event.ConnId.{ConnId}
+use Rattle.doc_hub.specs.declared.event.Event.{Event}
+use Rattle.doc_hub.specs.declared.event.Event.TheVariants as events
 use Rattle.doc_hub.specs.declared.event.Step.{Step}
 use Rattle.doc_hub.specs.declared.event.Step.TheVariants as steps
+use Rattle.doc_hub.specs.declared.outcome.Outcome.{Outcome}
+use Rattle.doc_hub.specs.declared.outcome.Outcome.TheVariants as outcomes
 use Rattle.doc_hub.specs.declared.refusal.ConnectError.{ConnectError}
 use Rattle.doc_hub.specs.declared.refusal.ConnectError.TheVariants as connect_errors
 use Rattle.doc_hub.specs.declared.refusal.PushError.{PushError}
@@ -22,8 +25,8 @@ use Rattle.doc_hub.specs.declared.refusal.PushError.TheVariants as push_errors
 use Rattle.doc_hub.specs.declared.refusal.StepError.{StepError}
 use Rattle.doc_hub.specs.declared.refusal.StepError.TheVariants as step_errors
 use Rattle.doc_hub.specs.Replies.{Renders}
-use Rattle.doc_hub.specs.Worlds.{World, connected, world_pushed, world_put, stepped_by, Stays, Answers, StepsAt, last_id}
-use Rattle.doc_hub.specs.Runs.{Event, connect, push, step, put, Outcome, connecting, pushing, stepping, putting, Happens, IsOutOfMemory}
+use Rattle.doc_hub.specs.Worlds.{World, connected, world_pushed, disconnected, world_put, world_moved, world_reader_set, stepped_by, Stays, Answers, StepsAt, last_id}
+use Rattle.doc_hub.specs.Runs.{Leaves, IsOutOfMemory}
 
 -- the state is as before, where the call was refused
 abbrev pub KeptBy : {W X E : Type 0} → W → Result X E → W → Type 0
@@ -54,13 +57,9 @@ push_keeps : (w : World) (id : ℕ) (bytes : List ℕ) (k : Option Connection) �
 push_keeps w id bytes None = refl
 push_keeps w id bytes (Some c) = with_pushed_keeps w id _ _
 
-put_keeps : (w : World) (path : List ℕ) (page : Page) (stands : Bool) (r : Result (Unit {0}) EditError) → Kept {X = Put} {E = EditError} (record w { store = (put_by w.store path page stands r).0 }, (put_by w.store path page stands r).1) w
-put_keeps w path page stands (Ok fine) = tt
-put_keeps w path page stands (Err e) = refl
-
 -- ---- the next world and the outcome
 
-abbrev pub shown : {X E : Type 0} → (Result X E → Outcome) → World × Result X E → World × Outcome
+abbrev pub shown : {S : Type 0} → (S → Outcome) → World × S → World × Outcome
 shown as_outcome given = (given.0, as_outcome given.1)
 
 abbrev pub Is : World × Outcome → World → Outcome → Type 0
@@ -73,10 +72,11 @@ NextStep render w id (Some c) v o =
     ((next : Front) × IsNext c.unread next × Is (shown stepping (stepped_by render w id c next)) v o)
 
 abbrev pub Next : Renders → World → Event → World → Outcome → Type 0
-Next render w connect v o = Is (shown connecting (connected w)) v o
-Next render w (push id bytes) v o = Is (shown pushing (world_pushed w id bytes)) v o
-Next render w (step id) v o = NextStep render w id (map.get w.connections id) v o
-Next render w (put path page) v o = Is (shown putting (world_put w path page)) v o
+Next render w events.Connect v o = Is (shown connecting (connected w)) v o
+Next render w (events.Push id bytes) v o = Is (shown pushing (world_pushed w id.0 bytes)) v o
+Next render w (events.Step id) v o = NextStep render w id.0 (map.get w.connections id.0) v o
+Next render w (events.Disconnect id) v o = Is (shown outcomes.Disconnected (disconnected w id.0)) v o
+Next render w edit v o = v.connections ≡ w.connections
 
 unchanged : (w v : World) (said r : Result Step StepError) → Stays w said v r → Is (w, stepping said) v (stepping r)
 unchanged w v said r h = λ i. (sym h.0 i, stepping (sym h.1 i))
@@ -97,16 +97,29 @@ step_next : (render : Renders) (w : World) (id : ℕ) (k : Option Connection) (v
 step_next render w id None v r enough h = unchanged w v (Err step_errors.NoConnection) r h
 step_next render w id (Some c) v r enough h = open_next render w id c v r c.closed enough h
 
-pub next_of : (render : Renders) (w : World) (event : Event) (v : World) (outcome : Outcome) → ¬ (IsOutOfMemory outcome) → Happens render w event v outcome → Next render w event v outcome
-next_of render w connect v (connecting r) enough h =
-    ap (shown connecting) (exactly connect_errors.Memory (connected w).0 w v (connected w).1 r h enough (connect_keeps w _ _ (nat_lt w.given last_id)))
-next_of render w (push id bytes) v (pushing r) enough h =
-    let given = world_pushed w id bytes in
-    ap (shown pushing) (exactly push_errors.Memory given.0 w v given.1 r h enough (push_keeps w id bytes (map.get w.connections id)))
-next_of render w (step id) v (stepping r) enough h = step_next render w id (map.get w.connections id) v r enough h
-next_of render w (put path page) v (putting r) enough h =
-    let given = world_put w path page in
-    let stands = map.contains_key w.store.site.pages path in
-    ap (shown putting) (exactly edit_errors.Memory given.0 w v given.1 r h enough
-    (put_keeps w path page stands (fits_in w.store path page.text)))
-next_of render w event v outcome enough h = absurd h
+-- what a call gives, as a run tells it
+told : {S : Type 0} (as_outcome : S → Outcome) (given : World × S) (v : World) (said : S) (o : Outcome) → given ≡ (v, said) → o ≡ as_outcome said → Is (shown as_outcome given) v o
+told as_outcome given v said o e is = ap (shown as_outcome) e ∙ ap (λ x. (v, x)) (sym is)
+
+-- an edit leaves the connections, refused or not
+edited : {X E : Type 0} (memory : E) (given : World × Result X E) (w v : World) (r : Result X E) → given.0.connections ≡ w.connections → Gives memory given w v r → v.connections ≡ w.connections
+edited {X = X} {E = E} memory given w v (Ok x) same gives = sym (ap (λ (q : World × Result X E). q.0.connections) gives) ∙ same
+edited memory given w v (Err e) same gives = ap (λ (x : World). x.connections) gives.1
+
+pub next_of : (render : Renders) (w : World) (event : Event) (v : World) (outcome : Outcome) → ¬ (IsOutOfMemory outcome) → Leaves render w event v outcome → Next render w event v outcome
+next_of render w events.Connect v o enough (said, h, is) =
+    told connecting (connected w) v said o
+    (exactly connect_errors.Memory (connected w).0 w v (connected w).1 said h (λ m. enough (is ∙ ap connecting m)) (connect_keeps w _ _ (nat_lt w.given last_id))) is
+next_of render w (events.Push id bytes) v o enough (said, h, is) =
+    let given = world_pushed w id.0 bytes in
+    told pushing given v said o
+    (exactly push_errors.Memory given.0 w v given.1 said h (λ m. enough (is ∙ ap pushing m)) (push_keeps w id.0 bytes (map.get w.connections id.0))) is
+next_of render w (events.Step id) v o enough (said, h, is) =
+    subst (λ x. NextStep render w id.0 (map.get w.connections id.0) v x) (sym is)
+    (step_next render w id.0 (map.get w.connections id.0) v said (λ m. enough (is ∙ ap stepping m)) h)
+next_of render w (events.Disconnect id) v o enough (said, h, is) = told outcomes.Disconnected (disconnected w id.0) v said o h is
+next_of render w (events.Put path groups text) v o enough (said, h, is) = edited edit_errors.Memory (world_put w path groups text) w v said refl h
+next_of render w (events.Remove path) v o enough (said, h, is) = sym (ap (λ (q : World × Bool). q.0.connections) h)
+next_of render w (events.MovePage from to) v o enough (said, h, is) = edited move_errors.Memory (world_moved w from to) w v said refl h
+next_of render w (events.SetReader token reader) v o enough (said, h, is) = edited reader_errors.Memory (world_reader_set w token reader) w v said refl h
+next_of render w (events.RemoveReader token) v o enough (said, h, is) = sym (ap (λ (q : World × Bool). q.0.connections) h)

@@ -1,5 +1,5 @@
 -- The connections have given numbers, whatever a call does to them.
-use Rattle.std.proofs.Common.{◌≡◌, ℕ, ◌+◌, ◌≤◌, List, Bool, true, false, cond, refl, ap, sym, ◌∙◌, subst, arith}
+use Rattle.std.proofs.Common.{◌≡◌, ℕ, ◌+◌, ◌≤◌, List, Bool, true, false, cond, refl, sym, ◌∙◌, subst, arith}
 use Rattle.std.specs.Prelude.{Option, Some, None, Result, Ok, Err}
 use Rattle.std.specs.FinMap as map
 use Rattle.std.specs.Ordering.{nat_cmp, eq_by_cmp}
@@ -50,3 +50,13 @@ pub finished_have : (n : ℕ) (cs new : Connections) (id used : ℕ) (last : Boo
     → ((d : Connection) → map.get cs id ≡ Some d → new ≡ map.insert cs id (finished d used last)) → HaveGivenNumbers n new
 finished_have n cs new id used last c have found sets =
     subst (HaveGivenNumbers n) (sym (sets c (sym found))) (changed n cs id (finished c used last) have (have id c (sym found)))
+
+dropped : {X : Type 0} (b : Bool) (k : Option X) (c : X) → cond b None k ≡ Some c → k ≡ Some c
+dropped true k c is = absurd (some_none c (sym is))
+dropped false k c is = is
+
+-- a connection fewer
+pub removed_have : (n : ℕ) (cs new : Connections) (id : ℕ) → HaveGivenNumbers n cs → new ≡ map.remove cs id → HaveGivenNumbers n new
+removed_have n cs new id have is =
+    subst (HaveGivenNumbers n) (sym is)
+    (λ q c found. have q c (dropped (eq_by_cmp nat_cmp q id) (map.get cs q) c (sym (map.get-remove nat_cmp_total cs id q) ∙ found)))

@@ -1,5 +1,5 @@
 -- Run noninterference: what is sent on a connection depends on its own events and on what its readers may see.
-use Rattle.std.proofs.Common.{◌≡◌, ℕ, ◌+◌, ◌≤◌, List, [], ◌∷◌, ◌++◌, Bool, true, false, cond, T, refl, ap, sym, ◌∙◌, subst, arith, ◌==◌}
+use Rattle.std.proofs.Common.{◌≡◌, ℕ, ◌+◌, List, [], ◌∷◌, ◌++◌, Bool, true, false, cond, T, refl, ap, sym, ◌∙◌, subst, arith, ◌==◌}
 use Rattle.std.specs.Prelude.{All, Option, Some, None, Result, Ok, Err, nat_lt, if◌then◌else◌, flat_map, MatchBool, ⊤}
 use Rattle.std.specs.FinMap as map
 use Rattle.std.specs.Cmp.{unsigned_tied}
@@ -20,8 +20,13 @@ use Rattle.doc_hub.specs.declared.refusal.PushError.{PushError}
 use Rattle.doc_hub.specs.declared.refusal.StepError.TheVariants as step_errors
 use Rattle.doc_hub.specs.Replies.{Renders}
 use Rattle.doc_hub.specs.declared.reply.Answer.{Answer}
-use Rattle.doc_hub.specs.Worlds.{World, answer_in, step_said, stepped_by, last_id}
-use Rattle.doc_hub.specs.Runs.{Event, connect, push, step, put, Outcome, connecting, stepping, IsOutOfMemory, Happened, Runs, nothing, first, sent_by, is_on_by, is_on, events_on}
+use Rattle.doc_hub.specs.Worlds.{World, world_pushed, disconnected, answer_in, step_said, stepped_by, last_id}
+use Rattle.doc_hub.specs.declared.event.Event.{Event}
+use Rattle.doc_hub.specs.declared.event.Event.TheVariants as events
+use Rattle.doc_hub.specs.declared.outcome.Outcome.{Outcome}
+use Rattle.doc_hub.specs.declared.outcome.Outcome.TheVariants as outcomes
+use Rattle.doc_hub.specs.Events.{connecting, pushing, stepping}
+use Rattle.doc_hub.specs.Runs.{IsOutOfMemory, Happened, Runs, nothing, first, sent_by, is_on_by, is_on, events_on}
 use Rattle.doc_hub.specs.Laws.{AgreeOn, AgreeAt, Matched, RunsAlike, connection}
 use Rattle.doc_hub.proofs.StepLaws.{same_answer}
 use Rattle.doc_hub.proofs.NextLaws.{Is, shown, Next, NextStep, next_of}
@@ -30,6 +35,11 @@ use Rattle.doc_hub.proofs.NextLaws.{Is, shown, Next, NextStep, next_of}
 put_at : (w : World) (id : ℕ) (k : Connection) (c : ℕ) (b : Bool) → (c == id) ≡ b → map.get (map.insert w.connections id k) c ≡ cond b (Some k) (connection c w)
 put_at w id k c b e =
     map.get-insert nat_cmp_total w.connections id k c ∙ ap (λ t. cond t (Some k) (connection c w)) (unsigned_tied c id ∙ e)
+
+-- one connection is dropped
+gone_at : (w : World) (id : ℕ) (c : ℕ) (b : Bool) → (c == id) ≡ b → map.get (map.remove w.connections id) c ≡ cond b None (connection c w)
+gone_at w id c b e =
+    map.get-remove nat_cmp_total w.connections id c ∙ ap (λ t. cond t None (connection c w)) (unsigned_tied c id ∙ e)
 
 first_is : (x : World × Outcome) (v : World) (o : Outcome) (P : World → Type 0) → x ≡ (v, o) → P x.0 → P v
 first_is x v o P is p = subst P (ap (λ (q : World × Outcome). q.0) is) p
@@ -60,7 +70,7 @@ module _ (render : Renders) (c : ℕ) where
   step_elsewhere w v o id None off h = first_is (w, stepping (Err step_errors.NoConnection)) v o (Kept w) h refl
   step_elsewhere w v o id (Some k) off h = open_elsewhere w v o id k k.closed off h
 
-  connect_elsewhere : (w : World) (t : Bool) → is_on_by c connect (connecting (connected_if w t).1) ≡ false → Kept w (connected_if w t).0
+  connect_elsewhere : (w : World) (t : Bool) → is_on_by c events.Connect (connecting (connected_if w t).1) ≡ false → Kept w (connected_if w t).0
   connect_elsewhere w true off = put_at w (w.given + 1) new_connection c false off
   connect_elsewhere w false off = refl
 
@@ -73,12 +83,17 @@ module _ (render : Renders) (c : ℕ) where
   push_elsewhere w id bytes (Some k) off = with_pushed_elsewhere w id _ _ off
 
   elsewhere : (w : World) (e : Event) (v : World) (o : Outcome) → is_on_by c e o ≡ false → Next render w e v o → Kept w v
-  elsewhere w connect v o off h =
+  elsewhere w events.Connect v o off h =
       let t = nat_lt w.given last_id in
-      first_is _ v o (Kept w) h (connect_elsewhere w t (on_given (shown connecting (connected_if w t)) v connect o false h off))
-  elsewhere w (push id bytes) v o off h = first_is _ v o (Kept w) h (push_elsewhere w id bytes (map.get w.connections id) off)
-  elsewhere w (step id) v o off h = step_elsewhere w v o id (map.get w.connections id) off h
-  elsewhere w (put path page) v o off h = first_is _ v o (Kept w) h refl
+      first_is _ v o (Kept w) h (connect_elsewhere w t (on_given (shown connecting (connected_if w t)) v events.Connect o false h off))
+  elsewhere w (events.Push id bytes) v o off h = first_is _ v o (Kept w) h (push_elsewhere w id.0 bytes (map.get w.connections id.0) off)
+  elsewhere w (events.Step id) v o off h = step_elsewhere w v o id.0 (map.get w.connections id.0) off h
+  elsewhere w (events.Disconnect id) v o off h = first_is _ v o (Kept w) h (gone_at w id.0 c false off)
+  elsewhere w (events.Put path groups text) v o off h = ap (λ cs. map.get cs c) h
+  elsewhere w (events.Remove path) v o off h = ap (λ cs. map.get cs c) h
+  elsewhere w (events.MovePage from to) v o off h = ap (λ cs. map.get cs c) h
+  elsewhere w (events.SetReader token reader) v o off h = ap (λ cs. map.get cs c) h
+  elsewhere w (events.RemoveReader token) v o off h = ap (λ cs. map.get cs c) h
 
   -- ---- the events of c, each with the connection as it finds it
 
@@ -152,9 +167,16 @@ module _ (render : Renders) (c : ℕ) where
       same_by (shown stepping (stepped_by render w c k f)) (shown stepping (stepped_by render v c k f)) w' v' o p
       h (subst P (read_in_one_way k.unread d f is_d is_f) g) (front_same w v k f on alike (agree f is_f))
 
-  step_same : (w v w' v' : World) (o p : Outcome) (k : Option Connection) → (c == c) ≡ true → connection c w ≡ k → connection c v ≡ k → AgreeAt c w v (step c) → NextStep render w c k w' o → NextStep render v c k v' p → Same w' v' o p
+  step_same : (w v w' v' : World) (o p : Outcome) (k : Option Connection) → (c == c) ≡ true → connection c w ≡ k → connection c v ≡ k → AgreeAt c w v (events.Step (record { 0 = c })) → NextStep render w c k w' o → NextStep render v c k v' p → Same w' v' o p
   step_same w v w' v' o p None on here there agree h g = same_by (w, stepping (Err step_errors.NoConnection)) (v, stepping (Err step_errors.NoConnection)) w' v' o p h g (refl, here ∙ sym there)
   step_same w v w' v' o p (Some k) on here there agree h g = open_same w v w' v' o p k k.closed on (here ∙ sym there) (agree k here) h g
+
+  -- a push sends nothing
+  pushed_silently : (r s : Result (Unit {0}) PushError) → sent_by (pushing r) ≡ sent_by (pushing s)
+  pushed_silently (Ok x) (Ok y) = refl
+  pushed_silently (Ok x) (Err e) = refl
+  pushed_silently (Err e) (Ok y) = refl
+  pushed_silently (Err e) (Err f) = refl
 
   itself : (c == c) ≡ true
   itself = grind (arith)
@@ -163,34 +185,41 @@ module _ (render : Renders) (c : ℕ) where
   abbrev Made : World × Outcome → Type 0
   Made x = (sent_by x.1 ≡ []) × (connection c x.0 ≡ Some new_connection)
 
-  connect_here : (w : World) (t : Bool) → is_on_by c connect (connecting (connected_if w t).1) ≡ true → Made (shown connecting (connected_if w t))
+  connect_here : (w : World) (t : Bool) → is_on_by c events.Connect (connecting (connected_if w t).1) ≡ true → Made (shown connecting (connected_if w t))
   connect_here w true on = (refl, put_at w (w.given + 1) new_connection c true on)
   connect_here w false on = absurd (subst T (sym on) tt)
 
-  made : (w w' : World) (o : Outcome) → is_on_by c connect o ≡ true → Next render w connect w' o → Made (w', o)
+  made : (w w' : World) (o : Outcome) → is_on_by c events.Connect o ≡ true → Next render w events.Connect w' o → Made (w', o)
   made w w' o on h =
       let t = nat_lt w.given last_id in
-      subst Made h (connect_here w t (on_given (shown connecting (connected_if w t)) w' connect o true h on))
+      subst Made h (connect_here w t (on_given (shown connecting (connected_if w t)) w' events.Connect o true h on))
 
   same_made : (w v w' v' : World) (o p : Outcome) → Made (w', o) → Made (v', p) → Same w' v' o p
   same_made w v w' v' o p (none, here) (nor, there) = (none ∙ sym nor, here ∙ sym there)
 
   same_event : (w v w' v' : World) (e : Event) (o p : Outcome) → is_on_by c e o ≡ true → is_on_by c e p ≡ true → connection c w ≡ connection c v → AgreeAt c w v e → Next render w e w' o → Next render v e v' p → Same w' v' o p
-  same_event w v w' v' connect o p on on' alike agree h g = same_made w v w' v' o p (made w w' o on h) (made v v' p on' g)
-  same_event w v w' v' (push id bytes) o p on on' alike agree h g = at id (eqb_yes (subst T (sym on) tt)) h g
+  same_event w v w' v' events.Connect o p on on' alike agree h g = same_made w v w' v' o p (made w w' o on h) (made v v' p on' g)
+  same_event w v w' v' (events.Push id bytes) o p on on' alike agree h g = at id.0 (eqb_yes (subst T (sym on) tt)) h g
     where
-      at : (n : ℕ) → c ≡ n → Next render w (push n bytes) w' o → Next render v (push n bytes) v' p → Same w' v' o p
-      at n is = subst (λ m. Next render w (push m bytes) w' o → Next render v (push m bytes) v' p → Same w' v' o p) is (λ h g.
+      at : (n : ℕ) → c ≡ n → Is (shown pushing (world_pushed w n bytes)) w' o → Is (shown pushing (world_pushed v n bytes)) v' p → Same w' v' o p
+      at n is = subst (λ m. Is (shown pushing (world_pushed w m bytes)) w' o → Is (shown pushing (world_pushed v m bytes)) v' p → Same w' v' o p) is (λ h g.
           same_by _ _ w' v' o p h g (
-            refl,
+            pushed_silently (world_pushed w c bytes).1 (world_pushed v c bytes).1,
             pushed_here w bytes (connection c w) itself refl ∙ ap (push_result bytes) alike ∙ sym (pushed_here v bytes (connection c v) itself refl),
           ))
-  same_event w v w' v' (step id) o p on on' alike agree h g = at id (eqb_yes (subst T (sym on) tt)) agree h g
+  same_event w v w' v' (events.Step id) o p on on' alike agree h g = at id.0 (eqb_yes (subst T (sym on) tt)) h g
     where
-      at : (n : ℕ) → c ≡ n → AgreeAt c w v (step n) → Next render w (step n) w' o → Next render v (step n) v' p → Same w' v' o p
-      at n is = subst (λ m. AgreeAt c w v (step m) → Next render w (step m) w' o → Next render v (step m) v' p → Same w' v' o p) is (λ agree h g.
+      at : (n : ℕ) → c ≡ n → NextStep render w n (map.get w.connections n) w' o → NextStep render v n (map.get v.connections n) v' p → Same w' v' o p
+      at n is = subst (λ m. NextStep render w m (map.get w.connections m) w' o → NextStep render v m (map.get v.connections m) v' p → Same w' v' o p) is (λ h g.
           step_same w v w' v' o p (connection c w) itself refl (sym alike) agree h (subst (λ k. NextStep render v c k v' p) (sym alike) g))
-  same_event w v w' v' (put path page) o p on on' alike agree h g = absurd (subst T (sym on) tt)
+  same_event w v w' v' (events.Disconnect id) o p on on' alike agree h g =
+      same_by (shown outcomes.Disconnected (disconnected w id.0)) (shown outcomes.Disconnected (disconnected v id.0)) w' v' o p h g
+      (refl, gone_at w id.0 c true on ∙ sym (gone_at v id.0 c true on))
+  same_event w v w' v' (events.Put path groups text) o p on on' alike agree h g = absurd (subst T (sym on) tt)
+  same_event w v w' v' (events.Remove path) o p on on' alike agree h g = absurd (subst T (sym on) tt)
+  same_event w v w' v' (events.MovePage from to) o p on on' alike agree h g = absurd (subst T (sym on) tt)
+  same_event w v w' v' (events.SetReader token reader) o p on on' alike agree h g = absurd (subst T (sym on) tt)
+  same_event w v w' v' (events.RemoveReader token) o p on on' alike agree h g = absurd (subst T (sym on) tt)
 
   same_sent : (hs gs : List Happened) (k j : Option Connection) → k ≡ j → Chain k hs → Chain j gs → Matched c hs gs → flat_map (λ h. sent_by h.outcome) hs ≡ flat_map (λ h. sent_by h.outcome) gs
   same_sent [] [] k j alike a b m = refl

@@ -1,5 +1,5 @@
 -- Noninterference: what is sent on a connection depends on its own events and on what its readers may see.
-use Rattle.std.specs.Prelude.{◌≡◌, ℕ, All, Bool, List, [], ◌∷◌, false, Option, Some, None, Ok, ⊤}
+use Rattle.std.specs.Prelude.{◌≡◌, ◌≤◌, ℕ, All, Bool, List, [], ◌∷◌, false, Option, Some, None, Result, Ok, Err, ⊤}
 use Rattle.std.specs.FinMap as map
 use Rattle.doc_store.specs.declared.reader.Reader.{Reader}
 use Rattle.doc_store.specs.Sites.{Site, empty_site, visible_to}
@@ -11,9 +11,16 @@ use Rattle.doc_http.specs.declared.request.Next.{Next}
 use Rattle.doc_http.specs.declared.request.Next.TheVariants as nexts
 use Rattle.doc_hub.specs.declared.connection.Connection.{Connection}
 use Rattle.doc_hub.specs.declared.event.Step.{Step}
+use Rattle.doc_hub.specs.declared.outcome.Outcome.TheVariants as outcomes
+use Rattle.doc_hub.specs.declared.refusal.PushError.{PushError}
+use Rattle.doc_hub.specs.declared.refusal.PushError.TheVariants as push_errors
+use Rattle.doc_hub.specs.declared.refusal.StepError.{StepError}
+use Rattle.doc_hub.specs.declared.refusal.StepError.TheVariants as step_errors
 use Rattle.doc_hub.specs.Replies.{Renders}
-use Rattle.doc_hub.specs.Worlds.{World, reader_of, stepped_by}
-use Rattle.doc_hub.specs.Runs.{Event, step, stepping, IsOutOfMemory, Happened, Runs, events_on, sent_on}
+use Rattle.doc_hub.specs.Worlds.{World, Stays, Steps, disconnected, reader_of, stepped_by, world_pushed}
+use Rattle.doc_hub.specs.Runs.{IsOutOfMemory, Happened, Runs, events_on, sent_on}
+use Rattle.doc_hub.specs.declared.event.Event.{Event}
+use Rattle.doc_hub.specs.declared.event.Event.TheVariants as events
 
 -- what the reader of a request may see of a world's site
 abbrev pub site_seen : World → Request → Site
@@ -61,7 +68,7 @@ fresh_for w unread next = fresh empty_site None None w.keep_alive unread
 abbrev pub SendsAsFresh : Renders → Happened → Type 0
 SendsAsFresh render h =
     (c : ℕ) (unread : List ℕ) (next : Next) (said : Step)
-    → h.event ≡ step c → map.get h.world.connections c ≡ Some (open_with unread) → IsNext unread next → h.outcome ≡ stepping (Ok said)
+    → h.event ≡ events.Step (record { 0 = c }) → map.get h.world.connections c ≡ Some (open_with unread) → IsNext unread next → h.outcome ≡ outcomes.Stepped said
     → (stepped_by render (fresh_for h.world unread next) 1 (open_with unread) next).1 ≡ Ok said
 
 -- Noninterference: in any run, whatever other connections did and whatever growths were refused, each
@@ -76,7 +83,7 @@ connection c w = map.get w.connections c
 
 -- the worlds are alike for whatever the connection's unread bytes begin with, before a step of it
 abbrev pub AgreeAt : ℕ → World → World → Event → Type 0
-AgreeAt c w v (step id) = (k : Connection) → connection c w ≡ Some k → (next : Next) → IsNext k.unread next → AgreeOn w v next
+AgreeAt c w v (events.Step id) = (k : Connection) → connection c w ≡ Some k → (next : Next) → IsNext k.unread next → AgreeOn w v next
 AgreeAt c w v event = ⊤
 
 -- the same events on the connection in the same order, what made it among them, in worlds that are alike before each step
@@ -95,3 +102,18 @@ RunsAlike =
     → Runs render w run w' → Runs render v other v'
     → All (λ h. ¬ (IsOutOfMemory h.outcome)) run → All (λ h. ¬ (IsOutOfMemory h.outcome)) other
     → Matched c (events_on c run) (events_on c other) → sent_on c run ≡ sent_on c other
+
+-- ---- dropped connections
+
+-- In a world from which the connection was dropped, pushes and steps on its number answer that there is none.
+pub record IsGone (w : World) (id : ℕ) : Type 0 where
+  pub push : (bytes : List ℕ) → ◌≡◌ {A = World × Result (Unit {0}) PushError} (world_pushed w id bytes) (w, Err push_errors.NoConnection)
+  pub step : (render : Renders) (v : World) (said : Result Step StepError) → Steps render w id v said → Stays w (Err step_errors.NoConnection) v said
+
+abbrev pub DroppedIsGone : Type 0
+DroppedIsGone = (w : World) (id : ℕ) → IsGone (disconnected w id).0 id
+
+-- No number is given again: one that was given and has no connection has none after any run.
+abbrev pub NumbersAreGivenOnce : Type 0
+NumbersAreGivenOnce =
+    (render : Renders) (w v : World) (run : List Happened) (id : ℕ) → id ≤ w.given → connection id w ≡ None → Runs render w run v → connection id v ≡ None

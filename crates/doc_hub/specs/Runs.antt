@@ -1,50 +1,42 @@
--- Events, what comes of each, and runs of many events over any number of connections.
-use Rattle.std.specs.Prelude.{◌≡◌, ℕ, List, [], ◌∷◌, ◌==◌, Bool, false, Result, Ok, Err, flat_map, filter}
+-- Events one by one, and runs of many events over any number of connections.
+use Rattle.std.specs.Prelude.{◌≡◌, ℕ, List, [], ◌∷◌, ◌==◌, Bool, false, Result, Ok, Err, flat_map, filter, map}
 use Rattle.doc_page.specs.Refusals.{Gives}
-use Rattle.doc_store.specs.Pages.{Page}
-use Rattle.doc_store.specs.declared.store.Put.{Put}
-use Rattle.doc_store.specs.declared.store.EditError.{EditError}
+use Rattle.doc_page.specs.declared.failure.Memory.{Memory}
+use Rattle.doc_store.specs.declared.moving.MoveError.TheVariants as move_errors
+use Rattle.doc_store.specs.declared.readers.ReaderError.TheVariants as reader_errors
 use Rattle.doc_store.specs.declared.store.EditError.TheVariants as edit_errors
+use Rattle.doc_hub.specs.Events.{Said, outcome_of}
 use Rattle.doc_hub.specs.Replies.{Renders}
-use Rattle.doc_hub.specs.Worlds.{World, connected, world_pushed, world_put, Steps}
-use Rattle.doc_hub.specs.declared.event.ConnId.{ConnId}
+use Rattle.doc_hub.specs.Worlds.{World, connected, world_pushed, disconnected, world_put, world_removed, world_moved, world_reader_set, world_reader_removed, Steps}
+use Rattle.doc_hub.specs.declared.event.Event.{Event}
+use Rattle.doc_hub.specs.declared.event.Event.TheVariants as events
 use Rattle.doc_hub.specs.declared.event.Step.{Step}
 use Rattle.doc_hub.specs.declared.event.Step.TheVariants as steps
-use Rattle.doc_hub.specs.declared.refusal.ConnectError.{ConnectError}
+use Rattle.doc_hub.specs.declared.outcome.Outcome.{Outcome}
+use Rattle.doc_hub.specs.declared.outcome.Outcome.TheVariants as outcomes
 use Rattle.doc_hub.specs.declared.refusal.ConnectError.TheVariants as connect_errors
-use Rattle.doc_hub.specs.declared.refusal.PushError.{PushError}
 use Rattle.doc_hub.specs.declared.refusal.PushError.TheVariants as push_errors
-use Rattle.doc_hub.specs.declared.refusal.StepError.{StepError}
-use Rattle.doc_hub.specs.declared.refusal.StepError.TheVariants as step_errors
+use Rattle.doc_hub.specs.declared.refusal.Refusal.TheVariants as refusals
 
--- a call on a hub
-pub data Event : Type 0 where
-  connect : Event
-  push : ℕ → List ℕ → Event
-  step : ℕ → Event
-  put : List ℕ → Page → Event
+-- The call of the event leaves this world and answers so, or memory ran out and the world is as before.
+abbrev pub Happens : Renders → World → (event : Event) → World → Said event → Type 0
+Happens render w events.Connect v said = Gives connect_errors.Memory (connected w) w v said
+Happens render w (events.Push id bytes) v said = Gives push_errors.Memory (world_pushed w id.0 bytes) w v said
+Happens render w (events.Step id) v said = Steps render w id.0 v said
+Happens render w (events.Disconnect id) v said = ◌≡◌ {A = World × Bool} (disconnected w id.0) (v, said)
+Happens render w (events.Put path groups text) v said = Gives edit_errors.Memory (world_put w path groups text) w v said
+Happens render w (events.Remove path) v said = ◌≡◌ {A = World × Bool} (world_removed w path) (v, said)
+Happens render w (events.MovePage from to) v said = Gives move_errors.Memory (world_moved w from to) w v said
+Happens render w (events.SetReader token reader) v said = Gives reader_errors.Memory (world_reader_set w token reader) w v said
+Happens render w (events.RemoveReader token) v said = ◌≡◌ {A = World × Bool} (world_reader_removed w token) (v, said)
 
--- what the call answered
-pub data Outcome : Type 0 where
-  connecting : Result ConnId ConnectError → Outcome
-  pushing : Result (Unit {0}) PushError → Outcome
-  stepping : Result Step StepError → Outcome
-  putting : Result Put EditError → Outcome
-
--- The event leaves this world with this outcome, or memory ran out and the world is as before.
-abbrev pub Happens : Renders → World → Event → World → Outcome → Type 0
-Happens render w connect v (connecting r) = Gives connect_errors.Memory (connected w) w v r
-Happens render w (push id bytes) v (pushing r) = Gives push_errors.Memory (world_pushed w id bytes) w v r
-Happens render w (step id) v (stepping r) = Steps render w id v r
-Happens render w (put path page) v (putting r) = Gives edit_errors.Memory (world_put w path page) w v r
-Happens render w event v outcome = ⊥
+-- The event leaves this world, and its outcome is what its call answers.
+abbrev pub Leaves : Renders → World → Event → World → Outcome → Type 0
+Leaves render w event v outcome = (said : Said event) × Happens render w event v said × (outcome ≡ outcome_of event said)
 
 -- memory ran out
 abbrev pub IsOutOfMemory : Outcome → Type 0
-IsOutOfMemory (connecting r) = r ≡ Err connect_errors.Memory
-IsOutOfMemory (pushing r) = r ≡ Err push_errors.Memory
-IsOutOfMemory (stepping r) = r ≡ Err step_errors.Memory
-IsOutOfMemory (putting r) = r ≡ Err edit_errors.Memory
+IsOutOfMemory outcome = outcome ≡ outcomes.Refused refusals.Memory
 
 -- an event with the world that it met, and its outcome
 pub record Happened : Type 0 where
@@ -55,7 +47,26 @@ pub record Happened : Type 0 where
 -- a run: each event meets the world that the one before left
 pub data Runs (render : Renders) : World → List Happened → World → Type 0 where
   nothing : (w : World) → Runs render w [] w
-  first : (w v u : World) (event : Event) (outcome : Outcome) (run : List Happened) → Happens render w event v outcome → Runs render v run u → Runs render w (record { world = w; event = event; outcome = outcome } ∷ run) u
+  first : (w v u : World) (event : Event) (outcome : Outcome) (run : List Happened) → Leaves render w event v outcome → Runs render v run u → Runs render w (record { world = w; event = event; outcome = outcome } ∷ run) u
+
+-- the events of a run, and their outcomes
+abbrev pub events_in : List Happened → List Event
+events_in run = map (λ h. h.event) run
+
+abbrev pub outcomes_in : List Happened → List Outcome
+outcomes_in run = map (λ h. h.outcome) run
+
+-- a run of all these events, with their outcomes in order
+pub record RunsAll (render : Renders) (events : List Event) (w v : World) (outcomes : List Outcome) : Type 0 where
+  pub run : List Happened
+  pub runs : Runs render w run v
+  pub all : events_in run ≡ events
+  pub told : outcomes_in run ≡ outcomes
+
+-- A call for a run of events: all of them happen, or memory ran out before the first.
+abbrev pub GivesRun : Renders → List Event → World → World → Result (List Outcome) Memory → Type 0
+GivesRun render events old new (Ok told) = RunsAll render events old new told
+GivesRun render events old new (Err e) = new ≡ old
 
 -- what a step sends
 abbrev pub bytes_of : Step → List ℕ
@@ -64,14 +75,20 @@ bytes_of (steps.Last bytes) = bytes
 bytes_of other = []
 
 abbrev pub sent_by : Outcome → List ℕ
-sent_by (stepping (Ok said)) = bytes_of said
+sent_by (outcomes.Stepped said) = bytes_of said
 sent_by outcome = []
 
--- whether an event with this outcome is on the connection: what makes it, its pushes and its steps
+-- whether the outcome is this connection
+abbrev pub is_made : ℕ → Outcome → Bool
+is_made c (outcomes.Conn id) = c == id.0
+is_made c outcome = false
+
+-- whether an event with this outcome is on the connection: what makes it, its pushes and steps, and what drops it
 abbrev pub is_on_by : ℕ → Event → Outcome → Bool
-is_on_by c connect (connecting (Ok id)) = c == id.0
-is_on_by c (push id bytes) outcome = c == id
-is_on_by c (step id) outcome = c == id
+is_on_by c events.Connect outcome = is_made c outcome
+is_on_by c (events.Push id bytes) outcome = c == id.0
+is_on_by c (events.Step id) outcome = c == id.0
+is_on_by c (events.Disconnect id) outcome = c == id.0
 is_on_by c event outcome = false
 
 abbrev pub is_on : ℕ → Happened → Bool

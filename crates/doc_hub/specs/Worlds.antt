@@ -2,11 +2,13 @@
 use Rattle.std.specs.Prelude.{◌≡◌, ℕ, List, ◌+◌, ◌^◌, ◌-◌, Bool, true, nat_lt, nat_le, ◌&&◌, MatchBool, Option, Some, None, option_and_then, Result, Ok, Err, if◌then◌else◌, refl}
 use Rattle.std.specs.Coded.{Coded, code_by, coded×, coded_ℕ, coded_bool}
 use Rattle.std.specs.FinMap as map
-use Rattle.doc_store.specs.Pages.{Page}
 use Rattle.doc_store.specs.declared.reader.Reader.{Reader}
 use Rattle.doc_store.specs.Sites.{view_of}
-use Rattle.doc_store.specs.Readers.{ReaderTable}
-use Rattle.doc_store.specs.Store.{StoreState, empty_store, put_into}
+use Rattle.doc_store.specs.Readers.{ReaderTable, set_reader}
+use Rattle.doc_store.specs.Store.{StoreState, empty_store, put_into, without_page, moved_in}
+use Rattle.doc_store.specs.declared.moving.MoveError.{MoveError}
+use Rattle.doc_store.specs.declared.readers.ReaderError.{ReaderError}
+use Rattle.doc_store.specs.declared.readers.Set.{Set}
 use Rattle.doc_store.specs.declared.store.EditError.{EditError}
 use Rattle.doc_store.specs.declared.store.Put.{Put}
 use Rattle.doc_http.specs.Bearers.{bearer_of}
@@ -72,6 +74,10 @@ connected w =
 abbrev pub world_pushed : World → ℕ → List ℕ → World × Result (Unit {0}) PushError
 world_pushed w id bytes = let r = pushed w.connections id bytes in (record w { connections = r.0 }, r.1)
 
+-- a connection is dropped, and whether there was one; its number stays given
+abbrev pub disconnected : World → ℕ → World × Bool
+disconnected w id = (record w { connections = map.remove w.connections id }, map.contains_key w.connections id)
+
 -- the reader of a request: the entry of its bearer token
 abbrev pub reader_of : World → Request → Option Reader
 reader_of w request = option_and_then (map.get w.readers) (bearer_of request)
@@ -105,7 +111,7 @@ Answers render old id new (Err step_errors.Memory) c =
 Answers render old id new result c =
     (next : Next) × IsNext c.unread next × ◌≡◌ {A = World × Result Step StepError} (stepped_by render old id c next) (new, result)
 
--- A step: of a number never given, of a closed connection, or of an open one.
+-- A step: of a number that has no connection, of a closed connection, or of an open one.
 abbrev pub StepsAt : Renders → World → ℕ → World → Result Step StepError → Option Connection → Type 0
 StepsAt render old id new result None = Stays old (Err step_errors.NoConnection) new result
 StepsAt render old id new result (Some c) =
@@ -114,6 +120,24 @@ StepsAt render old id new result (Some c) =
 abbrev pub Steps : Renders → World → ℕ → World → Result Step StepError → Type 0
 Steps render old id new result = StepsAt render old id new result (map.get old.connections id)
 
--- a put of a page at a path, with the refusals of the store
-abbrev pub world_put : World → List ℕ → Page → World × Result Put EditError
-world_put w path page = let r = put_into w.store path page.groups page.text in (record w { store = r.0 }, r.1)
+-- ---- edits of the site and of the readers, as the store makes them
+
+-- a put of a page with these groups and this text under a path
+abbrev pub world_put : World → List ℕ → List (List ℕ) → List ℕ → World × Result Put EditError
+world_put w path groups text = let r = put_into w.store path groups text in (record w { store = r.0 }, r.1)
+
+-- the page of a path is removed, and whether one stood there
+abbrev pub world_removed : World → List ℕ → World × Bool
+world_removed w path = (record w { store = without_page w.store path }, map.contains_key w.store.site.pages path)
+
+-- a move of the page of one path to another
+abbrev pub world_moved : World → List ℕ → List ℕ → World × Result (Unit {0}) MoveError
+world_moved w from to = let r = moved_in w.store from to in (record w { store = r.0 }, r.1)
+
+-- the reader of a token is set
+abbrev pub world_reader_set : World → List ℕ → Reader → World × Result Set ReaderError
+world_reader_set w token reader = let r = set_reader w.readers token reader in (record w { readers = r.0 }, r.1)
+
+-- the reader of a token is removed, and whether there was one
+abbrev pub world_reader_removed : World → List ℕ → World × Bool
+world_reader_removed w token = (record w { readers = map.remove w.readers token }, map.contains_key w.readers token)

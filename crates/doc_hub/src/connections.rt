@@ -66,6 +66,14 @@ impl Connections {
         connection.push(bytes)
     }
 
+    /// Takes a connection away, and says whether there was one. It takes no memory.
+    pub fn remove(&mut self, id: u64) -> bool
+        ensures left { self.new ≡ map.remove self.old id }
+        ensures stood { result ≡ map.contains_key self.old id }
+    {
+        self.entries.remove(&id).is_some()
+    }
+
     /// Takes the bytes of an answered request, or all of them where the connection closes. It takes
     /// no memory, and does nothing where there is no such connection.
     pub fn finish(&mut self, id: u64, used: usize, last: bool)

@@ -1,6 +1,10 @@
-//! What a hub's calls answer.
+//! Events, and what a step of a hub does.
 
 use doc_page::bytes::Bytes;
+use doc_page::path::Path;
+use doc_page::text::Text;
+use doc_store::groups::Groups;
+use doc_store::reader::Reader;
 
 /// The number of a connection. The first one given is 1, and none is given twice.
 #[derive(Clone, Copy, Debug, PartialEq, Eq)]
@@ -17,4 +21,21 @@ pub enum Step {
     More,
     /// The connection was closed before.
     Closed,
+}
+
+/// A call of a hub, with all that it takes.
+#[derive(Debug, Drop)]
+pub enum Event {
+    Connect,
+    Push(ConnId, Bytes),
+    Step(ConnId),
+    Disconnect(ConnId),
+    /// The page's path, the groups that it is for, and its text.
+    Put(Path, Groups, Text),
+    Remove(Path),
+    /// From the first path to the second.
+    MovePage(Path, Path),
+    /// A token, and the reader that it is for.
+    SetReader(Text, Reader),
+    RemoveReader(Text),
 }

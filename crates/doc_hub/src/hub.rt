@@ -3,22 +3,27 @@
 ghost use Rattle.std.specs.Prelude.{◌≡◌, IfOk};
 ghost use Rattle.std.specs.FinMap as map;
 ghost use Rattle.doc_page.specs.Refusals.{Gives, IsAnswer};
-ghost use Rattle.doc_hub.specs.Runs.{Happens, connect as connect_event, push as push_event, step as step_event, put as put_event, connecting, pushing, stepping, putting};
+ghost use Rattle.doc_hub.specs.Runs.{Happens, Leaves, GivesRun};
 ghost use Rattle.doc_hub.specs.Worlds.{hub_made};
 
 use crate::connection::Connection;
 use crate::connections::Connections;
-use crate::event::{ConnId, Step};
+use crate::event::{ConnId, Event, Step};
+use crate::outcome::Outcome;
 use crate::refusal::{ConnectError, HubError, PushError, StepError};
 use crate::reply::{answer_to, answer_to_fault};
 use crate::target::routes::Routes;
 use crate::unread::Unread;
-use doc_heap::Heap;
+use doc_heap::{Heap, Vec};
 use doc_http::request::{Next, Request, next_request};
+use doc_page::failure::Memory;
+use doc_page::list::List;
 use doc_page::path::Path;
 use doc_page::renderer::Renderer;
 use doc_store::groups::Groups;
-use doc_store::readers::Readers;
+use doc_store::moving::MoveError;
+use doc_store::reader::Reader;
+use doc_store::readers::{ReaderError, Readers, Set};
 use doc_store::store::{EditError, Put, Store};
 use std::marker::Model;
 
@@ -86,7 +91,7 @@ impl<R: Renderer + Drop> Hub<R> {
     /// One more connection, open and without unread bytes, under a number that has none.
     #[tactic(auto, unfolding(crate::specs::Worlds::last_id))]
     pub fn connect(&mut self) -> Result<ConnId, ConnectError>
-        ensures world { Happens (R.page self.old.0) self.old.1 connect_event self.new.1 (connecting result) }
+        ensures world { Happens (R.page self.old.0) self.old.1 Event.Connect self.new.1 result }
         ensures fresh { IfOk result (λ id. map.get self.old.1.connections id.0 ≡ None) }
         ensures same { R.page self.new.0 ≡ R.page self.old.0 }
     {
@@ -105,7 +110,7 @@ impl<R: Renderer + Drop> Hub<R> {
 
     /// Bytes that a connection's peer sent.
     pub fn push(&mut self, id: ConnId, bytes: &[u8]) -> Result<(), PushError>
-        ensures world { Happens (R.page self.old.0) self.old.1 (push_event id.0 bytes.now) self.new.1 (pushing result) }
+        ensures world { Happens (R.page self.old.0) self.old.1 (Event.Push id bytes.now) self.new.1 result }
         ensures same { R.page self.new.0 ≡ R.page self.old.0 }
     {
         self.connections.push(id.0, bytes)
@@ -113,7 +118,7 @@ impl<R: Renderer + Drop> Hub<R> {
 
     /// Answers the request or fault at the front of a connection's unread bytes, if they hold one.
     pub fn step(&mut self, id: ConnId) -> Result<Step, StepError>
-        ensures world { Happens (R.page self.old.0) self.old.1 (step_event id.0) self.new.1 (stepping result) }
+        ensures world { Happens (R.page self.old.0) self.old.1 (Event.Step id) self.new.1 result }
         ensures same { R.page self.new.0 ≡ R.page self.old.0 }
     {
         let Some(connection) = self.connections.get(id.0) else {
@@ -149,11 +154,93 @@ impl<R: Renderer + Drop> Hub<R> {
         }
     }
 
+    /// Drops a connection with its unread bytes; `false` says that there is none. Its number stays
+    /// given, and calls on it answer that there is no such connection. It takes no memory.
+    pub fn disconnect(&mut self, id: ConnId) -> bool
+        ensures world { Happens (R.page self.old.0) self.old.1 (Event.Disconnect id) self.new.1 result }
+        ensures same { R.page self.new.0 ≡ R.page self.old.0 }
+    {
+        self.connections.remove(id.0)
+    }
+
     /// Puts a page under a path, in place of the one that stands there.
     pub fn put_page(&mut self, path: &Path, groups: &Groups, text: &str) -> Result<Put, EditError>
-        ensures world { Happens (R.page self.old.0) self.old.1 (put_event path.now (record { groups = groups.now; text = text.now })) self.new.1 (putting result) }
+        ensures world { Happens (R.page self.old.0) self.old.1 (Event.Put path.now groups.now text.now) self.new.1 result }
         ensures same { R.page self.new.0 ≡ R.page self.old.0 }
     {
         self.store.put(path, groups, text)
+    }
+
+    /// Removes the page of a path with its aliases; `false` says that none stands there. It takes no
+    /// memory.
+    pub fn remove_page(&mut self, path: &Path) -> bool
+        ensures world { Happens (R.page self.old.0) self.old.1 (Event.Remove path.now) self.new.1 result }
+        ensures same { R.page self.new.0 ≡ R.page self.old.0 }
+    {
+        self.store.remove(path)
+    }
+
+    /// Takes the page of one path to another, and leaves the old path as an alias of it. Refused are,
+    /// in this order, `NoPage`, `Taken`, `StoreFull` and `Memory`.
+    pub fn move_page(&mut self, from: &Path, to: &Path) -> Result<(), MoveError>
+        ensures world { Happens (R.page self.old.0) self.old.1 (Event.MovePage from.now to.now) self.new.1 result }
+        ensures same { R.page self.new.0 ≡ R.page self.old.0 }
+    {
+        self.store.move_page(from, to)
+    }
+
+    /// Sets the reader of a token, and no other. A request that a later step answers with it is that
+    /// reader's, also on a connection that stands. Refused are, in this order, `BadToken` and `Memory`.
+    pub fn set_reader(&mut self, token: &str, reader: &Reader) -> Result<Set, ReaderError>
+        ensures world { Happens (R.page self.old.0) self.old.1 (Event.SetReader token.now reader.now) self.new.1 result }
+        ensures same { R.page self.new.0 ≡ R.page self.old.0 }
+    {
+        self.readers.set(token, reader)
+    }
+
+    /// Removes the reader of a token, and no other; `false` says that there is none. It takes no
+    /// memory.
+    pub fn remove_reader(&mut self, token: &str) -> bool
+        ensures world { Happens (R.page self.old.0) self.old.1 (Event.RemoveReader token.now) self.new.1 result }
+        ensures same { R.page self.new.0 ≡ R.page self.old.0 }
+    {
+        self.readers.remove(token)
+    }
+
+    /// Makes these events happen in their order, each in what those before it left, and answers what
+    /// came of each. One that is refused does nothing, and the next one follows. `Memory` says that
+    /// there was no room for the outcomes: then no event happened.
+    pub fn run(&mut self, events: &[Event]) -> Result<List<Outcome>, Memory>
+        ensures world { GivesRun (R.page self.old.0) events.now self.old.1 self.new.1 result }
+        ensures same { R.page self.new.0 ≡ R.page self.old.0 }
+    {
+        let mut outcomes = Vec::with_capacity(self.heap, events.len())?;
+        for event in events {
+            let outcome = self.happen(event);
+            outcomes.push(outcome).unwrap();
+        }
+        Ok(List::new(outcomes))
+    }
+
+    /// The call of an event.
+    fn happen(&mut self, event: &Event) -> Outcome
+        ensures world { Leaves (R.page self.old.0) self.old.1 event.now self.new.1 result }
+        ensures same { R.page self.new.0 ≡ R.page self.old.0 }
+    {
+        match event {
+            Event::Connect => Outcome::from(self.connect()),
+            Event::Push(id, bytes) => Outcome::from(self.push(*id, bytes.get())),
+            Event::Step(id) => Outcome::from(self.step(*id)),
+            Event::Disconnect(id) => Outcome::Disconnected(self.disconnect(*id)),
+            Event::Put(path, groups, text) => {
+                Outcome::from(self.put_page(path, groups, text.get()))
+            }
+            Event::Remove(path) => Outcome::Removed(self.remove_page(path)),
+            Event::MovePage(from, to) => Outcome::from(self.move_page(from, to)),
+            Event::SetReader(token, reader) => {
+                Outcome::from(self.set_reader(token.get(), reader))
+            }
+            Event::RemoveReader(token) => Outcome::ReaderRemoved(self.remove_reader(token.get())),
+        }
     }
 }

@@ -1,7 +1,7 @@
-//! Noninterference, as contracts of functions that do nothing. Each speaks of the relation `Happens`
-//! between two worlds, which the contracts of the hub's calls promise of each call.
+//! Noninterference and other laws of runs, as contracts of functions that do nothing. They speak of the
+//! relation `Happens` between two worlds, which the contracts of the hub's calls promise of each call.
 
-ghost use Rattle.doc_hub.specs.Laws.{StepsAlike, RepliesAsFresh, RunsAlike};
+ghost use Rattle.doc_hub.specs.Laws.{StepsAlike, RepliesAsFresh, RunsAlike, DroppedIsGone, NumbersAreGivenOnce};
 
 /// Step noninterference: a request is answered alike in two worlds with one keep-alive setting, one
 /// entry for its token, and one view for its reader.
@@ -21,4 +21,16 @@ pub fn replies_are_a_fresh_servers()
 #[tactic(auto, using(crate::proofs::RunLaws::runs_alike))]
 pub fn runs_are_noninterfering()
     ensures { RunsAlike }
+{}
+
+/// A dropped connection is gone: pushes and steps on its number answer that there is none.
+#[tactic(auto, using(crate::proofs::DropLaws::dropped_is_gone))]
+pub fn dropped_connections_are_gone()
+    ensures { DroppedIsGone }
+{}
+
+/// A number that was given and has no connection, as after a drop, has none after any run.
+#[tactic(auto, using(crate::proofs::GivenLaws::given_once))]
+pub fn no_number_is_given_again()
+    ensures { NumbersAreGivenOnce }
 {}

@@ -7,6 +7,7 @@ mod connections;
 pub mod event;
 pub mod hub;
 pub mod laws;
+pub mod outcome;
 pub mod refusal;
 mod reply;
 mod target;

@@ -5,7 +5,9 @@ use Rattle.std.specs.Io.KnownBytes.{Appends}
 use Rattle.doc_hub.specs.Connections.{backlog_limit}
 use Rattle.doc_hub.specs.Replies.{Renders}
 use Rattle.doc_hub.specs.Worlds.{World, connected, last_id}
-use Rattle.doc_hub.specs.Runs.{connect, push, connecting, pushing, Happens, Happened, first}
+use Rattle.doc_hub.specs.Runs.{Happens, Happened, first}
+use Rattle.doc_hub.specs.declared.event.Event.TheVariants as events
+use Rattle.doc_hub.specs.declared.outcome.Outcome.TheVariants as outcomes
 use Rattle.doc_hub.specs.declared.event.ConnId.{ConnId}
 use Rattle.doc_hub.specs.declared.refusal.ConnectError.{ConnectError}
 use Rattle.doc_server.specs.declared.fault.Fault.{Fault}
@@ -28,38 +30,38 @@ unfolding demo_world last_id number_or
 first_given w id is = ap (number_or id) is
 
 module _ (render : Renders) (w1 w2 : World) (bytes : List ℕ) (Goes : ℕ → List Happened → Type 0) (Grows : List ℕ → Type 0) where
-  from_first : (w3 : World) → Happens render demo_world connect w1 (connecting (Ok one)) → Happens render w1 (push 1 bytes) w2 (pushing (Ok tt)) → StepsSend render w2 1 w3 (Goes 1) Grows
+  from_first : (w3 : World) → Happens render demo_world events.Connect w1 (Ok one) → Happens render w1 (events.Push one bytes) w2 (Ok tt) → StepsSend render w2 1 w3 (Goes 1) Grows
       → RunSends render (Some bytes) (Goes 1) Grows
   from_first w3 made taken (rest, runs, goes, grows) =
-      let a : Happened = record { world = demo_world; event = connect; outcome = connecting (Ok one) } in
-      let b : Happened = record { world = w1; event = push 1 bytes; outcome = pushing (Ok tt) } in (
+      let a : Happened = record { world = demo_world; event = events.Connect; outcome = outcomes.Conn one } in
+      let b : Happened = record { world = w1; event = events.Push one bytes; outcome = outcomes.Pushed } in (
         bytes,
         a ∷ b ∷ rest,
         rest,
         w3,
         refl,
-        first demo_world w1 w3 connect (connecting (Ok one)) (b ∷ rest) made (first w1 w2 w3 (push 1 bytes) (pushing (Ok tt)) rest taken runs),
+        first demo_world w1 w3 events.Connect (outcomes.Conn one) (b ∷ rest) (Ok one, made, refl) (first w1 w2 w3 (events.Push one bytes) outcomes.Pushed rest (Ok tt, taken, refl) runs),
         (a, b, refl, (refl, refl), (refl, refl)),
         goes,
         grows,
       )
 
-  from_number : (w3 : World) (id : ConnId) → one ≡ id → Happens render demo_world connect w1 (connecting (Ok id)) → Happens render w1 (push id.0 bytes) w2 (pushing (Ok tt))
+  from_number : (w3 : World) (id : ConnId) → one ≡ id → Happens render demo_world events.Connect w1 (Ok id) → Happens render w1 (events.Push id bytes) w2 (Ok tt)
       → StepsSend render w2 id.0 w3 (Goes id.0) Grows → RunSends render (Some bytes) (Goes 1) Grows
   from_number w3 id is =
-      subst (λ (n : ConnId). Happens render demo_world connect w1 (connecting (Ok n)) → Happens render w1 (push n.0 bytes) w2 (pushing (Ok tt)) → StepsSend render w2 n.0 w3 (Goes n.0) Grows → RunSends render (Some bytes) (Goes 1) Grows) is
+      subst (λ (n : ConnId). Happens render demo_world events.Connect w1 (Ok n) → Happens render w1 (events.Push n bytes) w2 (Ok tt) → StepsSend render w2 n.0 w3 (Goes n.0) Grows → RunSends render (Some bytes) (Goes 1) Grows) is
       (from_first w3)
 
   pub opened : (p1 p2 : Renders) (w0 w3 : World) (id : ConnId) → p1 ≡ render → p2 ≡ p1 → w0 ≡ demo_world
-      → Happens render w0 connect w1 (connecting (Ok id)) → Happens p1 w1 (push id.0 bytes) w2 (pushing (Ok tt)) → StepsSend p2 w2 id.0 w3 (Goes id.0) Grows
+      → Happens render w0 events.Connect w1 (Ok id) → Happens p1 w1 (events.Push id bytes) w2 (Ok tt) → StepsSend p2 w2 id.0 w3 (Goes id.0) Grows
       → RunSends render (Some bytes) (Goes 1) Grows
   opened p1 p2 w0 w3 id e1 e2 is made taken sent =
-      let made_there = subst (λ w. Happens render w connect w1 (connecting (Ok id))) is made in
+      let made_there = subst (λ w. Happens render w events.Connect w1 (Ok id)) is made in
       from_number w3 id (first_given w1 id made_there) made_there taken (subst (λ (p : Renders). StepsSend p w2 id.0 w3 (Goes id.0) Grows) (e2 ∙ e1) sent)
 
 -- what stops the replies stops the demonstration
 pub stopped : (render p1 p2 : Renders) (w0 w1 w2 : World) (id : ConnId) (bytes : List ℕ) (old new : Option (List ℕ)) (fault : Fault) → p1 ≡ render → p2 ≡ p1 → w0 ≡ demo_world
-    → Happens render w0 connect w1 (connecting (Ok id)) → Happens p1 w1 (push id.0 bytes) w2 (pushing (Ok tt)) → StopsReplies p2 w2 id.0 old new fault
+    → Happens render w0 events.Connect w1 (Ok id) → Happens p1 w1 (events.Push id bytes) w2 (Ok tt) → StopsReplies p2 w2 id.0 old new fault
     → StopsDemo render (Some bytes) old new fault
 stopped render p1 p2 w0 w1 w2 id bytes old new faults.Usage e1 e2 is made taken stops = stops
 stopped render p1 p2 w0 w1 w2 id bytes old new (faults.CannotRead name) e1 e2 is made taken stops = absurd stops

@@ -4,9 +4,11 @@ use Rattle.std.proofs.lemmas.Grind.{flat_map-append}
 use Rattle.std.proofs.lemmas.List.Elements.{filter-append}
 use Rattle.doc_hub.specs.Replies.{Renders}
 use Rattle.doc_hub.specs.Worlds.{World}
-use Rattle.doc_hub.specs.Runs.{Event, Outcome, Happens, Happened, Runs, nothing, first, sent_by, is_on, events_on, sent_on}
+use Rattle.doc_hub.specs.Runs.{Leaves, Happened, Runs, nothing, first, sent_by, is_on, events_on, sent_on}
+use Rattle.doc_hub.specs.declared.event.Event.{Event}
+use Rattle.doc_hub.specs.declared.outcome.Outcome.{Outcome}
 
-pub one_more : (render : Renders) (w v u : World) (run : List Happened) (event : Event) (outcome : Outcome) → Runs render w run v → Happens render v event u outcome
+pub one_more : (render : Renders) (w v u : World) (run : List Happened) (event : Event) (outcome : Outcome) → Runs render w run v → Leaves render v event u outcome
     → Runs render w (run ++ record { world = v; event = event; outcome = outcome } ∷ []) u
 one_more render w v u run event outcome (nothing x) happens = first x u u event outcome [] happens (nothing u)
 one_more render w v u run event outcome (first x y z e o rest was runs) happens =

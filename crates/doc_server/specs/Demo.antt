@@ -4,8 +4,12 @@ use Rattle.std.specs.Io.KnownBytes.{Appends, Keeps}
 use Rattle.doc_hub.specs.Connections.{backlog_limit}
 use Rattle.doc_hub.specs.Replies.{Renders}
 use Rattle.doc_hub.specs.Worlds.{World}
-use Rattle.doc_hub.specs.Runs.{Event, connect, push, step, Outcome, connecting, pushing, stepping, Happened, Runs, sent_on}
+use Rattle.doc_hub.specs.Runs.{Happened, Runs, sent_on}
+use Rattle.doc_hub.specs.declared.event.Event.{Event}
+use Rattle.doc_hub.specs.declared.event.Event.TheVariants as events
 use Rattle.doc_hub.specs.declared.event.Step.TheVariants as steps
+use Rattle.doc_hub.specs.declared.outcome.Outcome.{Outcome}
+use Rattle.doc_hub.specs.declared.outcome.Outcome.TheVariants as outcomes
 use Rattle.doc_server.specs.DemoSite.{demo_world}
 use Rattle.doc_server.specs.Outputs.{AppendsPrefix}
 use Rattle.doc_server.specs.declared.fault.Fault.{Fault}
@@ -13,19 +17,19 @@ use Rattle.doc_server.specs.declared.fault.Fault.TheVariants as faults
 
 -- a step sent a reply
 abbrev pub Sends : Outcome → Type 0
-Sends (stepping (Ok (steps.Sent bytes))) = ⊤
-Sends (stepping (Ok (steps.Last bytes))) = ⊤
+Sends (outcomes.Stepped (steps.Sent bytes)) = ⊤
+Sends (outcomes.Stepped (steps.Last bytes)) = ⊤
 Sends outcome = ⊥
 
 -- a step found no request, or the connection closed
 abbrev pub Ends : Outcome → Type 0
-Ends (stepping (Ok steps.More)) = ⊤
-Ends (stepping (Ok steps.Closed)) = ⊤
+Ends (outcomes.Stepped steps.More) = ⊤
+Ends (outcomes.Stepped steps.Closed) = ⊤
 Ends outcome = ⊥
 
 -- a step of this connection, of which something is known
 abbrev pub IsStep : ℕ → (Outcome → Type 0) → Happened → Type 0
-IsStep id Is h = (h.event ≡ step id) × Is h.outcome
+IsStep id Is h = (h.event ≡ events.Step (record { 0 = id })) × Is h.outcome
 
 -- this event with this outcome
 abbrev pub Was : Event → Outcome → Happened → Type 0
@@ -44,7 +48,7 @@ StepsToEnd id run =
 abbrev pub Opens : List ℕ → List Happened → List Happened → Type 0
 Opens bytes rest run =
     (made taken : Happened) × (run ≡ made ∷ taken ∷ rest)
-    × Was connect (connecting (Ok (record { 0 = 1 }))) made × Was (push 1 bytes) (pushing (Ok tt)) taken
+    × Was events.Connect (outcomes.Conn (record { 0 = 1 })) made × Was (events.Push (record { 0 = 1 }) bytes) outcomes.Pushed taken
 
 -- A run from the demonstration world opens the connection with all that the input had left, where that
 -- is known. `Goes` says how it goes on, and `Grows` what becomes of what it sends on the connection.

@@ -16,7 +16,7 @@ demo_readers = map.from_entries (
 
 -- a put of a page of one group
 abbrev pub page_put : World → List ℕ → List ℕ → List ℕ → World × Result Put EditError
-page_put w path group text = world_put w path (record { groups = group ∷ []; text = text })
+page_put w path group text = world_put w path (group ∷ []) text
 
 -- the world after it
 abbrev pub with_page : World → List ℕ → List ℕ → List ℕ → World

@@ -1,7 +1,8 @@
 //! The command `demo`: requests on one connection of the demonstration site.
 
 ghost use Rattle.std.specs.Prelude.{◌≡◌, ◌||◌, Some, Ok, IfOk, IfErr, OnOk, OnErr};
-ghost use Rattle.doc_hub.specs.Runs.{Happens, connect as connect_event, push as push_event, step as step_event, connecting, pushing, stepping};
+ghost use Rattle.doc_hub.specs.Runs.{Happens};
+ghost use Rattle.doc_hub.specs.declared.event.Event.TheVariants as events;
 ghost use Rattle.doc_hub.specs.Worlds.{connected, world_pushed};
 ghost use Rattle.doc_server.specs.Demo.{cannot_write, Demonstrates, StopsDemo};
 ghost use Rattle.doc_server.specs.DemoSite.{demo_world};
@@ -62,7 +63,7 @@ fn answer_all<R: Renderer + Drop, O: Write>(
 }
 
 fn connect<R: Renderer + Drop>(hub: &mut Hub<R>) -> Result<ConnId, Fault>
-    ensures world { IfOk result (λ id. Happens (R.page hub.old.0) hub.old.1 connect_event hub.new.1 (connecting (Ok id))) }
+    ensures world { IfOk result (λ id. Happens (R.page hub.old.0) hub.old.1 events.Connect hub.new.1 (Ok id)) }
     ensures same { R.page hub.new.0 ≡ R.page hub.old.0 }
     ensures fault { IfErr result (StopsCall (connected hub.old.1).1) }
 {
@@ -74,7 +75,7 @@ fn connect<R: Renderer + Drop>(hub: &mut Hub<R>) -> Result<ConnId, Fault>
 }
 
 fn push<R: Renderer + Drop>(hub: &mut Hub<R>, id: ConnId, bytes: &[u8]) -> Result<(), Fault>
-    ensures world { OnOk result (Happens (R.page hub.old.0) hub.old.1 (push_event id.0 bytes.now) hub.new.1 (pushing (Ok tt))) }
+    ensures world { OnOk result (Happens (R.page hub.old.0) hub.old.1 (events.Push id bytes.now) hub.new.1 (Ok tt)) }
     ensures same { R.page hub.new.0 ≡ R.page hub.old.0 }
     ensures fault { IfErr result (StopsCall (world_pushed hub.old.1 id.0 bytes.now).1) }
 {
@@ -133,7 +134,7 @@ fn write_reply<R: Renderer + Drop, O: Write>(
 
 fn step<R: Renderer + Drop>(hub: &mut Hub<R>, id: ConnId) -> Result<Step, Fault>
     requires made { IsMade hub.old.1 id.0 }
-    ensures world { IfOk result (λ said. Happens (R.page hub.old.0) hub.old.1 (step_event id.0) hub.new.1 (stepping (Ok said))) }
+    ensures world { IfOk result (λ said. Happens (R.page hub.old.0) hub.old.1 (events.Step id) hub.new.1 (Ok said)) }
     ensures same { R.page hub.new.0 ≡ R.page hub.old.0 }
     ensures fault { IfErr result (λ fault. fault ≡ Fault.Memory) }
     ensures kept { OnErr result (hub.new.1 ≡ hub.old.1) }

@@ -1,0 +1,105 @@
+-- Events, what the call of each answers, and how a run tells it.
+use Rattle.std.specs.Prelude.{Bool, Result, Ok, Err}
+use Rattle.doc_store.specs.declared.moving.MoveError.{MoveError}
+use Rattle.doc_store.specs.declared.moving.MoveError.TheVariants as move_errors
+use Rattle.doc_store.specs.declared.readers.ReaderError.{ReaderError}
+use Rattle.doc_store.specs.declared.readers.ReaderError.TheVariants as reader_errors
+use Rattle.doc_store.specs.declared.readers.Set.{Set}
+use Rattle.doc_store.specs.declared.store.EditError.{EditError}
+use Rattle.doc_store.specs.declared.store.EditError.TheVariants as edit_errors
+use Rattle.doc_store.specs.declared.store.Put.{Put}
+use Rattle.doc_hub.specs.declared.event.ConnId.{ConnId}
+use Rattle.doc_hub.specs.declared.event.Event.{Event}
+use Rattle.doc_hub.specs.declared.event.Event.TheVariants as events
+use Rattle.doc_hub.specs.declared.event.Step.{Step}
+use Rattle.doc_hub.specs.declared.outcome.Outcome.{Outcome}
+use Rattle.doc_hub.specs.declared.outcome.Outcome.TheVariants as outcomes
+use Rattle.doc_hub.specs.declared.refusal.ConnectError.{ConnectError}
+use Rattle.doc_hub.specs.declared.refusal.ConnectError.TheVariants as connect_errors
+use Rattle.doc_hub.specs.declared.refusal.PushError.{PushError}
+use Rattle.doc_hub.specs.declared.refusal.PushError.TheVariants as push_errors
+use Rattle.doc_hub.specs.declared.refusal.Refusal.{Refusal}
+use Rattle.doc_hub.specs.declared.refusal.Refusal.TheVariants as refusals
+use Rattle.doc_hub.specs.declared.refusal.StepError.{StepError}
+use Rattle.doc_hub.specs.declared.refusal.StepError.TheVariants as step_errors
+
+-- what the call of an event answers
+abbrev pub Said : Event → Type 0
+Said events.Connect = Result ConnId ConnectError
+Said (events.Push id bytes) = Result (Unit {0}) PushError
+Said (events.Step id) = Result Step StepError
+Said (events.Disconnect id) = Bool
+Said (events.Put path groups text) = Result Put EditError
+Said (events.Remove path) = Bool
+Said (events.MovePage from to) = Result (Unit {0}) MoveError
+Said (events.SetReader token reader) = Result Set ReaderError
+Said (events.RemoveReader token) = Bool
+
+-- ---- the refusals of the calls, under their own names
+
+abbrev pub connect_refusal : ConnectError → Refusal
+connect_refusal connect_errors.NoIds = refusals.NoIds
+connect_refusal connect_errors.Memory = refusals.Memory
+
+abbrev pub push_refusal : PushError → Refusal
+push_refusal push_errors.NoConnection = refusals.NoConnection
+push_refusal push_errors.Closed = refusals.Closed
+push_refusal push_errors.Backlog = refusals.Backlog
+push_refusal push_errors.Memory = refusals.Memory
+
+abbrev pub step_refusal : StepError → Refusal
+step_refusal step_errors.NoConnection = refusals.NoConnection
+step_refusal step_errors.Memory = refusals.Memory
+
+abbrev pub edit_refusal : EditError → Refusal
+edit_refusal edit_errors.TooLong = refusals.TooLong
+edit_refusal edit_errors.StoreFull = refusals.StoreFull
+edit_refusal edit_errors.Memory = refusals.Memory
+
+abbrev pub move_refusal : MoveError → Refusal
+move_refusal move_errors.NoPage = refusals.NoPage
+move_refusal move_errors.Taken = refusals.Taken
+move_refusal move_errors.StoreFull = refusals.StoreFull
+move_refusal move_errors.Memory = refusals.Memory
+
+abbrev pub reader_refusal : ReaderError → Refusal
+reader_refusal reader_errors.BadToken = refusals.BadToken
+reader_refusal reader_errors.Memory = refusals.Memory
+
+-- ---- the calls' answers as outcomes
+
+abbrev pub connecting : Result ConnId ConnectError → Outcome
+connecting (Ok id) = outcomes.Conn id
+connecting (Err e) = outcomes.Refused (connect_refusal e)
+
+abbrev pub pushing : Result (Unit {0}) PushError → Outcome
+pushing (Ok done) = outcomes.Pushed
+pushing (Err e) = outcomes.Refused (push_refusal e)
+
+abbrev pub stepping : Result Step StepError → Outcome
+stepping (Ok step) = outcomes.Stepped step
+stepping (Err e) = outcomes.Refused (step_refusal e)
+
+abbrev pub putting : Result Put EditError → Outcome
+putting (Ok done) = outcomes.Edited done
+putting (Err e) = outcomes.Refused (edit_refusal e)
+
+abbrev pub moving : Result (Unit {0}) MoveError → Outcome
+moving (Ok done) = outcomes.Moved
+moving (Err e) = outcomes.Refused (move_refusal e)
+
+abbrev pub setting : Result Set ReaderError → Outcome
+setting (Ok done) = outcomes.ReaderSet done
+setting (Err e) = outcomes.Refused (reader_refusal e)
+
+-- what a call answered, as a run tells it
+abbrev pub outcome_of : (event : Event) → Said event → Outcome
+outcome_of events.Connect said = connecting said
+outcome_of (events.Push id bytes) said = pushing said
+outcome_of (events.Step id) said = stepping said
+outcome_of (events.Disconnect id) said = outcomes.Disconnected said
+outcome_of (events.Put path groups text) said = putting said
+outcome_of (events.Remove path) said = outcomes.Removed said
+outcome_of (events.MovePage from to) said = moving said
+outcome_of (events.SetReader token reader) said = setting said
+outcome_of (events.RemoveReader token) said = outcomes.ReaderRemoved said
