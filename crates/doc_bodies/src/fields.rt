@@ -1,0 +1,50 @@
+//! The fields of a head that frame its body.
+
+ghost use Rattle.std.specs.Prelude.{◌≡◌, ◌++◌, List, ℕ};
+ghost use Rattle.doc_bodies.specs.Framings.{framing_of, Fields, Saw};
+
+use crate::fault::Fault;
+use crate::framing::{Coding, Framing, Length, framing_by};
+
+/// What the fields of a head that were seen so far say of its body.
+#[derive(Clone, Copy)]
+pub struct FramingFields {
+    coding: Coding,
+    length: Length,
+}
+
+impl FramingFields {
+    /// No field was seen.
+    pub fn new() -> Self
+        ensures { Saw result [] }
+    {
+        FramingFields {
+            coding: Coding::Absent,
+            length: Length::Absent,
+        }
+    }
+
+    /// Takes in the next field: its name, in any case, and its value without the blanks around it.
+    pub fn see(&mut self, name: &[u8], value: &[u8])
+        ensures { (fields : Fields) → Saw self.old fields → Saw self.new (fields ++ (name.now, value.now) ∷ []) }
+    {
+        if name.eq_ignore_ascii_case(b"transfer-encoding") {
+            self.coding = self.coding.with(value);
+            return;
+        }
+        if name.eq_ignore_ascii_case(b"content-length") {
+            self.length = self.length.with(value);
+        }
+    }
+
+    /// How the body is framed, in a request of HTTP/1.0 (`is_old`) or of HTTP/1.1.
+    ///
+    /// Faults, in this order: unsupported where there is a Transfer-Encoding and it is not one field of the value
+    /// `chunked`; malformed where it stands in HTTP/1.0 or beside a Content-Length; malformed where Content-Length
+    /// is not one field of one or more digits; too large where it is more than 1,048,576.
+    pub fn framing(&self, is_old: bool) -> Result<Framing, Fault>
+        ensures { (fields : Fields) → Saw self.now fields → result ≡ framing_of is_old fields }
+    {
+        framing_by(is_old, self.coding, self.length)
+    }
+}

@@ -1,0 +1,39 @@
+//! The data of the chunks of a whole body.
+
+ghost use Rattle.std.specs.Prelude.{◌≡◌, ◌<◌, ◌++◌, length, IfOk};
+ghost use Rattle.doc_bodies.specs.Chunks.{data_of};
+ghost use Rattle.doc_bodies.specs.StageSteps.{IsFirstChunk};
+
+use crate::size_line::{SizeLine, size_line};
+use doc_heap::{Heap, Vec};
+use doc_page::bytes::Bytes;
+use doc_page::failure::Memory;
+
+/// The data of the chunks, joined, which are `len` bytes.
+pub fn gather(heap: Heap, encoded: &[u8], len: usize) -> Result<Bytes, Memory>
+    ensures { IfOk result (λ joined. joined ≡ data_of encoded.now) }
+{
+    let mut joined = Bytes::new(Vec::with_capacity(heap, len)?);
+    let mut rest = encoded;
+    'chunks: while let Some((chunk, behind)) = first_chunk(rest) {
+        joined.extend(chunk)?;
+        rest = behind;
+    }
+    Ok(joined)
+}
+
+// The data of the first chunk, and the bytes behind the chunk: none where the last chunk stands there.
+fn first_chunk(text: &[u8]) -> Option<(&[u8], &[u8])>
+    ensures { IsFirstChunk text.now result }
+{
+    let SizeLine::Size { len, size } = size_line(text, 0) else {
+        return None;
+    };
+    if size == 0 {
+        return None;
+    }
+    let text = &text[len..];
+    let end = size.min(text.len());
+    let behind = (size + 2).min(text.len());
+    Some((&text[..end], &text[behind..]))
+}
