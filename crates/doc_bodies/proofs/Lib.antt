@@ -1,1 +1,7 @@
+pub mod DataLemmas
+pub mod DigitLemmas
 mod Examples
+pub mod ExtentLemmas
+pub mod LawLemmas
+pub mod PlaceLemmas
+

@@ -44,8 +44,3 @@ step_behind_line start size total =
 abbrev pub IsLineWithin : ℕ → SizeLine → Type 0
 IsLineWithin len (line.Size line_len size) = (2 ≤ line_len) × (line_len ≤ len) × (size < 4294967296)
 IsLineWithin len other = ⊤
-
--- the data of the first chunk, and the bytes behind the chunk
-abbrev pub IsFirstChunk : List ℕ → Option (List ℕ × List ℕ) → Type 0
-IsFirstChunk text None = data_of text ≡ []
-IsFirstChunk text (Some (chunk, rest)) = (data_of text ≡ chunk ++ data_of rest) × (length rest < length text)

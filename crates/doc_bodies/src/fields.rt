@@ -1,6 +1,6 @@
 //! The fields of a head that frame its body.
 
-ghost use Rattle.std.specs.Prelude.{◌≡◌, ◌++◌, List, ℕ};
+ghost use Rattle.std.specs.Prelude.{◌≡◌, ◌++◌, ◌∷◌, [], List, ℕ};
 ghost use Rattle.doc_bodies.specs.Framings.{framing_of, Fields, Saw};
 
 use crate::fault::Fault;

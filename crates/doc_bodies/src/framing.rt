@@ -1,6 +1,6 @@
 //! How a body is framed.
 
-ghost use Rattle.std.specs.Prelude.{◌≡◌, ◌++◌, List, ℕ};
+ghost use Rattle.std.specs.Prelude.{◌≡◌, ◌++◌, ◌∷◌, [], List, ℕ};
 ghost use Rattle.doc_bodies.specs.Framings.{framing_by, sized_by, coding_of, coding_in, length_of, length_in};
 
 use crate::digits::length_of_digits;

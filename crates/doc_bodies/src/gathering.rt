@@ -1,8 +1,7 @@
 //! The data of the chunks of a whole body.
 
-ghost use Rattle.std.specs.Prelude.{◌≡◌, ◌<◌, ◌++◌, length, IfOk};
+ghost use Rattle.std.specs.Prelude.{◌≡◌, ◌<◌, ◌++◌, length, IfOk, IfSome, None, []};
 ghost use Rattle.doc_bodies.specs.Chunks.{data_of};
-ghost use Rattle.doc_bodies.specs.StageSteps.{IsFirstChunk};
 
 use crate::size_line::{SizeLine, size_line};
 use doc_heap::{Heap, Vec};
@@ -24,7 +23,8 @@ pub fn gather(heap: Heap, encoded: &[u8], len: usize) -> Result<Bytes, Memory>
 
 // The data of the first chunk, and the bytes behind the chunk: none where the last chunk stands there.
 fn first_chunk(text: &[u8]) -> Option<(&[u8], &[u8])>
-    ensures { IsFirstChunk text.now result }
+    ensures found { IfSome result (λ found. (data_of text.now ≡ found.0.now ++ data_of found.1.now) × (length found.1.now < length text.now)) }
+    ensures last { result ≡ None → data_of text.now ≡ [] }
 {
     let SizeLine::Size { len, size } = size_line(text, 0) else {
         return None;

@@ -1,7 +1,8 @@
 //! The reader of a body whose bytes come bit by bit.
 
 ghost use Rattle.std.specs.Prelude.{◌≡◌, ℕ, List, IfOk, OnErr};
-ghost use Rattle.doc_bodies.specs.Readings.{reading_of, IsWhole};
+ghost use Rattle.doc_bodies.specs.Readings.{reading_of, reading_by as by_extent, IsWhole};
+ghost use Rattle.doc_bodies.specs.declared.framing.Framing.TheVariants as framings;
 ghost use Rattle.doc_bodies.specs.Knowledge.{KnowsOf, framing_of};
 
 use crate::extent::Extent;
@@ -71,7 +72,14 @@ impl BodyReader {
     }
 
     // The same where the body is chunked.
-    fn read_chunks(&mut self, heap: Heap, bytes: &[u8]) -> Result<Reading, Memory> {
+    fn read_chunks(&mut self, heap: Heap, bytes: &[u8]) -> Result<Reading, Memory>
+        requires { KnowsOf self.old bytes.now }
+        ensures found { IfOk result (λ reading. reading ≡ reading_of framings.Chunked bytes.now) }
+        ensures framing { framing_of self.new ≡ framing_of self.old }
+        ensures knows { KnowsOf self.new bytes.now }
+        ensures memory { OnErr result (IsWhole (reading_of framings.Chunked bytes.now)) }
+        ensures unchanged { OnErr result (self.new ≡ self.old) }
+    {
         let is_full = bytes.len() >= ENCODED_LIMIT;
         let window = &bytes[..bytes.len().min(ENCODED_LIMIT)];
         let (stage, extent) = advance(self.stage, window);
@@ -82,7 +90,11 @@ impl BodyReader {
 }
 
 // What the bytes come to, where so many are the body.
-fn read_sized(heap: Heap, bytes: &[u8], size: usize) -> Result<Reading, Memory> {
+#[tactic(auto, unfolding(crate::specs::Readings::reading_of))]
+fn read_sized(heap: Heap, bytes: &[u8], size: usize) -> Result<Reading, Memory>
+    ensures found { IfOk result (λ reading. reading ≡ reading_of (framings.Sized size) bytes.now) }
+    ensures memory { OnErr result (IsWhole (reading_of (framings.Sized size) bytes.now)) }
+{
     if bytes.len() < size {
         return Ok(Reading::More);
     }
@@ -93,7 +105,10 @@ fn read_sized(heap: Heap, bytes: &[u8], size: usize) -> Result<Reading, Memory> 
 }
 
 // What the bytes come to that an encoded body may take, of which all came or not.
-fn reading_by(heap: Heap, window: &[u8], is_full: bool, extent: Extent) -> Result<Reading, Memory> {
+fn reading_by(heap: Heap, window: &[u8], is_full: bool, extent: Extent) -> Result<Reading, Memory>
+    ensures found { IfOk result (λ reading. reading ≡ by_extent window.now is_full extent) }
+    ensures memory { OnErr result (IsWhole (by_extent window.now is_full extent)) }
+{
     match extent {
         Extent::More if is_full => Ok(Reading::Fault(Fault::TooLarge)),
         Extent::More => Ok(Reading::More),

@@ -1,7 +1,7 @@
 //! How far the reading of an encoded body came.
 
 ghost use Rattle.std.specs.Prelude.{◌≡◌, ◌<◌, ◌≤◌, ◌+◌, ◌-◌, length, drop, false, nat_eq, eqb};
-ghost use Rattle.doc_bodies.specs.Chunks.{extent_of, body_limit};
+ghost use Rattle.doc_bodies.specs.Chunks.{extent_of};
 ghost use Rattle.doc_bodies.specs.Knowledge.{Knows};
 ghost use Rattle.doc_bodies.specs.StageSteps.{IsStep, IsAdvance, step_behind_line};
 ghost use Rattle.doc_bodies.specs.declared.stage.Stage.TheVariants as stages;
