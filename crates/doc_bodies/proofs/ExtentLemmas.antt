@@ -154,6 +154,7 @@ trailer_grows x y g = by_test (starts_with nat_eq x line_end) refl
         let P : Option ℕ → Type 0 = λ o. Within 4 (length x) o in
         let four : n + 4 ≤ length x = subst P is (place_within blank_line x) in
         ap (λ t. if t then Some 2 else behind 4 (place_of blank_line y)) (starts_same line_end x y (omega arith) g ∙ e) ∙ ap (behind 4) h
+
     by_test : (t : Bool) → starts_with nat_eq x line_end ≡ t → Stays (if t then Some 2 else behind 4 (place_of blank_line x)) (trailer_len y)
     by_test true e = ap (λ t. if t then Some 2 else behind 4 (place_of blank_line y)) (starts_same line_end x y (at_least line_end x e) g ∙ e)
     by_test false e = on (place_of blank_line x) refl e (place_grows blank_line x y g)
@@ -168,6 +169,7 @@ module _ (f g : Onward) (onward : OnwardStays f g) where
       ends : size + 2 ≤ length x → (t : Bool) → ExtentStays (if t then f (used + (size + 2)) total (drop (size + 2) x) else Fault faults.Malformed) (if t then g (used + (size + 2)) total (drop (size + 2) y) else Fault faults.Malformed)
       ends le true = onward (used + (size + 2)) total (drop (size + 2) x) (drop (size + 2) y) (drop_grows (size + 2) x y le grows)
       ends le false = refl
+
       short : (t : Bool) → nat_lt (length x) (size + 2) ≡ t → ExtentStays (if t then More else (if starts_with nat_eq (drop size x) line_end then f (used + (size + 2)) total (drop (size + 2) x) else Fault faults.Malformed)) (after_data g used total size y)
       short true e = tt
       short false e =

@@ -20,7 +20,7 @@ use Rattle.doc_bodies.specs.declared.reader.Reading.TheVariants.{More, Fault, Wh
 use Rattle.doc_bodies.specs.declared.size_line.SizeLine.{SizeLine}
 use Rattle.doc_bodies.specs.declared.size_line.SizeLine.TheVariants as line
 use Rattle.doc_bodies.specs.Chunks.{line_end, blank_line, size_line, behind, place_of, trailer_len, trailed, Onward, after_data, after_size, after_line, extent_in, extent_of, data_of}
-use Rattle.doc_bodies.specs.Framings.{body_limit, allowed, length_by, length_in, is_empty, length_of, coding_of, sized_by, chunked_by, framing_by, framing_of, values_named}
+use Rattle.doc_bodies.specs.Framings.{body_limit, allowed, length_by, length_in, is_number, length_of, coding_of, sized_by, chunked_by, framing_by, framing_of, values_named}
 use Rattle.std.specs.List.{list_all}
 use Rattle.std.specs.Char.{is_ascii_digit}
 use Rattle.std.specs.Str.Parse.{digits_value}
@@ -29,6 +29,7 @@ use Rattle.doc_bodies.specs.Laws.{StaysDecided, IsDecidedWithin, TakesBytes, Sta
 use Rattle.doc_bodies.specs.Readings.{encoded_limit, reading_by, reading_of}
 use Rattle.doc_bodies.proofs.DataLemmas.{DataStay, data_stay}
 use Rattle.doc_bodies.proofs.ExtentLemmas.{ExtentStays, extent_grows, take_grows, LineFits, line_fits}
+use Rattle.doc_bodies.proofs.StageLemmas.{knows_grows}
 use Rattle.doc_bodies.proofs.PlaceLemmas.{Grows, longer, take_same, Within, place_within, at_least}
 
 -- ---- what stays
@@ -89,10 +90,7 @@ pub knows_more : StaysKnown
 unfolding KnowsOf
 knows_more reader bytes more knows =
     let windows = take_grows encoded_limit bytes (bytes ++ more) (more, refl) in
-    grown (take encoded_limit bytes) (take encoded_limit (bytes ++ more)) windows knows
-  where
-    grown : (x y : List ℕ) → Grows x y → Knows reader.stage x → Knows reader.stage y
-    grown x y (m, e) known = ?
+    knows_grows reader.stage (take encoded_limit bytes) (take encoded_limit (bytes ++ more)) windows knows
 
 -- ---- what decides
 
@@ -114,11 +112,11 @@ allowed_fits n true e = tt
 allowed_fits n false e = ltb-false _ _ e
 
 length_in_fits : (value : List ℕ) → LengthFits (length_in value)
-length_in_fits value = by_test (is_empty value || not (list_all is_ascii_digit value))
+length_in_fits value = by_test (is_number value)
   where
-    by_test : (t : Bool) → LengthFits (if t then length_says.Malformed else length_by (allowed (digits_value 10 value)))
-    by_test true = tt
-    by_test false = allowed_fits (digits_value 10 value) (nat_lt body_limit (digits_value 10 value)) refl
+    by_test : (t : Bool) → LengthFits (if t then length_by (allowed (digits_value 10 value)) else length_says.Malformed)
+    by_test false = tt
+    by_test true = allowed_fits (digits_value 10 value) (nat_lt body_limit (digits_value 10 value)) refl
 
 length_fits : (values : List (List ℕ)) → LengthFits (length_of values)
 length_fits [] = tt
@@ -188,6 +186,7 @@ trailer_in text = by_test (starts_with nat_eq text line_end) refl
     on : (o : Option ℕ) → Within 4 (length text) o → Within 0 (length text) (behind 4 o)
     on None h = tt
     on (Some n) h = omega arith
+
     by_test : (t : Bool) → starts_with nat_eq text line_end ≡ t → Within 0 (length text) (if t then Some 2 else behind 4 (place_of blank_line text))
     by_test true hit = let two = at_least line_end text hit in omega arith
     by_test false miss = on (place_of blank_line text) (place_within blank_line text)

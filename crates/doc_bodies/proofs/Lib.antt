@@ -4,4 +4,4 @@ mod Examples
 pub mod ExtentLemmas
 pub mod LawLemmas
 pub mod PlaceLemmas
-
+pub mod StageLemmas

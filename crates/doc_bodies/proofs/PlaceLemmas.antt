@@ -90,6 +90,7 @@ place_stays needle (b ∷ rest) m = by_test (place_stays needle rest m) (starts_
         let P : Option ℕ → Type 0 = λ o. Within (length needle) (length rest) o in
         let within : n + length needle ≤ length rest = subst P is (place_within needle rest) in
         ap (λ t. cond t (Some 0) (behind 1 (place_of needle (rest ++ m)))) (starts_same needle (b ∷ rest) (b ∷ (rest ++ m)) (omega arith) (m, refl) ∙ miss) ∙ ap (behind 1) h
+
     by_test : Stays (place_of needle rest) (place_of needle (rest ++ m)) → (t : Bool) → starts_with nat_eq (b ∷ rest) needle ≡ t → Stays (cond t (Some 0) (behind 1 (place_of needle rest))) (place_of needle (b ∷ (rest ++ m)))
     by_test h true hit = ap (λ t. cond t (Some 0) (behind 1 (place_of needle (rest ++ m)))) (starts_same needle (b ∷ rest) (b ∷ (rest ++ m)) (at_least needle (b ∷ rest) hit) (m, refl) ∙ hit)
     by_test h false miss = on (place_of needle rest) refl miss h
@@ -114,6 +115,7 @@ searched_more needle (b ∷ rest) more (suc k) none fits inside = by_test (start
     behind_swap : (o : Option ℕ) → behind 1 (behind k o) ≡ behind (suc k) o
     behind_swap None = refl
     behind_swap (Some n) = ap Some (omega arith)
+
     by_test : (t : Bool) → starts_with nat_eq (b ∷ rest) needle ≡ t → cond t (Some 0) (behind 1 (place_of needle rest)) ≡ None → (place_of needle rest ≡ None → IsSearched needle k (rest ++ more)) → IsSearched needle (suc k) (b ∷ (rest ++ more))
     by_test true hit absent further = absurd cc
     by_test false miss absent further =

@@ -30,11 +30,15 @@ place_of needle (b ∷ rest) = cond (starts_with nat_eq (b ∷ rest) needle) (So
 
 -- ---- sizes
 
+-- `;`, space or tab
+abbrev pub begins_extension : ℕ → Bool
+begins_extension b = b == 59 || b == 32 || b == 9
+
 -- what may stand between a size and its CR LF: nothing, or what begins with `;`, space or tab and has neither CR nor LF
 -- (a chunk-ext of section 7.1.1, read widely)
 abbrev pub is_extension : List ℕ → Bool
 is_extension [] = true
-is_extension (b ∷ rest) = (b == 59 || b == 32 || b == 9) && list_all (λ c. not (c == 13 || c == 10)) rest
+is_extension (b ∷ rest) = begins_extension b && list_all (λ c. not (c == 13 || c == 10)) rest
 
 -- how many hexadecimal digits stand at the front
 abbrev pub hex_len : List ℕ → ℕ

@@ -1,5 +1,5 @@
 -- How a head frames the body behind it (RFC 9112, section 6).
-use Rattle.std.specs.Prelude.{◌≡◌, ℕ, ◌||◌, ◌==◌, not, Bool, true, false, List, [], ◌∷◌, Option, Some, None, Result, Ok, Err, map, filter, nat_lt, codes, if◌then◌else◌}
+use Rattle.std.specs.Prelude.{◌≡◌, ℕ, ◌&&◌, ◌==◌, not, Bool, true, false, List, [], ◌∷◌, Option, Some, None, Result, Ok, Err, length, map, filter, nat_lt, codes, if◌then◌else◌}
 use Rattle.std.specs.List.{list_all}
 use Rattle.std.specs.Char.{is_ascii_digit}
 use Rattle.std.specs.Str.{str_eq_ignore_ascii_case}
@@ -12,7 +12,7 @@ use Rattle.doc_bodies.specs.declared.framing.Coding.TheVariants as coding
 use Rattle.doc_bodies.specs.declared.framing.Framing.{Framing}
 use Rattle.doc_bodies.specs.declared.framing.Framing.TheVariants as framing
 use Rattle.doc_bodies.specs.declared.framing.Length.{Length}
-use Rattle.doc_bodies.specs.declared.framing.Length.TheVariants as length
+use Rattle.doc_bodies.specs.declared.framing.Length.TheVariants as length_says
 
 -- the names of fields, each with its value
 abbrev pub Fields : Type 0
@@ -41,35 +41,33 @@ abbrev pub allowed : ℕ → Option ℕ
 allowed len = if nat_lt body_limit len then None else Some len
 
 abbrev pub length_by : Option ℕ → Length
-length_by None = length.TooLarge
-length_by (Some len) = length.Known len
+length_by None = length_says.TooLarge
+length_by (Some len) = length_says.Known len
 
-abbrev pub is_empty : List ℕ → Bool
-is_empty [] = true
-is_empty (b ∷ rest) = false
+-- 1*DIGIT
+abbrev pub is_number : List ℕ → Bool
+is_number value = not (length value == 0) && list_all is_ascii_digit value
 
--- what one Content-Length field says: 1*DIGIT (RFC 9110, section 8.6)
+-- what one Content-Length field says (RFC 9110, section 8.6)
 abbrev pub length_in : List ℕ → Length
-length_in value =
-    if is_empty value || not (list_all is_ascii_digit value) then length.Malformed
-    else length_by (allowed (digits_value 10 value))
+length_in value = if is_number value then length_by (allowed (digits_value 10 value)) else length_says.Malformed
 
 -- what all of them say; more than one is a fault (RFC 9112, section 6.3, item 5)
 abbrev pub length_of : List (List ℕ) → Length
-length_of [] = length.Absent
+length_of [] = length_says.Absent
 length_of (value ∷ []) = length_in value
-length_of (value ∷ other ∷ rest) = length.Malformed
+length_of (value ∷ other ∷ rest) = length_says.Malformed
 
 -- without a transfer coding (RFC 9112, section 6.3, items 5 to 7)
 abbrev pub sized_by : Length → Result Framing Fault
-sized_by length.Absent = Ok (framing.Sized 0)
-sized_by (length.Known len) = Ok (framing.Sized len)
-sized_by length.TooLarge = Err faults.TooLarge
-sized_by length.Malformed = Err faults.Malformed
+sized_by length_says.Absent = Ok (framing.Sized 0)
+sized_by (length_says.Known len) = Ok (framing.Sized len)
+sized_by length_says.TooLarge = Err faults.TooLarge
+sized_by length_says.Malformed = Err faults.Malformed
 
 -- with chunks, which stand neither in HTTP/1.0 nor beside a length (RFC 9112, section 6.1)
 abbrev pub chunked_by : Bool → Length → Result Framing Fault
-chunked_by false length.Absent = Ok framing.Chunked
+chunked_by false length_says.Absent = Ok framing.Chunked
 chunked_by old len = Err faults.Malformed
 
 -- by what the fields say; a coding that is not known comes first (RFC 9112, section 6.1)

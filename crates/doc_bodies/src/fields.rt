@@ -15,6 +15,7 @@ pub struct FramingFields {
 
 impl FramingFields {
     /// No field was seen.
+    #[tactic(auto, unfolding(crate::specs::Framings::Saw))]
     pub fn new() -> Self
         ensures { Saw result [] }
     {
@@ -25,16 +26,12 @@ impl FramingFields {
     }
 
     /// Takes in the next field: its name, in any case, and its value without the blanks around it.
+    #[tactic(auto, unfolding(crate::specs::Framings::Saw))]
     pub fn see(&mut self, name: &[u8], value: &[u8])
         ensures { (fields : Fields) → Saw self.old fields → Saw self.new (fields ++ (name.now, value.now) ∷ []) }
     {
-        if name.eq_ignore_ascii_case(b"transfer-encoding") {
-            self.coding = self.coding.with(value);
-            return;
-        }
-        if name.eq_ignore_ascii_case(b"content-length") {
-            self.length = self.length.with(value);
-        }
+        self.coding = self.coding.see(name, value);
+        self.length = self.length.see(name, value);
     }
 
     /// How the body is framed, in a request of HTTP/1.0 (`is_old`) or of HTTP/1.1.
@@ -42,6 +39,7 @@ impl FramingFields {
     /// Faults, in this order: unsupported where there is a Transfer-Encoding and it is not one field of the value
     /// `chunked`; malformed where it stands in HTTP/1.0 or beside a Content-Length; malformed where Content-Length
     /// is not one field of one or more digits; too large where it is more than 1,048,576.
+    #[tactic(auto, unfolding(crate::specs::Framings::Saw, crate::specs::Framings::framing_of))]
     pub fn framing(&self, is_old: bool) -> Result<Framing, Fault>
         ensures { (fields : Fields) → Saw self.now fields → result ≡ framing_of is_old fields }
     {

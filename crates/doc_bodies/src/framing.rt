@@ -1,7 +1,9 @@
 //! How a body is framed.
 
-ghost use Rattle.std.specs.Prelude.{◌≡◌, ◌++◌, ◌∷◌, [], List, ℕ};
-ghost use Rattle.doc_bodies.specs.Framings.{framing_by, sized_by, coding_of, coding_in, length_of, length_in};
+ghost use Rattle.std.specs.Prelude.{◌≡◌, ◌++◌, ◌∷◌, [], List, ℕ, codes};
+ghost use Rattle.std.specs.List.{list_all};
+ghost use Rattle.std.specs.Char.{is_ascii_digit};
+ghost use Rattle.doc_bodies.specs.Framings.{framing_by, sized_by, coding_of, coding_in, length_of, length_in, is_number, values_named, Fields};
 
 use crate::digits::length_of_digits;
 use crate::fault::Fault;
@@ -37,8 +39,20 @@ pub enum Length {
 }
 
 impl Coding {
-    /// What the fields say, with one more of them.
-    pub fn with(self, value: &[u8]) -> Coding
+    /// What the fields say, with one more field.
+    pub fn see(self, name: &[u8], value: &[u8]) -> Coding
+        ensures { (fields : Fields) → self ≡ coding_of (values_named (codes "transfer-encoding") fields)
+            → result ≡ coding_of (values_named (codes "transfer-encoding") (fields ++ (name.now, value.now) ∷ [])) }
+    {
+        if name.eq_ignore_ascii_case(b"transfer-encoding") {
+            self.with(value)
+        } else {
+            self
+        }
+    }
+
+    // The same, with one more of these fields.
+    fn with(self, value: &[u8]) -> Coding
         ensures { (values : List (List ℕ)) → self ≡ coding_of values → result ≡ coding_of (values ++ value.now ∷ []) }
     {
         match self {
@@ -49,8 +63,20 @@ impl Coding {
 }
 
 impl Length {
-    /// What the fields say, with one more of them.
-    pub fn with(self, value: &[u8]) -> Length
+    /// What the fields say, with one more field.
+    pub fn see(self, name: &[u8], value: &[u8]) -> Length
+        ensures { (fields : Fields) → self ≡ length_of (values_named (codes "content-length") fields)
+            → result ≡ length_of (values_named (codes "content-length") (fields ++ (name.now, value.now) ∷ [])) }
+    {
+        if name.eq_ignore_ascii_case(b"content-length") {
+            self.with(value)
+        } else {
+            self
+        }
+    }
+
+    // The same, with one more of these fields.
+    fn with(self, value: &[u8]) -> Length
         ensures { (values : List (List ℕ)) → self ≡ length_of values → result ≡ length_of (values ++ value.now ∷ []) }
     {
         match self {
@@ -75,13 +101,25 @@ fn coding_in(value: &[u8]) -> Coding
 fn length_in(value: &[u8]) -> Length
     ensures { result ≡ length_in value.now }
 {
-    if value.is_empty() || !value.iter().all(|byte| byte.is_ascii_digit()) {
+    if !is_number(value) {
         return Length::Malformed;
     }
     match length_of_digits(value) {
         Some(length) => Length::Known(length),
         None => Length::TooLarge,
     }
+}
+
+fn is_number(value: &[u8]) -> bool
+    ensures { result ≡ is_number value.now }
+{
+    !value.is_empty() && are_digits(value)
+}
+
+fn are_digits(value: &[u8]) -> bool
+    ensures { result ≡ list_all is_ascii_digit value.now }
+{
+    value.iter().all(|byte| byte.is_ascii_digit())
 }
 
 /// How the body is framed, by what the fields say and by whether the request is of HTTP/1.0.

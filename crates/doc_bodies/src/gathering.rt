@@ -4,6 +4,7 @@ ghost use Rattle.std.specs.Prelude.{◌≡◌, ◌<◌, ◌++◌, length, IfOk, 
 ghost use Rattle.doc_bodies.specs.Chunks.{data_of};
 
 use crate::size_line::{SizeLine, size_line};
+use crate::slices::{behind, front};
 use doc_heap::{Heap, Vec};
 use doc_page::bytes::Bytes;
 use doc_page::failure::Memory;
@@ -14,9 +15,9 @@ pub fn gather(heap: Heap, encoded: &[u8], len: usize) -> Result<Bytes, Memory>
 {
     let mut joined = Bytes::new(Vec::with_capacity(heap, len)?);
     let mut rest = encoded;
-    'chunks: while let Some((chunk, behind)) = first_chunk(rest) {
+    'chunks: while let Some((chunk, left)) = first_chunk(rest) {
         joined.extend(chunk)?;
-        rest = behind;
+        rest = left;
     }
     Ok(joined)
 }
@@ -32,8 +33,6 @@ fn first_chunk(text: &[u8]) -> Option<(&[u8], &[u8])>
     if size == 0 {
         return None;
     }
-    let text = &text[len..];
-    let end = size.min(text.len());
-    let behind = (size + 2).min(text.len());
-    Some((&text[..end], &text[behind..]))
+    let text = behind(text, len);
+    Some((front(text, size), behind(text, size + 2)))
 }

@@ -12,5 +12,6 @@ mod gathering;
 pub mod laws;
 pub mod reader;
 mod size_line;
+mod slices;
 mod stage;
 mod trailer;

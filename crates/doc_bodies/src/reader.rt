@@ -9,6 +9,7 @@ use crate::extent::Extent;
 use crate::fault::Fault;
 use crate::framing::Framing;
 use crate::gathering::gather;
+use crate::slices::front;
 use crate::stage::{Stage, advance};
 use doc_heap::Heap;
 use doc_page::bytes::Bytes;
@@ -81,7 +82,7 @@ impl BodyReader {
         ensures unchanged { OnErr result (self.new ≡ self.old) }
     {
         let is_full = bytes.len() >= ENCODED_LIMIT;
-        let window = &bytes[..bytes.len().min(ENCODED_LIMIT)];
+        let window = front(bytes, ENCODED_LIMIT);
         let (stage, extent) = advance(self.stage, window);
         let reading = reading_by(heap, window, is_full, extent)?;
         self.stage = stage;

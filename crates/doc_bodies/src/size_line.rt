@@ -1,14 +1,15 @@
 //! The line in front of a chunk, which says its size.
 
-ghost use Rattle.std.specs.Prelude.{◌≡◌, ◌<◌, ◌≤◌, ◌+◌, take, drop, length, true, IfSome};
-ghost use Rattle.std.specs.List.{prefix_len};
+ghost use Rattle.std.specs.Prelude.{◌≡◌, ◌<◌, ◌≤◌, ◌+◌, take, drop, length, true, IfSome, not, ◌||◌, ◌==◌};
+ghost use Rattle.std.specs.List.{list_all, prefix_len};
 ghost use Rattle.std.specs.Char.{is_ascii_hexdigit};
-ghost use Rattle.doc_bodies.specs.Chunks.{line_end, size_of as size_by, size_line as line_at, is_extension as extension_test};
+ghost use Rattle.doc_bodies.specs.Chunks.{line_end, size_of as size_by, size_line as line_at, is_extension as extension_test, begins_extension as begins_by};
 ghost use Rattle.doc_bodies.specs.Knowledge.{IsSearched};
 ghost use Rattle.doc_bodies.specs.StageSteps.{IsLineWithin};
 
 use crate::digits::hexadecimal;
 use crate::finding::find;
+use crate::slices::front;
 
 /// How many bytes a size line may take, with its CR LF.
 pub const LINE_LIMIT: usize = 256;
@@ -29,7 +30,7 @@ pub fn size_line(text: &[u8], searched: usize) -> SizeLine
     ensures line { result ≡ line_at text.now }
     ensures within { IsLineWithin (length text.now) result }
 {
-    let front = &text[..text.len().min(LINE_LIMIT)];
+    let front = front(text, LINE_LIMIT);
     match find(b"\r\n", front, searched) {
         Some(len) => match size_of(&front[..len]) {
             Some(size) => SizeLine::Size { len: len + 2, size },
@@ -68,9 +69,17 @@ fn is_extension(text: &[u8]) -> bool
     let Some((first, rest)) = text.split_first() else {
         return true;
     };
-    matches!(*first, b';' | b' ' | b'\t') && has_no_line_end(rest)
+    begins_extension(*first) && has_no_line_end(rest)
 }
 
-fn has_no_line_end(text: &[u8]) -> bool {
-    !text.iter().any(|byte| *byte == b'\r' || *byte == b'\n')
+fn begins_extension(byte: u8) -> bool
+    ensures { result ≡ begins_by byte }
+{
+    byte == b';' || byte == b' ' || byte == b'\t'
+}
+
+fn has_no_line_end(text: &[u8]) -> bool
+    ensures { result ≡ list_all (λ byte. not (byte == 13 || byte == 10)) text.now }
+{
+    text.iter().all(|byte| !(*byte == b'\r' || *byte == b'\n'))
 }

@@ -1,6 +1,6 @@
 //! How far the reading of an encoded body came.
 
-ghost use Rattle.std.specs.Prelude.{◌≡◌, ◌<◌, ◌≤◌, ◌+◌, ◌-◌, length, drop, false, nat_eq, eqb};
+ghost use Rattle.std.specs.Prelude.{◌≡◌, ◌<◌, ◌+◌, ◌^◌};
 ghost use Rattle.doc_bodies.specs.Chunks.{extent_of};
 ghost use Rattle.doc_bodies.specs.Knowledge.{Knows};
 ghost use Rattle.doc_bodies.specs.StageSteps.{IsStep, IsAdvance, step_behind_line};
@@ -104,6 +104,7 @@ fn at_line(start: usize, searched: usize, total: usize, window: &[u8]) -> Step
 }
 
 // What stands behind a size line.
+#[tactic(auto, unfolding(crate::specs::Framings::body_limit))]
 fn behind_line(start: usize, size: usize, total: usize) -> Step
     requires { total + size < 2 ^ 64 }
     ensures { result ≡ step_behind_line start size total }
@@ -123,6 +124,7 @@ fn behind_line(start: usize, size: usize, total: usize) -> Step
 }
 
 // What a chunk's data, and the two bytes behind them, come to.
+#[tactic(auto, unfolding(crate::specs::Framings::body_limit))]
 fn at_data(start: usize, size: usize, total: usize, window: &[u8]) -> Step
     requires { Knows (stages.Data start size total) window.now }
     ensures { IsStep window.now (stages.Data start size total) result }
