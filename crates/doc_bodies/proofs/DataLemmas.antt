@@ -2,7 +2,7 @@
 use Rattle.std.proofs.Common.{◌≡◌, ℕ, zero, suc, ◌+◌, ◌-◌, ◌<◌, ◌≤◌, ◌==◌, Bool, true, false, List, [], ◌∷◌, ◌++◌, length, take, drop, refl, ap, sym, ◌∙◌, subst, arith, nat_eq, length-drop}
 use Rattle.std.specs.Prelude.{Option, Some, None, nat_lt, ⊤, if◌then◌else◌}
 use Rattle.std.specs.List.{starts_with}
-use Rattle.std.proofs.lemmas.Bool.{ltb-false}
+use Rattle.std.proofs.lemmas.Bool.{ltb-false, eq-eqb, ne_eqb}
 use Rattle.doc_bodies.specs.declared.extent.Extent.{Extent}
 use Rattle.doc_bodies.specs.declared.extent.Extent.TheVariants.{More, Fault, Whole}
 use Rattle.doc_bodies.specs.declared.fault.Fault.TheVariants as faults
@@ -39,6 +39,30 @@ unfolding data_in
 one_chunk text =
     data_line_same (λ t. data_in (length text) t) (λ t. data_of t) text (size_line text) (line_fits text)
     (λ rest less. data_fuel_same (length text) (suc (length rest)) rest less (omega arith))
+
+-- no chunk stands at the front
+pub no_chunk : (text : List ℕ) (line : SizeLine) → line ≡ size_line text → ((len size : ℕ) → ¬ (line ≡ Size len size)) → data_of text ≡ []
+no_chunk text line is none = one_chunk text ∙ ap (λ found. data_after (λ t. data_of t) text found) (sym is) ∙ by_line line none
+  where
+    by_line : (line : SizeLine) → ((len size : ℕ) → ¬ (line ≡ Size len size)) → data_after (λ t. data_of t) text line ≡ []
+    by_line Unfinished no = refl
+    by_line Malformed no = refl
+    by_line (Size len size) no = absurd (no len size refl)
+
+sized_chunk : (text : List ℕ) (len size : ℕ) (t : Bool) → Size len size ≡ size_line text → (size == 0) ≡ t
+    → data_of text ≡ (if t then [] else take size (drop len text) ++ data_of (drop (size + 2) (drop len text)))
+sized_chunk text len size t is test =
+    one_chunk text ∙ ap (λ found. data_after (λ t. data_of t) text found) (sym is)
+    ∙ ap (λ (t : Bool). if t then [] else take size (drop len text) ++ data_of (drop (size + 2) (drop len text))) test
+
+pub last_chunk : (text : List ℕ) (len size : ℕ) → Size len size ≡ size_line text → size ≡ 0 → data_of text ≡ []
+last_chunk text len size is zero = sized_chunk text len size true is (eq-eqb _ _ zero)
+
+pub first_chunk : (text rest chunk left : List ℕ) (len size : ℕ) → Size len size ≡ size_line text → (size ≡ 0 → ⊥) → rest ≡ drop len text → chunk ≡ take size rest → left ≡ drop (size + 2) rest
+    → (data_of text ≡ chunk ++ data_of left) × (length left < length text)
+first_chunk text rest chunk left len size is some rest_is chunk_is left_is =
+    let fits : LineFits (length text) (Size len size) = subst (λ found. LineFits (length text) found) (sym is) (line_fits text) in
+    rw (left_is, chunk_is, rest_is) (sized_chunk text len size false is (ne_eqb _ _ some), omega (arith, fits.0, fits.1, length-drop (size + 2) (drop len text), length-drop len text))
 
 -- ---- what stays
 

@@ -1,7 +1,9 @@
 pub mod DataLemmas
 pub mod DigitLemmas
 mod Examples
+pub mod FieldLemmas
 pub mod ExtentLemmas
 pub mod LawLemmas
 pub mod PlaceLemmas
+pub mod SizeLemmas
 pub mod StageLemmas

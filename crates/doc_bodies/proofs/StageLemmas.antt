@@ -181,3 +181,14 @@ trailer_waits start searched total window known none =
         let grows = behind_grows start window more known.0.0 in
         let found : IsSearched blank_line (length (drop start window) - 3) (drop start window ++ grows.0) = searched_more blank_line (drop start window) grows.0 (length (drop start window) - 3) (no_trailer (drop start window) none) (omega arith) (omega arith) in
         subst (λ z. IsSearched blank_line (length (drop start window) - 3) z) (sym grows.1) found
+
+-- ---- from the first byte on
+
+pub knows_first : (bytes : List ℕ) → Knows (Line 0 0 0) bytes
+unfolding body_limit
+knows_first bytes = ((omega arith, omega arith), λ more. (refl, searched_none line_end (take 256 (bytes ++ more))))
+
+-- the two bytes behind the data, as they were looked at
+pub begins_so : (start size : ℕ) (window text rest : List ℕ) (t : Bool) → text ≡ drop start window → rest ≡ drop size text → t ≡ starts_with nat_eq rest line_end
+    → starts_with nat_eq (drop size (drop start window)) line_end ≡ t
+begins_so start size window text rest t text_is rest_is value = sym (value ∙ ap (λ z. starts_with nat_eq z line_end) (rest_is ∙ ap (drop size) text_is))

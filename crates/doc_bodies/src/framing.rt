@@ -3,6 +3,7 @@
 ghost use Rattle.std.specs.Prelude.{◌≡◌, ◌++◌, ◌∷◌, [], List, ℕ, codes};
 ghost use Rattle.std.specs.List.{list_all};
 ghost use Rattle.std.specs.Char.{is_ascii_digit};
+ghost use Rattle.std.specs.Str.{str_eq_ignore_ascii_case};
 ghost use Rattle.doc_bodies.specs.Framings.{framing_by, sized_by, coding_of, coding_in, length_of, length_in, is_number, values_named, Fields};
 
 use crate::digits::length_of_digits;
@@ -44,7 +45,7 @@ impl Coding {
         ensures { (fields : Fields) → self ≡ coding_of (values_named (codes "transfer-encoding") fields)
             → result ≡ coding_of (values_named (codes "transfer-encoding") (fields ++ (name.now, value.now) ∷ [])) }
     {
-        if name.eq_ignore_ascii_case(b"transfer-encoding") {
+        if is_named(name, b"transfer-encoding") {
             self.with(value)
         } else {
             self
@@ -68,7 +69,7 @@ impl Length {
         ensures { (fields : Fields) → self ≡ length_of (values_named (codes "content-length") fields)
             → result ≡ length_of (values_named (codes "content-length") (fields ++ (name.now, value.now) ∷ [])) }
     {
-        if name.eq_ignore_ascii_case(b"content-length") {
+        if is_named(name, b"content-length") {
             self.with(value)
         } else {
             self
@@ -84,6 +85,13 @@ impl Length {
             _ => Length::Malformed,
         }
     }
+}
+
+// Whether a field of this name has the wanted one, which is compared without case.
+fn is_named(name: &[u8], wanted: &[u8]) -> bool
+    ensures { result ≡ str_eq_ignore_ascii_case name.now wanted.now }
+{
+    name.eq_ignore_ascii_case(wanted)
 }
 
 // What one Transfer-Encoding field says.

@@ -10,6 +10,7 @@ use crate::extent::Extent;
 use crate::fault::Fault;
 use crate::framing::BODY_LIMIT;
 use crate::size_line::{SizeLine, size_line};
+use crate::slices::behind;
 use crate::trailer::trailer_len;
 
 /// How far the reading of an encoded body came: what is next in it, where that begins, and the sum of the sizes
@@ -91,7 +92,7 @@ fn at_line(start: usize, searched: usize, total: usize, window: &[u8]) -> Step
     requires { Knows (stages.Line start searched total) window.now }
     ensures { IsStep window.now (stages.Line start searched total) result }
 {
-    let text = &window[start..];
+    let text = behind(window, start);
     match size_line(text, searched) {
         SizeLine::Unfinished => Step::Waiting(Stage::Line {
             start,
@@ -129,11 +130,11 @@ fn at_data(start: usize, size: usize, total: usize, window: &[u8]) -> Step
     requires { Knows (stages.Data start size total) window.now }
     ensures { IsStep window.now (stages.Data start size total) result }
 {
-    let text = &window[start..];
+    let text = behind(window, start);
     if text.len() < size + 2 {
         return Step::Waiting(Stage::Data { start, size, total });
     }
-    if text[size..].starts_with(b"\r\n") {
+    if behind(text, size).starts_with(b"\r\n") {
         Step::On(Stage::Line {
             start: start + (size + 2),
             searched: 0,
@@ -149,7 +150,7 @@ fn at_trailer(start: usize, searched: usize, total: usize, window: &[u8]) -> Ste
     requires { Knows (stages.Trailer start searched total) window.now }
     ensures { IsStep window.now (stages.Trailer start searched total) result }
 {
-    let text = &window[start..];
+    let text = behind(window, start);
     match trailer_len(text, searched) {
         Some(len) => Step::Ended(Extent::Whole {
             used: start + len,
