@@ -45,9 +45,9 @@ pub no_chunk : (text : List ℕ) (line : SizeLine) → line ≡ size_line text �
 no_chunk text line is none = one_chunk text ∙ ap (λ found. data_after (λ t. data_of t) text found) (sym is) ∙ by_line line none
   where
     by_line : (line : SizeLine) → ((len size : ℕ) → ¬ (line ≡ Size len size)) → data_after (λ t. data_of t) text line ≡ []
-    by_line Unfinished no = refl
-    by_line Malformed no = refl
-    by_line (Size len size) no = absurd (no len size refl)
+    by_line Unfinished other = refl
+    by_line Malformed other = refl
+    by_line (Size len size) other = absurd (other len size refl)
 
 sized_chunk : (text : List ℕ) (len size : ℕ) (t : Bool) → Size len size ≡ size_line text → (size == 0) ≡ t
     → data_of text ≡ (if t then [] else take size (drop len text) ++ data_of (drop (size + 2) (drop len text)))
@@ -56,7 +56,7 @@ sized_chunk text len size t is test =
     ∙ ap (λ (t : Bool). if t then [] else take size (drop len text) ++ data_of (drop (size + 2) (drop len text))) test
 
 pub last_chunk : (text : List ℕ) (len size : ℕ) → Size len size ≡ size_line text → size ≡ 0 → data_of text ≡ []
-last_chunk text len size is zero = sized_chunk text len size true is (eq-eqb _ _ zero)
+last_chunk text len size is last = sized_chunk text len size true is (eq-eqb _ _ last)
 
 pub first_chunk : (text rest chunk left : List ℕ) (len size : ℕ) → Size len size ≡ size_line text → (size ≡ 0 → ⊥) → rest ≡ drop len text → chunk ≡ take size rest → left ≡ drop (size + 2) rest
     → (data_of text ≡ chunk ++ data_of left) × (length left < length text)

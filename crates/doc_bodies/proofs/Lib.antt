@@ -5,5 +5,6 @@ pub mod FieldLemmas
 pub mod ExtentLemmas
 pub mod LawLemmas
 pub mod PlaceLemmas
+pub mod ReaderLemmas
 pub mod SizeLemmas
 pub mod StageLemmas

@@ -39,5 +39,5 @@ unfoldable pub KnowsOf : BodyReader → List ℕ → Type 0
 KnowsOf reader bytes = Knows reader.stage (take encoded_limit bytes)
 
 -- the framing that a reader was made for
-unfoldable pub framing_of : BodyReader → Framing
+abbrev pub framing_of : BodyReader → Framing
 framing_of reader = reader.framing

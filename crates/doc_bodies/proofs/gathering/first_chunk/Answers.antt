@@ -8,7 +8,7 @@ pub size_line-requires : goal.size_line-requires
 size_line-requires c = searched_none line_end (take 256 c.args.text.now)
 
 pub returns-in_default : goal.returns-in_default
-returns-in_default c = (tt, λ _. no_chunk c.args.text.now c.size_line.result c.size_line.ensures.line c.in_default.not-Size)
+returns-in_default c = record { found = tt; last = λ _. no_chunk c.args.text.now c.size_line.result c.size_line.ensures.line c.in_default.not-Size }
 
 pub returns-then-size-eq0-clause-last : goal.returns-then-size-eq0-clause-last
 returns-then-size-eq0-clause-last c = λ _. last_chunk c.args.text.now c.in-Size.len c.in-Size.size c.in-Size.ensures.line c.if-size-eq0.true

@@ -4,10 +4,6 @@ use Rattle.doc_bodies.specs.Readings.{encoded_limit}
 use Rattle.doc_bodies.proofs.StageLemmas.{knows_first}
 use Rattle.doc_bodies.proofs.reader.BodyReader.new.Goals as goal
 
-pub returns-clause-framing : goal.returns-clause-framing
-unfolding framing_of
-returns-clause-framing c = refl
-
 pub returns-clause-knows : goal.returns-clause-knows
 unfolding KnowsOf
 returns-clause-knows c = λ bytes. knows_first (take encoded_limit bytes)
