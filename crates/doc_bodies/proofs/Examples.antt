@@ -1,6 +1,6 @@
 -- Worked examples: the definitions on literal bodies and heads.
 use Rattle.std.proofs.Common.{◌≡◌, ℕ, zero, suc, ◌&&◌, Bool, List, [], ◌∷◌, ◌++◌, true, false, codes, refl, take, replicate}
-use Rattle.std.specs.Prelude.{Some, None, Ok, Err}
+use Rattle.std.specs.Prelude.{Ok, Err}
 use Rattle.doc_bodies.specs.declared.extent.Extent.TheVariants as extent
 use Rattle.doc_bodies.specs.declared.fault.Fault.TheVariants.{Malformed, TooLarge, Unsupported}
 use Rattle.doc_bodies.specs.declared.framing.Framing.TheVariants.{Sized, Chunked}

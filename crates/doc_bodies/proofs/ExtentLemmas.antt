@@ -1,8 +1,8 @@
 -- How far an encoded body reaches: one step, and what more bytes don't change.
-use Rattle.std.proofs.Common.{◌≡◌, ℕ, zero, suc, ◌+◌, ◌-◌, ◌<◌, ◌≤◌, ◌==◌, Bool, true, false, List, [], ◌∷◌, ◌++◌, length, take, drop, refl, ap, sym, ◌∙◌, subst, arith, nat_eq, length-drop}
+use Rattle.std.proofs.Common.{◌≡◌, ℕ, zero, suc, ◌+◌, ◌-◌, ◌<◌, ◌≤◌, ◌==◌, Bool, true, false, List, [], ◌++◌, length, take, drop, refl, ap, sym, ◌∙◌, subst, arith, nat_eq, length-drop}
 use Rattle.std.specs.Prelude.{Option, Some, None, nat_le, nat_lt, ⊤, if◌then◌else◌}
 use Rattle.std.specs.List.{starts_with}
-use Rattle.std.proofs.lemmas.Bool.{ltb-false, le-ltb, le-leb}
+use Rattle.std.proofs.lemmas.Bool.{ltb-false, le-ltb}
 use Rattle.std.proofs.lemmas.List.{take_all, length-take, append-nil}
 use Rattle.std.proofs.Math.Seq.{take-append-add}
 use Rattle.doc_bodies.specs.declared.extent.Extent.{Extent}
@@ -11,7 +11,7 @@ use Rattle.doc_bodies.specs.declared.fault.Fault.TheVariants as faults
 use Rattle.doc_bodies.specs.declared.size_line.SizeLine.{SizeLine}
 use Rattle.doc_bodies.specs.declared.size_line.SizeLine.TheVariants.{Unfinished, Malformed, Size}
 use Rattle.doc_bodies.specs.Framings.{body_limit}
-use Rattle.doc_bodies.specs.Chunks.{line_end, blank_line, place_of, behind, size_of, line_by, line_in, size_line, trailer_len, trailed, Onward, after_data, after_size, after_line, extent_in, extent_from, extent_of, data_after, data_in, data_of}
+use Rattle.doc_bodies.specs.Chunks.{line_end, blank_line, place_of, behind, size_of, line_by, line_in, size_line, trailer_len, trailed, Onward, after_data, after_size, after_line, extent_in, extent_from, extent_of}
 use Rattle.doc_bodies.proofs.PlaceLemmas.{Grows, longer, take_same, drop_grows, starts_same, at_least, Within, place_within, Stays, place_grows}
 
 -- ---- size lines

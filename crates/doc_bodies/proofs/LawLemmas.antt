@@ -1,30 +1,27 @@
 -- The laws of what bytes behind a head come to.
-use Rattle.std.proofs.Common.{◌≡◌, ℕ, zero, suc, ◌+◌, ◌-◌, ◌<◌, ◌≤◌, ◌==◌, ◌||◌, not, Bool, true, false, List, [], ◌∷◌, ◌++◌, length, take, drop, refl, ap, sym, ◌∙◌, subst, arith, nat_eq, length-drop, T, codes}
+use Rattle.std.proofs.Common.{◌≡◌, ℕ, zero, suc, ◌+◌, ◌≤◌, ◌==◌, Bool, true, false, List, [], ◌∷◌, ◌++◌, length, take, drop, refl, ap, sym, ◌∙◌, subst, arith, nat_eq, length-drop, T, codes}
 use Rattle.std.specs.Prelude.{Option, Some, None, Result, Ok, Err, nat_le, nat_lt, ⊤, if◌then◌else◌}
 use Rattle.std.specs.List.{starts_with}
 use Rattle.std.proofs.lemmas.Bool.{ltb-false, le-ltb, le-leb}
-use Rattle.std.proofs.lemmas.List.{length-append, length-take, take-append-le, append_assoc}
+use Rattle.std.proofs.lemmas.List.{length-take}
 use Rattle.doc_bodies.specs.declared.extent.Extent.{Extent}
 use Rattle.doc_bodies.specs.declared.extent.Extent.TheVariants as extent
 use Rattle.doc_bodies.specs.declared.fault.Fault.{Fault as BodyFault}
 use Rattle.doc_bodies.specs.declared.fault.Fault.TheVariants as faults
-use Rattle.doc_bodies.specs.declared.framing.Coding.{Coding}
-use Rattle.doc_bodies.specs.declared.framing.Coding.TheVariants as coding
+use Rattle.doc_bodies.specs.declared.coding.Coding.{Coding}
+use Rattle.doc_bodies.specs.declared.coding.Coding.TheVariants as coding
 use Rattle.doc_bodies.specs.declared.framing.Framing.{Framing}
 use Rattle.doc_bodies.specs.declared.framing.Framing.TheVariants.{Sized, Chunked}
-use Rattle.doc_bodies.specs.declared.framing.Length.{Length}
-use Rattle.doc_bodies.specs.declared.framing.Length.TheVariants as length_says
-use Rattle.doc_bodies.specs.declared.reader.BodyReader.{BodyReader}
+use Rattle.doc_bodies.specs.declared.length.Length.{Length}
+use Rattle.doc_bodies.specs.declared.length.Length.TheVariants as length_says
 use Rattle.doc_bodies.specs.declared.reader.Reading.{Reading}
 use Rattle.doc_bodies.specs.declared.reader.Reading.TheVariants.{More, Fault, Whole}
 use Rattle.doc_bodies.specs.declared.size_line.SizeLine.{SizeLine}
 use Rattle.doc_bodies.specs.declared.size_line.SizeLine.TheVariants as line
 use Rattle.doc_bodies.specs.Chunks.{line_end, blank_line, size_line, behind, place_of, trailer_len, trailed, Onward, after_data, after_size, after_line, extent_in, extent_of, data_of}
 use Rattle.doc_bodies.specs.Framings.{body_limit, allowed, length_by, length_in, is_number, length_of, coding_of, sized_by, chunked_by, framing_by, framing_of, values_named}
-use Rattle.std.specs.List.{list_all}
-use Rattle.std.specs.Char.{is_ascii_digit}
 use Rattle.std.specs.Str.Parse.{digits_value}
-use Rattle.doc_bodies.specs.Knowledge.{Knows, KnowsOf}
+use Rattle.doc_bodies.specs.Knowledge.{KnowsOf}
 use Rattle.doc_bodies.specs.Laws.{StaysDecided, IsDecidedWithin, TakesBytes, StaysKnown}
 use Rattle.doc_bodies.specs.Readings.{encoded_limit, reading_by, reading_of}
 use Rattle.doc_bodies.proofs.DataLemmas.{DataStay, data_stay}

@@ -1,10 +1,10 @@
 -- Where a text first has a needle.
-use Rattle.std.proofs.Common.{◌≡◌, ℕ, suc, zero, ◌+◌, ◌-◌, ◌<◌, ◌≤◌, Bool, true, false, List, [], ◌∷◌, ◌++◌, Option, Some, None, cond, length, take, drop, get_or, refl, sym, ap, subst, ◌∙◌, arith, nat_eq, length-drop, drop-drop}
+use Rattle.std.proofs.Common.{◌≡◌, ℕ, suc, zero, ◌+◌, ◌-◌, ◌<◌, ◌≤◌, Bool, true, false, List, [], ◌∷◌, ◌++◌, Option, Some, None, cond, length, take, drop, get_or, refl, sym, ap, subst, ◌∙◌, arith, nat_eq}
 use Rattle.std.specs.Prelude.{⊤}
 use Rattle.std.specs.Cmp.Lexicographic.{pointwise}
 use Rattle.std.specs.List.{starts_with}
 use Rattle.std.proofs.lemmas.Bool.{and_parts}
-use Rattle.std.proofs.lemmas.List.{drop_more, length-take, length-append, take-append-le, drop-append-le}
+use Rattle.std.proofs.lemmas.List.{drop_more, length-append, take-append-le, drop-append-le}
 use Rattle.doc_bodies.specs.Chunks.{place_of, behind}
 use Rattle.doc_bodies.specs.Knowledge.{IsSearched}
 

@@ -1,5 +1,5 @@
 -- What the reader of a body answers.
-use Rattle.std.proofs.Common.{◌≡◌, ℕ, Bool, List, length, take, refl, ap, subst, sym, ◌∙◌}
+use Rattle.std.proofs.Common.{◌≡◌, ℕ, Bool, List, length, take, refl}
 use Rattle.std.specs.Prelude.{nat_le, Result, Ok, Err, OnErr}
 use Rattle.doc_bodies.specs.declared.extent.Extent.{Extent}
 use Rattle.doc_bodies.specs.declared.framing.Framing.TheVariants.{Chunked}

@@ -1,10 +1,9 @@
 -- Size lines.
-use Rattle.std.proofs.Common.{◌≡◌, ℕ, suc, ◌+◌, ◌<◌, ◌≤◌, ◌&&◌, Bool, true, false, cond, List, [], ◌∷◌, length, take, refl, sym, ap, subst, ◌∙◌, arith}
+use Rattle.std.proofs.Common.{◌≡◌, ℕ, suc, ◌+◌, ◌<◌, ◌≤◌, Bool, true, false, cond, List, [], ◌∷◌, length, take, refl, sym, ap, subst, ◌∙◌, arith}
 use Rattle.std.specs.Prelude.{None, nat_le, if◌then◌else◌}
 use Rattle.std.specs.List.{list_all, prefix_len}
 use Rattle.std.proofs.lemmas.Bool.{lt-leb, and_from}
 use Rattle.std.proofs.lemmas.List.{length-take}
-use Rattle.doc_bodies.specs.declared.size_line.SizeLine.{SizeLine}
 use Rattle.doc_bodies.specs.declared.size_line.SizeLine.TheVariants.{Unfinished, Malformed}
 use Rattle.doc_bodies.specs.Chunks.{line_end, place_of, line_in, size_line}
 

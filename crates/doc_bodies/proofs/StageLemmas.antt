@@ -1,10 +1,9 @@
 -- What a stage of reading an encoded body comes to.
-use Rattle.std.proofs.Common.{◌≡◌, ℕ, zero, suc, ◌+◌, ◌-◌, ◌<◌, ◌≤◌, ◌==◌, Bool, true, false, List, [], ◌∷◌, ◌++◌, length, take, drop, refl, ap, sym, ◌∙◌, subst, arith, nat_eq, length-drop, drop-drop}
-use Rattle.std.specs.Prelude.{Option, Some, None, nat_le, nat_lt, ⊤, if◌then◌else◌}
+use Rattle.std.proofs.Common.{◌≡◌, ℕ, ◌+◌, ◌-◌, ◌<◌, ◌≤◌, ◌==◌, Bool, true, false, List, [], ◌++◌, length, take, drop, refl, ap, sym, ◌∙◌, subst, arith, nat_eq, length-drop, drop-drop}
+use Rattle.std.specs.Prelude.{Option, Some, None, nat_le, nat_lt, if◌then◌else◌}
 use Rattle.std.specs.List.{starts_with}
 use Rattle.std.proofs.lemmas.Bool.{ltb-false, le-ltb, lt-ltb, leb-false}
-use Rattle.std.proofs.lemmas.List.{append_assoc, append-nil, length-append, length-take, take_all, drop-append-le}
-use Rattle.doc_bodies.specs.declared.extent.Extent.{Extent}
+use Rattle.std.proofs.lemmas.List.{append_assoc, append-nil, length-take, take_all}
 use Rattle.doc_bodies.specs.declared.extent.Extent.TheVariants.{More, Fault, Whole}
 use Rattle.doc_bodies.specs.declared.fault.Fault.TheVariants as faults
 use Rattle.doc_bodies.specs.declared.size_line.SizeLine.{SizeLine}
@@ -16,8 +15,8 @@ use Rattle.doc_bodies.specs.Framings.{body_limit}
 use Rattle.doc_bodies.specs.Chunks.{line_end, blank_line, place_of, behind, size_of, line_by, line_in, size_line, trailer_len, trailed, after_data, after_size, after_line, extent_from, extent_of}
 use Rattle.doc_bodies.specs.Knowledge.{IsSearched, IsInside, LeadsOn, Knows}
 use Rattle.doc_bodies.specs.StageSteps.{IsStep, step_behind_line}
-use Rattle.doc_bodies.proofs.PlaceLemmas.{Grows, longer, take_same, drop_grows, starts_same, searched_more, searched_none}
-use Rattle.doc_bodies.proofs.ExtentLemmas.{take_grows, LineFits, LineStays, line_fits, line_grows, one_line, trailer_grows}
+use Rattle.doc_bodies.proofs.PlaceLemmas.{Grows, longer, drop_grows, starts_same, searched_more, searched_none}
+use Rattle.doc_bodies.proofs.ExtentLemmas.{take_grows, LineFits, LineStays, line_fits, line_grows, one_line}
 
 -- ---- with more bytes
 

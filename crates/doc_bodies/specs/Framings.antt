@@ -1,5 +1,5 @@
 -- How a head frames the body behind it (RFC 9112, section 6).
-use Rattle.std.specs.Prelude.{◌≡◌, ℕ, ◌&&◌, ◌==◌, not, Bool, true, false, List, [], ◌∷◌, Option, Some, None, Result, Ok, Err, length, map, filter, nat_lt, codes, if◌then◌else◌}
+use Rattle.std.specs.Prelude.{◌≡◌, ℕ, ◌&&◌, ◌==◌, not, Bool, false, List, [], ◌∷◌, Option, Some, None, Result, Ok, Err, length, map, filter, nat_lt, codes, if◌then◌else◌}
 use Rattle.std.specs.List.{list_all}
 use Rattle.std.specs.Char.{is_ascii_digit}
 use Rattle.std.specs.Str.{str_eq_ignore_ascii_case}
@@ -7,12 +7,12 @@ use Rattle.std.specs.Str.Parse.{digits_value}
 use Rattle.doc_bodies.specs.declared.fault.Fault.{Fault}
 use Rattle.doc_bodies.specs.declared.fault.Fault.TheVariants as faults
 use Rattle.doc_bodies.specs.declared.fields.FramingFields.{FramingFields}
-use Rattle.doc_bodies.specs.declared.framing.Coding.{Coding}
-use Rattle.doc_bodies.specs.declared.framing.Coding.TheVariants as coding
+use Rattle.doc_bodies.specs.declared.coding.Coding.{Coding}
+use Rattle.doc_bodies.specs.declared.coding.Coding.TheVariants as coding
 use Rattle.doc_bodies.specs.declared.framing.Framing.{Framing}
 use Rattle.doc_bodies.specs.declared.framing.Framing.TheVariants as framing
-use Rattle.doc_bodies.specs.declared.framing.Length.{Length}
-use Rattle.doc_bodies.specs.declared.framing.Length.TheVariants as length_says
+use Rattle.doc_bodies.specs.declared.length.Length.{Length}
+use Rattle.doc_bodies.specs.declared.length.Length.TheVariants as length_says
 
 -- the names of fields, each with its value
 abbrev pub Fields : Type 0

@@ -1,7 +1,5 @@
 -- What a reader knows of the bytes that it saw.
-use Rattle.std.specs.Prelude.{◌≡◌, ◌<◌, ◌≤◌, ⊤, ℕ, ◌+◌, List, [], ◌++◌, length, take, drop, Option, Some, None}
-use Rattle.doc_bodies.specs.declared.extent.Extent.{Extent}
-use Rattle.doc_bodies.specs.declared.extent.Extent.TheVariants as extent
+use Rattle.std.specs.Prelude.{◌≡◌, ◌≤◌, ℕ, List, ◌++◌, length, take, drop}
 use Rattle.doc_bodies.specs.declared.framing.Framing.{Framing}
 use Rattle.doc_bodies.specs.declared.reader.BodyReader.{BodyReader}
 use Rattle.doc_bodies.specs.declared.stage.Stage.{Stage}

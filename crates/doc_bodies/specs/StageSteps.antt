@@ -1,5 +1,5 @@
 -- What a step of reading an encoded body says; words of proofs only.
-use Rattle.std.specs.Prelude.{◌≡◌, ◌<◌, ◌≤◌, ⊤, ℕ, ◌+◌, ◌++◌, ◌==◌, List, [], length, take, drop, nat_lt, Option, Some, None, if◌then◌else◌}
+use Rattle.std.specs.Prelude.{◌≡◌, ◌<◌, ◌≤◌, ⊤, ℕ, ◌+◌, ◌==◌, List, nat_lt, if◌then◌else◌}
 use Rattle.doc_bodies.specs.declared.extent.Extent.{Extent}
 use Rattle.doc_bodies.specs.declared.extent.Extent.TheVariants as extent
 use Rattle.doc_bodies.specs.declared.fault.Fault.TheVariants as faults
@@ -10,7 +10,7 @@ use Rattle.doc_bodies.specs.declared.stage.Stage.TheVariants.{Line, Data, Traile
 use Rattle.doc_bodies.specs.declared.stage.Step.{Step}
 use Rattle.doc_bodies.specs.declared.stage.Step.TheVariants.{On, Waiting, Ended}
 use Rattle.doc_bodies.specs.Framings.{body_limit}
-use Rattle.doc_bodies.specs.Chunks.{extent_of, data_of}
+use Rattle.doc_bodies.specs.Chunks.{extent_of}
 use Rattle.doc_bodies.specs.Knowledge.{Knows}
 
 -- where a stage begins

@@ -1,10 +1,12 @@
 //! The fields of a head that frame its body.
 
 ghost use Rattle.std.specs.Prelude.{◌≡◌, ◌++◌, ◌∷◌, [], List, ℕ};
-ghost use Rattle.doc_bodies.specs.Framings.{framing_of, Fields, Saw};
+ghost use Rattle.doc_bodies.specs.Framings.{framing_of, framing_by, sized_by, Fields, Saw};
 
+use crate::coding::Coding;
 use crate::fault::Fault;
-use crate::framing::{Coding, Framing, Length, framing_by};
+use crate::framing::Framing;
+use crate::length::Length;
 
 /// What the fields of a head that were seen so far say of its body.
 #[derive(Clone, Copy)]
@@ -44,5 +46,32 @@ impl FramingFields {
         ensures { (fields : Fields) → Saw self.now fields → result ≡ framing_of is_old fields }
     {
         framing_by(is_old, self.coding, self.length)
+    }
+}
+
+// How the body is framed, by what the fields say and by whether the request is of HTTP/1.0.
+fn framing_by(is_old: bool, coding: Coding, length: Length) -> Result<Framing, Fault>
+    ensures { result ≡ framing_by is_old coding length }
+{
+    match coding {
+        Coding::Other => Err(Fault::Unsupported),
+        Coding::Chunked if is_old => Err(Fault::Malformed),
+        Coding::Chunked => match length {
+            Length::Absent => Ok(Framing::Chunked),
+            _ => Err(Fault::Malformed),
+        },
+        Coding::Absent => sized_by(length),
+    }
+}
+
+// The framing without a transfer coding.
+fn sized_by(length: Length) -> Result<Framing, Fault>
+    ensures { result ≡ sized_by length }
+{
+    match length {
+        Length::Absent => Ok(Framing::Sized(0)),
+        Length::Known(size) => Ok(Framing::Sized(size)),
+        Length::TooLarge => Err(Fault::TooLarge),
+        Length::Malformed => Err(Fault::Malformed),
     }
 }

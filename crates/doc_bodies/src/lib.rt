@@ -2,6 +2,7 @@
 //! without a second look at those that came before.
 #![tactic(auto)]
 
+mod coding;
 mod digits;
 mod extent;
 pub mod fault;
@@ -10,6 +11,8 @@ mod finding;
 pub mod framing;
 mod gathering;
 pub mod laws;
+mod length;
+mod names;
 pub mod reader;
 mod size_line;
 mod slices;

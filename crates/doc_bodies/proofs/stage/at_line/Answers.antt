@@ -1,5 +1,5 @@
-use Rattle.std.proofs.Common.{◌≡◌, ◌+◌, ◌-◌, arith, ap, sym, subst, ◌∙◌, length, take, drop}
-use Rattle.doc_bodies.specs.declared.size_line.SizeLine.TheVariants.{Unfinished, Malformed, Size}
+use Rattle.std.proofs.Common.{◌≡◌, ◌-◌, arith, ap, sym, subst, ◌∙◌, length, take, drop}
+use Rattle.doc_bodies.specs.declared.size_line.SizeLine.TheVariants.{Unfinished}
 use Rattle.doc_bodies.specs.declared.stage.Stage.TheVariants.{Line}
 use Rattle.doc_bodies.specs.declared.stage.Step.TheVariants.{Waiting}
 use Rattle.doc_bodies.specs.Chunks.{line_end, size_line}

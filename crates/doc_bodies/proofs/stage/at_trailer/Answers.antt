@@ -1,5 +1,5 @@
 use Rattle.std.proofs.Common.{◌≡◌, ◌-◌, ap, sym, subst, ◌∙◌, length, drop}
-use Rattle.std.specs.Prelude.{Some, None}
+use Rattle.std.specs.Prelude.{None}
 use Rattle.doc_bodies.specs.declared.stage.Stage.TheVariants.{Trailer}
 use Rattle.doc_bodies.specs.declared.stage.Step.TheVariants.{Waiting}
 use Rattle.doc_bodies.specs.Chunks.{blank_line, trailer_len}

@@ -1,5 +1,5 @@
-use Rattle.std.proofs.Common.{refl, take}
-use Rattle.doc_bodies.specs.Knowledge.{framing_of, KnowsOf}
+use Rattle.std.proofs.Common.{take}
+use Rattle.doc_bodies.specs.Knowledge.{KnowsOf}
 use Rattle.doc_bodies.specs.Readings.{encoded_limit}
 use Rattle.doc_bodies.proofs.StageLemmas.{knows_first}
 use Rattle.doc_bodies.proofs.reader.BodyReader.new.Goals as goal

@@ -1,4 +1,4 @@
-use Rattle.std.proofs.Common.{◌≡◌, ◌∙◌, refl, ap, sym, subst, length, nat_le}
+use Rattle.std.proofs.Common.{◌∙◌, refl, sym, subst, length, nat_le}
 use Rattle.doc_bodies.specs.declared.framing.Framing.TheVariants.{Chunked}
 use Rattle.doc_bodies.specs.Knowledge.{Knows, KnowsOf}
 use Rattle.doc_bodies.specs.Readings.{encoded_limit, reading_of, IsWhole}
