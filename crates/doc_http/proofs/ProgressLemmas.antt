@@ -78,9 +78,10 @@ bad_behind text None end rest bad = refl
 bad_behind text (Some head) end rest bad = sym (ap (λ t. if t then next.Fault 400 false else next_with head.method head.target head.minor (fields_of head) end rest) bad)
 
 module _ (bytes : List ℕ) (start end : ℕ) (lies : head_span_of bytes ≡ At start end) where
-  pub bad_head : (read : Option RequestHead) → IsRead (slice_range bytes start end) read → is_bad (slice_range bytes start end) read ≡ true → IsNext bytes (next.Fault 400 false)
-  bad_head read is bad =
-      next_by_span bytes (At start end) lies read is (next.Fault 400 false) (bad_behind (slice_range bytes start end) read end (drop end bytes) bad)
+  pub bad_head : (read : Option RequestHead) → IsRead (slice_range bytes start end) read → is_bad (slice_range bytes start end) read ≡ true
+      → (found : Next) → found ≡ next.Fault 400 false → IsNext bytes found
+  bad_head read is bad found e =
+      next_by_span bytes (At start end) lies read is found (e ∙ bad_behind (slice_range bytes start end) read end (drop end bytes) bad)
 
   pub good_head : (head : RequestHead) → IsHead (slice_range bytes start end) head → (found : Next)
       → found ≡ next_behind (slice_range bytes start end) (Some head) end (drop end bytes) → IsNext bytes found

@@ -76,19 +76,11 @@ fn find_in(front: &[u8], full: bool, search: HeadSearch) -> (HeadSpan, HeadSearc
             (HeadSpan::At { start, end }, search)
         }
         None if full => (HeadSpan::TooLong, search),
-        None => (HeadSpan::Unfinished, searched_whole(start, text)),
-    }
-}
-
-// The search that came to the end of the text behind the empty lines: a CR LF CR LF may still begin in
-// its last three bytes.
-fn searched_whole(start: usize, text: &[u8]) -> HeadSearch
-    ensures start { result.start ≡ start }
-    ensures searched { result.searched ≡ length text.now - 3 }
-{
-    HeadSearch {
-        start,
-        searched: text.len().saturating_sub(3),
+        None => {
+            // A CR LF CR LF may still begin in the last three bytes.
+            let searched = text.len().saturating_sub(3);
+            (HeadSpan::Unfinished, HeadSearch { start, searched })
+        }
     }
 }
 

@@ -1,11 +1,12 @@
 //! How far the reading of unread bytes came.
 
-ghost use Rattle.std.specs.Prelude.{◌≡◌, ℕ, List, take, IfOk, OnErr};
+ghost use Rattle.std.specs.Prelude.{◌≡◌, ℕ, List, take, false, IfOk, OnErr};
 ghost use Rattle.doc_http.specs.Heads.{head_limit, head_span_of};
 ghost use Rattle.doc_http.specs.Knowledge.{CameTo, IsAtBody, Knows};
 ghost use Rattle.doc_http.specs.ProgressSteps.{CameToReading};
 ghost use Rattle.doc_http.specs.Requests.{IsNext, BeginsWithRequest};
 ghost use Rattle.doc_http.specs.declared.head.HeadSpan.TheVariants as spans;
+ghost use Rattle.doc_http.specs.declared.request.Next.TheVariants as nexts;
 
 use crate::building::{framing_of, is_bare, next_read};
 use crate::head::{HeadSearch, HeadSpan, find_head, good_head_spans};
@@ -66,10 +67,7 @@ impl Progress {
                 *self = Progress::Head(search);
                 Ok(Next::More)
             }
-            HeadSpan::TooLong => Ok(Next::Fault {
-                code: 431,
-                bare: false,
-            }),
+            HeadSpan::TooLong => Ok(no_head(431)),
             HeadSpan::At { start, end } => self.at_head(heap, bytes, start, end),
         }
     }
@@ -91,10 +89,7 @@ impl Progress {
         let text = &bytes[start..end];
         let mut headers = [EMPTY_HEADER_SPAN; 64];
         let Some(spans) = good_head_spans(text, &mut headers) else {
-            return Ok(Next::Fault {
-                code: 400,
-                bare: false,
-            });
+            return Ok(no_head(400));
         };
         let headers = &headers[..spans.headers];
         match framing_of(text, headers, spans.version == 0) {
@@ -134,6 +129,13 @@ impl Progress {
             decided => finish(heap, bytes, start, end, decided),
         }
     }
+}
+
+// A fault of bytes whose head can't be read.
+fn no_head(code: u16) -> Next
+    ensures { result ≡ nexts.Fault code false }
+{
+    Next::Fault { code, bare: false }
 }
 
 // What bytes begin with whose good head lies there, by what the bytes behind it came to.

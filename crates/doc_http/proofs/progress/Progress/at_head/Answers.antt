@@ -18,7 +18,7 @@ slice_bounds-text-end c = omega (arith, places c.args.bytes.now c.args.start c.a
 pub returns-in_default-clause-found : goal.returns-in_default-clause-found
 returns-in_default-clause-found c =
     let missing = c.good_head_spans.ensures.missing c.in_default.is in
-    bad_head c.args.bytes.now c.args.start c.args.end c.requires.lies missing.0 missing.1 missing.2
+    bad_head c.args.bytes.now c.args.start c.args.end c.requires.lies missing.0 missing.1 missing.2 _ c.no_head.ensures
 
 pub returns-in-Err-clause-found : goal.returns-in-Err-clause-found
 returns-in-Err-clause-found c =
