@@ -1,5 +1,5 @@
 -- The codes of faults.
-use Rattle.std.proofs.Common.{ℕ, List, Bool, true, false, length, refl, sym, subst}
+use Rattle.std.proofs.Common.{ℕ, List, Bool, true, false, refl, sym, subst}
 use Rattle.std.specs.Prelude.{IsTrue, ⊤, ◌==◌, Option, Some, None, Result, Ok, Err, if◌then◌else◌, drop, slice_range}
 use Rattle.httparse.specs.Grammar.{RequestHead}
 use Rattle.doc_http.specs.Fields.{fields_of}

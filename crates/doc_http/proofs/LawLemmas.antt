@@ -1,7 +1,7 @@
 -- The laws of what bytes begin with.
-use Rattle.std.proofs.Common.{◌≡◌, ℕ, ◌+◌, ◌-◌, ◌≤◌, List, [], ◌++◌, Bool, true, false, length, take, drop, slice_range, refl, ap, sym, ◌∙◌, subst, arith, T, length-drop}
+use Rattle.std.proofs.Common.{◌≡◌, ℕ, ◌+◌, ◌-◌, ◌≤◌, List, [], ◌++◌, Bool, true, false, length, drop, slice_range, refl, ap, sym, ◌∙◌, subst, arith, T, length-drop}
 use Rattle.std.specs.Prelude.{◌==◌, Option, Some, None, Result, Ok, Err, ⊤, if◌then◌else◌}
-use Rattle.std.proofs.lemmas.List.{take-append-le, drop-append-le, length-append}
+use Rattle.std.proofs.lemmas.List.{take-append-le, drop-append-le}
 use Rattle.httparse.specs.Grammar.{RequestHead}
 use Rattle.httparse.proofs.GrammarLemmas.{request_unique}
 use Rattle.doc_http.specs.declared.head.HeadSpan.{HeadSpan}

@@ -1,6 +1,6 @@
 -- What is known of unread bytes, and what they begin with.
-use Rattle.std.proofs.Common.{◌≡◌, ℕ, ◌==◌, ◌+◌, ◌-◌, ◌<◌, ◌≤◌, ◌^◌, Bool, true, false, List, [], ◌++◌, Option, Some, None, length, take, drop, slice_range, refl, ap, sym, ◌∙◌, subst, arith, length-drop, length-append, append-nil, T}
-use Rattle.std.specs.Prelude.{Result, Ok, Err, OnErr, ⊤, if◌then◌else◌}
+use Rattle.std.proofs.Common.{◌≡◌, ℕ, ◌==◌, ◌-◌, ◌<◌, ◌≤◌, ◌^◌, true, false, List, [], ◌++◌, Option, Some, None, length, take, drop, slice_range, refl, ap, sym, ◌∙◌, subst, arith, length-drop, length-append, append-nil, T}
+use Rattle.std.specs.Prelude.{Result, Ok, Err, OnErr, if◌then◌else◌}
 use Rattle.std.proofs.lemmas.List.{drop-append-le, append_assoc, take_rest}
 use Rattle.httparse.proofs.GrammarLemmas.{request_unique}
 use Rattle.httparse.specs.Grammar.{RequestHead}
@@ -9,7 +9,7 @@ use Rattle.doc_bodies.specs.declared.reader.BodyReader.{BodyReader}
 use Rattle.doc_bodies.specs.declared.reader.Reading.{Reading}
 use Rattle.doc_bodies.specs.declared.reader.Reading.TheVariants.{More, Fault, Whole}
 use Rattle.doc_bodies.specs.Framings.{framing_of}
-use Rattle.doc_bodies.specs.Knowledge.{KnowsOf, framing_of as framing_for}
+use Rattle.doc_bodies.specs.Knowledge.{KnowsOf}
 use Rattle.doc_bodies.specs.Readings.{reading_of, IsWhole}
 use Rattle.doc_bodies.proofs.LawLemmas.{knows_more, takes_bytes}
 use Rattle.doc_http.specs.declared.head.HeadSearch.{HeadSearch}
@@ -17,7 +17,6 @@ use Rattle.doc_http.specs.declared.head.HeadSpan.{HeadSpan}
 use Rattle.doc_http.specs.declared.head.HeadSpan.TheVariants.{Unfinished, TooLong, At}
 use Rattle.doc_http.specs.declared.progress.Progress.{Progress}
 use Rattle.doc_http.specs.declared.progress.Progress.TheVariants.{Head, Body}
-use Rattle.doc_http.specs.declared.request.Request.{Request}
 use Rattle.doc_http.specs.declared.request.Next.{Next}
 use Rattle.doc_http.specs.declared.request.Next.TheVariants as next
 use Rattle.doc_http.specs.BuildingSteps.{EndsWithin}

@@ -1,5 +1,5 @@
 -- How many bytes a request takes: some, and no more than there are.
-use Rattle.std.proofs.Common.{◌≡◌, ℕ, ◌+◌, ◌≤◌, ◌==◌, ◌&&◌, ◌||◌, not, List, [], ◌∷◌, Bool, true, false, cond, length, take, drop, slice_range, refl, sym, ◌∙◌, subst, arith, nat_eq}
+use Rattle.std.proofs.Common.{◌≡◌, ℕ, ◌+◌, ◌≤◌, ◌==◌, List, [], ◌∷◌, Bool, true, false, cond, length, take, drop, slice_range, refl, sym, ◌∙◌, subst, arith, nat_eq}
 use Rattle.std.specs.Prelude.{Option, Some, None, Result, Ok, Err, nat_le, ⊤, if◌then◌else◌}
 use Rattle.std.specs.List.{starts_with}
 use Rattle.std.specs.Option.{option_map}
@@ -17,7 +17,7 @@ use Rattle.doc_http.specs.declared.request.Next.{Next}
 use Rattle.doc_http.specs.declared.request.Next.TheVariants as next
 use Rattle.doc_http.specs.Fields.{fields_of}
 use Rattle.doc_http.specs.Heads.{head_span_of, head_span_at, head_len, head_end, head_limit, skip_empty_lines}
-use Rattle.doc_http.specs.Requests.{is_bad, is_bare, request_with, next_read, next_framed, next_with, next_behind, next_at, request_of, IsNext}
+use Rattle.doc_http.specs.Requests.{is_bad, is_bare, request_with, next_read, next_framed, next_with, next_behind, next_at, request_of}
 use Rattle.doc_http.specs.Laws.{TakesBytes, EmptyIsUndecided}
 use Rattle.doc_http.proofs.LawLemmas.{uses_what_stands}
 

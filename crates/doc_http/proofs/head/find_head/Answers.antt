@@ -1,4 +1,4 @@
-use Rattle.std.proofs.Common.{arith, ap, sym, ◌∙◌, nat_le, length, subst, take, ◌++◌, refl}
+use Rattle.std.proofs.Common.{arith, ap, sym, ◌∙◌, nat_le, length, subst, ◌++◌, refl}
 use Rattle.std.proofs.lemmas.List.{take_all}
 use Rattle.doc_http.specs.Heads.{head_limit, head_span_in, head_span_of}
 use Rattle.doc_http.specs.Knowledge.{CameTo}

@@ -1,5 +1,4 @@
-use Rattle.std.proofs.Common.{◌≡◌, ◌||◌, true, Some, None, Option, not, sym, ap, ◌∙◌}
-use Rattle.doc_http.specs.Fields.{fields_of, has_good_counts}
+use Rattle.std.proofs.Common.{Some, sym}
 use Rattle.doc_http.proofs.ReadLemmas.{with_bare_line_feed, with_bad_counts}
 use Rattle.doc_http.proofs.head.good_head_spans.Goals as goal
 

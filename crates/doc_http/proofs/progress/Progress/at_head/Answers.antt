@@ -1,4 +1,4 @@
-use Rattle.std.proofs.Common.{Some, Ok, slice_range, sym, ap, ◌∙◌, subst, arith}
+use Rattle.std.proofs.Common.{Ok, slice_range, sym, ap, ◌∙◌, subst, arith}
 use Rattle.std.proofs.lemmas.Result.{IfOk-weaker, on_err_weaker}
 use Rattle.doc_http.specs.Requests.{IsNext, IsRequest}
 use Rattle.doc_http.proofs.ProgressLemmas.{bad_head, good_head, whole_begins, reading_found, reading_begins, ends_within, knows_body, at_rest, whole_rest, knows_rest, on_err}

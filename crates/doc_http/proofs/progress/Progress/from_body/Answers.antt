@@ -1,6 +1,5 @@
-use Rattle.std.proofs.Common.{Some, Ok, refl, sym, ap, ◌∙◌, subst, arith}
+use Rattle.std.proofs.Common.{Ok, refl, sym, ap, ◌∙◌, arith}
 use Rattle.doc_bodies.specs.Knowledge.{framing_of as framing_for}
-use Rattle.doc_http.specs.Knowledge.{IsAtBody, Knows}
 use Rattle.doc_http.specs.declared.request.Next.TheVariants as next
 use Rattle.doc_http.proofs.ProgressLemmas.{whole_begins, reading_found, knows_body, at_rest, whole_rest, knows_rest, on_err}
 use Rattle.doc_http.proofs.SpanLemmas.{places}

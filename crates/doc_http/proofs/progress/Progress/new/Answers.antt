@@ -1,4 +1,3 @@
-use Rattle.doc_http.specs.Knowledge.{Knows}
 use Rattle.doc_http.proofs.ProgressLemmas.{knows_head}
 use Rattle.doc_http.proofs.progress.Progress.new.Goals as goal
 
