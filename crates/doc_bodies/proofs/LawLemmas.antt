@@ -92,15 +92,15 @@ knows_more reader bytes more knows =
 -- ---- what decides
 
 -- a length that is allowed
-abbrev Fits : Framing → Type 0
+abbrev pub Fits : Framing → Type 0
 Fits (Sized size) = size ≤ body_limit
 Fits Chunked = ⊤
 
-abbrev LengthFits : Length → Type 0
+abbrev pub LengthFits : Length → Type 0
 LengthFits (length_says.Known size) = size ≤ body_limit
 LengthFits other = ⊤
 
-abbrev AnswerFits : Result Framing BodyFault → Type 0
+abbrev pub AnswerFits : Result Framing BodyFault → Type 0
 AnswerFits (Ok framing) = Fits framing
 AnswerFits (Err fault) = ⊤
 
@@ -115,7 +115,7 @@ length_in_fits value = by_test (is_number value)
     by_test false = tt
     by_test true = allowed_fits (digits_value 10 value) (nat_lt body_limit (digits_value 10 value)) refl
 
-length_fits : (values : List (List ℕ)) → LengthFits (length_of values)
+pub length_fits : (values : List (List ℕ)) → LengthFits (length_of values)
 length_fits [] = tt
 length_fits (value ∷ []) = length_in_fits value
 length_fits (value ∷ other ∷ rest) = tt
@@ -136,7 +136,7 @@ chunked_fits false (length_says.Known n) = tt
 chunked_fits false length_says.TooLarge = tt
 chunked_fits false length_says.Malformed = tt
 
-framing_fits : (is_old : Bool) (says : Coding) (len : Length) → LengthFits len → AnswerFits (framing_by is_old says len)
+pub framing_fits : (is_old : Bool) (says : Coding) (len : Length) → LengthFits len → AnswerFits (framing_by is_old says len)
 framing_fits is_old coding.Absent len h = sized_fits len h
 framing_fits is_old coding.Chunked len h = chunked_fits is_old len
 framing_fits is_old coding.Other len h = tt

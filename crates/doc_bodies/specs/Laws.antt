@@ -25,3 +25,9 @@ TakesBytes = (framing : Framing) (bytes body : List ℕ) (used : ℕ) → readin
 -- what a reader knows of bytes, it knows of them with more behind them
 abbrev pub StaysKnown : Type 0
 StaysKnown = (reader : BodyReader) (bytes more : List ℕ) → KnowsOf reader bytes → KnowsOf reader (bytes ++ more)
+
+-- a body has no more bytes than so many, however a head frames it
+abbrev pub IsNoLongerThan : ℕ → Type 0
+IsNoLongerThan limit =
+    (is_old : Bool) (fields : Fields) (framing : Framing) → framing_of is_old fields ≡ Ok framing
+    → (bytes body : List ℕ) (used : ℕ) → reading_of framing bytes ≡ Whole used body → length body ≤ limit

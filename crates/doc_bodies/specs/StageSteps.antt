@@ -19,11 +19,6 @@ start_of (Line start searched total) = start
 start_of (Data start size total) = start
 start_of (Trailer start searched total) = start
 
--- what an extent of so many bytes uses
-abbrev pub UsesAtMost : ℕ → Extent → Type 0
-UsesAtMost len (extent.Whole used total) = used ≤ len
-UsesAtMost len other = ⊤
-
 -- a step from one stage on
 abbrev pub IsStep : List ℕ → Stage → Step → Type 0
 IsStep window stage (On next) = Knows next window × (start_of stage < start_of next)

@@ -1,6 +1,6 @@
 //! Laws of what bodies come to. A call of one does nothing; its contract is the law.
 
-ghost use Rattle.doc_bodies.specs.Laws.{StaysDecided, IsDecidedWithin, TakesBytes, StaysKnown};
+ghost use Rattle.doc_bodies.specs.Laws.{StaysDecided, IsDecidedWithin, TakesBytes, IsNoLongerThan, StaysKnown};
 
 /// Once bytes come to a body or a fault, more bytes don't change it.
 pub fn a_decided_body_stays_decided()
@@ -15,6 +15,11 @@ pub fn a_body_is_decided_within_the_limit()
 /// A body takes no more bytes than there are.
 pub fn a_body_takes_bytes_that_stand()
     ensures { TakesBytes }
+{}
+
+/// A body is no longer than a body may be.
+pub fn a_body_is_within_the_limit()
+    ensures { IsNoLongerThan 1048576 }
 {}
 
 /// What a reader knows of bytes, it knows of them with more behind them.

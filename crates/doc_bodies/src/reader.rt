@@ -56,8 +56,13 @@ impl BodyReader {
     /// What the bytes behind the head come to. Each call passes all of them, from the first on: those that the last call
     /// passed, and what came since.
     ///
-    /// The time is linear in the bytes that came since. Memory is taken for the body where it is whole; where there is none, the reader
-    /// stays as it was, and the call may be made again.
+    /// Faults of a chunked body (RFC 9112, section 7.1): malformed where a size line is not 1 to 8 hexadecimal digits, with
+    /// an extension or without, or takes more than 256 bytes, or where no CR LF stands behind a chunk's data; too large
+    /// where the sizes add up to more than 1,048,576, and where the body neither ends nor is malformed in its first
+    /// 2,097,152 bytes. A trailer is not read.
+    ///
+    /// The time is linear in the bytes that came since, but for the one copy of a whole body. Memory is taken for that copy
+    /// alone; where there is none, the reader stays as it was, and the call may be made again.
     pub fn read(&mut self, heap: Heap, bytes: &[u8]) -> Result<Reading, Memory>
         requires { KnowsOf self.old bytes.now }
         ensures found { IfOk result (λ reading. reading ≡ reading_of (framing_of self.old) bytes.now) }
