@@ -1,22 +1,26 @@
 -- The laws of what bytes begin with.
-use Rattle.std.proofs.Common.{◌≡◌, ℕ, ◌+◌, ◌-◌, ◌≤◌, List, [], ◌++◌, Bool, true, false, length, take, drop, slice_range, not, ◌||◌, refl, ap, sym, ◌∙◌, subst, arith, T, length-drop}
-use Rattle.std.specs.Prelude.{Option, Some, None, nat_lt, ⊤, if◌then◌else◌}
-use Rattle.std.proofs.lemmas.Bool.{ltb-false, le-ltb}
-use Rattle.std.proofs.lemmas.List.{take-append-le, drop-append-le, length-append}
+use Rattle.std.proofs.Common.{◌≡◌, ℕ, ◌+◌, ◌-◌, ◌≤◌, List, [], ◌++◌, Bool, true, false, length, drop, slice_range, refl, ap, sym, ◌∙◌, subst, arith, T, length-drop}
+use Rattle.std.specs.Prelude.{◌==◌, Option, Some, None, Result, Ok, Err, ⊤, if◌then◌else◌}
+use Rattle.std.proofs.lemmas.List.{take-append-le, drop-append-le}
 use Rattle.httparse.specs.Grammar.{RequestHead}
 use Rattle.httparse.proofs.GrammarLemmas.{request_unique}
 use Rattle.doc_http.specs.declared.head.HeadSpan.{HeadSpan}
 use Rattle.doc_http.specs.declared.head.HeadSpan.TheVariants.{Unfinished, TooLong, At}
-use Rattle.doc_http.specs.declared.request.Framing.{Framing}
-use Rattle.doc_http.specs.declared.request.Framing.TheVariants.{Sized, Unsupported}
+use Rattle.doc_bodies.specs.declared.fault.Fault.{Fault as BodyFault}
+use Rattle.doc_bodies.specs.declared.framing.Framing.{Framing}
+use Rattle.doc_bodies.specs.declared.reader.Reading.{Reading}
+use Rattle.doc_bodies.specs.declared.reader.Reading.TheVariants.{More, Fault, Whole}
+use Rattle.doc_bodies.specs.Framings.{framing_of}
+use Rattle.doc_bodies.specs.Readings.{reading_of}
+use Rattle.doc_bodies.proofs.LawLemmas.{stays_decided as body_stays, decided_within as body_decided, takes_bytes as body_takes}
 use Rattle.doc_http.specs.declared.request.Request.{Request}
 use Rattle.doc_http.specs.declared.request.Next.{Next}
 use Rattle.doc_http.specs.declared.request.Next.TheVariants as next
-use Rattle.doc_http.specs.Fields.{fields_of, has_good_counts}
-use Rattle.doc_http.specs.Heads.{head_limit, head_span_of, IsRead, has_bare_line_feed}
-use Rattle.doc_http.specs.Requests.{framing_of, request_with, next_framed, next_with, next_behind, next_at, request_of, IsReadAt, IsNext, UsesAtMost}
+use Rattle.doc_http.specs.Fields.{Fields, fields_of}
+use Rattle.doc_http.specs.Heads.{head_limit, head_span_of, IsRead}
+use Rattle.doc_http.specs.Requests.{is_bad, is_bare, request_with, next_read, next_framed, next_with, next_behind, next_at, request_of, IsReadAt, IsNext, UsesAtMost}
 use Rattle.doc_http.specs.Laws.{IsReadInOneWay, StaysDecided, IsDecidedWithin}
-use Rattle.doc_http.proofs.SpanLemmas.{IsInside, span_inside, IsSettled, span_settled, StaysSettled, span_stays}
+use Rattle.doc_http.proofs.SpanLemmas.{IsInside, span_inside, IsSettled, span_settled, span_in_limit, StaysSettled, span_stays}
 
 -- ---- one way
 
@@ -36,36 +40,45 @@ read_in_one_way bytes a b (x, p, e) (y, q, f) = e ∙ ap (request_of bytes) (rea
 
 -- ---- what stays
 
+true_false : true ≡ false → ⊥
+true_false e = subst (λ b. T b) e tt
+
 -- a request or a fault stays
 abbrev Stays : Next → Next → Type 0
 Stays next.More later = ⊤
 Stays (next.Fault code bare) later = later ≡ next.Fault code bare
 Stays (next.Request used request) later = later ≡ next.Request used request
 
-framed_stays : (request : List ℕ → Request) (end : ℕ) (rest more : List ℕ) (framing : Framing) → Stays (next_framed request end rest framing) (next_framed request end (rest ++ more) framing)
-framed_stays request end rest more Unsupported = refl
-framed_stays request end rest more (Sized len) = by_test (nat_lt (length rest) len) refl
+abbrev is_wait : Reading → Bool
+is_wait More = true
+is_wait other = false
+
+framed_stays : (request : List ℕ → Request) (bare : Bool) (end : ℕ) (rest more : List ℕ) (framing : Result Framing BodyFault)
+    → Stays (next_framed request bare end rest framing) (next_framed request bare end (rest ++ more) framing)
+framed_stays request bare end rest more (Err fault) = refl
+framed_stays request bare end rest more (Ok framing) = by_reading (reading_of framing rest) refl
   where
-    by_test : (t : Bool) → nat_lt (length rest) len ≡ t → Stays (if t then next.More else next.Request (end + len) (request (take len rest))) (next_framed request end (rest ++ more) (Sized len))
-    by_test true e = tt
-    by_test false e =
-        let le : len ≤ length rest = ltb-false _ _ e in
-        let long : nat_lt (length (rest ++ more)) len ≡ false = le-ltb _ _ (omega (arith, length-append rest more)) in
-        rw (long, take-append-le len rest more le) refl
+    stays : (reading : Reading) → reading_of framing rest ≡ reading → is_wait reading ≡ false → next_read request bare end (reading_of framing (rest ++ more)) ≡ next_read request bare end reading
+    stays reading is some = ap (next_read request bare end) (body_stays framing rest more (λ wait. true_false (sym (ap is_wait (sym is ∙ wait)) ∙ some)) ∙ is)
+
+    by_reading : (reading : Reading) → reading_of framing rest ≡ reading → Stays (next_read request bare end reading) (next_read request bare end (reading_of framing (rest ++ more)))
+    by_reading More is = tt
+    by_reading (Fault fault) is = stays (Fault fault) is refl
+    by_reading (Whole used body) is = stays (Whole used body) is refl
 
 behind_stays : (text : List ℕ) (read : Option RequestHead) (end : ℕ) (rest more : List ℕ) → Stays (next_behind text read end rest) (next_behind text read end (rest ++ more))
 unfolding next_behind
 behind_stays text None end rest more = refl
-behind_stays text (Some head) end rest more = by_test (has_bare_line_feed text || not (has_good_counts head.minor (fields_of head)))
+behind_stays text (Some head) end rest more = by_test (is_bad text (Some head))
   where
     later : List ℕ → Next
     later bytes = next_with head.method head.target head.minor (fields_of head) end bytes
 
     by_test : (t : Bool) → Stays (if t then next.Fault 400 false else later rest) (if t then next.Fault 400 false else later (rest ++ more))
     by_test true = refl
-    by_test false = framed_stays (λ body. request_with head.method head.target head.minor (fields_of head) body) end rest more (framing_of (fields_of head))
+    by_test false = framed_stays (λ body. request_with head.method head.target head.minor (fields_of head) body) (is_bare head.method) end rest more (framing_of (head.minor == 0) (fields_of head))
 
-same_text : (bytes more : List ℕ) (start end : ℕ) → start ≤ end → end ≤ length bytes → slice_range (bytes ++ more) start end ≡ slice_range bytes start end
+pub same_text : (bytes more : List ℕ) (start end : ℕ) → start ≤ end → end ≤ length bytes → slice_range (bytes ++ more) start end ≡ slice_range bytes start end
 same_text bytes more start end ordered within =
     let starts : start ≤ length bytes = omega arith in
     let fits : end - start ≤ length (drop start bytes) = omega (arith, length-drop start bytes) in
@@ -94,53 +107,59 @@ abbrev is_more : Next → Bool
 is_more next.More = true
 is_more _ = false
 
--- no body is waited for
-framed_decides : (request : List ℕ → Request) (end : ℕ) (rest : List ℕ) (t : Bool) → is_more (next_framed request end rest (if t then Sized 0 else Unsupported)) ≡ false
-framed_decides request end rest true =
-    let none : nat_lt (length rest) 0 ≡ false = le-ltb _ _ (omega arith) in
-    ap (λ t. is_more (if t then next.More else next.Request (end + 0) (request (take 0 rest)))) none
-framed_decides request end rest false = refl
+-- so many bytes behind a head are waited for at most
+framed_decides : (request : List ℕ → Request) (bare : Bool) (end : ℕ) (rest : List ℕ) (is_old : Bool) (fields : Fields) → 2097152 ≤ length rest
+    → is_more (next_framed request bare end rest (framing_of is_old fields)) ≡ false
+framed_decides request bare end rest is_old fields enough = by_framing (framing_of is_old fields) refl
+  where
+    by_reading : (framing : Framing) → framing_of is_old fields ≡ Ok framing → (reading : Reading) → reading_of framing rest ≡ reading → is_more (next_read request bare end reading) ≡ false
+    by_reading framing framed More is = absurd (body_decided is_old fields framing framed rest enough is)
+    by_reading framing framed (Fault fault) is = refl
+    by_reading framing framed (Whole used body) is = refl
 
-behind_decides : (text : List ℕ) (read : Option RequestHead) (end : ℕ) (rest : List ℕ) → is_more (next_behind text read end rest) ≡ false
+    by_framing : (framing : Result Framing BodyFault) → framing_of is_old fields ≡ framing → is_more (next_framed request bare end rest framing) ≡ false
+    by_framing (Err fault) is = refl
+    by_framing (Ok framing) is = by_reading framing is (reading_of framing rest) refl
+
+behind_decides : (text : List ℕ) (read : Option RequestHead) (end : ℕ) (rest : List ℕ) → 2097152 ≤ length rest → is_more (next_behind text read end rest) ≡ false
 unfolding next_behind
-behind_decides text None end rest = refl
-behind_decides text (Some head) end rest = by_test (has_bare_line_feed text || not (has_good_counts head.minor (fields_of head)))
+behind_decides text None end rest enough = refl
+behind_decides text (Some head) end rest enough = by_test (is_bad text (Some head))
   where
     by_test : (t : Bool) → is_more (if t then next.Fault 400 false else next_with head.method head.target head.minor (fields_of head) end rest) ≡ false
     by_test true = refl
-    by_test false = framed_decides (λ body. request_with head.method head.target head.minor (fields_of head) body) end rest _
+    by_test false = framed_decides (λ body. request_with head.method head.target head.minor (fields_of head) body) (is_bare head.method) end rest (head.minor == 0) (fields_of head) enough
 
-at_decides : (bytes : List ℕ) (span : HeadSpan) (read : Option RequestHead) → IsSettled span → is_more (next_at bytes span read) ≡ false
-at_decides bytes Unfinished read settled = absurd settled
-at_decides bytes TooLong read settled = refl
-at_decides bytes (At start end) read settled = behind_decides (slice_range bytes start end) read end (drop end bytes)
+at_decides : (bytes : List ℕ) (span : HeadSpan) (read : Option RequestHead) → IsSettled span → IsInside 16384 span → 2113536 ≤ length bytes → is_more (next_at bytes span read) ≡ false
+at_decides bytes Unfinished read settled inside enough = absurd settled
+at_decides bytes TooLong read settled inside enough = refl
+at_decides bytes (At start end) read settled inside enough =
+    behind_decides (slice_range bytes start end) read end (drop end bytes) (omega (arith, inside.1, enough, length-drop end bytes))
 
-true_false : true ≡ false → ⊥
-true_false e = subst (λ b. T b) e tt
-
-pub decided_within : IsDecidedWithin 16384
+pub decided_within : IsDecidedWithin 2113536
 unfolding head_limit
 decided_within bytes a enough (read, p, e) is =
-    true_false (sym (ap is_more (sym e ∙ is)) ∙ at_decides bytes (head_span_of bytes) read (span_settled bytes enough))
+    true_false (sym (ap is_more (sym e ∙ is)) ∙ at_decides bytes (head_span_of bytes) read (span_settled bytes (omega (arith, enough))) (span_in_limit bytes) enough)
 
 -- ---- what is used
 
-framed_uses : (request : List ℕ → Request) (end : ℕ) (rest : List ℕ) (framing : Framing) → UsesAtMost (end + length rest) (next_framed request end rest framing)
-framed_uses request end rest Unsupported = tt
-framed_uses request end rest (Sized len) = by_test (nat_lt (length rest) len) refl
+framed_uses : (request : List ℕ → Request) (bare : Bool) (end : ℕ) (rest : List ℕ) (framing : Result Framing BodyFault) → UsesAtMost (end + length rest) (next_framed request bare end rest framing)
+framed_uses request bare end rest (Err fault) = tt
+framed_uses request bare end rest (Ok framing) = by_reading (reading_of framing rest) refl
   where
-    by_test : (t : Bool) → nat_lt (length rest) len ≡ t → UsesAtMost (end + length rest) (if t then next.More else next.Request (end + len) (request (take len rest)))
-    by_test true e = tt
-    by_test false e = let le : len ≤ length rest = ltb-false _ _ e in omega arith
+    by_reading : (reading : Reading) → reading_of framing rest ≡ reading → UsesAtMost (end + length rest) (next_read request bare end reading)
+    by_reading More is = tt
+    by_reading (Fault fault) is = tt
+    by_reading (Whole used body) is = let le : used ≤ length rest = body_takes framing rest body used is in omega arith
 
 behind_uses : (text : List ℕ) (read : Option RequestHead) (end : ℕ) (rest : List ℕ) → UsesAtMost (end + length rest) (next_behind text read end rest)
 unfolding next_behind
 behind_uses text None end rest = tt
-behind_uses text (Some head) end rest = by_test (has_bare_line_feed text || not (has_good_counts head.minor (fields_of head)))
+behind_uses text (Some head) end rest = by_test (is_bad text (Some head))
   where
     by_test : (t : Bool) → UsesAtMost (end + length rest) (if t then next.Fault 400 false else next_with head.method head.target head.minor (fields_of head) end rest)
     by_test true = tt
-    by_test false = framed_uses (λ body. request_with head.method head.target head.minor (fields_of head) body) end rest (framing_of (fields_of head))
+    by_test false = framed_uses (λ body. request_with head.method head.target head.minor (fields_of head) body) (is_bare head.method) end rest (framing_of (head.minor == 0) (fields_of head))
 
 at_uses : (bytes : List ℕ) (span : HeadSpan) (read : Option RequestHead) → IsInside (length bytes) span → UsesAtMost (length bytes) (next_at bytes span read)
 at_uses bytes Unfinished read inside = tt
@@ -154,11 +173,3 @@ pub uses_what_stands : (bytes : List ℕ) (found : Next) → IsNext bytes found 
 uses_what_stands bytes found (read, p, e) =
     let P : Next → Type 0 = λ n. UsesAtMost (length bytes) n in
     subst P (sym e) (at_uses bytes (head_span_of bytes) read (span_inside bytes))
-
--- the same behind a head
-pub behind_uses_all : (n : ℕ) (text : List ℕ) (read : Option RequestHead) (end : ℕ) (rest : List ℕ) (found : Next) → end + length rest ≡ n
-    → found ≡ next_behind text read end rest → UsesAtMost n found
-behind_uses_all n text read end rest found len is =
-    let P : Next → Type 0 = λ f. UsesAtMost n f in
-    let Q : ℕ → Type 0 = λ k. UsesAtMost k (next_behind text read end rest) in
-    subst P (sym is) (subst Q len (behind_uses text read end rest))

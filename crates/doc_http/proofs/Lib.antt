@@ -2,6 +2,7 @@ mod Examples
 pub mod FaultLemmas
 mod HeadLemmas
 pub mod LawLemmas
+mod ProgressLemmas
 mod ReadLemmas
 mod ReplyLemmas
 mod SkipLemmas

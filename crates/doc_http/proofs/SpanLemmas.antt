@@ -70,6 +70,12 @@ unfolding head_span_of
 span_inside bytes =
     inside_more (length (take head_limit bytes)) (length bytes) (head_span_in (take head_limit bytes) (nat_le head_limit (length bytes))) (omega (arith, length-take head_limit bytes)) (inside_in (take head_limit bytes) (nat_le head_limit (length bytes)))
 
+-- it lies in the bytes that it may take
+pub span_in_limit : (bytes : List ℕ) → IsInside head_limit (head_span_of bytes)
+unfolding head_span_of
+span_in_limit bytes =
+    inside_more (length (take head_limit bytes)) head_limit (head_span_in (take head_limit bytes) (nat_le head_limit (length bytes))) (omega (arith, length-take head_limit bytes)) (inside_in (take head_limit bytes) (nat_le head_limit (length bytes)))
+
 -- the places of a head that was found
 pub places : (bytes : List ℕ) (start end : ℕ) → At start end ≡ head_span_of bytes → (start ≤ end) × (end ≤ length bytes)
 places bytes start end is = let P : HeadSpan → Type 0 = λ span. IsInside (length bytes) span in subst P (sym is) (span_inside bytes)
@@ -96,13 +102,13 @@ span_settled bytes enough =
 -- ---- more bytes
 
 -- the second begins with the first
-abbrev Extends : List ℕ → List ℕ → Type 0
+abbrev pub Extends : List ℕ → List ℕ → Type 0
 Extends x y = (more : List ℕ) × (y ≡ x ++ more)
 
 same_front : (n : ℕ) (x y : List ℕ) → n ≤ length x → Extends x y → take n y ≡ take n x
 same_front n x y le (more, e) = rw e (take-append-le n x more le)
 
-front_extends : (n : ℕ) (x y : List ℕ) → Extends x y → Extends (take n x) (take n y)
+pub front_extends : (n : ℕ) (x y : List ℕ) → Extends x y → Extends (take n x) (take n y)
 front_extends n x y (more, e) = by_test (nat_le n (length x)) refl
   where
     by_test : (t : Bool) → nat_le n (length x) ≡ t → Extends (take n x) (take n y)
@@ -112,7 +118,7 @@ front_extends n x y (more, e) = by_test (nat_le n (length x)) refl
         let split : n ≡ length x + (n - length x) = omega arith in
         (take (n - length x) more, rw (e, take_all n x le) (ap (λ k. take k (x ++ more)) split ∙ take-append-add x more (n - length x)))
 
-starts_alike : (needle x y : List ℕ) → length needle ≤ length x → Extends x y → starts_with nat_eq y needle ≡ starts_with nat_eq x needle
+pub starts_alike : (needle x y : List ℕ) → length needle ≤ length x → Extends x y → starts_with nat_eq y needle ≡ starts_with nat_eq x needle
 starts_alike needle x y le extends = ap (λ z. pointwise nat_eq needle z) (same_front (length needle) x y le extends)
 
 -- what was found is found again
@@ -143,7 +149,7 @@ head_stays (b ∷ rest) more = by_test (head_stays rest more) (starts_with nat_e
     by_test h true e = ap (λ t. cond t (Some 4) later) (starts_alike head_end (b ∷ rest) (b ∷ (rest ++ more)) (four_at b rest e) (more, refl) ∙ e)
     by_test h false e = by_found (head_len rest) refl e h
 
-skip_stays : (x more : List ℕ) → 2 ≤ length (skip_empty_lines x) → skip_empty_lines (x ++ more) ≡ skip_empty_lines x ++ more
+pub skip_stays : (x more : List ℕ) → 2 ≤ length (skip_empty_lines x) → skip_empty_lines (x ++ more) ≡ skip_empty_lines x ++ more
 skip_stays [] more le = absurd (omega arith)
 skip_stays (a ∷ []) more le = absurd (omega arith)
 skip_stays (a ∷ b ∷ rest) more le = by_test (skip_stays rest more) (starts_with nat_eq (a ∷ b ∷ rest) line_end) le

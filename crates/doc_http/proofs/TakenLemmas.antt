@@ -1,19 +1,23 @@
 -- How many bytes a request takes: some, and no more than there are.
-use Rattle.std.proofs.Common.{◌≡◌, ℕ, ◌+◌, ◌≤◌, ◌==◌, ◌&&◌, ◌||◌, not, List, [], ◌∷◌, Bool, true, false, cond, length, take, drop, slice_range, refl, sym, ◌∙◌, subst, arith, nat_eq}
-use Rattle.std.specs.Prelude.{Option, Some, None, nat_lt, nat_le, ⊤, codes, if◌then◌else◌}
+use Rattle.std.proofs.Common.{◌≡◌, ℕ, ◌+◌, ◌≤◌, ◌==◌, List, [], ◌∷◌, Bool, true, false, cond, length, take, drop, slice_range, refl, sym, ◌∙◌, subst, arith, nat_eq}
+use Rattle.std.specs.Prelude.{Option, Some, None, Result, Ok, Err, nat_le, ⊤, if◌then◌else◌}
 use Rattle.std.specs.List.{starts_with}
 use Rattle.std.specs.Option.{option_map}
 use Rattle.httparse.specs.Grammar.{RequestHead}
 use Rattle.doc_http.specs.declared.head.HeadSpan.{HeadSpan}
 use Rattle.doc_http.specs.declared.head.HeadSpan.TheVariants.{Unfinished, TooLong, At}
 use Rattle.doc_http.specs.declared.request.Request.{Request}
-use Rattle.doc_http.specs.declared.request.Framing.{Framing}
-use Rattle.doc_http.specs.declared.request.Framing.TheVariants.{Sized, Unsupported}
+use Rattle.doc_bodies.specs.declared.fault.Fault.{Fault as BodyFault}
+use Rattle.doc_bodies.specs.declared.framing.Framing.{Framing}
+use Rattle.doc_bodies.specs.declared.reader.Reading.{Reading}
+use Rattle.doc_bodies.specs.declared.reader.Reading.TheVariants.{More, Fault, Whole}
+use Rattle.doc_bodies.specs.Framings.{framing_of}
+use Rattle.doc_bodies.specs.Readings.{reading_of}
 use Rattle.doc_http.specs.declared.request.Next.{Next}
 use Rattle.doc_http.specs.declared.request.Next.TheVariants as next
-use Rattle.doc_http.specs.Fields.{fields_of, has_good_counts}
-use Rattle.doc_http.specs.Heads.{head_span_of, head_span_at, head_len, head_end, head_limit, skip_empty_lines, has_bare_line_feed}
-use Rattle.doc_http.specs.Requests.{framing_of, request_with, next_framed, next_with, next_behind, next_at, request_of, IsNext}
+use Rattle.doc_http.specs.Fields.{fields_of}
+use Rattle.doc_http.specs.Heads.{head_span_of, head_span_at, head_len, head_end, head_limit, skip_empty_lines}
+use Rattle.doc_http.specs.Requests.{is_bad, is_bare, request_with, next_read, next_framed, next_with, next_behind, next_at, request_of}
 use Rattle.doc_http.specs.Laws.{TakesBytes, EmptyIsUndecided}
 use Rattle.doc_http.proofs.LawLemmas.{uses_what_stands}
 
@@ -56,22 +60,23 @@ TakesSome next.More = ⊤
 TakesSome (next.Fault code bare) = ⊤
 TakesSome (next.Request used request) = 1 ≤ used
 
-by_length : (t : Bool) (end len : ℕ) (request : Request) → 1 ≤ end → TakesSome (if t then next.More else next.Request (end + len) request)
-by_length true end len request le = tt
-by_length false end len request le = omega arith
+reading_takes : (request : List ℕ → Request) (bare : Bool) (end : ℕ) (reading : Reading) → 1 ≤ end → TakesSome (next_read request bare end reading)
+reading_takes request bare end More le = tt
+reading_takes request bare end (Fault fault) le = tt
+reading_takes request bare end (Whole used body) le = omega arith
 
-framed_takes : (request : List ℕ → Request) (end : ℕ) (rest : List ℕ) (framing : Framing) → 1 ≤ end → TakesSome (next_framed request end rest framing)
-framed_takes request end rest Unsupported le = tt
-framed_takes request end rest (Sized len) le = by_length (nat_lt (length rest) len) end len (request (take len rest)) le
+framed_takes : (request : List ℕ → Request) (bare : Bool) (end : ℕ) (rest : List ℕ) (framing : Result Framing BodyFault) → 1 ≤ end → TakesSome (next_framed request bare end rest framing)
+framed_takes request bare end rest (Err fault) le = tt
+framed_takes request bare end rest (Ok framing) le = reading_takes request bare end (reading_of framing rest) le
 
 behind_takes : (text : List ℕ) (read : Option RequestHead) (end : ℕ) (rest : List ℕ) → 1 ≤ end → TakesSome (next_behind text read end rest)
 unfolding next_behind
 behind_takes text None end rest le = tt
-behind_takes text (Some head) end rest le = by_test (has_bare_line_feed text || not (has_good_counts head.minor (fields_of head)))
+behind_takes text (Some head) end rest le = by_test (is_bad text (Some head))
   where
     by_test : (t : Bool) → TakesSome (if t then next.Fault 400 false else next_with head.method head.target head.minor (fields_of head) end rest)
     by_test true = tt
-    by_test false = framed_takes (λ body. request_with head.method head.target head.minor (fields_of head) body) end rest (framing_of (fields_of head)) le
+    by_test false = framed_takes (λ body. request_with head.method head.target head.minor (fields_of head) body) (is_bare head.method) end rest (framing_of (head.minor == 0) (fields_of head)) le
 
 at_takes : (bytes : List ℕ) (span : HeadSpan) (read : Option RequestHead) → EndsBehind span → TakesSome (next_at bytes span read)
 at_takes bytes Unfinished read h = tt

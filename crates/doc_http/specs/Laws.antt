@@ -13,7 +13,7 @@ IsReadInOneWay = (bytes : List ℕ) (a b : Next) → IsNext bytes a → IsNext b
 abbrev pub StaysDecided : Type 0
 StaysDecided = (bytes more : List ℕ) (a : Next) → ¬ (a ≡ next.More) → IsNext bytes a → IsNext (bytes ++ more) a
 
--- 16,384 bytes begin with a request or a fault
+-- so many bytes begin with a request or a fault
 abbrev pub IsDecidedWithin : ℕ → Type 0
 IsDecidedWithin limit = (bytes : List ℕ) (a : Next) → limit ≤ length bytes → IsNext bytes a → ¬ (a ≡ next.More)
 
@@ -25,9 +25,9 @@ TakesBytes = (bytes : List ℕ) (used : ℕ) (request : Request) → IsNext byte
 abbrev pub EmptyIsUndecided : Type 0
 EmptyIsUndecided = (a : Next) → IsNext [] a → a ≡ next.More
 
--- the codes of faults (RFC 9110, sections 15.5.1 and 15.6.2; RFC 6585, section 5)
+-- the codes of faults (RFC 9110, sections 15.5.1, 15.5.14 and 15.6.2; RFC 6585, section 5)
 abbrev pub is_fault_code : ℕ → Bool
-is_fault_code code = (code == 400) || (code == 431) || (code == 501)
+is_fault_code code = (code == 400) || (code == 413) || (code == 431) || (code == 501)
 
 -- a fault has one of these codes
 abbrev pub FaultsHaveCodes : Type 0

@@ -1,6 +1,9 @@
 pub mod Bearers
+pub mod BuildingSteps
 pub mod Fields
 pub mod Heads
+pub mod Knowledge
 pub mod Laws
+pub mod ProgressSteps
 pub mod Replies
 pub mod Requests

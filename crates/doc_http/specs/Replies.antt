@@ -9,15 +9,15 @@ use Rattle.doc_http.specs.declared.reply.Allow.TheVariants.{Page, Read}
 unfoldable pub reason_of : ℕ → List ℕ
 reason_of code =
     if code == 200 then codes "OK" else (if code == 201 then codes "Created" else (if code == 204 then codes "No Content"
-    else (if code == 400 then codes "Bad Request" else (if code == 401 then codes "Unauthorized" else (if code == 403 then codes "Forbidden"
+    else (if code == 301 then codes "Moved Permanently" else (if code == 400 then codes "Bad Request" else (if code == 401 then codes "Unauthorized" else (if code == 403 then codes "Forbidden"
     else (if code == 404 then codes "Not Found" else (if code == 405 then codes "Method Not Allowed" else (if code == 413 then codes "Content Too Large"
     else (if code == 431 then codes "Request Header Fields Too Large" else (if code == 501 then codes "Not Implemented"
-    else (if code == 507 then codes "Insufficient Storage" else [])))))))))))
+    else (if code == 507 then codes "Insufficient Storage" else []))))))))))))
 
 -- whether a reply may have the code; this project's choice
 abbrev pub is_reply_code : ℕ → Bool
 is_reply_code code =
-    list_any (λ c. c == code) (200 ∷ 201 ∷ 204 ∷ 400 ∷ 401 ∷ 403 ∷ 404 ∷ 405 ∷ 413 ∷ 431 ∷ 501 ∷ 507 ∷ [])
+    list_any (λ c. c == code) (200 ∷ 201 ∷ 204 ∷ 301 ∷ 400 ∷ 401 ∷ 403 ∷ 404 ∷ 405 ∷ 413 ∷ 431 ∷ 501 ∷ 507 ∷ [])
 
 -- the code and its reason phrase (RFC 9112, section 4)
 abbrev pub status_of : ℕ → List ℕ
@@ -44,10 +44,15 @@ abbrev pub content_lines : Reply → List ℕ
 content_lines reply = where_true (not (reply.code == 204))
     (field_line (codes "Content-Type") (content_type reply.html) ++ field_line (codes "Content-Length") (decimal (length (content_of reply))))
 
--- the methods of a resource; so far GET alone
+-- where the resource is (RFC 9110, section 10.2.2)
+abbrev pub location_line : Option (List ℕ) → List ℕ
+location_line None = []
+location_line (Some location) = field_line (codes "Location") location
+
+-- the methods of a resource: a page is written too, the others are read alone
 abbrev pub allowed_methods : Allow → List ℕ
-allowed_methods Page = codes "GET"
-allowed_methods Read = codes "GET"
+allowed_methods Page = codes "GET, HEAD, PUT, DELETE"
+allowed_methods Read = codes "GET, HEAD"
 
 -- the methods that a resource has (RFC 9110, section 10.2.1)
 abbrev pub allow_line : Option Allow → List ℕ
@@ -62,11 +67,15 @@ challenge_line code = where_true (code == 401) (field_line (codes "WWW-Authentic
 abbrev pub close_line : Bool → List ℕ
 close_line close = where_true close (field_line (codes "Connection") (codes "close"))
 
+-- the field lines of a reply
+abbrev pub field_lines : Reply → Bool → List ℕ
+field_lines reply close =
+    content_lines reply ++ location_line reply.location ++ allow_line reply.allow ++ challenge_line reply.code ++ close_line close
+
 -- the head of a reply, with the empty line that ends it (RFC 9112, sections 2.1 and 4)
 unfoldable pub reply_head : Reply → Bool → List ℕ
 reply_head reply close =
-    codes "HTTP/1.1 " ++ status_of reply.code ++ codes "\r\n"
-    ++ content_lines reply ++ allow_line reply.allow ++ challenge_line reply.code ++ close_line close ++ codes "\r\n"
+    codes "HTTP/1.1 " ++ status_of reply.code ++ codes "\r\n" ++ field_lines reply close ++ codes "\r\n"
 
 -- the bytes of a reply: its head, and its content where it has one and more than the head is asked for (RFC 9112, section 6.3)
 unfoldable pub reply_bytes : Reply → Bool → Bool → List ℕ

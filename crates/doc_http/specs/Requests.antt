@@ -1,21 +1,24 @@
 -- What the unread bytes of a connection begin with.
-use Rattle.std.specs.Prelude.{◌≡◌, ◌≤◌, ⊤, ℕ, ◌+◌, ◌==◌, ◌||◌, ◌&&◌, not, false, List, Option, Some, None, length, take, drop, slice_range, codes, nat_lt, if◌then◌else◌}
+use Rattle.std.specs.Prelude.{◌≡◌, ◌≤◌, ⊤, ℕ, ◌+◌, ◌==◌, ◌||◌, not, Bool, true, false, List, Option, Some, None, Result, Ok, Err, drop, slice_range, codes, bytes_eq, if◌then◌else◌}
 use Rattle.httparse.specs.Grammar.{RequestHead}
+use Rattle.doc_bodies.specs.declared.fault.Fault.{Fault as BodyFault}
+use Rattle.doc_bodies.specs.declared.framing.Framing.{Framing}
+use Rattle.doc_bodies.specs.declared.reader.Reading.{Reading}
+use Rattle.doc_bodies.specs.declared.reader.Reading.TheVariants.{More, Fault, Whole}
+use Rattle.doc_bodies.specs.Faults.{code_of}
+use Rattle.doc_bodies.specs.Framings.{framing_of}
+use Rattle.doc_bodies.specs.Readings.{reading_of}
 use Rattle.doc_http.specs.declared.head.HeadSpan.{HeadSpan}
 use Rattle.doc_http.specs.declared.head.HeadSpan.TheVariants.{Unfinished, TooLong, At}
-use Rattle.doc_http.specs.declared.request.Framing.{Framing}
-use Rattle.doc_http.specs.declared.request.Framing.TheVariants.{Sized, Unsupported}
 use Rattle.doc_http.specs.declared.request.Request.{Request}
 use Rattle.doc_http.specs.declared.request.Next.{Next}
 use Rattle.doc_http.specs.declared.request.Next.TheVariants as next
-use Rattle.doc_http.specs.Fields.{Fields, fields_of, count_named, value_named, has_good_counts, asks_close}
+use Rattle.doc_http.specs.Fields.{Fields, fields_of, value_named, has_good_counts, asks_close}
 use Rattle.doc_http.specs.Heads.{head_span_of, IsRead, has_bare_line_feed}
 
--- how a body is framed (RFC 9112, section 6): bodies are not read yet
-abbrev pub framing_of : Fields → Framing
-framing_of fields =
-    if count_named (codes "content-length") fields == 0 && count_named (codes "transfer-encoding") fields == 0
-    then Sized 0 else Unsupported
+-- whether the reply to the method is its head alone: HEAD, and no other case of it (RFC 9110, sections 9.1 and 9.3.2)
+abbrev pub is_bare : List ℕ → Bool
+is_bare method = bytes_eq method (codes "HEAD")
 
 -- the request with these parts of its head, and this body (RFC 9112, section 2.1)
 abbrev pub request_with : List ℕ → List ℕ → ℕ → Fields → List ℕ → Request
@@ -27,22 +30,32 @@ request_with method target minor fields body = record {
   body = body;
 }
 
--- the head ends at `end`; behind it stand the bytes `rest`, of which a request takes its body
-abbrev pub next_framed : (List ℕ → Request) → ℕ → List ℕ → Framing → Next
-next_framed request end rest Unsupported = next.Fault 501 false
-next_framed request end rest (Sized len) =
-    if nat_lt (length rest) len then next.More else next.Request (end + len) (request (take len rest))
+-- by what the bytes behind the head come to, which ends at `end`
+abbrev pub next_read : (List ℕ → Request) → Bool → ℕ → Reading → Next
+next_read request bare end More = next.More
+next_read request bare end (Fault fault) = next.Fault (code_of fault) bare
+next_read request bare end (Whole used body) = next.Request (end + used) (request body)
+
+-- by how the head frames the body in the bytes `rest` behind it (RFC 9112, section 6)
+abbrev pub next_framed : (List ℕ → Request) → Bool → ℕ → List ℕ → Result Framing BodyFault → Next
+next_framed request bare end rest (Err fault) = next.Fault (code_of fault) bare
+next_framed request bare end rest (Ok framing) = next_read request bare end (reading_of framing rest)
 
 -- the same of a request with these parts of its head
 abbrev pub next_with : List ℕ → List ℕ → ℕ → Fields → ℕ → List ℕ → Next
 next_with method target minor fields end rest =
-    next_framed (λ body. request_with method target minor fields body) end rest (framing_of fields)
+    next_framed (λ body. request_with method target minor fields body) (is_bare method) end rest (framing_of (minor == 0) fields)
+
+-- whether the text is no head that a request may have, by the head that was read of it
+abbrev pub is_bad : List ℕ → Option RequestHead → Bool
+is_bad text None = true
+is_bad text (Some head) = has_bare_line_feed text || not (has_good_counts head.minor (fields_of head))
 
 -- by the text of the head, which ends at `end`, and the head that was read of it
 unfoldable pub next_behind : List ℕ → Option RequestHead → ℕ → List ℕ → Next
 next_behind text None end rest = next.Fault 400 false
 next_behind text (Some head) end rest =
-    if has_bare_line_feed text || not (has_good_counts head.minor (fields_of head)) then next.Fault 400 false
+    if is_bad text (Some head) then next.Fault 400 false
     else next_with head.method head.target head.minor (fields_of head) end rest
 
 -- by where the head lies, and the head that was read there

@@ -1,10 +1,14 @@
 //! Where a request's head lies, and what it is made of.
 
-ghost use Rattle.std.specs.Prelude.{◌≡◌, ◌≤◌, ◌+◌, ◌-◌, ℕ, length, drop, IfSome, None};
+ghost use Rattle.std.specs.Prelude.{◌≡◌, ◌≤◌, ◌+◌, ◌-◌, ◌++◌, ℕ, List, Option, length, take, drop, IfSome, None, Some, true, false};
 ghost use Rattle.httparse.specs.Grammar.{RequestHead};
 ghost use Rattle.httparse.specs.Spans.{IsRequestAt, IsRequestWithin};
-ghost use Rattle.doc_http.specs.Heads.{head_len, head_span_in, head_span_of, skip_empty_lines, IsHead, has_bare_line_feed};
+ghost use Rattle.doc_http.specs.Heads.{head_len, head_limit, head_span_in, head_span_of, skip_empty_lines, IsHead, IsRead, has_bare_line_feed};
+ghost use Rattle.doc_http.specs.Knowledge.{IsSearched, CameTo};
+ghost use Rattle.doc_http.specs.Requests.{is_bad};
+ghost use Rattle.doc_http.specs.declared.head.HeadSpan.TheVariants as spans;
 
+use crate::fields::has_good_counts;
 use httparse::Status;
 use httparse::spans::{HeaderSpan, RequestSpans, parse_request};
 
@@ -22,56 +26,86 @@ pub enum HeadSpan {
     At { start: usize, end: usize },
 }
 
-/// Where the head lies in the unread bytes.
-pub fn find_head(bytes: &[u8]) -> HeadSpan
-    ensures { result ≡ head_span_of bytes.now }
-{
-    let full = bytes.len() >= HEAD_LIMIT;
-    if full {
-        find_in(&bytes[..HEAD_LIMIT], full)
-    } else {
-        find_in(bytes, full)
-    }
+/// How far the search for the end of a head came.
+#[derive(Clone, Copy)]
+pub struct HeadSearch {
+    /// The bytes of the empty lines that were skipped.
+    pub start: usize,
+    /// In how many bytes behind them no CR LF CR LF begins.
+    pub searched: usize,
 }
 
-// Where the head lies in the bytes that it may take, of which all came or not.
-fn find_in(front: &[u8], full: bool) -> HeadSpan
-    ensures { result ≡ head_span_in front.now full }
-{
-    let start = empty_lines(front);
-    match find_end(&front[start..]) {
-        Some(len) => HeadSpan::At {
-            start,
-            end: start + len,
-        },
-        None => {
-            if full {
-                HeadSpan::TooLong
-            } else {
-                HeadSpan::Unfinished
-            }
+impl HeadSearch {
+    /// Nothing was looked at.
+    pub fn new() -> Self
+        ensures { (front : List ℕ) → CameTo result front }
+    {
+        HeadSearch {
+            start: 0,
+            searched: 0,
         }
     }
 }
 
-// How many bytes the empty lines at the front take.
-fn empty_lines(bytes: &[u8]) -> usize
+/// Where the head lies in the unread bytes, of which as much was looked at before; and how far the
+/// search came, where it is to go on.
+pub fn find_head(bytes: &[u8], search: HeadSearch) -> (HeadSpan, HeadSearch)
+    requires { CameTo search (take head_limit bytes.now) }
+    ensures span { result.0 ≡ head_span_of bytes.now }
+    ensures search { result.0 ≡ spans.Unfinished → (more : List ℕ) → CameTo result.1 (take head_limit (bytes.now ++ more)) }
+{
+    let full = bytes.len() >= HEAD_LIMIT;
+    if full {
+        find_in(&bytes[..HEAD_LIMIT], full, search)
+    } else {
+        find_in(bytes, full, search)
+    }
+}
+
+// The same in the bytes that the head may take, of which all came or not.
+fn find_in(front: &[u8], full: bool, search: HeadSearch) -> (HeadSpan, HeadSearch)
+    requires { CameTo search front.now }
+    ensures span { result.0 ≡ head_span_in front.now full }
+    ensures search { result.0 ≡ spans.Unfinished → (more : List ℕ) → CameTo result.1 (front.now ++ more) }
+{
+    let start = empty_lines(front, search.start);
+    let text = &front[start..];
+    match find_end(text, search.searched) {
+        Some(len) => {
+            let end = start + len;
+            (HeadSpan::At { start, end }, search)
+        }
+        None if full => (HeadSpan::TooLong, search),
+        None => {
+            // A CR LF CR LF may still begin in the last three bytes.
+            let searched = text.len().saturating_sub(3);
+            (HeadSpan::Unfinished, HeadSearch { start, searched })
+        }
+    }
+}
+
+// How many bytes the empty lines at the front take, of which `start` bytes were skipped before.
+fn empty_lines(bytes: &[u8], start: usize) -> usize
+    requires within { start ≤ length bytes.now }
+    requires skipped { skip_empty_lines bytes.now ≡ skip_empty_lines (drop start bytes.now) }
     ensures within { result ≤ length bytes.now }
     ensures rest { drop result bytes.now ≡ skip_empty_lines bytes.now }
 {
-    let mut at = 0;
+    let mut at = start;
     'lines: while bytes[at..].starts_with(b"\r\n") {
         at += 2;
     }
     at
 }
 
-// The length of the text up to and with the first CR LF CR LF.
-fn find_end(text: &[u8]) -> Option<usize>
+// The length of the text up to and with the first CR LF CR LF, which doesn't begin in its first
+// `searched` bytes.
+fn find_end(text: &[u8], searched: usize) -> Option<usize>
+    requires { IsSearched searched text.now }
     ensures value { result ≡ head_len text.now }
     ensures within { IfSome result (λ len. len ≤ length text.now) }
 {
-    'places: for at in 0..text.len() {
+    'places: for at in searched..text.len() {
         if text[at..].starts_with(b"\r\n\r\n") {
             return Some(at + 4);
         }
@@ -111,4 +145,26 @@ pub fn head_spans(text: &[u8], headers: &mut [HeaderSpan]) -> Option<RequestSpan
         }
         _ => None,
     }
+}
+
+/// Where the parts are of the head that the whole text is, if it is one that a request may have: without a
+/// bare line feed, and with the Host and Authorization fields that it may have.
+pub fn good_head_spans(text: &[u8], headers: &mut [HeaderSpan]) -> Option<RequestSpans>
+    requires { length headers.old ≡ 64 }
+    ensures within { IfSome result (IsRequestWithin text.now headers.new) }
+    ensures found { IfSome result
+        (λ spans. (head : RequestHead) × IsHead text.now head × IsRequestAt text.now headers.new spans head
+        × (is_bad text.now (Some head) ≡ false)) }
+    ensures missing { result ≡ None → (read : Option RequestHead) × IsRead text.now read × (is_bad text.now read ≡ true) }
+{
+    let Some(spans) = head_spans(text, headers) else {
+        return None;
+    };
+    if has_bare_line_feed(text) {
+        return None;
+    }
+    if !has_good_counts(text, &headers[..spans.headers], spans.version) {
+        return None;
+    }
+    Some(spans)
 }

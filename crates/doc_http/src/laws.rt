@@ -12,9 +12,9 @@ pub fn a_decided_request_stays_decided()
     ensures { StaysDecided }
 {}
 
-/// As many bytes as a head may take decide what they begin with.
+/// As many bytes as a head and a body may take decide what they begin with: 16,384 and 2,097,152.
 pub fn a_request_is_decided_within_the_limit()
-    ensures { IsDecidedWithin 16384 }
+    ensures { IsDecidedWithin 2113536 }
 {}
 
 /// A request takes at least one byte of those that it begins, and at most all of them.
@@ -27,7 +27,7 @@ pub fn no_bytes_are_undecided()
     ensures { EmptyIsUndecided }
 {}
 
-/// A fault has the code 400, 431 or 501.
+/// A fault has the code 400, 413, 431 or 501.
 pub fn a_fault_has_its_code()
     ensures { FaultsHaveCodes }
 {}

@@ -3,8 +3,11 @@
 #![tactic(auto)]
 
 pub mod bearer;
+mod building;
 mod fields;
 mod head;
 pub mod laws;
+mod progress;
 pub mod reply;
 pub mod request;
+pub mod unread;

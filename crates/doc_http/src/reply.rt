@@ -1,11 +1,12 @@
 //! Replies as bytes.
 
 ghost use Rattle.std.specs.Prelude.{◌≡◌, ◌≢◌, ◌++◌, ◌==◌, [], false, length, is_some, IsTrue, IfOk, OnOk, string_bytes, codes, decimal};
-ghost use Rattle.doc_http.specs.Replies.{reply_bytes, reply_head, is_reply_code, reason_of, status_of, content_of, content_lines, field_line, allow_line, challenge_line, close_line, allowed_methods, content_type as type_of};
+ghost use Rattle.doc_http.specs.Replies.{reply_bytes, reply_head, is_reply_code, reason_of, status_of, content_of, content_lines, field_lines, field_line, location_line, allow_line, challenge_line, close_line, allowed_methods, content_type as type_of};
 
 use doc_heap::{Heap, String};
 use doc_page::bytes::Bytes;
 use doc_page::failure::Memory;
+use doc_page::text::Text;
 use std::fmt::Write;
 
 /// A reply to one request (RFC 9112, section 2.1).
@@ -16,6 +17,8 @@ pub struct Reply {
     pub html: bool,
     /// With 405, what the resource is.
     pub allow: Option<Allow>,
+    /// With 301, where the resource is: a reference, whose bytes are written as they are.
+    pub location: Option<Text>,
     /// The content of a 200. The other replies have one of their own.
     pub body: Bytes,
 }
@@ -23,7 +26,9 @@ pub struct Reply {
 /// What a resource is, which says the methods that it has.
 #[derive(Clone, Copy, Debug, PartialEq, Eq)]
 pub enum Allow {
+    /// A page: GET, HEAD, PUT and DELETE.
     Page,
+    /// What is only read: GET and HEAD.
     Read,
 }
 
@@ -34,7 +39,7 @@ const HEAD_ROOM: usize = 256;
 const CODE_ROOM: usize = 5;
 
 impl Reply {
-    /// The bytes of the reply: its status line, Content-Type, Content-Length, Allow (405),
+    /// The bytes of the reply: its status line, Content-Type, Content-Length, Location (301), Allow (405),
     /// WWW-Authenticate (401), `Connection: close` where `close`, an empty line and the content, which
     /// is the body of a 200 and else a line of the code and its reason. A 204 has neither type nor
     /// length nor content. `head_only` leaves the content out, as for HEAD.
@@ -42,12 +47,11 @@ impl Reply {
     pub fn write(&self, heap: Heap, head_only: bool, close: bool) -> Result<Bytes, Memory>
         requires known { IsTrue (is_reply_code self.now.code) }
         requires allowed { is_some self.now.allow ≡ (self.now.code == 405) }
+        requires located { is_some self.now.location ≡ (self.now.code == 301) }
         requires content { self.now.code ≢ 200 → (self.now.body ≡ []) × (self.now.html ≡ false) }
         ensures { IfOk result (λ bytes. bytes ≡ reply_bytes self.now head_only close) }
     {
-        let body = self.body.get();
-        let content_room = if head_only { 0 } else { body.len() };
-        let mut out = String::with_capacity(heap, HEAD_ROOM.saturating_add(content_room))?;
+        let mut out = String::with_capacity(heap, self.room(head_only))?;
         self.push_head(&mut out, close)?;
         if head_only || self.code == 204 {
             return Ok(Bytes::new(out.into_bytes()));
@@ -58,8 +62,15 @@ impl Reply {
             return Ok(Bytes::new(out.into_bytes()));
         }
         let mut out = out.into_bytes();
-        out.extend_from_slice(body)?;
+        out.extend_from_slice(self.body.get())?;
         Ok(Bytes::new(out))
+    }
+
+    // Room for the reply, for which no growth is needed as it is written.
+    fn room(&self, head_only: bool) -> usize {
+        let content = if head_only { 0 } else { self.body.get().len() };
+        let location = self.location.as_ref().map_or(0, |text| text.get().len());
+        HEAD_ROOM.saturating_add(location).saturating_add(content)
     }
 
     #[tactic(auto, unfolding(crate::specs::Replies::reply_head))]
@@ -70,12 +81,20 @@ impl Reply {
         out.push_str("HTTP/1.1 ")?;
         push_status(out, self.code)?;
         out.push_str("\r\n")?;
-        self.push_content_lines(out)?;
-        push_allow(out, self.allow)?;
-        push_challenge(out, self.code)?;
-        push_close(out, close)?;
+        self.push_field_lines(out, close)?;
         out.push_str("\r\n")?;
         Ok(())
+    }
+
+    fn push_field_lines(&self, out: &mut String, close: bool) -> Result<(), Memory>
+        requires { IsTrue (is_reply_code self.now.code) }
+        ensures { OnOk result (string_bytes out.new ≡ string_bytes out.old ++ field_lines self.now close) }
+    {
+        self.push_content_lines(out)?;
+        push_location(out, &self.location)?;
+        push_allow(out, self.allow)?;
+        push_challenge(out, self.code)?;
+        push_close(out, close)
     }
 
     fn push_content_lines(&self, out: &mut String) -> Result<(), Memory>
@@ -107,8 +126,8 @@ impl Allow {
         ensures { result.now ≡ allowed_methods self }
     {
         match self {
-            Allow::Page => "GET",
-            Allow::Read => "GET",
+            Allow::Page => "GET, HEAD, PUT, DELETE",
+            Allow::Read => "GET, HEAD",
         }
     }
 }
@@ -139,6 +158,15 @@ fn push_status(out: &mut String, code: u16) -> Result<(), Memory>
 {
     write!(out, "{} {}", code, reason(code))?;
     Ok(())
+}
+
+fn push_location(out: &mut String, location: &Option<Text>) -> Result<(), Memory>
+    ensures { OnOk result (string_bytes out.new ≡ string_bytes out.old ++ location_line location.now) }
+{
+    match location {
+        Some(location) => push_field(out, "Location", location.get()),
+        None => Ok(()),
+    }
 }
 
 fn push_allow(out: &mut String, allow: Option<Allow>) -> Result<(), Memory>
@@ -189,6 +217,7 @@ fn reason(code: u16) -> &'static str
         200 => "OK",
         201 => "Created",
         204 => "No Content",
+        301 => "Moved Permanently",
         400 => "Bad Request",
         401 => "Unauthorized",
         403 => "Forbidden",

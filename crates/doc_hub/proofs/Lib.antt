@@ -5,14 +5,8 @@ mod FrontSteps
 mod GivenLaws
 mod NextLaws
 mod NumberSteps
-mod OriginParts
-mod PathLaws
-mod PathSteps
 mod ReplyExamples
-mod Routing
 mod RunLaws
 mod RunSteps
 mod StepLaws
-mod TargetExamples
-mod TargetSteps
 mod ViewSteps

@@ -25,8 +25,8 @@ use Rattle.doc_resolve.specs.Resolution.{resolve}
 use Rattle.doc_resolve.specs.WrittenPaths.{path_written as target_path_written}
 use Rattle.doc_hub.specs.Connections.{pushed_onto, finished, backlog_limit}
 use Rattle.doc_hub.specs.Replies.{Renders, answer_of, fault_bytes}
-use Rattle.doc_hub.specs.Targets.{origin_form, page_rest}
-use Rattle.doc_hub.specs.WrittenPaths.{path_written}
+use Rattle.doc_targets.specs.Targets.{origin_form, page_rest}
+use Rattle.doc_targets.specs.WrittenPaths.{path_written}
 use Rattle.doc_hub.specs.declared.connection.Connection.{Connection}
 use Rattle.doc_hub.specs.declared.refusal.PushError.TheVariants.{Closed}
 

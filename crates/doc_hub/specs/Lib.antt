@@ -2,9 +2,5 @@ pub mod Connections
 pub mod Events
 pub mod Laws
 pub mod Replies
-pub mod RouteSteps
 pub mod Runs
-pub mod TargetSteps
-pub mod Targets
 pub mod Worlds
-pub mod WrittenPaths

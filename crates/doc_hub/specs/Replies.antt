@@ -12,8 +12,8 @@ use Rattle.doc_http.specs.declared.reply.Allow.TheVariants.{Page as page_methods
 use Rattle.doc_http.specs.declared.reply.Reply.{Reply}
 use Rattle.doc_http.specs.declared.request.Request.{Request}
 use Rattle.doc_http.specs.Replies.{reply_bytes}
-use Rattle.doc_hub.specs.Targets.{page_rest}
-use Rattle.doc_hub.specs.WrittenPaths.{path_written}
+use Rattle.doc_targets.specs.Targets.{page_rest}
+use Rattle.doc_targets.specs.WrittenPaths.{path_written}
 use Rattle.doc_hub.specs.declared.reply.Answer.{Answer}
 
 -- what a renderer makes of each text

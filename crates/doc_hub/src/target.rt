@@ -1,5 +1,0 @@
-//! What the target of a request names.
-
-mod origin_form;
-pub mod routes;
-pub mod written_path;

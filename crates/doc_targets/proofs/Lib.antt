@@ -1,0 +1,6 @@
+mod OriginParts
+mod PathLaws
+mod PathSteps
+mod Routing
+mod TargetExamples
+mod TargetSteps

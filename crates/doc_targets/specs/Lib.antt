@@ -1,0 +1,5 @@
+pub mod Queries
+pub mod RouteSteps
+pub mod TargetSteps
+pub mod Targets
+pub mod WrittenPaths
