@@ -1,5 +1,5 @@
 -- Noninterference: what is sent on a connection depends on its own events and on what its readers may see.
-use Rattle.std.specs.Prelude.{◌≡◌, ◌≤◌, ℕ, All, Bool, List, [], ◌∷◌, false, Option, Some, None, Result, Ok, Err, ⊤}
+use Rattle.std.specs.Prelude.{◌≡◌, ◌≤◌, ℕ, All, Bool, List, [], ◌∷◌, false, true, Option, Some, None, Result, Ok, Err, ⊤}
 use Rattle.std.specs.FinMap as map
 use Rattle.doc_store.specs.declared.reader.Reader.{Reader}
 use Rattle.doc_store.specs.Sites.{Site, empty_site, visible_to}
@@ -16,6 +16,7 @@ use Rattle.doc_hub.specs.declared.refusal.PushError.{PushError}
 use Rattle.doc_hub.specs.declared.refusal.PushError.TheVariants as push_errors
 use Rattle.doc_hub.specs.declared.refusal.StepError.{StepError}
 use Rattle.doc_hub.specs.declared.refusal.StepError.TheVariants as step_errors
+use Rattle.doc_hub.specs.Edits.{puts_left}
 use Rattle.doc_hub.specs.Replies.{Renders}
 use Rattle.doc_hub.specs.Worlds.{World, Stays, Steps, disconnected, reader_of, stepped_by, world_pushed}
 use Rattle.doc_hub.specs.Runs.{IsOutOfMemory, Happened, Runs, events_on, sent_on}
@@ -26,11 +27,12 @@ use Rattle.doc_hub.specs.declared.event.Event.TheVariants as events
 abbrev pub site_seen : World → Request → Site
 site_seen w request = visible_to w.store.site (reader_of w request)
 
--- two worlds are alike for a request: one keep-alive setting, one reader's entry, one view
+-- two worlds are alike for a request: one keep-alive setting, one reader's entry, one view, and puts are left in both or in neither
 pub record Agree (w v : World) (request : Request) : Type 0 where
   pub keep_alive : w.keep_alive ≡ v.keep_alive
   pub reader : reader_of w request ≡ reader_of v request
   pub sites : site_seen w request ≡ site_seen v request
+  pub puts : puts_left w.store ≡ puts_left v.store
 
 -- alike for what the unread bytes begin with: a fault, and what is no request yet, ask for nothing
 abbrev pub AgreeOn : World → World → Next → Type 0
@@ -64,11 +66,12 @@ abbrev pub fresh_for : World → List ℕ → Next → World
 fresh_for w unread (nexts.Request used request) = fresh (site_seen w request) (bearer_of request) (reader_of w request) w.keep_alive unread
 fresh_for w unread next = fresh empty_site None None w.keep_alive unread
 
--- what a step answered is what the step of that fresh server answers
+-- what a step answered, while a put was left, is what the step of that fresh server answers
 abbrev pub SendsAsFresh : Renders → Happened → Type 0
 SendsAsFresh render h =
     (c : ℕ) (unread : List ℕ) (next : Next) (said : Step)
     → h.event ≡ events.Step (record { 0 = c }) → map.get h.world.connections c ≡ Some (open_with unread) → IsNext unread next → h.outcome ≡ outcomes.Stepped said
+    → puts_left h.world.store ≡ true
     → (stepped_by render (fresh_for h.world unread next) 1 (open_with unread) next).1 ≡ Ok said
 
 -- Noninterference: in any run, whatever other connections did and whatever growths were refused, each

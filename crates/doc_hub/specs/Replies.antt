@@ -1,72 +1,144 @@
--- The reply to a request. It is a function of the reader's view, the reader's entry, the request and
--- the keep-alive setting, and never of the whole site: that is what makes noninterference true.
-use Rattle.std.specs.Prelude.{ℕ, List, [], Bool, true, false, not, ◌||◌, bytes_eq, codes, Option, Some, None, if◌then◌else◌}
+-- The reply to a request. It is a function of the reader's view, the reader's entry, the request, the
+-- keep-alive setting and whether a put is left, and never of the whole site: that is what makes
+-- noninterference true.
+use Rattle.std.specs.Prelude.{ℕ, List, [], ◌∷◌, Bool, true, false, not, ◌||◌, ◌&&◌, bytes_eq, codes, is_some, length, nat_lt, nat_le, Option, Some, None, Result, Ok, Err, if◌then◌else◌}
+use Rattle.std.specs.Str.{is_utf8}
+use Rattle.doc_page.specs.Paths.{segments}
 use Rattle.doc_page.specs.Pages.{body_of}
 use Rattle.doc_page.specs.declared.linker.Shown.{Shown}
 use Rattle.doc_page.specs.declared.rendered.Rendered.{Rendered}
+use Rattle.doc_store.specs.Groups.{groups_of}
 use Rattle.doc_store.specs.Pages.{Page}
+use Rattle.doc_store.specs.Store.{text_limit, page_limit}
+use Rattle.doc_store.specs.declared.groups.GroupsError.{GroupsError}
 use Rattle.doc_store.specs.declared.reader.Reader.{Reader}
 use Rattle.doc_store.specs.Sites.{View, page_at, goal_in}
-use Rattle.doc_resolve.specs.Hrefs.{shown}
+use Rattle.doc_resolve.specs.Hrefs.{shown, page_href}
 use Rattle.doc_http.specs.declared.reply.Allow.TheVariants.{Page as page_methods}
 use Rattle.doc_http.specs.declared.reply.Reply.{Reply}
 use Rattle.doc_http.specs.declared.request.Request.{Request}
 use Rattle.doc_http.specs.Replies.{reply_bytes}
+use Rattle.doc_targets.specs.Queries.{parameter}
 use Rattle.doc_targets.specs.Targets.{page_rest}
 use Rattle.doc_targets.specs.WrittenPaths.{path_written}
-use Rattle.doc_hub.specs.declared.reply.Answer.{Answer}
+use Rattle.doc_hub.specs.declared.answer.Answer.{Answer}
+use Rattle.doc_hub.specs.declared.method.Method.{Method}
+use Rattle.doc_hub.specs.declared.method.Method.TheVariants.{Get, Head, Put, Delete, Other}
+use Rattle.doc_hub.specs.declared.response.Edit.{Edit}
+use Rattle.doc_hub.specs.declared.response.Edit.TheVariants as edits
+use Rattle.doc_hub.specs.declared.response.Response.{Response}
 
 -- what a renderer makes of each text
 abbrev pub Renders : Type 0
 Renders = List ℕ → Rendered
 
--- the methods that are told apart (RFC 9110, section 9)
-pub data Method : Type 0 where
-  get other : Method
-
+-- the methods that are told apart (RFC 9110, section 9); methods have case
 abbrev pub method_of : List ℕ → Method
-method_of name = if bytes_eq name (codes "GET") then get else other
+method_of name =
+    if bytes_eq name (codes "GET") then Get
+    else (if bytes_eq name (codes "HEAD") then Head
+    else (if bytes_eq name (codes "PUT") then Put
+    else (if bytes_eq name (codes "DELETE") then Delete else Other)))
+
+-- ---- replies that edit nothing
 
 -- a reply that says no more than its status
 abbrev pub status_reply : ℕ → Reply
-status_reply code = record { code = code; html = false; allow = None; body = [] }
+status_reply code = record { code = code; html = false; allow = None; location = None; body = [] }
 
 abbrev pub page_reply : List ℕ → Reply
-page_reply body = record { code = 200; html = true; allow = None; body = body }
+page_reply body = record { code = 200; html = true; allow = None; location = None; body = body }
 
 abbrev pub not_allowed : Reply
 not_allowed = record (status_reply 405) { allow = Some page_methods }
+
+-- the page stands under another path now
+abbrev pub moved_reply : List ℕ → Reply
+moved_reply goal = record (status_reply 301) { location = Some (page_href goal None) }
 
 -- how a link to a destination is shown in the page at this path: by what the reader sees, whatever else stands in the site
 abbrev pub link_shown : View → List ℕ → List ℕ → Shown
 link_shown view path dest = shown (goal_in view) path dest
 
--- a page that the reader sees, or none: a hidden page and an absent one are the same here
-abbrev pub page_or_none : Renders → View → List ℕ → Option Page → Reply
-page_or_none render view path None = status_reply 404
-page_or_none render view path (Some page) = page_reply (body_of path (link_shown view path) (render page.text))
+-- where nothing is seen at a path: where it leads, if anywhere
+abbrev pub goal_reply : Option (List ℕ) → Reply
+goal_reply (Some goal) = moved_reply goal
+goal_reply None = status_reply 404
 
--- the path that the target writes, or none
+-- a page that the reader sees, or where an alias that they see leads, or nothing: what is hidden and what is absent are the same here
+abbrev pub page_or_goal : Renders → View → List ℕ → Option Page → Option (List ℕ) → Reply
+page_or_goal render view path (Some page) goal = page_reply (body_of path (link_shown view path) (render page.text))
+page_or_goal render view path None goal = goal_reply goal
+
+-- GET and HEAD of the path that the target writes, or of none
 abbrev pub at_path : Renders → View → Option (List ℕ) → Reply
 at_path render view None = status_reply 404
-at_path render view (Some path) = page_or_none render view path (page_at view.pages path)
+at_path render view (Some path) = page_or_goal render view path (page_at view.pages path) (goal_in view path)
+
+-- ---- responses: a reply, and the edit of the site that goes with it
+
+abbrev pub only_reply : Reply → Response
+only_reply reply = record { reply = reply; edit = None }
+
+abbrev pub refused : ℕ → Response
+refused code = only_reply (status_reply code)
+
+abbrev pub edited : ℕ → Edit → Response
+edited code edit = record { reply = status_reply code; edit = Some edit }
+
+-- whether a put of a text fits, from the view of an owner, who sees the whole site, and whether a put is left
+abbrev pub has_room : View → Bool → List ℕ → List ℕ → Bool
+has_room view puts_left path text =
+    nat_le (length text) text_limit && (is_some (page_at view.pages path) || nat_lt (length view.pages) page_limit) && puts_left
+
+-- a put of a page with these groups under a path: 201 where no page stood there, and else 204
+abbrev pub put_page : View → Bool → List ℕ → List (List ℕ) → List ℕ → Response
+put_page view puts_left path groups text =
+    if has_room view puts_left path text
+    then edited (if is_some (page_at view.pages path) then 204 else 201) (edits.Put path groups)
+    else refused 507
+
+-- the same by the path that the target writes and the groups that its query names, where it does
+abbrev pub put_at : View → Bool → Option (List ℕ) → Result (List (List ℕ)) GroupsError → List ℕ → Response
+put_at view puts_left None groups text = refused 400
+put_at view puts_left (Some path) (Err e) text = refused 400
+put_at view puts_left (Some path) (Ok groups) text = if is_utf8 text then put_page view puts_left path groups text else refused 400
+
+-- PUT of an owner
+abbrev pub put_by : View → Bool → List ℕ → Request → Response
+put_by view puts_left rest request =
+    put_at view puts_left (path_written rest) (groups_of (parameter request.target (codes "groups"))) request.body
+
+-- DELETE of an owner
+abbrev pub delete_at : View → Option (List ℕ) → Response
+delete_at view None = refused 404
+delete_at view (Some path) = if is_some (page_at view.pages path) then edited 204 (edits.Remove path) else refused 404
+
+-- the method; a page is written by owners alone, whatever its path
+abbrev pub by_method : Renders → View → Bool → Bool → List ℕ → Request → Method → Response
+by_method render view owner puts_left rest request Get = only_reply (at_path render view (path_written rest))
+by_method render view owner puts_left rest request Head = only_reply (at_path render view (path_written rest))
+by_method render view owner puts_left rest request Put = if owner then put_by view puts_left rest request else refused 403
+by_method render view owner puts_left rest request Delete = if owner then delete_at view (path_written rest) else refused 403
+by_method render view owner puts_left rest request Other = only_reply not_allowed
 
 -- the route, then the method
-abbrev pub on_route : Renders → View → Option (List ℕ) → Method → Reply
-on_route render view None method = status_reply 404
-on_route render view (Some rest) other = not_allowed
-on_route render view (Some rest) get = at_path render view (path_written rest)
+abbrev pub on_route : Renders → View → Bool → Bool → Option (List ℕ) → Request → Response
+on_route render view owner puts_left None request = refused 404
+on_route render view owner puts_left (Some rest) request = by_method render view owner puts_left rest request (method_of request.method)
 
 -- the reader first: no entry gets nothing, whatever is asked
-abbrev pub reply_to : Renders → View → Option Reader → Request → Reply
-reply_to render view None request = status_reply 401
-reply_to render view (Some reader) request = on_route render view (page_rest request.target) (method_of request.method)
+abbrev pub response_to : Renders → View → Option Reader → Bool → Request → Response
+response_to render view None puts_left request = refused 401
+response_to render view (Some reader) puts_left request = on_route render view reader.owner puts_left (page_rest request.target) request
 
--- the bytes that are sent, and whether the connection closes after them; a reply to HEAD has no body (RFC 9110, section 9.3.2)
-unfoldable pub answer_of : Renders → View → Option Reader → Bool → Request → Answer
-answer_of render view reader keep_alive request =
+-- The bytes that are sent, whether the connection closes after them, and the edit that is made. A reply to HEAD has no body (RFC 9110,
+-- section 9.3.2).
+unfoldable pub answer_of : Renders → View → Option Reader → Bool → Bool → Request → Answer
+answer_of render view reader puts_left keep_alive request =
+    let response = response_to render view reader puts_left request in
     let close = request.close || not keep_alive in
-    record { bytes = reply_bytes (reply_to render view reader request) (bytes_eq request.method (codes "HEAD")) close; closes = close }
+    record { bytes = reply_bytes response.reply (bytes_eq request.method (codes "HEAD")) close; closes = close; edit = response.edit }
 
 -- the bytes for what is no request; the connection closes after them
 abbrev pub fault_bytes : ℕ → Bool → List ℕ

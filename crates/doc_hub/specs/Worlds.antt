@@ -17,8 +17,9 @@ use Rattle.doc_http.specs.declared.request.Request.{Request}
 use Rattle.doc_http.specs.declared.request.Next.{Next}
 use Rattle.doc_http.specs.declared.request.Next.TheVariants as nexts
 use Rattle.doc_hub.specs.Connections.{Connections, new_connection, pushed, finished}
+use Rattle.doc_hub.specs.Edits.{puts_left, store_after}
 use Rattle.doc_hub.specs.Replies.{Renders, answer_of, fault_bytes}
-use Rattle.doc_hub.specs.declared.reply.Answer.{Answer}
+use Rattle.doc_hub.specs.declared.answer.Answer.{Answer}
 use Rattle.doc_hub.specs.declared.connection.Connection.{Connection}
 use Rattle.doc_hub.specs.declared.event.ConnId.{ConnId}
 use Rattle.doc_hub.specs.declared.event.Step.{Step}
@@ -84,7 +85,12 @@ reader_of w request = option_and_then (map.get w.readers) (bearer_of request)
 
 -- the answer to a request, from what its reader may see
 abbrev pub answer_in : Renders → World → Request → Answer
-answer_in render w request = answer_of render (view_of w.store.site (reader_of w request)) (reader_of w request) w.keep_alive request
+answer_in render w request =
+    answer_of render (view_of w.store.site (reader_of w request)) (reader_of w request) (puts_left w.store) w.keep_alive request
+
+-- the world after the edit of a request
+abbrev pub world_after : World → Request → Answer → World
+world_after w request a = record w { store = store_after w.store request.body a.edit }
 
 abbrev pub step_said : Bool → List ℕ → Step
 step_said closes bytes = if closes then steps.Last bytes else steps.Sent bytes
@@ -97,7 +103,7 @@ abbrev pub stepped_by : Renders → World → ℕ → Connection → Next → Wo
 stepped_by render w id c nexts.More = (w, Ok steps.More)
 stepped_by render w id c (nexts.Fault code bare) = (with_finished w id c 0 true, Ok (steps.Last (fault_bytes code bare)))
 stepped_by render w id c (nexts.Request used request) =
-    let a = answer_in render w request in (with_finished w id c used a.closes, Ok (step_said a.closes a.bytes))
+    let a = answer_in render w request in (with_finished (world_after w request a) id c used a.closes, Ok (step_said a.closes a.bytes))
 
 -- the answer is this one, and nothing changes
 abbrev pub Stays : World → Result Step StepError → World → Result Step StepError → Type 0

@@ -1,11 +1,14 @@
 //! One connection.
 
-ghost use Rattle.std.specs.Prelude.{◌≡◌, ◌≤◌, length};
+ghost use Rattle.std.specs.Prelude.{◌≡◌, ◌≤◌, length, IfOk, OnErr};
 ghost use Rattle.doc_page.specs.Refusals.{Gives};
+ghost use Rattle.doc_http.specs.Requests.{IsNext, BeginsWithRequest, UsesAtMost};
 ghost use Rattle.doc_hub.specs.Connections.{pushed_onto, finished};
 
 use crate::refusal::PushError;
-use crate::unread::Unread;
+use doc_http::request::Next;
+use doc_http::unread::Unread;
+use doc_page::failure::Memory;
 
 /// The unread bytes of a connection, and whether it is closed.
 #[derive(Debug, Drop)]
@@ -31,6 +34,16 @@ impl Connection {
         }
         self.unread.push(bytes)?;
         Ok(())
+    }
+
+    /// What the unread bytes begin with.
+    pub fn next_request(&mut self) -> Result<Next, Memory>
+        ensures found { IfOk result (λ next. IsNext self.old.unread next) }
+        ensures within { IfOk result (UsesAtMost (length self.old.unread)) }
+        ensures memory { OnErr result (BeginsWithRequest self.old.unread) }
+        ensures same { self.new ≡ self.old }
+    {
+        self.unread.next_request()
     }
 
     /// Takes the bytes of an answered request, or all of them where the connection closes.

@@ -1,14 +1,16 @@
 //! The connections of a hub, by number.
 
-ghost use Rattle.std.specs.Prelude.{◌≡◌, ◌≤◌, Some, length, OnOk, OnErr, option_copied};
+ghost use Rattle.std.specs.Prelude.{◌≡◌, ◌≤◌, Some, length, IfOk, OnOk, OnErr, option_copied};
 ghost use Rattle.std.specs.FinMap as map;
 ghost use Rattle.doc_page.specs.Refusals.{Gives};
+ghost use Rattle.doc_http.specs.Requests.{IsNext, BeginsWithRequest, UsesAtMost};
 ghost use Rattle.doc_hub.specs.Connections.{pushed, finished};
 ghost use Rattle.doc_hub.specs.declared.connection.Connection.{Connection};
 
 use crate::connection::Connection;
 use crate::refusal::PushError;
 use doc_heap::{BTreeMap, Heap};
+use doc_http::request::Next;
 use doc_page::failure::Memory;
 use std::marker::Model;
 
@@ -64,6 +66,20 @@ impl Connections {
             return Err(PushError::NoConnection);
         };
         connection.push(bytes)
+    }
+
+    /// What the unread bytes of a connection begin with; nothing yet, where there is no such connection.
+    /// Bytes that an earlier call looked at are not looked at again.
+    pub fn next_request(&mut self, id: u64) -> Result<Next, Memory>
+        ensures found { (c : Connection) → map.get self.old id ≡ Some c → IfOk result (λ next. IsNext c.unread next) }
+        ensures within { (c : Connection) → map.get self.old id ≡ Some c → IfOk result (UsesAtMost (length c.unread)) }
+        ensures memory { (c : Connection) → map.get self.old id ≡ Some c → OnErr result (BeginsWithRequest c.unread) }
+        ensures same { self.new ≡ self.old }
+    {
+        match self.entries.get_mut(&id) {
+            Some(connection) => connection.next_request(),
+            None => Ok(Next::More),
+        }
     }
 
     /// Takes a connection away, and says whether there was one. It takes no memory.

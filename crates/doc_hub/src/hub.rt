@@ -6,16 +6,16 @@ ghost use Rattle.doc_page.specs.Refusals.{Gives, IsAnswer};
 ghost use Rattle.doc_hub.specs.Runs.{Happens, Leaves, GivesRun};
 ghost use Rattle.doc_hub.specs.Worlds.{hub_made};
 
+use crate::answer::{answer_to, answer_to_fault};
 use crate::connection::Connection;
 use crate::connections::Connections;
 use crate::event::{ConnId, Event, Step};
 use crate::outcome::Outcome;
+use crate::putting::make;
 use crate::refusal::{ConnectError, HubError, PushError, StepError};
-use crate::reply::{answer_to, answer_to_fault};
-use crate::target::routes::Routes;
-use crate::unread::Unread;
 use doc_heap::{Heap, Vec};
-use doc_http::request::{Next, Request, next_request};
+use doc_http::request::Next;
+use doc_http::unread::Unread;
 use doc_page::failure::Memory;
 use doc_page::list::List;
 use doc_page::path::Path;
@@ -25,6 +25,7 @@ use doc_store::moving::MoveError;
 use doc_store::reader::Reader;
 use doc_store::readers::{ReaderError, Readers, Set};
 use doc_store::store::{EditError, Put, Store};
+use doc_targets::routes::Routes;
 use std::marker::Model;
 
 /// The pages, the readers and the connections of a server. Contracts see the renderer beside the
@@ -116,7 +117,9 @@ impl<R: Renderer + Drop> Hub<R> {
         self.connections.push(id.0, bytes)
     }
 
-    /// Answers the request or fault at the front of a connection's unread bytes, if they hold one.
+    /// Answers the request or fault at the front of a connection's unread bytes, if they hold one, and
+    /// makes the edit that it asks for. `Memory` says that nothing was sent and nothing changed: the
+    /// request waits.
     pub fn step(&mut self, id: ConnId) -> Result<Step, StepError>
         ensures world { Happens (R.page self.old.0) self.old.1 (Event.Step id) self.new.1 result }
         ensures same { R.page self.new.0 ≡ R.page self.old.0 }
@@ -127,7 +130,7 @@ impl<R: Renderer + Drop> Hub<R> {
         if connection.closed {
             return Ok(Step::Closed);
         }
-        match next_request(self.heap, connection.unread.get())? {
+        match self.connections.next_request(id.0)? {
             Next::More => Ok(Step::More),
             Next::Fault { code, bare } => {
                 let bytes = answer_to_fault(self.heap, code, bare)?;
@@ -144,6 +147,7 @@ impl<R: Renderer + Drop> Hub<R> {
                     self.keep_alive,
                     &request,
                 )?;
+                make(&mut self.store, &answer.edit, request.body.get())?;
                 self.connections.finish(id.0, used, answer.closes);
                 Ok(if answer.closes {
                     Step::Last(answer.bytes)

@@ -2,10 +2,6 @@
 #![tactic(auto)]
 
 mod origin_form;
-mod query;
-mod routes;
-mod written_path;
-
-pub use query::parameter;
-pub use routes::Routes;
-pub use written_path::written_path;
+pub mod query;
+pub mod routes;
+pub mod written_path;

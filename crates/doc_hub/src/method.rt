@@ -1,0 +1,30 @@
+//! Methods of requests.
+
+ghost use Rattle.std.specs.Prelude.{◌≡◌};
+ghost use Rattle.doc_hub.specs.Replies.{method_of};
+
+/// What a request asks for (RFC 9110, section 9.3).
+#[derive(Clone, Copy, Debug, PartialEq, Eq)]
+pub enum Method {
+    Get,
+    Head,
+    Put,
+    Delete,
+    /// A method that no resource here has.
+    Other,
+}
+
+impl Method {
+    /// The method of this name; methods have case.
+    pub fn of(name: &str) -> Method
+        ensures { result ≡ method_of name.now }
+    {
+        match name {
+            "GET" => Method::Get,
+            "HEAD" => Method::Head,
+            "PUT" => Method::Put,
+            "DELETE" => Method::Delete,
+            _ => Method::Other,
+        }
+    }
+}

@@ -1,0 +1,118 @@
+//! Edits of the site that requests ask for.
+
+ghost use Rattle.std.specs.Prelude.{◌≡◌, IfOk, OnOk, OnErr, Ok, Some, true, codes};
+ghost use Rattle.std.specs.Result.{result_ok};
+ghost use Rattle.std.specs.Str.{is_utf8};
+ghost use Rattle.doc_store.specs.Groups.{groups_of};
+ghost use Rattle.doc_store.specs.Sites.{view_of};
+ghost use Rattle.doc_store.specs.Store.{fits_in, with_page};
+ghost use Rattle.doc_hub.specs.Replies.{delete_at, put_by};
+ghost use Rattle.doc_hub.specs.Edits.{CanBeMade, puts_left, store_after};
+ghost use Rattle.doc_targets.specs.Queries.{parameter};
+ghost use Rattle.doc_targets.specs.WrittenPaths.{path_written};
+
+use crate::response::{Edit, Response};
+use doc_heap::Heap;
+use doc_http::request::Request;
+use doc_page::failure::Memory;
+use doc_page::path::Path;
+use doc_store::groups::{Groups, GroupsError};
+use doc_store::reader::Reader;
+use doc_store::store::{EditError, Store};
+use doc_targets::query::parameter;
+use doc_targets::written_path::written_path;
+use std::str::from_utf8;
+
+/// What an owner's PUT under the path that the rest of its target writes is answered, and the edit that
+/// it asks for.
+pub fn response_to_put(
+    heap: Heap,
+    store: &Store,
+    reader: &Reader,
+    rest: &str,
+    request: &Request,
+) -> Result<Response, Memory>
+    requires { reader.now.owner ≡ true }
+    ensures { IfOk result (λ r. r ≡ put_by (view_of store.now.site (Some reader.now)) (puts_left store.now) rest.now request.now) }
+{
+    let Some(path) = written_path(heap, rest)? else {
+        return Ok(Response::refused(heap, 400));
+    };
+    let Some(groups) = groups_of(heap, request)? else {
+        return Ok(Response::refused(heap, 400));
+    };
+    let Ok(text) = from_utf8(request.body.get()) else {
+        return Ok(Response::refused(heap, 400));
+    };
+    let code = if store.get(&path).is_some() { 204 } else { 201 };
+    match store.fits(&path, text) {
+        Ok(()) => Ok(Response::edited(heap, code, Edit::Put(path, groups))),
+        Err(_) => Ok(Response::refused(heap, 507)),
+    }
+}
+
+/// The groups that the query of a request names; none of them where it names groups that are none.
+fn groups_of(heap: Heap, request: &Request) -> Result<Option<Groups>, Memory>
+    ensures { IfOk result (λ groups. groups ≡ result_ok (groups_of (parameter request.now.target (codes "groups")))) }
+{
+    let names = parameter(heap, request.target.get(), "groups")?;
+    match Groups::new(heap, names.get()) {
+        Ok(groups) => Ok(Some(groups)),
+        Err(GroupsError::Memory) => Err(Memory),
+        Err(_) => Ok(None),
+    }
+}
+
+/// What an owner's DELETE of the path that the rest of its target writes is answered, and the edit that it
+/// asks for.
+pub fn response_to_delete(
+    heap: Heap,
+    store: &Store,
+    reader: &Reader,
+    rest: &str,
+) -> Result<Response, Memory>
+    requires { reader.now.owner ≡ true }
+    ensures { IfOk result (λ r. r ≡ delete_at (view_of store.now.site (Some reader.now)) (path_written rest.now)) }
+{
+    let Some(path) = written_path(heap, rest)? else {
+        return Ok(Response::refused(heap, 404));
+    };
+    if store.get(&path).is_some() {
+        Ok(Response::edited(heap, 204, Edit::Remove(path)))
+    } else {
+        Ok(Response::refused(heap, 404))
+    }
+}
+
+/// Makes the edit of a request, whose body is the page's text. `Memory` is its only refusal, and then
+/// nothing changes; a removal takes none.
+pub fn make(store: &mut Store, edit: &Option<Edit>, body: &[u8]) -> Result<(), Memory>
+    requires { CanBeMade store.old body.now edit.now }
+    ensures ok { OnOk result (store.new ≡ store_after store.old body.now edit.now) }
+    ensures err { OnErr result (store.new ≡ store.old) }
+{
+    match edit {
+        None => Ok(()),
+        Some(Edit::Remove(path)) => {
+            store.remove(path);
+            Ok(())
+        }
+        Some(Edit::Put(path, groups)) => put(store, path, groups, body),
+    }
+}
+
+fn put(store: &mut Store, path: &Path, groups: &Groups, body: &[u8]) -> Result<(), Memory>
+    requires utf8 { is_utf8 body.now ≡ true }
+    requires fits { fits_in store.old path.now body.now ≡ Ok tt }
+    ensures ok { OnOk result (store.new ≡ with_page store.old path.now (record { groups = groups.now; text = body.now })) }
+    ensures err { OnErr result (store.new ≡ store.old) }
+{
+    let Ok(text) = from_utf8(body) else {
+        unreachable!()
+    };
+    match store.put(path, groups, text) {
+        Ok(_) => Ok(()),
+        Err(EditError::Memory) => Err(Memory),
+        Err(_) => unreachable!(),
+    }
+}
