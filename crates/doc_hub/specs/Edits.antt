@@ -1,5 +1,6 @@
 -- Edits of the site that requests ask for.
 use Rattle.std.specs.Prelude.{◌≡◌, ℕ, List, Bool, true, nat_lt, Option, Some, None, Result, Ok, ⊤}
+use Rattle.std.specs.FinMap as map
 use Rattle.std.specs.Str.{is_utf8}
 use Rattle.doc_store.specs.Store.{StoreState, fits_in, put_limit, with_page, without_page}
 use Rattle.doc_hub.specs.declared.response.Edit.{Edit}
@@ -15,7 +16,8 @@ store_after store text None = store
 store_after store text (Some (edits.Put path groups)) = with_page store path (record { groups = groups; text = text })
 store_after store text (Some (edits.Remove path)) = without_page store path
 
--- a put whose text is UTF-8 and fits, a removal, or nothing
+-- a put whose text is UTF-8 and fits, a removal of a page that stands, or nothing
 abbrev pub CanBeMade : StoreState → List ℕ → Option Edit → Type 0
+CanBeMade store text None = ⊤
 CanBeMade store text (Some (edits.Put path groups)) = (is_utf8 text ≡ true) × (fits_in store path text ≡ Ok tt)
-CanBeMade store text edit = ⊤
+CanBeMade store text (Some (edits.Remove path)) = map.contains_key store.site.pages path ≡ true

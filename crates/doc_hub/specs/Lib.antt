@@ -1,4 +1,5 @@
 pub mod Connections
+pub mod EditLaws
 pub mod Edits
 pub mod Events
 pub mod Laws

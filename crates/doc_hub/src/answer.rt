@@ -5,7 +5,7 @@ ghost use Rattle.std.specs.FinMap as map;
 ghost use Rattle.doc_store.specs.Sites.{view_of};
 ghost use Rattle.doc_http.specs.Bearers.{bearer_of};
 ghost use Rattle.doc_http.specs.Laws.{is_fault_code};
-ghost use Rattle.doc_hub.specs.Edits.{CanBeMade, puts_left};
+ghost use Rattle.doc_hub.specs.Edits.{puts_left};
 ghost use Rattle.doc_hub.specs.Replies.{answer_of, fault_bytes, by_method, method_of, response_to};
 
 use crate::method::Method;
@@ -47,7 +47,6 @@ pub fn answer_to<R: Renderer>(
 ) -> Result<Answer, Memory>
     ensures answer { IfOk result (λ a. let reader = option_and_then (map.get readers.now) (bearer_of request.now) in
         a ≡ answer_of (R.page renderer.old) (view_of store.now.site reader) reader (puts_left store.now) keep_alive request.now) }
-    ensures edit { IfOk result (λ a. CanBeMade store.now request.now.body a.edit) }
     ensures same { R.page renderer.new ≡ R.page renderer.old }
 {
     let reader = reader_of(readers, request);

@@ -1,6 +1,7 @@
 //! Noninterference and other laws of runs, as contracts of functions that do nothing. They speak of the
 //! relation `Happens` between two worlds, which the contracts of the hub's calls promise of each call.
 
+ghost use Rattle.doc_hub.specs.EditLaws.{SiteIsOfEdits};
 ghost use Rattle.doc_hub.specs.Laws.{StepsAlike, RepliesAsFresh, RunsAlike, DroppedIsGone, NumbersAreGivenOnce};
 
 /// Step noninterference: a request is answered alike in two worlds with one keep-alive setting, one
@@ -33,4 +34,11 @@ pub fn dropped_connections_are_gone()
 #[tactic(auto, using(crate::proofs::GivenLaws::given_once))]
 pub fn no_number_is_given_again()
     ensures { NumbersAreGivenOnce }
+{}
+
+/// The site that a run leaves is the effect of the accepted edits in their order, and of nothing else:
+/// those of the calls for edits, and those that the answered requests ask for.
+#[tactic(auto, using(crate::proofs::SiteLaws::site_is_of_edits))]
+pub fn the_site_is_the_effect_of_the_edits()
+    ensures { SiteIsOfEdits }
 {}

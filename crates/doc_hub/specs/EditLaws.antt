@@ -1,0 +1,68 @@
+-- The site of a hub is the effect of the accepted edits in their order, and of nothing else.
+use Rattle.std.specs.Prelude.{◌≡◌, ℕ, List, [], ◌∷◌, Bool, true, MatchBool, Option, Some, None, ⊤}
+use Rattle.std.specs.FinMap as map
+use Rattle.doc_store.specs.Sites.{Site}
+use Rattle.doc_store.specs.Store.{Edit as SiteEdit, set_page, remove_page, move_page, effect_of}
+use Rattle.doc_http.specs.Requests.{IsNext}
+use Rattle.doc_http.specs.declared.request.Next.{Next}
+use Rattle.doc_http.specs.declared.request.Next.TheVariants as nexts
+use Rattle.doc_hub.specs.declared.connection.Connection.{Connection}
+use Rattle.doc_hub.specs.declared.event.Event.{Event}
+use Rattle.doc_hub.specs.declared.event.Event.TheVariants as events
+use Rattle.doc_hub.specs.declared.outcome.Outcome.{Outcome}
+use Rattle.doc_hub.specs.declared.outcome.Outcome.TheVariants as outcomes
+use Rattle.doc_hub.specs.declared.response.Edit.{Edit}
+use Rattle.doc_hub.specs.declared.response.Edit.TheVariants as edits
+use Rattle.doc_hub.specs.Replies.{Renders}
+use Rattle.doc_hub.specs.Worlds.{World, answer_in}
+use Rattle.doc_hub.specs.Runs.{Happened, Runs}
+
+-- the edit of the site that a request asks for, whose body is the page's text
+abbrev pub site_edit : List ℕ → Option Edit → Option SiteEdit
+site_edit text None = None
+site_edit text (Some (edits.Put path groups)) = Some (set_page path (record { groups = groups; text = text }))
+site_edit text (Some (edits.Remove path)) = Some (remove_page path)
+
+-- the edit that goes with the answer to what the unread bytes begin with
+abbrev pub edit_by : Renders → World → Next → Option SiteEdit
+edit_by render w (nexts.Request used request) = site_edit request.body (answer_in render w request).edit
+edit_by render w next = None
+
+-- a step that answered: a closed connection asks for no edit
+abbrev pub StepMakes : Renders → World → Option Connection → Option SiteEdit → Type 0
+StepMakes render w None edit = edit ≡ None
+StepMakes render w (Some c) edit = MatchBool c.closed (edit ≡ None) ((next : Next) × IsNext c.unread next × (edit ≡ edit_by render w next))
+
+abbrev pub removed_if : Bool → List ℕ → Option SiteEdit
+removed_if true path = Some (remove_page path)
+removed_if false path = None
+
+-- the edit that an event makes in this world, where it has this outcome; what is refused makes none
+abbrev pub Makes : Renders → World → Event → Outcome → Option SiteEdit → Type 0
+Makes render w (events.Put path groups text) (outcomes.Edited put) edit = edit ≡ Some (set_page path (record { groups = groups; text = text }))
+Makes render w (events.Remove path) (outcomes.Removed stood) edit = edit ≡ removed_if stood path
+Makes render w (events.MovePage from to) outcomes.Moved edit = edit ≡ Some (move_page from to)
+Makes render w (events.Step id) (outcomes.Stepped said) edit = StepMakes render w (map.get w.connections id.0) edit
+Makes render w event outcome edit = edit ≡ None
+
+abbrev pub site_after : Site → Option SiteEdit → Site
+site_after site None = site
+site_after site (Some edit) = effect_of site edit
+
+-- one after another
+abbrev pub site_after_all : Site → List (Option SiteEdit) → Site
+site_after_all site [] = site
+site_after_all site (edit ∷ rest) = site_after_all (site_after site edit) rest
+
+-- the edits of a run, one for each of its events
+abbrev pub AllMake : Renders → List Happened → List (Option SiteEdit) → Type 0
+AllMake render [] [] = ⊤
+AllMake render (h ∷ hs) [] = ⊥
+AllMake render [] (edit ∷ rest) = ⊥
+AllMake render (h ∷ hs) (edit ∷ rest) = Makes render h.world h.event h.outcome edit × AllMake render hs rest
+
+-- the site that a run leaves is that of its accepted edits, made one after another
+abbrev pub SiteIsOfEdits : Type 0
+SiteIsOfEdits =
+    (render : Renders) (w v : World) (run : List Happened) → Runs render w run v
+    → (made : List (Option SiteEdit)) × AllMake render run made × (v.store.site ≡ site_after_all w.store.site made)
