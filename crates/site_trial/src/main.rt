@@ -5,43 +5,48 @@
 //!
 //! A line is blank, a comment `# ..`, or one of
 //!
-//! - `world keep CACHE | READERS`, which begins a new world: a hub with the readers of a TOML text, an empty store and
-//!   no readers beside. `world close ..` keeps no connection alive. Only a world that is refused answers.
-//! - `FAMILY CALL ARGUMENT | ARGUMENT ..`, a call. The families are the modules of `calls`, where each call says its
-//!   arguments: `path`, `groups`, `readers`, `store`, `http`, `hub`, `page`, `text`, `demo`, `print`.
-//! - `times N ..`, `growths N ..` or `refused N ..` before a call (`rounds`).
+//! - `world keep CACHE READERS`, which begins a new world: a hub with the readers of a TOML text. `world close ..`
+//!   keeps no connection alive. Only a world that is refused answers.
+//! - `hub EVENT`, the call of an event as `events` says it; `hub run EVENT | EVENT ..`; `hub ask ID BYTES`, a push and a
+//!   step; `hub witness ID BYTES`, which asks now, and after each refused growth.
+//! - `http next BYTES`, what the bytes begin with; `http drip BYTES`, the same where they come one by one, behind
+//!   the number of bytes that decide it.
+//! - `demo WAY ROOM BYTES`, the command `demo` (`demos`).
+//! - `times N ..`, `growths N ..` or `only N ..` before a call (`rounds`).
 //!
-//! An argument is the bytes of its text, where `\n`, `\r`, `\t`, `\s` (a space) and `\xHH` are one byte, a backslash
-//! before any other character is that character, `{N*TEXT}` is TEXT N times (only such escapes stand in TEXT; `{0*x}`
-//! is the empty argument), and `#` is the number of the round, also for N. Answers are written in the same way, with each byte
-//! that is no printable ASCII as an escape, and 32 and more equal bytes as a repetition.
+//! The words of a call stand behind one space each, and the last takes the rest of the line. Bytes and texts are those of the
+//! line, where `\n`, `\r`, `\t`, `\s` (a space) and `\xHH` are one byte, a backslash before any other character is that
+//! character, `{N*TEXT}` is TEXT N times (only such escapes stand in TEXT; `{0*x}` is nothing), and `#` is the
+//! number of the round, also for N. Answers are written in the same way, with each byte that is no printable ASCII
+//! as an escape, and 32 and more equal bytes as a repetition.
 #![tactic(auto)]
 
 ghost use Rattle.std.specs.Prelude.{◌≡◌, ◌<◌};
 
 mod answer;
-mod call;
-mod calls;
+mod decoding;
+mod demos;
+mod events;
+mod given;
+mod hubs;
+mod outcomes;
+mod requests;
 mod rounds;
-mod trial;
-mod words;
+mod stop;
+mod world;
+mod written;
 
-use answer::{Answer, Refusal};
 use anyhow::Result;
-use call::Call;
 use doc_heap::{Heap, Vec, heap};
-use doc_hub::hub::Hub;
 use doc_page::plain::PlainRenderer;
 use doc_page::renderer::Renderer;
 use doc_server::input::read_whole;
-use doc_store::readers::Readers;
-use doc_store::store::Store;
+use given::Given;
 use rounds::answer_line;
 use std::marker::Brand;
 use std::str::from_utf8;
 use std::sync::ledger::{Blank, Ledger};
-use trial::{Heaps, Trial};
-use words::encode;
+use world::{Heaps, World, new_world};
 
 /// How many bytes of cases are read at most.
 const LIMIT: usize = 1_048_576;
@@ -56,111 +61,82 @@ fn run<R: AllocGlobal + Input + Print>(rt: &R) -> Result<()> {
     let cases = read_whole(desk, "-", &mut rt.reader(), LIMIT)?;
     let lines = lines_of(desk, &cases)?;
     for (at, line) in lines.iter().enumerate() {
-        if line.starts_with(b"world ") {
+        if line.starts_with("world ") {
             let tried = heap(rt.alloc(), u64::MAX)?;
-            run_world::<Brand, R>(rt, Heaps { tried, desk }, Blank::new(1), &lines[at..])?;
+            run_world::<Brand, R>(rt, Heaps { tried, desk }, Blank::new(1), line, &lines[at..])?;
         }
     }
     Ok(())
 }
 
-fn lines_of<'a>(desk: Heap, cases: &'a [u8]) -> Result<Vec<&'a [u8]>> {
+/// The lines; one that is no text is empty.
+fn lines_of<'a>(desk: Heap, cases: &'a [u8]) -> Result<Vec<&'a str>> {
     let mut lines = Vec::new(desk);
     for line in cases.split(|byte| *byte == b'\n') {
-        lines.push(line)?;
+        lines.push(from_utf8(line).unwrap_or(""))?;
     }
     Ok(lines)
 }
 
-/// Makes a world as the first line says, and the calls of the lines up to the next world.
-fn run_world<L: Ledger, P: Print>(rt: &P, heaps: Heaps, blank: Blank, lines: &[&[u8]]) -> Result<()>
+/// Makes a world as its line says, and the calls of the lines up to the next world.
+fn run_world<L: Ledger, P: Print>(
+    rt: &P,
+    heaps: Heaps,
+    blank: Blank,
+    line: &str,
+    lines: &[&str],
+) -> Result<()>
     requires name { blank.name ≡ L.name }
     requires parts { blank.parts ≡ L.parts }
     requires some { 0 < L.parts }
 {
     let renderer: PlainRenderer<L> = PlainRenderer::new(blank);
-    let Some((first, rest)) = lines.split_first() else {
-        return Ok(());
+    println!(rt; "{line}")?;
+    let whole = Given {
+        desk: heaps.desk,
+        line,
+        round: 0,
     };
-    print_line(rt, text_of(first))?;
-    match new_trial(heaps, renderer, text_of(first)) {
-        Ok(mut trial) => run_calls(rt, &mut trial, rest),
-        Err(refusal) => print_refusal(rt, &refusal),
+    let (_, given) = whole.split();
+    match new_world(heaps, renderer, given) {
+        Ok(mut world) => run_calls(rt, &mut world, lines),
+        Err(stop) => {
+            println!(rt; "    {stop}")?;
+            Ok(())
+        }
     }
 }
 
-/// A line, which is text.
-fn text_of(line: &[u8]) -> &str {
-    match from_utf8(line) {
-        Ok(text) => text,
-        Err(_) => "",
-    }
-}
-
-/// The world of a line `world keep CACHE | READERS`, or `world close` where no connection is kept alive.
-fn new_trial<R: Renderer + Drop>(
-    heaps: Heaps,
-    renderer: R,
-    line: &str,
-) -> std::result::Result<Trial<R>, Refusal> {
-    let call = Call::read(heaps.desk, line, 0)?;
-    let readers = Readers::from_toml(heaps.tried, call.text(1)?)?;
-    let cache = call.number(0)? as usize;
-    Ok(Trial {
-        heaps,
-        hub: Hub::new(heaps.tried, renderer, readers, call.name == "keep", cache)?,
-        store: Store::new(heaps.tried),
-        readers: Readers::from_toml(heaps.tried, "")?,
-        witness: None,
-    })
-}
-
+/// Makes the calls behind the first line, up to the next world.
 fn run_calls<R: Renderer + Drop, P: Print>(
     rt: &P,
-    trial: &mut Trial<R>,
-    lines: &[&[u8]],
+    world: &mut World<R>,
+    lines: &[&str],
 ) -> Result<()> {
-    for line in lines {
-        if line.starts_with(b"world ") {
+    for line in lines.iter().skip(1) {
+        if line.starts_with("world ") {
             return Ok(());
         }
-        run_line(rt, trial, text_of(line))?;
+        run_line(rt, world, line)?;
     }
     Ok(())
 }
 
 /// Prints a line, and behind it what its call answers, if it has one.
-fn run_line<R: Renderer + Drop, P: Print>(rt: &P, trial: &mut Trial<R>, line: &str) -> Result<()> {
+fn run_line<R: Renderer + Drop, P: Print>(rt: &P, world: &mut World<R>, line: &str) -> Result<()> {
     if line.is_empty() {
         return Ok(());
     }
-    print_line(rt, line)?;
+    println!(rt; "{line}")?;
     if line.starts_with('#') {
         return Ok(());
     }
-    match answer_line(trial, line) {
-        Ok(answer) => print_answer(rt, trial.heaps.desk, &answer),
-        Err(refusal) => print_refusal(rt, &refusal),
+    match answer_line(world, line) {
+        Ok(answer) => {
+            let text = answer.text.as_str();
+            println!(rt; "    {text}")?;
+        }
+        Err(stop) => println!(rt; "    {stop}")?,
     }
-}
-
-fn print_line(rt: &impl Print, line: &str) -> Result<()> {
-    println!(rt; "{line}")?;
-    Ok(())
-}
-
-fn print_answer(rt: &impl Print, desk: Heap, answer: &Answer) -> Result<()> {
-    let said = answer.said;
-    let bytes = encode(desk, &answer.bytes)?;
-    if bytes.is_empty() {
-        println!(rt; "    {said}")?;
-    } else {
-        println!(rt; "    {said} {bytes}")?;
-    }
-    Ok(())
-}
-
-fn print_refusal(rt: &impl Print, refusal: &Refusal) -> Result<()> {
-    println!(rt; "    refused: {refusal}")?;
     Ok(())
 }

@@ -1,158 +1,155 @@
 //! Calls that are made many times, and with refused growths.
 
-use crate::answer::{Answer, Refusal};
-use crate::call::{Call, first_word};
-use crate::calls::answer;
-use crate::trial::{Trial, witnessed};
-use crate::words::number;
-use doc_heap::Vec;
+use crate::answer::Answer;
+use crate::given::{Given, first_word, number_of};
+use crate::stop::Stop;
+use crate::world::{World, witnessed};
+use crate::{demos, hubs, requests};
+use doc_heap::String;
 use doc_page::renderer::Renderer;
 
-/// How many growths of one call are refused at most.
-const MOST: u64 = 10_000;
+/// More growths than a call takes.
+const MOST: u64 = 100_000;
 
 /// What a line answers: that of its call, or of one of these.
 ///
 /// `times N CALL`: the last answer of N calls, which take the numbers 0 to N - 1 for `#`.
 /// `growths N CALL`: N such calls. Each growth of each is refused, alone and with all that follow:
-/// both times the call answers that memory ran out, and the witness is answered as before. Then the
-/// call is answered: the number of growths in all stands before the last answer.
-/// `refused N CALL`: the first N growths of the call are refused in the same way, and it is left so.
-pub fn answer_line<R: Renderer + Drop>(
-    trial: &mut Trial<R>,
-    line: &str,
-) -> Result<Answer, Refusal> {
+/// both times memory runs out in the call, and the witness is answered as before. Then the call is
+/// answered: the last answer stands behind `Memory each time` or, where none took memory, `no growth`.
+/// `only N CALL`: the call with the growth after N others refused, and no other.
+pub fn answer_line<R: Renderer + Drop>(world: &mut World<R>, line: &str) -> Result<Answer, Stop> {
     let (first, rest) = first_word(line);
-    let (count, written) = first_word(rest);
+    let (count, call) = first_word(rest);
     match first {
-        "times" => times(trial, number(count.as_bytes())?, written),
-        "growths" => growths(trial, number(count.as_bytes())?, written),
-        "refused" => refused(trial, number(count.as_bytes())?, written),
-        _ => answer_in(trial, line, 0),
+        "times" => times(world, number_of(count)?, call),
+        "growths" => growths(world, number_of(count)?, call),
+        "only" => only(world, number_of(count)?, call),
+        _ => called(world, line, 0),
     }
 }
 
-fn answer_in<R: Renderer + Drop>(
-    trial: &mut Trial<R>,
+/// What a call answers in a round.
+fn called<R: Renderer + Drop>(
+    world: &mut World<R>,
     line: &str,
     round: u64,
-) -> Result<Answer, Refusal> {
-    let call = Call::read(trial.heaps.desk, line, round)?;
-    answer(trial, &call)
+) -> Result<Answer, Stop> {
+    let desk = world.heaps.desk;
+    let (family, call) = Given { desk, line, round }.split();
+    match family.line {
+        "hub" => hubs::called(world, call),
+        "http" => requests::called(world.heaps, call),
+        "demo" => demos::called(world.heaps, call),
+        _ => Err(Stop::NoCall),
+    }
 }
 
 fn times<R: Renderer + Drop>(
-    trial: &mut Trial<R>,
+    world: &mut World<R>,
     count: u64,
-    line: &str,
-) -> Result<Answer, Refusal> {
-    let mut last = Answer::word(trial.heaps.desk, "nothing");
+    call: &str,
+) -> Result<Answer, Stop> {
+    let mut last = Answer::of(String::new(world.heaps.desk));
     for round in 0..count {
-        last = answer_in(trial, line, round)?;
+        last = called(world, call, round)?;
     }
     Ok(last)
 }
 
+fn only<R: Renderer + Drop>(
+    world: &mut World<R>,
+    growth: u64,
+    call: &str,
+) -> Result<Answer, Stop> {
+    world.heaps.tried.refuse_only(growth);
+    let answer = called(world, call, 0);
+    world.heaps.tried.refuse_after(u64::MAX);
+    answer
+}
+
 fn growths<R: Renderer + Drop>(
-    trial: &mut Trial<R>,
+    world: &mut World<R>,
     count: u64,
-    line: &str,
-) -> Result<Answer, Refusal> {
-    let mut last = Grown {
-        growths: 0,
-        answer: Answer::word(trial.heaps.desk, "nothing"),
-    };
+    call: &str,
+) -> Result<Answer, Stop> {
+    let mut grew = false;
+    let mut last = Answer::of(String::new(world.heaps.desk));
     for round in 0..count {
-        let call = Call::read(trial.heaps.desk, line, round)?;
-        let next = make_grown(trial, &call)?;
-        last = Grown {
-            growths: last.growths.wrapping_add(next.growths),
-            answer: next.answer,
-        };
+        let (grows, answer) = grown(world, call, round)?;
+        grew = grew || grows;
+        last = answer;
     }
-    counted(trial, last)
+    let said = if grew {
+        "Memory each time"
+    } else {
+        "no growth"
+    };
+    let text = last.text.as_str();
+    Ok(Answer::of(format!(in world.heaps.desk; "{said}; {text}")?))
 }
 
-/// An answer behind a number of refused growths.
-#[derive(Drop)]
-struct Grown {
-    growths: u64,
-    answer: Answer,
-}
-
-/// The answer with the number before it.
-fn counted<R: Renderer + Drop>(trial: &Trial<R>, grown: Grown) -> Result<Answer, Refusal> {
-    let growths = grown.growths;
-    let said = grown.answer.said;
-    let front = format!(in trial.heaps.desk; "{growths}, {said}")?;
-    let mut bytes = Vec::from_slice(trial.heaps.desk, front.as_bytes())?;
-    if !grown.answer.bytes.is_empty() {
-        bytes.push(b' ')?;
-        bytes.extend_from_slice(&grown.answer.bytes)?;
-    }
-    Ok(Answer {
-        said: "growths",
-        bytes,
-    })
-}
-
-/// The call's answer, once each of its growths was refused.
-fn make_grown<R: Renderer + Drop>(trial: &mut Trial<R>, call: &Call<'_>) -> Result<Grown, Refusal> {
-    let before = witnessed(trial)?;
-    for growths in 0..MOST {
-        trial.heaps.tried.refuse_only(growths);
-        let alone = answer(trial, call);
-        trial.heaps.tried.refuse_after(u64::MAX);
-        if let Ok(answer) = alone {
-            return Ok(Grown { growths, answer });
+/// Whether a call takes memory, and its answer once each of its growths was refused. A refused call
+/// may leave room, so that the next one takes fewer growths.
+fn grown<R: Renderer + Drop>(
+    world: &mut World<R>,
+    call: &str,
+    round: u64,
+) -> Result<(bool, Answer), Stop> {
+    let before = witnessed(world)?;
+    for growth in 0..MOST {
+        let alone = refused_alone(world, call, round, growth)?;
+        if !alone.memory {
+            return Ok((growth > 0, alone));
         }
-        is_refused(trial, alone, &before)?;
-        trial.heaps.tried.refuse_after(growths);
-        let all = answer(trial, call);
-        is_refused(trial, all, &before)?;
+        is_left(world, &before)?;
+        let all = refused_from(world, call, round, growth)?;
+        if !all.memory {
+            return Ok((true, all));
+        }
+        is_left(world, &before)?;
     }
-    Err(Refusal::Trial("the growths have no end"))
+    Err(Stop::Failed("the growths have no end"))
 }
 
-/// That the call was refused for memory, and that the witness is answered as before.
-fn is_refused<R: Renderer + Drop>(
-    trial: &mut Trial<R>,
-    given: Result<Answer, Refusal>,
-    before: &[u8],
-) -> Result<(), Refusal> {
-    trial.heaps.tried.refuse_after(u64::MAX);
-    if !ran_out(&given) {
-        let _answer = given?;
-        return Err(Refusal::Trial("an answer without memory"));
+/// The answer with one growth refused. Where that growth is asked for, memory runs out.
+fn refused_alone<R: Renderer + Drop>(
+    world: &mut World<R>,
+    call: &str,
+    round: u64,
+    growth: u64,
+) -> Result<Answer, Stop> {
+    let tried = world.heaps.tried;
+    tried.refuse_only(growth);
+    let answer = called(world, call, round);
+    let was_asked = tried.left() == u64::MAX;
+    tried.refuse_after(u64::MAX);
+    let answer = answer?;
+    if answer.memory == was_asked {
+        Ok(answer)
+    } else {
+        Err(Stop::Failed("an answer without memory"))
     }
-    if witnessed(trial)?.as_slice() == before {
+}
+
+/// The answer with this growth and all that follow refused.
+fn refused_from<R: Renderer + Drop>(
+    world: &mut World<R>,
+    call: &str,
+    round: u64,
+    growth: u64,
+) -> Result<Answer, Stop> {
+    world.heaps.tried.refuse_after(growth);
+    let answer = called(world, call, round);
+    world.heaps.tried.refuse_after(u64::MAX);
+    answer
+}
+
+/// That the witness is answered as before.
+fn is_left<R: Renderer + Drop>(world: &mut World<R>, before: &str) -> Result<(), Stop> {
+    if witnessed(world)?.as_str() == before {
         Ok(())
     } else {
-        Err(Refusal::Trial("the witness got another reply"))
+        Err(Stop::Failed("the witness got another reply"))
     }
-}
-
-fn ran_out(given: &Result<Answer, Refusal>) -> bool {
-    match given {
-        Ok(_) => false,
-        Err(refusal) => refusal.is_memory(),
-    }
-}
-
-fn refused<R: Renderer + Drop>(
-    trial: &mut Trial<R>,
-    count: u64,
-    line: &str,
-) -> Result<Answer, Refusal> {
-    let call = Call::read(trial.heaps.desk, line, 0)?;
-    let before = witnessed(trial)?;
-    for growths in 0..count {
-        trial.heaps.tried.refuse_only(growths);
-        let alone = answer(trial, &call);
-        is_refused(trial, alone, &before)?;
-        trial.heaps.tried.refuse_after(growths);
-        let all = answer(trial, &call);
-        is_refused(trial, all, &before)?;
-    }
-    Ok(Answer::word(trial.heaps.desk, "refused each time"))
 }

@@ -1,4 +1,0 @@
-use Rattle.site_trial.proofs.calls.demos.unflushed.Given as goal
-
-abbrev pub ghosts-demonstrated : goal.ghosts-demonstrated
-ghosts-demonstrated a = record { name = a.blank.name; parts = a.blank.parts }
