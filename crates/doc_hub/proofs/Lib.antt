@@ -1,3 +1,4 @@
+mod AnswerEdits
 mod ConnectionSteps
 mod DropLaws
 mod FreshLaws
@@ -5,6 +6,7 @@ mod FrontSteps
 mod GivenLaws
 mod NextLaws
 mod NumberSteps
+mod OwnerSteps
 mod ReplyExamples
 mod RunLaws
 mod RunSteps
