@@ -10,5 +10,6 @@ mod OwnerSteps
 mod ReplyExamples
 mod RunLaws
 mod RunSteps
+mod SiteLaws
 mod StepLaws
 mod ViewSteps
