@@ -7,6 +7,7 @@ mod GivenLaws
 mod NextLaws
 mod NumberSteps
 mod OwnerSteps
+mod PutSteps
 mod ReplyExamples
 mod RunLaws
 mod RunSteps
