@@ -14,12 +14,12 @@ use Rattle.doc_store.specs.declared.store.Put.{Put}
 use Rattle.doc_http.specs.Requests.{IsNext}
 use Rattle.doc_http.specs.declared.request.Next.{Next}
 use Rattle.doc_http.specs.declared.request.Next.TheVariants as nexts
-use Rattle.doc_hub.specs.EditLaws.{SiteIsOfEdits, AllMake, Makes, StepMakes, edit_by, removed_if, site_after, site_after_all, site_edit}
+use Rattle.doc_hub.specs.EditLaws.{SiteIsOfEdits, Makes, StepMakes, edit_by, removed_if, site_after, site_after_all, site_edit}
 use Rattle.doc_hub.specs.Edits.{CanBeMade, store_after}
 use Rattle.doc_hub.specs.Events.{Said, moving, outcome_of, putting, stepping}
 use Rattle.doc_hub.specs.Replies.{Renders}
-use Rattle.doc_hub.specs.Runs.{Happened, Happens, Leaves, Runs, nothing, first}
-use Rattle.doc_hub.specs.Worlds.{World, Answers, Stays, StepsAt, answer_in, connected, last_id, reader_of, stepped_by, world_moved, world_pushed, world_put, world_reader_set, world_removed}
+use Rattle.doc_hub.specs.Runs.{Happens, Leaves, nothing, first}
+use Rattle.doc_hub.specs.Worlds.{World, Answers, Stays, StepsAt, answer_in, connected, last_id, reader_of, stepped_by, world_moved, world_pushed, world_put, world_reader_set}
 use Rattle.doc_hub.specs.declared.connection.Connection.{Connection}
 use Rattle.doc_hub.specs.declared.event.ConnId.{ConnId}
 use Rattle.doc_hub.specs.declared.event.Event.{Event}
