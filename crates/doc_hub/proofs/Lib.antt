@@ -9,6 +9,7 @@ mod NumberSteps
 mod OwnerSteps
 mod PutSteps
 mod ReplyExamples
+mod ReplyShapes
 mod RunLaws
 mod RunSteps
 mod SiteLaws
