@@ -1,6 +1,6 @@
 use Rattle.std.proofs.Common.{sym, ◌∙◌}
 use Rattle.doc_hub.proofs.PutSteps.{put_fits, put_is_full}
-use Rattle.doc_hub.proofs.putting.response_with.Goals as goal
+use Rattle.doc_hub.proofs.edits.response_with.Goals as goal
 
 pub returns-in-Ok : goal.returns-in-Ok
 returns-in-Ok c =

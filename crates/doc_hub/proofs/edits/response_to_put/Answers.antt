@@ -8,7 +8,7 @@ use Rattle.std.specs.Str.{IsUtf8}
 use Rattle.doc_hub.specs.Replies.{put_page}
 use Rattle.doc_hub.specs.Edits.{puts_left}
 use Rattle.doc_hub.proofs.PutSteps.{ok_from, put_is_no_text, put_is_text}
-use Rattle.doc_hub.proofs.putting.response_to_put.Goals as goal
+use Rattle.doc_hub.proofs.edits.response_to_put.Goals as goal
 
 pub returns-in_default-from_utf8 : goal.returns-in_default-from_utf8
 returns-in_default-from_utf8 c =

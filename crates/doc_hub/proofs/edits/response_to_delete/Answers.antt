@@ -2,7 +2,7 @@ use Rattle.std.proofs.Common.{Some, true, false, ap, sym, ◌∙◌}
 use Rattle.doc_store.specs.Sites.{view_of}
 use Rattle.doc_hub.specs.Replies.{delete_at}
 use Rattle.doc_hub.proofs.PutSteps.{deleted}
-use Rattle.doc_hub.proofs.putting.response_to_delete.Goals as goal
+use Rattle.doc_hub.proofs.edits.response_to_delete.Goals as goal
 
 pub returns-then-stands : goal.returns-then-stands
 returns-then-stands c =
