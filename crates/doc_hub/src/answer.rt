@@ -8,9 +8,9 @@ ghost use Rattle.doc_http.specs.Laws.{is_fault_code};
 ghost use Rattle.doc_hub.specs.Edits.{puts_left};
 ghost use Rattle.doc_hub.specs.Replies.{answer_of, fault_bytes, by_method, method_of, response_to};
 
+use crate::edits::{response_to_delete, response_to_put};
 use crate::method::Method;
 use crate::page::reply_at;
-use crate::putting::{response_to_delete, response_to_put};
 use crate::response::{Edit, Response};
 use crate::statuses::{not_allowed, status_reply};
 use doc_heap::Heap;
@@ -52,7 +52,9 @@ pub fn answer_to<R: Renderer>(
     let reader = reader_of(readers, request);
     let response = response_to(heap, renderer, routes, store, reader, request)?;
     let closes = closes_after(request, keep_alive);
-    let bytes = response.reply.write(heap, request.method.get() == "HEAD", closes)?;
+    let bytes = response
+        .reply
+        .write(heap, request.method.get() == "HEAD", closes)?;
     Ok(Answer {
         bytes,
         closes,
