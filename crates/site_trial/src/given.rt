@@ -18,6 +18,15 @@ pub struct Given<'a> {
 }
 
 impl<'a> Given<'a> {
+    /// A line in the first round.
+    pub fn new(desk: Heap, line: &'a str) -> Given<'a> {
+        Given {
+            desk,
+            line,
+            round: 0,
+        }
+    }
+
     /// The same of another part.
     pub fn at(self, line: &'a str) -> Given<'a> {
         Given {

@@ -13,10 +13,7 @@ use doc_hub::outcome::Outcome;
 use doc_page::renderer::Renderer;
 
 /// What a call answers: that of an event, or of one of these.
-pub fn called<R: Renderer + Drop>(
-    world: &mut World<R>,
-    given: Given<'_>,
-) -> Result<Answer, Stop> {
+pub fn called<R: Renderer + Drop>(world: &mut World<R>, given: Given<'_>) -> Result<Answer, Stop> {
     let (name, rest) = given.split();
     match name.line {
         "ask" => ask(&mut world.hub, rest),

@@ -41,7 +41,6 @@ use doc_heap::{Heap, Vec, heap};
 use doc_page::plain::PlainRenderer;
 use doc_page::renderer::Renderer;
 use doc_server::input::read_whole;
-use given::Given;
 use rounds::answer_line;
 use std::marker::Brand;
 use std::str::from_utf8;
@@ -63,7 +62,7 @@ fn run<R: AllocGlobal + Input + Print>(rt: &R) -> Result<()> {
     for (at, line) in lines.iter().enumerate() {
         if line.starts_with("world ") {
             let tried = heap(rt.alloc(), u64::MAX)?;
-            run_world::<Brand, R>(rt, Heaps { tried, desk }, Blank::new(1), line, &lines[at..])?;
+            run_world::<Brand, R>(rt, Heaps { tried, desk }, Blank::new(1), &lines[at..])?;
         }
     }
     Ok(())
@@ -78,28 +77,19 @@ fn lines_of<'a>(desk: Heap, cases: &'a [u8]) -> Result<Vec<&'a str>> {
     Ok(lines)
 }
 
-/// Makes a world as its line says, and the calls of the lines up to the next world.
-fn run_world<L: Ledger, P: Print>(
-    rt: &P,
-    heaps: Heaps,
-    blank: Blank,
-    line: &str,
-    lines: &[&str],
-) -> Result<()>
+/// Makes a world as the first line says, and the calls of the lines up to the next world.
+fn run_world<L: Ledger, P: Print>(rt: &P, heaps: Heaps, blank: Blank, lines: &[&str]) -> Result<()>
     requires name { blank.name ≡ L.name }
     requires parts { blank.parts ≡ L.parts }
     requires some { 0 < L.parts }
 {
     let renderer: PlainRenderer<L> = PlainRenderer::new(blank);
-    println!(rt; "{line}")?;
-    let whole = Given {
-        desk: heaps.desk,
-        line,
-        round: 0,
+    let Some((line, rest)) = lines.split_first() else {
+        return Ok(());
     };
-    let (_, given) = whole.split();
-    match new_world(heaps, renderer, given) {
-        Ok(mut world) => run_calls(rt, &mut world, lines),
+    println!(rt; "{line}")?;
+    match new_world(heaps, renderer, line) {
+        Ok(mut world) => run_calls(rt, &mut world, rest),
         Err(stop) => {
             println!(rt; "    {stop}")?;
             Ok(())
@@ -107,13 +97,13 @@ fn run_world<L: Ledger, P: Print>(
     }
 }
 
-/// Makes the calls behind the first line, up to the next world.
+/// Makes the calls up to the next world.
 fn run_calls<R: Renderer + Drop, P: Print>(
     rt: &P,
     world: &mut World<R>,
     lines: &[&str],
 ) -> Result<()> {
-    for line in lines.iter().skip(1) {
+    for line in lines {
         if line.starts_with("world ") {
             return Ok(());
         }

@@ -45,11 +45,7 @@ fn called<R: Renderer + Drop>(
     }
 }
 
-fn times<R: Renderer + Drop>(
-    world: &mut World<R>,
-    count: u64,
-    call: &str,
-) -> Result<Answer, Stop> {
+fn times<R: Renderer + Drop>(world: &mut World<R>, count: u64, call: &str) -> Result<Answer, Stop> {
     let mut last = Answer::of(String::new(world.heaps.desk));
     for round in 0..count {
         last = called(world, call, round)?;
@@ -57,11 +53,7 @@ fn times<R: Renderer + Drop>(
     Ok(last)
 }
 
-fn only<R: Renderer + Drop>(
-    world: &mut World<R>,
-    growth: u64,
-    call: &str,
-) -> Result<Answer, Stop> {
+fn only<R: Renderer + Drop>(world: &mut World<R>, growth: u64, call: &str) -> Result<Answer, Stop> {
     world.heaps.tried.refuse_only(growth);
     let answer = called(world, call, 0);
     world.heaps.tried.refuse_after(u64::MAX);

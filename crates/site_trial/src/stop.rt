@@ -17,6 +17,8 @@ pub enum Stop {
     NoCall,
     /// Growths were refused, and the line isn't answered as it is to be then.
     Failed(&'static str),
+    Path(PathError),
+    Groups(GroupsError),
     Readers(ReadersError),
     Hub(HubError),
 }
@@ -27,6 +29,8 @@ impl fmt::Display for Stop {
             Stop::Memory => write!(f, "no memory for the line"),
             Stop::NoCall => write!(f, "no call"),
             Stop::Failed(why) => write!(f, "failed: {why}"),
+            Stop::Path(e) => write!(f, "refused: {e}"),
+            Stop::Groups(e) => write!(f, "refused: {e}"),
             Stop::Readers(e) => write!(f, "refused: {e}"),
             Stop::Hub(e) => write!(f, "refused: {e}"),
         }
@@ -52,14 +56,14 @@ impl<T: Drop> From<AllocFailed<T>> for Stop {
 }
 
 impl From<PathError> for Stop {
-    fn from(_e: PathError) -> Stop {
-        Stop::NoCall
+    fn from(e: PathError) -> Stop {
+        Stop::Path(e)
     }
 }
 
 impl From<GroupsError> for Stop {
-    fn from(_e: GroupsError) -> Stop {
-        Stop::NoCall
+    fn from(e: GroupsError) -> Stop {
+        Stop::Groups(e)
     }
 }
 

@@ -34,14 +34,14 @@ pub struct World<R: Renderer + Drop> {
     pub witness: Option<Witness>,
 }
 
-/// The world of `keep CACHE READERS` or `close CACHE READERS`.
+/// The world of `world keep CACHE READERS`, or `world close ..` where no connection is kept alive.
 pub fn new_world<R: Renderer + Drop>(
     heaps: Heaps,
     renderer: R,
-    given: Given<'_>,
+    line: &str,
 ) -> Result<World<R>, Stop> {
-    let (name, rest) = given.split();
-    let (cache, readers) = rest.split();
+    let (name, given) = Given::new(heaps.desk, line).split().1.split();
+    let (cache, readers) = given.split();
     let cache = cache.number()? as usize;
     let readers = Readers::from_toml(heaps.tried, readers.text()?.get())?;
     Ok(World {
