@@ -33,16 +33,21 @@ fn next(heaps: Heaps, given: Given<'_>) -> Result<Answer, Stop> {
 fn drip(heaps: Heaps, given: Given<'_>) -> Result<Answer, Stop> {
     let bytes = given.bytes()?;
     let mut unread = Unread::new(heaps.tried);
-    let mut next = Next::More;
-    for byte in &bytes {
-        unread.push(&[*byte])?;
-        next = unread.next_request()?;
-        if next != Next::More {
-            break;
-        }
-    }
+    let next = next_of_bytes(&mut unread, &bytes)?;
     let count = unread.get().len();
     decided(format!(in heaps.desk; "{count}: ")?, &next)
+}
+
+/// What bytes come to that are pushed one by one, until that is decided.
+fn next_of_bytes(unread: &mut Unread, bytes: &[u8]) -> Result<Next, Stop> {
+    for byte in bytes {
+        unread.push(&[*byte])?;
+        match unread.next_request()? {
+            Next::More => {}
+            decided => return Ok(decided),
+        }
+    }
+    Ok(Next::More)
 }
 
 /// What was found, behind a text.
@@ -71,11 +76,15 @@ fn push_request(out: &mut String, used: usize, request: &Request) -> Result<(), 
     if let Some(value) = &request.authorization {
         push_said(out, " by", value.get())?;
     }
-    if request.close {
+    push_end(out, request.close, request.body.get())
+}
+
+fn push_end(out: &mut String, closes: bool, body: &[u8]) -> Result<(), Stop> {
+    if closes {
         out.push_str(" closes")?;
     }
-    if !request.body.get().is_empty() {
-        push_said(out, " with", request.body.get())?;
+    if body.is_empty() {
+        return Ok(());
     }
-    Ok(())
+    push_said(out, " with", body)
 }

@@ -58,12 +58,19 @@ fn push_repetition(out: &mut String, run: Run) -> Result<(), Stop> {
 
 fn push_byte(out: &mut String, byte: u8) -> Result<(), Stop> {
     match byte {
-        b'\n' => out.push_str("\\n")?,
-        b'\r' => out.push_str("\\r")?,
-        b'\t' => out.push_str("\\t")?,
-        b'\\' => out.push_str("\\\\")?,
+        b'\n' | b'\r' | b'\t' | b'\\' => out.push_str(escape_of(byte))?,
         b'{' | b'}' | 0..=31 | 127..=255 => write!(out, "\\x{byte:02x}")?,
         _ => out.push(char::from(byte))?,
     }
     Ok(())
+}
+
+/// The escape of a byte that has one of its own.
+fn escape_of(byte: u8) -> &'static str {
+    match byte {
+        b'\n' => "\\n",
+        b'\r' => "\\r",
+        b'\t' => "\\t",
+        _ => "\\\\",
+    }
 }
