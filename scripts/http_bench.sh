@@ -1,0 +1,86 @@
+#!/usr/bin/env bash
+# Measures how the time of reading requests, and of a hub's steps, grows:
+#
+# - a request with a body of 256 KiB, 512 KiB and 1 MiB, given by its length, in chunks of 4,096 bytes, and in chunks of 1 byte (these of a
+#   quarter of the sizes, since no body may take more than 2 MiB with its chunks), pushed in pieces of 1, 16 and 16,384 bytes with a reading
+#   after each;
+# - 1,000, 2,000, 4,000 and 8,000 pipelined requests, taken off one buffer.
+#
+# Prints the least processor time of five runs of each, and its ratio to the one before: of twice as much, 2 is linear. What a run takes to
+# start and to make its input is measured apart and taken off. Needs python3, and the program, which `rt run < stdin` in crates/http_bench
+# builds.
+set -eu
+cd "$(dirname "$0")/.."
+program=crates/http_bench/out/http_bench
+[ -x "$program" ] || { echo "run 'rt run < stdin' in crates/http_bench first" >&2; exit 1; }
+python3 - "$program" <<'PYTHON'
+import os, subprocess, sys, tempfile
+program = sys.argv[1]
+KIB = 1024
+
+
+def least(task):
+    """The least processor time of five runs, in microseconds, and what the program printed."""
+    times, printed = [], set()
+    for _ in range(5):
+        with tempfile.TemporaryFile() as stdin:
+            stdin.write(task.encode())
+            stdin.seek(0)
+            child = subprocess.Popen([program], stdin=stdin, stdout=subprocess.PIPE, text=True)
+            printed.add(child.stdout.read().strip())
+        _, status, used = os.wait4(child.pid, 0)
+        child.returncode = status
+        if status:
+            sys.exit(f"{task}: status {status}")
+        times.append((used.ru_utime + used.ru_stime) * 1_000_000)
+    if len(printed) > 1:
+        sys.exit(f"{task}: answers differ")
+    return min(times), int(printed.pop())
+
+
+def taken(task, bare, wanted):
+    """The time of a task without that of making its input, in microseconds."""
+    took, printed = least(task)
+    if printed != wanted:
+        sys.exit(f"{task}: {printed} and not {wanted}")
+    return took - least(bare)[0]
+
+
+def row(name, size, took, before):
+    ratio = "" if before is None else f"  {took / before:5.2f} times the one before"
+    print(f"{name:58} {size:>8}: {took:10.1f} us{ratio}", flush=True)
+
+
+HEAD = "PUT /page/a.md HTTP/1.1\r\nHost: docs\r\n"
+
+
+def by_length(size):
+    return len(f"{HEAD}Content-Length: {size}\r\n\r\n") + size
+
+
+def in_chunks(chunk):
+    """How many bytes a request takes whose body has chunks of one size."""
+    encoded = len(f"{chunk:x}\r\n") + chunk + len("\r\n")
+    return lambda size: len(f"{HEAD}Transfer-Encoding: chunked\r\n\r\n") + size // chunk * encoded + len("0\r\n\r\n")
+
+
+BODIES = (
+    ("by length", "length", "", by_length, 256),
+    ("in chunks of 4096", "chunks", " 4096", in_chunks(4096), 256),
+    ("in chunks of 1", "chunks", " 1", in_chunks(1), 64),
+)
+for name, task, chunk, length, least_size in BODIES:
+    for piece, rounds in ((1, 1), (16, 8), (16_384, 64)):
+        before = None
+        for size in (least_size, 2 * least_size, 4 * least_size):
+            words = f"{task} {size * KIB} {piece}"
+            took = taken(f"{words} {rounds}{chunk}", f"{words} 0{chunk}", rounds * length(size * KIB)) / rounds
+            row(f"a body {name}, pushed in pieces of {piece}", f"{size} KiB", took, before)
+            before = took
+
+before = None
+for count in (1_000, 2_000, 4_000, 8_000):
+    took = taken(f"pipelined {count} 16", f"pipelined {count} 0", 16 * count) / 16
+    row("pipelined requests", count, took, before)
+    before = took
+PYTHON
