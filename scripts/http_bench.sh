@@ -6,8 +6,10 @@
 #   after each;
 # - 1,000, 2,000, 4,000 and 8,000 pipelined requests, taken off one buffer.
 #
-# Prints the least processor time of five runs of each, and its ratio to the one before: of twice as much, 2 is linear. What a run takes to
-# start and to make its input is measured apart and taken off. Needs python3, and the program, which `rt run < stdin` in crates/http_bench
+# Prints the least processor time of five runs of each, and its ratio to the one before: of twice as much, 2 is linear. A body in pieces of
+# 16,384 and in one chunk or few is only copied, three times; copies within the processor's caches are faster than past them, so the ratio
+# there is that of memory (a program in C that makes the same copies had 3.5 and 2.7). What a run takes to start and to make its input is
+# measured apart and taken off. Needs python3, and the program, which `rt run < stdin` in crates/http_bench
 # builds.
 set -eu
 cd "$(dirname "$0")/.."
