@@ -4,13 +4,14 @@
 # - a request with a body of 256 KiB, 512 KiB and 1 MiB, given by its length, in chunks of 4,096 bytes, and in chunks of 1 byte (these of a
 #   quarter of the sizes, since no body may take more than 2 MiB with its chunks), pushed in pieces of 1, 16 and 16,384 bytes with a reading
 #   after each;
-# - 1,000, 2,000, 4,000 and 8,000 pipelined requests, taken off one buffer.
+# - 1,000, 2,000, 4,000 and 8,000 pipelined requests, taken off one buffer;
+# - one step of a hub with 3, 100, 1,000 and 10,000 pages of 4 kB, a GET of one of them, with the number of its growths, which is to stay.
 #
 # Prints the least processor time of five runs of each, and its ratio to the one before: of twice as much, 2 is linear. A body in pieces of
 # 16,384 and in one chunk or few is only copied, three times; copies within the processor's caches are faster than past them, so the ratio
 # there is that of memory (a program in C that makes the same copies had 3.5 and 2.7). What a run takes to start and to make its input is
-# measured apart and taken off. Needs python3, and the program, which `rt run < stdin` in crates/http_bench
-# builds.
+# measured apart and taken off. `scripts/nginx_bench.sh` has the time of nginx for such a page. Needs python3, and the program, which
+# `rt run < stdin` in crates/http_bench builds.
 set -eu
 cd "$(dirname "$0")/.."
 program=crates/http_bench/out/http_bench
@@ -85,4 +86,19 @@ for count in (1_000, 2_000, 4_000, 8_000):
     took = taken(f"pipelined {count} 16", f"pipelined {count} 0", 16 * count) / 16
     row("pipelined requests", count, took, before)
     before = took
+
+REPLY = len(
+    "HTTP/1.1 200 OK\r\nContent-Type: text/html; charset=utf-8\r\nContent-Length: 4149\r\n\r\n"
+    "<!DOCTYPE html>\n<title>guide/00000.md</title>\n<p></p>\n"
+) + 64 * 64 - len("\n")
+STEPS = 20_000
+before, first = None, None
+for pages in (3, 100, 1_000, 10_000):
+    took = taken(f"steps {pages} {STEPS}", f"steps {pages} 0", STEPS * REPLY) / STEPS
+    row("a step of a hub with so many pages", pages, took, before)
+    growths = least(f"growths {pages} {STEPS}")[1] / STEPS
+    if first is not None and growths != first:
+        sys.exit(f"{pages} pages: {growths:.2f} growths a step and not {first:.2f}")
+    before, first = took, growths
+print(f"each of these steps makes {first:g} growths")
 PYTHON
