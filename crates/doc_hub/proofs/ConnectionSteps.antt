@@ -1,6 +1,6 @@
 -- What a change of one connection is among all.
 use Rattle.std.proofs.Common.{◌≡◌, ℕ, List, Bool, true, false, cond, refl, ap, sym, ◌∙◌, arith, subst}
-use Rattle.std.specs.Prelude.{Some, None, Result, Ok, Err}
+use Rattle.std.specs.Prelude.{Option, Some, None, Result, Ok, Err}
 use Rattle.std.specs.Ordering.{nat_cmp, eq_by_cmp}
 use Rattle.std.specs.FinMap as map
 use Rattle.std.proofs.lemmas.Cmp.{nat_cmp_total}
@@ -49,3 +49,10 @@ finishes cs view id used last c w found set done d also =
 
 pub some_none : {X : Type 0} (x : X) → Some x ≡ None → ⊥
 some_none x e = cc
+
+-- what is known of the connection that stands under a number
+pub of_the_same : (P : Connection → Type 0) (stands : Option Connection) (c d : Connection) → stands ≡ Some c → P c → stands ≡ Some d → P d
+of_the_same P stands c d found holds also = subst P (the_same c d (sym found ∙ also)) holds
+  where
+    the_same : (c d : Connection) → Some c ≡ Some d → c ≡ d
+    the_same c d e = cc

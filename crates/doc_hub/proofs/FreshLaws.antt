@@ -1,4 +1,4 @@
--- In any run, each reply is that of a fresh server.
+-- In any run, each reply is that of a fresh server, while puts are left.
 use Rattle.std.proofs.Common.{◌≡◌, ℕ, List, ap, sym, ◌∙◌, subst}
 use Rattle.std.specs.Prelude.{Option, Some, Result, Ok, Err}
 use Rattle.std.specs.FinMap as map
@@ -38,13 +38,13 @@ stepped_so (Err error) said e = absurd (refused (step_refusal error) e)
     refused x h = cc
 
 sends_as_fresh : (render : Renders) (w v : World) (event : Event) (outcome : Outcome) → Leaves render w event v outcome → SendsAsFresh render (record { world = w; event = event; outcome = outcome })
-sends_as_fresh render w v event outcome leaves c unread next said is_step opened is answered =
+sends_as_fresh render w v event outcome leaves c unread next said is_step opened is answered left =
     let P : Event → Type 0 = λ e. Leaves render w e v outcome in
     let (r, steps, told) = subst P is_step leaves in
     let Q : Result Step StepError → Type 0 = λ x. StepsAt render w c v x (map.get w.connections c) in
     let R : Option Connection → Type 0 = λ k. StepsAt render w c v (Ok said) k in
     let here : StepsAt render w c v (Ok said) (Some (open_with unread)) = subst R opened (subst Q (stepped_so r said (sym told ∙ answered)) steps) in
-    sym (as_fresh render w c (open_with unread) unread next) ∙ said_by render w v c unread next said is here
+    sym (as_fresh render w c (open_with unread) unread next left) ∙ said_by render w v c unread next said is here
 
 pub replies_as_fresh : RepliesAsFresh
 replies_as_fresh render w v run (nothing x) = All-nil (SendsAsFresh render)

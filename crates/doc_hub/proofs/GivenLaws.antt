@@ -17,7 +17,7 @@ use Rattle.doc_hub.specs.Events.{Said}
 use Rattle.doc_hub.specs.Laws.{NumbersAreGivenOnce, connection}
 use Rattle.doc_hub.specs.Replies.{Renders}
 use Rattle.doc_hub.specs.Runs.{Happens, Happened, Runs, nothing, first}
-use Rattle.doc_hub.specs.Worlds.{World, connected, world_pushed, world_put, world_moved, world_reader_set, answer_in, stepped_by, Stays, Answers, StepsAt, last_id}
+use Rattle.doc_hub.specs.Worlds.{World, connected, world_pushed, world_put, world_moved, world_reader_set, answer_in, world_after, stepped_by, Stays, Answers, StepsAt, last_id}
 use Rattle.doc_hub.specs.declared.connection.Connection.{Connection}
 use Rattle.doc_hub.specs.declared.event.ConnId.{ConnId}
 use Rattle.doc_hub.specs.declared.event.Event.{Event}
@@ -80,7 +80,8 @@ module _ (id : ℕ) where
     front_gone : (w : World) (n : ℕ) (c : Connection) (next : Front) → Gone w → (id == n) ≡ false → Gone (stepped_by render w n c next).0
     front_gone w n c nexts.More gone other = gone
     front_gone w n c (nexts.Fault code bare) gone other = set_other w n (finished c 0 true) w.given gone.0 gone.1 other
-    front_gone w n c (nexts.Request used request) gone other = set_other w n (finished c used (answer_in render w request).closes) w.given gone.0 gone.1 other
+    front_gone w n c (nexts.Request used request) gone other =
+        let a = answer_in render w request in set_other (world_after w request a) n (finished c used a.closes) w.given gone.0 gone.1 other
 
     answers_gone : (w v : World) (n : ℕ) (c : Connection) (r : Result Step StepError) → Gone w → (id == n) ≡ false → Answers render w n v r c → Gone v
     answers_gone w v n c (Ok said) gone other (next, is, e) = by_equation (stepped_by render w n c next) v (Ok said) (front_gone w n c next gone other) e

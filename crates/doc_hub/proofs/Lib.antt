@@ -1,3 +1,4 @@
+mod AnswerEdits
 mod ConnectionSteps
 mod DropLaws
 mod FreshLaws
@@ -5,8 +6,12 @@ mod FrontSteps
 mod GivenLaws
 mod NextLaws
 mod NumberSteps
+mod OwnerSteps
+mod PutSteps
 mod ReplyExamples
+mod ReplyShapes
 mod RunLaws
 mod RunSteps
+mod SiteLaws
 mod StepLaws
 mod ViewSteps

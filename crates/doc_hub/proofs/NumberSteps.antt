@@ -60,3 +60,6 @@ pub removed_have : (n : ℕ) (cs new : Connections) (id : ℕ) → HaveGivenNumb
 removed_have n cs new id have is =
     subst (HaveGivenNumbers n) (sym is)
     (λ q c found. have q c (dropped (eq_by_cmp nat_cmp q id) (map.get cs q) c (sym (map.get-remove nat_cmp_total cs id q) ∙ found)))
+
+pub same_have : (n : ℕ) (cs new : Connections) → new ≡ cs → HaveGivenNumbers n cs → HaveGivenNumbers n new
+same_have n cs new same have = subst (HaveGivenNumbers n) (sym same) have

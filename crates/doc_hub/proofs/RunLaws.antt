@@ -11,6 +11,7 @@ use Rattle.doc_http.specs.declared.request.Next.{Next as Front}
 use Rattle.doc_http.specs.declared.request.Next.TheVariants as nexts
 use Rattle.doc_http.proofs.LawLemmas.{read_in_one_way}
 use Rattle.doc_hub.specs.Connections.{new_connection, pushed_onto, with_pushed, pushed_at, finished}
+use Rattle.doc_hub.specs.declared.answer.Answer.{Answer}
 use Rattle.doc_hub.specs.declared.connection.Connection.{Connection}
 use Rattle.doc_hub.specs.declared.event.ConnId.{ConnId}
 use Rattle.doc_hub.specs.declared.event.Step.TheVariants as steps
@@ -19,8 +20,7 @@ use Rattle.doc_hub.specs.declared.refusal.ConnectError.TheVariants as connect_er
 use Rattle.doc_hub.specs.declared.refusal.PushError.{PushError}
 use Rattle.doc_hub.specs.declared.refusal.StepError.TheVariants as step_errors
 use Rattle.doc_hub.specs.Replies.{Renders}
-use Rattle.doc_hub.specs.declared.reply.Answer.{Answer}
-use Rattle.doc_hub.specs.Worlds.{World, world_pushed, disconnected, answer_in, step_said, stepped_by, last_id}
+use Rattle.doc_hub.specs.Worlds.{World, world_pushed, disconnected, answer_in, world_after, step_said, stepped_by, last_id}
 use Rattle.doc_hub.specs.declared.event.Event.{Event}
 use Rattle.doc_hub.specs.declared.event.Event.TheVariants as events
 use Rattle.doc_hub.specs.declared.outcome.Outcome.{Outcome}
@@ -60,7 +60,8 @@ module _ (render : Renders) (c : ℕ) where
   front_elsewhere : (w : World) (id : ℕ) (k : Connection) (f : Front) → (c == id) ≡ false → Kept w (stepped_by render w id k f).0
   front_elsewhere w id k nexts.More off = refl
   front_elsewhere w id k (nexts.Fault code bare) off = put_at w id (finished k 0 true) c false off
-  front_elsewhere w id k (nexts.Request used request) off = put_at w id (finished k used (answer_in render w request).closes) c false off
+  front_elsewhere w id k (nexts.Request used request) off =
+      let a = answer_in render w request in put_at (world_after w request a) id (finished k used a.closes) c false off
 
   open_elsewhere : (w v : World) (o : Outcome) (id : ℕ) (k : Connection) (t : Bool) → (c == id) ≡ false → MatchBool t (Is (w, stepping (Ok steps.Closed)) v o) ((f : Front) × IsNext k.unread f × Is (shown stepping (stepped_by render w id k f)) v o) → Kept w v
   open_elsewhere w v o id k true off h = first_is (w, stepping (Ok steps.Closed)) v o (Kept w) h refl
@@ -152,9 +153,9 @@ module _ (render : Renders) (c : ℕ) where
       let b = answer_in render v request in
       let same : answer_in render w request ≡ answer_in render v request = same_answer render w v request agree in (
         ap (λ (x : Answer). sent_by (stepping (Ok (step_said x.closes x.bytes)))) same,
-        put_at w c (finished k used a.closes) c true on
+        put_at (world_after w request a) c (finished k used a.closes) c true on
             ∙ ap (λ (x : Answer). Some (finished k used x.closes)) same
-            ∙ sym (put_at v c (finished k used b.closes) c true on),
+            ∙ sym (put_at (world_after v request b) c (finished k used b.closes) c true on),
       )
 
   open_same : (w v w' v' : World) (o p : Outcome) (k : Connection) (t : Bool) → (c == c) ≡ true → connection c w ≡ connection c v → ((f : Front) → IsNext k.unread f → AgreeOn w v f)

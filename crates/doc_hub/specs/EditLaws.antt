@@ -1,5 +1,5 @@
 -- The site of a hub is the effect of the accepted edits in their order, and of nothing else.
-use Rattle.std.specs.Prelude.{◌≡◌, ℕ, List, [], ◌∷◌, Bool, true, MatchBool, Option, Some, None, ⊤}
+use Rattle.std.specs.Prelude.{◌≡◌, ℕ, List, [], ◌∷◌, Bool, true, false, MatchBool, Option, Some, None, ⊤}
 use Rattle.std.specs.FinMap as map
 use Rattle.doc_store.specs.Sites.{Site}
 use Rattle.doc_store.specs.Store.{Edit as SiteEdit, set_page, remove_page, move_page, effect_of}

@@ -52,7 +52,9 @@ pub fn answer_to<R: Renderer>(
     let reader = reader_of(readers, request);
     let response = response_to(heap, renderer, routes, store, reader, request)?;
     let closes = closes_after(request, keep_alive);
-    let bytes = response.reply.write(heap, request.method.get() == "HEAD", closes)?;
+    let bytes = response
+        .reply
+        .write(heap, request.method.get() == "HEAD", closes)?;
     Ok(Answer {
         bytes,
         closes,

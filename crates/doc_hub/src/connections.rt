@@ -76,10 +76,10 @@ impl Connections {
         ensures memory { (c : Connection) → map.get self.old id ≡ Some c → OnErr result (BeginsWithRequest c.unread) }
         ensures same { self.new ≡ self.old }
     {
-        match self.entries.get_mut(&id) {
-            Some(connection) => connection.next_request(),
-            None => Ok(Next::More),
-        }
+        let Some(connection) = self.entries.get_mut(&id) else {
+            return Ok(Next::More);
+        };
+        connection.next_request()
     }
 
     /// Takes a connection away, and says whether there was one. It takes no memory.

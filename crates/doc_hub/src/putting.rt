@@ -1,12 +1,13 @@
 //! Edits of the site that requests ask for.
 
-ghost use Rattle.std.specs.Prelude.{◌≡◌, IfOk, OnOk, OnErr, Ok, Some, true, codes};
+ghost use Rattle.std.specs.Prelude.{◌≡◌, IfOk, OnOk, OnErr, Ok, Some, true, codes, if◌then◌else◌};
+ghost use Rattle.std.specs.FinMap as map;
 ghost use Rattle.std.specs.Result.{result_ok};
 ghost use Rattle.std.specs.Str.{is_utf8};
 ghost use Rattle.doc_store.specs.Groups.{groups_of};
 ghost use Rattle.doc_store.specs.Sites.{view_of};
 ghost use Rattle.doc_store.specs.Store.{fits_in, with_page};
-ghost use Rattle.doc_hub.specs.Replies.{delete_at, put_by};
+ghost use Rattle.doc_hub.specs.Replies.{delete_at, put_by, put_page};
 ghost use Rattle.doc_hub.specs.Edits.{CanBeMade, puts_left, store_after};
 ghost use Rattle.doc_targets.specs.Queries.{parameter};
 ghost use Rattle.doc_targets.specs.WrittenPaths.{path_written};
@@ -44,11 +45,39 @@ pub fn response_to_put(
     let Ok(text) = from_utf8(request.body.get()) else {
         return Ok(Response::refused(heap, 400));
     };
-    let code = if store.get(&path).is_some() { 204 } else { 201 };
+    Ok(response_with(heap, store, reader, path, groups, text))
+}
+
+/// The response to an owner's put of these groups and this text under a path.
+fn response_with(
+    heap: Heap,
+    store: &Store,
+    reader: &Reader,
+    path: Path,
+    groups: Groups,
+    text: &str,
+) -> Response
+    requires { reader.now.owner ≡ true }
+    ensures { result ≡ put_page (view_of store.now.site (Some reader.now)) (puts_left store.now) path groups text.now }
+{
+    let code = put_code(store, &path);
     match store.fits(&path, text) {
-        Ok(()) => Ok(Response::edited(heap, code, Edit::Put(path, groups))),
-        Err(_) => Ok(Response::refused(heap, 507)),
+        Ok(()) => Response::edited(heap, code, Edit::Put(path, groups)),
+        Err(_) => Response::refused(heap, 507),
     }
+}
+
+/// 204 where a page stands under the path, and else 201.
+fn put_code(store: &Store, path: &Path) -> u16
+    ensures { result ≡ (if map.contains_key store.now.site.pages path.now then 204 else 201) }
+{
+    if stands(store, path) { 204 } else { 201 }
+}
+
+fn stands(store: &Store, path: &Path) -> bool
+    ensures { result ≡ map.contains_key store.now.site.pages path.now }
+{
+    store.get(path).is_some()
 }
 
 /// The groups that the query of a request names; none of them where it names groups that are none.
@@ -77,7 +106,7 @@ pub fn response_to_delete(
     let Some(path) = written_path(heap, rest)? else {
         return Ok(Response::refused(heap, 404));
     };
-    if store.get(&path).is_some() {
+    if stands(store, &path) {
         Ok(Response::edited(heap, 204, Edit::Remove(path)))
     } else {
         Ok(Response::refused(heap, 404))

@@ -10,7 +10,7 @@ use Rattle.doc_http.specs.Requests.{IsNext}
 use Rattle.doc_http.proofs.TakenLemmas.{takes_bytes, empty_is_undecided}
 use Rattle.doc_hub.specs.Connections.{finished}
 use Rattle.doc_hub.specs.Replies.{Renders}
-use Rattle.doc_hub.specs.Worlds.{World, answer_in, with_finished, stepped_by, Stays, Answers, StepsAt}
+use Rattle.doc_hub.specs.Worlds.{World, answer_in, world_after, with_finished, stepped_by, Stays, Answers, StepsAt}
 use Rattle.doc_hub.specs.Runs.{Happens, Leaves}
 use Rattle.doc_hub.specs.Events.{stepping}
 use Rattle.doc_hub.specs.declared.event.Event.TheVariants as events
@@ -77,10 +77,10 @@ module _ (render : Renders) (w v : World) (id : ℕ) where
   by_front said k (nexts.Fault code bare) found is sends =
       subst (λ (p : World × Result Step StepError). Left (length k.unread) p.0 id) is (left_after w id k 0 true (fault_has_bytes k.unread code bare found))
   by_front said k (nexts.Request used request) found is sends =
-      let closes = (answer_in render w request).closes in
+      let a = answer_in render w request in
       let takes = takes_bytes k.unread used request found in
       subst (λ (p : World × Result Step StepError). Left (length k.unread) p.0 id) is
-      (left_after w id k used closes (fewer k.unread used closes takes.0 takes.1))
+      (left_after (world_after w request a) id k used a.closes (fewer k.unread used a.closes takes.0 takes.1))
 
   by_closed : (said : Step) (k : Connection) (closed : Bool) → MatchBool closed (Stays w (Ok steps.Closed) v (Ok said)) (Answers render w id v (Ok said) k) → Sends (stepping (Ok said)) → Left (length k.unread) v id
   by_closed said k true (same, is) sends = absurd (subst (λ (r : Result Step StepError). Sends (stepping r)) is sends)

@@ -1,23 +1,36 @@
+use Rattle.std.proofs.Common.{true, ap, sym, ◌∙◌}
+use Rattle.std.specs.Prelude.{option_and_then}
 use Rattle.std.specs.FinMap as map
-use Rattle.doc_hub.proofs.FrontSteps.{has_fault_code, takes_what_stands}
-use Rattle.std.proofs.Common.{true}
-use Rattle.doc_hub.proofs.NumberSteps.{finished_have}
+use Rattle.doc_http.specs.Bearers.{bearer_of}
+use Rattle.doc_hub.proofs.AnswerEdits.{edit_can_be_made}
+use Rattle.doc_hub.proofs.FrontSteps.{has_fault_code}
+use Rattle.doc_hub.proofs.NumberSteps.{finished_have, same_have}
 use Rattle.doc_hub.proofs.hub.Hub.step.Goals as goal
 
 pub answer_to_fault-requires : goal.answer_to_fault-requires
 answer_to_fault-requires g c =
-    has_fault_code c.get-2.result.now c.in_ok-next_request.field-0 c.in-Fault.code c.in-Fault.bare c.in-Fault.is c.in_ok-next_request.ensures.found
+    let connection = c.in-Some.connection.now in
+    has_fault_code connection.unread c.in_ok-next_request.field-0 c.in-Fault.code c.in-Fault.bare c.in-Fault.is (c.in_ok-next_request.ensures.found connection (sym c.in-Some.ensures))
 
-pub finish-requires-in-Request : goal.finish-requires-in-Request
-finish-requires-in-Request g c =
-    takes_what_stands (map.get c.self.inside.connections c.args.id.0) c.get-2.result.now c.in_ok-next_request.field-0 c.in-Request.used c.in-Request.request c.in-Some.connection.now
-    c.in-Request.is c.in_ok-next_request.ensures.within c.get-2.ensures c.in-Some.ensures
+pub invariant_of-self-in-Fault : goal.invariant_of-self-in-Fault
+invariant_of-self-in-Fault g c =
+    let same = c.in_ok-next_request.ensures.same in
+    finished_have c.self.inside.given c.next_request.new.self c.finish.new.self c.args.id.0 0 true c.in-Some.connection.now
+    (same_have c.self.inside.given c.self.inside.connections c.next_request.new.self same c.self.invariant)
+    (c.in-Some.ensures ∙ ap (λ m. map.get m c.args.id.0) (sym same)) c.finish.ensures
 
-pub invariant_of-self : goal.invariant_of-self
-invariant_of-self g c =
-    finished_have c.self.inside.given c.self.inside.connections c.finish.new.self c.args.id.0 0 true c.in-Some.connection.now c.self.invariant c.in-Some.ensures c.finish.ensures
+pub make-requires : goal.make-requires
+make-requires g c =
+    edit_can_be_made (g.R.Renderer.page c.self.inside.renderer) c.self.inside.store (option_and_then (map.get c.self.inside.readers) (bearer_of c.in-Request.request)) c.self.inside.keep_alive c.in-Request.request
+    c.get-in-Request.result.now c.in_ok-answer-in-Request.answer c.get-in-Request.ensures c.in_ok-answer-in-Request.ensures.answer
+
+pub invariant_of-self-in_err-make-in-Request : goal.invariant_of-self-in_err-make-in-Request
+invariant_of-self-in_err-make-in-Request g c =
+    same_have c.self.inside.given c.self.inside.connections c.next_request.new.self c.in_ok-next_request.ensures.same c.self.invariant
 
 pub invariant_of-self-in-Request : goal.invariant_of-self-in-Request
 invariant_of-self-in-Request g c =
-    finished_have c.self.inside.given c.self.inside.connections c.finish-in-Request.new.self c.args.id.0 c.in-Request.used c.in_ok-answer-in-Request.answer.closes c.in-Some.connection.now
-    c.self.invariant c.in-Some.ensures c.finish-in-Request.ensures
+    let same = c.in_ok-next_request.ensures.same in
+    finished_have c.self.inside.given c.next_request.new.self c.finish-in-Request.new.self c.args.id.0 c.in-Request.used c.in_ok-answer-in-Request.answer.closes c.in-Some.connection.now
+    (same_have c.self.inside.given c.self.inside.connections c.next_request.new.self same c.self.invariant)
+    (c.in-Some.ensures ∙ ap (λ m. map.get m c.args.id.0) (sym same)) c.finish-in-Request.ensures

@@ -1,5 +1,5 @@
 use Rattle.doc_hub.proofs.ViewSteps.{no_page, hidden_page, seen_page}
-use Rattle.doc_hub.proofs.reply.visible_page.Goals as goal
+use Rattle.doc_hub.proofs.page.visible_page.Goals as goal
 
 pub returns-in_default : goal.returns-in_default
 returns-in_default c = no_page c.args.store.now.site c.args.reader.now c.args.path.now c.in_default.ensures.page
