@@ -1,5 +1,31 @@
 -- What is read of a line.
-use Rattle.std.proofs.Common.{◌≡◌, ◌∙◌, ℕ, Bool, true, false, not, ◌==◌, ◌&&◌, ◌||◌, if◌then◌else◌, List, [], ◌∷◌, ◌++◌, map, append_assoc, append-nil, refl, ap, sym, arith, Option, Some, None}
+use Rattle.std.proofs.Common.{
+  ◌≡◌,
+  ◌∙◌,
+  ℕ,
+  Bool,
+  true,
+  false,
+  not,
+  ◌==◌,
+  ◌&&◌,
+  ◌||◌,
+  if◌then◌else◌,
+  List,
+  [],
+  ◌∷◌,
+  ◌++◌,
+  map,
+  append_assoc,
+  append-nil,
+  refl,
+  ap,
+  sym,
+  arith,
+  Option,
+  Some,
+  None,
+}
 use Rattle.std.specs.List.{list_all}
 use Rattle.std.proofs.lemmas.Bool.{both_ways}
 use Rattle.std.proofs.lemmas.Bool.Decides.{nat_tests}
@@ -37,13 +63,15 @@ cut_by : ℕ → Text → Bool → Text
 cut_by c rest ends = elim ends [ true ↦ [] | false ↦ c ∷ without_ending rest ]
 
 -- a line goes on behind characters that end none
-past_front : (class : ℕ → Bool) → ((c : ℕ) → class c ≡ false → is_ending c ≡ false) → (front rest : Text) → list_all (λ c. not (class c)) front ≡ true → without_ending rest ≡ [] →
+past_front : (class : ℕ → Bool) → ((c : ℕ) → class c ≡ false → is_ending c ≡ false) → (front rest : Text)
+    → list_all (λ c. not (class c)) front ≡ true → without_ending rest ≡ [] →
     without_ending (front ++ rest) ≡ front
 unfolding without_ending cut_by
 past_front class within [] rest all ends = ends
 past_front class within (c ∷ front) rest all ends =
     let parts = both_hold (not (class c)) (list_all (λ c. not (class c)) front) all in
-    ap (cut_by c (front ++ rest)) (within c (not_true (class c) parts.0)) ∙ ap (λ (xs : Text). c ∷ xs) (past_front class within front rest parts.1 ends)
+    ap (cut_by c (front ++ rest)) (within c (not_true (class c) parts.0))
+    ∙ ap (λ (xs : Text). c ∷ xs) (past_front class within front rest parts.1 ends)
 
 -- nothing of a line stands before an ending, or behind its end
 nothing_before : (rest : Text) → begins_in is_ending rest ≡ true → without_ending rest ≡ []
@@ -92,14 +120,17 @@ ending_stops [] e f = refl
 ending_stops (c ∷ rest) e f = one_of_both (c == 0) (is_ending c) e (no_null c rest (c == 0) f)
 
 -- the text before an ending and without U+0000 is what is read of the line
-pub front_is_content : (line front rest : Text) → IsCutBefore ends_plain line rest → is 0 rest ≡ None → line ≡ front ++ rest → front ≡ line_content line
+pub front_is_content : (line front rest : Text) → IsCutBefore ends_plain line rest → is 0 rest ≡ None → line ≡ front ++ rest
+    → front ≡ line_content line
 front_is_content line front rest h none e =
     let same : front ≡ h.front = append_cancel_right front h.front rest (sym e ∙ h.split) in
-    let cut : without_ending line ≡ h.front = ap without_ending h.split ∙ past_front ends_plain is_null_or_ending h.front rest h.outside (nothing_before rest (ending_stops rest h.stop none)) in
+    let cut : without_ending line ≡ h.front = ap without_ending h.split
+    ∙ past_front ends_plain is_null_or_ending h.front rest h.outside (nothing_before rest (ending_stops rest h.stop none)) in
     same ∙ (sym (secure_same h.front h.outside) ∙ ap (map secure_char) (sym cut))
 
 -- one more character
-pub secured : (before rest text behind out out' : Text) (c d : ℕ) → text ≡ before ++ rest → rest ≡ c ∷ behind → out ≡ map secure_char before → out' ≡ out ++ d ∷ [] → d ≡ secure_char c →
+pub secured : (before rest text behind out out' : Text) (c d : ℕ) → text ≡ before ++ rest → rest ≡ c ∷ behind
+    → out ≡ map secure_char before → out' ≡ out ++ d ∷ [] → d ≡ secure_char c →
     (text ≡ (before ++ c ∷ []) ++ behind) × (out' ≡ map secure_char (before ++ c ∷ []))
 secured before rest text behind out out' c d e f g h k = (
   e ∙ (ap (λ (xs : Text). before ++ xs) f ∙ sym (append_assoc before (c ∷ []) behind)),
@@ -111,5 +142,6 @@ secured before rest text behind out out' c d e f g h k = (
     map-push (y ∷ xs) x = ap (λ (ys : Text). secure_char y ∷ ys) (map-push xs x)
 
 -- no more characters
-pub secured_all : (before rest text out : Text) → text ≡ before ++ rest → rest ≡ [] → out ≡ map secure_char before → out ≡ map secure_char text
+pub secured_all : (before rest text out : Text) → text ≡ before ++ rest → rest ≡ [] → out ≡ map secure_char before
+    → out ≡ map secure_char text
 secured_all before rest text out e f g = g ∙ ap (map secure_char) (sym (e ∙ (ap (λ (xs : Text). before ++ xs) f ∙ append-nil before)))

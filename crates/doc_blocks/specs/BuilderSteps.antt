@@ -3,8 +3,8 @@ use Rattle.std.specs.Prelude.{◌≡◌, ℕ, ◌≤◌, Bool, true, false, [], 
 use Rattle.doc_rules.specs.Columns.{Line}
 use Rattle.doc_rules.specs.Entities.{Table}
 use Rattle.doc_rules.specs.Trees.{Situation, InParagraph}
-use Rattle.doc_one_pass.specs.Leaves.{taken}
-use Rattle.doc_one_pass.specs.Steps.{leaf_takes}
+use Rattle.doc_blocks_pass.specs.Leaves.{taken}
+use Rattle.doc_blocks_pass.specs.OpenBlocks.{leaf_takes}
 use Rattle.doc_blocks.specs.declared.builder.Builder.{Builder}
 use Rattle.doc_blocks.specs.LevelSteps.{stack_of, IsSound}
 use Rattle.doc_blocks.specs.StateSteps.{State, shown, reached}
@@ -30,4 +30,5 @@ IsInParagraph situation answer = answer ≡ false
 -- the open leaf took a line which all open containers go on with
 abbrev pub IsTaken : Table → State → Line → State → Type 0
 IsTaken table old line new =
-    (room depth : ℕ) → drop depth old.stack.outer ≡ [] → reached depth old (leaf_takes room table line old.stack.inner old.leaf old.stack.blank (taken line old.leaf)) ≡ shown new
+    (room depth : ℕ) → drop depth old.stack.outer ≡ []
+    → reached depth old (leaf_takes room table line old.stack.inner old.leaf old.stack.blank (taken line old.leaf)) ≡ shown new

@@ -1,11 +1,11 @@
 -- The finished blocks of all levels on one stack: what each level has of it.
 use Rattle.std.specs.Prelude.{◌≡◌, ℕ, ◌≤◌, Bool, List, [], ◌∷◌, ◌++◌, take, drop, length, Option, Some, None}
-use Rattle.doc_starts.specs.Items.{kind_of}
-use Rattle.doc_one_pass.specs.Paths as paths
-use Rattle.doc_blocks.specs.Stacks.{Outer, Stack}
+use Rattle.doc_blocks_starts.specs.Items.{kind_of}
+use Rattle.doc_blocks_pass.specs.Paths as paths
+use Rattle.doc_blocks.specs.StackSteps.{Outer, Stack}
 use Rattle.doc_blocks.specs.Containers.{container_shown}
-use Rattle.doc_leaves.specs.Views.{blocks_shown}
-use Rattle.doc_leaves.specs.declared.block.Block.{Block}
+use Rattle.doc_blocks_leaves.specs.Views.{blocks_shown}
+use Rattle.doc_blocks_leaves.specs.declared.block.Block.{Block}
 use Rattle.doc_blocks.specs.declared.levels.OpenList.{OpenList}
 use Rattle.doc_blocks.specs.declared.levels.Level.{Level}
 use Rattle.doc_blocks.specs.declared.levels.Open.{Open}
@@ -33,10 +33,15 @@ first_base (o ∷ more) base = o.level.base
 -- the open containers, where the innermost level begins here on the stack
 abbrev pub outers_shown : List Open → (base : ℕ) → List Block → List Outer
 outers_shown [] base done = []
-outers_shown (o ∷ more) base done = (level_shown (take (first_base more base) done) o.level, container_shown o.container) ∷ outers_shown more base done
+outers_shown (o ∷ more) base done = (level_shown (take (first_base more base) done) o.level, container_shown o.container) ∷ outers_shown
+    more base done
 
 abbrev pub stack_of : Levels → Stack
-stack_of s = record { outer = outers_shown s.outer.items s.inner.base s.done.items; inner = level_shown s.done.items s.inner; blank = s.blank }
+stack_of s = record {
+  outer = outers_shown s.outer.items s.inner.base s.done.items;
+  inner = level_shown s.done.items s.inner;
+  blank = s.blank;
+}
 
 -- ---- what holds of the places on the stack
 

@@ -1,5 +1,5 @@
 pub mod ContentSteps
-pub mod Stacks
+pub mod StackSteps
 pub mod Containers
 pub mod LevelSteps
 pub mod PathSteps

@@ -5,11 +5,22 @@ use Rattle.doc_rules.specs.Entities.{Table}
 use Rattle.doc_rules.specs.Definitions.{Definition}
 use Rattle.doc_rules.specs.ContainerStarts.{ListKind}
 use Rattle.doc_rules.specs.Trees.{Situation, NoParagraph, InParagraph, LazyParagraph}
-use Rattle.doc_one_pass.specs.Leaves.{OpenLeaf, OpenParagraph, taken}
-use Rattle.doc_one_pass.specs.Paths.{Level, OpenContainer, OpenItem, Path, Here, Inside, item_begun_at, matched_open, gone_on, lazy_path_situation}
-use Rattle.doc_one_pass.specs.Closing.{container_closed, leaf_closed, closed, path_blank, path_references}
-use Rattle.doc_one_pass.specs.Steps.{Moved, start_step, leaf_takes}
-use Rattle.doc_blocks.specs.Stacks.{Outer, Stack, inside, container_blank}
+use Rattle.doc_blocks_pass.specs.Leaves.{OpenLeaf, OpenParagraph, taken}
+use Rattle.doc_blocks_pass.specs.Paths.{
+  Level,
+  OpenContainer,
+  OpenItem,
+  Path,
+  Here,
+  Inside,
+  item_begun_at,
+  matched_open,
+  gone_on,
+  lazy_path_situation,
+}
+use Rattle.doc_blocks_pass.specs.Closing.{container_closed, leaf_closed, closed, path_blank, path_references}
+use Rattle.doc_blocks_pass.specs.OpenBlocks.{Moved, start_step, leaf_takes}
+use Rattle.doc_blocks.specs.StackSteps.{Outer, Stack, inside, container_blank}
 
 -- ---- going down
 
@@ -29,7 +40,11 @@ behind_these outer d = record d { passed = outer ++ d.passed }
 unfoldable pub descended : List Outer → Line → Descent
 descended [] line = record { passed = []; below = []; rest = line }
 descended (o ∷ more) line =
-    elim (matched_open o.1 line) [ Some rest ↦ further o (descended more rest) | None ↦ record { passed = []; below = o ∷ more; rest = line } ]
+    elim (matched_open o.1 line) [
+      | Some rest ↦ further o (descended more rest)
+      | None ↦
+          record { passed = []; below = o ∷ more; rest = line }
+    ]
 
 -- a line went down a stack, so many containers
 pub record GoesDown (old : Stack) (line : Line) (new : Stack) (depth : ℕ) (rest : Line) : Type 0 where
@@ -82,7 +97,12 @@ blank_in (o ∷ more) blank = container_blank o.1 (blank_in more blank)
 
 -- all but the first so many containers have closed
 abbrev pub closed_to : ℕ → Stack → Stack
-closed_to depth s = record { outer = take depth s.outer; inner = closed_in (drop depth s.outer) s.inner; blank = blank_in (drop depth s.outer) s.blank }
+closed_to depth s = record {
+  outer = take depth s.outer;
+  inner = closed_in (drop depth s.outer) s.inner;
+  blank = blank_in
+      (drop depth s.outer) s.blank;
+}
 
 -- ---- what begins
 

@@ -9,11 +9,11 @@ use Rattle.doc_rules.specs.Trees.{Situation, LeafLines, item_may_begin}
 use Rattle.doc_rules.specs.Blocks.{Blocks, Heading, with_leaf, with_text}
 use Rattle.doc_rules.specs.Definitions.{definitions_of}
 use Rattle.doc_refs.specs.Targets.{Targets, targets_of, joined}
-use Rattle.doc_one_pass.specs.Leaves.{OpenLeaf, NoLeaf, open_references, open_of}
-use Rattle.doc_one_pass.specs.Paths.{OpenContainer, OpenQuote, OpenItem, Path, Here, finished}
-use Rattle.doc_one_pass.specs.Closing.{leaf_closed, closed, path_references}
-use Rattle.doc_one_pass.specs.Steps.{Moved, start_step, line_step}
-use Rattle.doc_blocks.specs.Stacks.{Outer, Stack, inside, path_at, with_inner_blocks, block_begun, item_begun, container_opened}
+use Rattle.doc_blocks_pass.specs.Leaves.{OpenLeaf, NoLeaf, open_references, open_of}
+use Rattle.doc_blocks_pass.specs.Paths.{OpenContainer, OpenQuote, OpenItem, Path, Here, finished}
+use Rattle.doc_blocks_pass.specs.Closing.{leaf_closed, closed, path_references}
+use Rattle.doc_blocks_pass.specs.OpenBlocks.{Moved, start_step, line_step}
+use Rattle.doc_blocks.specs.StackSteps.{Outer, Stack, inside, path_at, with_inner_blocks, block_begun, item_begun, container_opened}
 use Rattle.doc_blocks.specs.PathSteps.{situation_in, closed_to}
 
 -- the path without its leaf, the open leaf, and what labels name so far
@@ -54,12 +54,18 @@ all_closed table depth s = record (leaf_done table s) { stack = closed_to depth 
 
 -- then a quote opened
 abbrev pub quote_opened : Table → ℕ → State → State
-quote_opened table depth s = record (all_closed table depth s) { stack = container_opened (block_begun (all_closed table depth s).stack) OpenQuote }
+quote_opened table depth s = record (all_closed table depth s) {
+  stack = container_opened (block_begun (all_closed table depth s).stack)
+      OpenQuote;
+}
 
 -- or an item
 abbrev pub item_opened : Table → ℕ → State → ListKind → ℕ → (columns : ℕ) → (is_empty : Bool) → State
 item_opened table depth s kind start columns is_empty =
-    record (all_closed table depth s) { stack = container_opened (item_begun (all_closed table depth s).stack kind start) (OpenItem columns is_empty) }
+    record (all_closed table depth s) {
+      stack = container_opened (item_begun (all_closed table depth s).stack kind start)
+          (OpenItem columns is_empty);
+    }
 
 -- or a leaf
 abbrev pub leaf_opened : Table → ℕ → State → OpenLeaf → State
@@ -78,9 +84,11 @@ item_met situation (Some item) = elim (item_may_begin situation item) [ true ↦
 
 -- one step of what a line begins: it is done, or a container began and this is left of the line
 abbrev pub StepsTo : Table → ℕ → ℕ → State → Line → State → Option Line → Type 0
-StepsTo table room depth old line new None = reached depth old (start_step (suc room) table (met depth old) line (below depth old)) ≡ shown new
+StepsTo table room depth old line new None = reached depth old (start_step (suc room) table (met depth old) line (below depth old))
+    ≡ shown new
 StepsTo table room depth old line new (Some rest) =
-    reached depth old (start_step (suc room) table (met depth old) line (below depth old)) ≡ reached (depth + 1) new (start_step room table (met (depth + 1) new) rest (below (depth + 1) new))
+    reached depth old (start_step (suc room) table (met depth old) line (below depth old))
+    ≡ reached (depth + 1) new (start_step room table (met (depth + 1) new) rest (below (depth + 1) new))
 
 -- ---- leaves
 
@@ -92,14 +100,17 @@ leaf_behind table lines leaf before = before
 -- a leaf of one line began inside the first so many containers
 abbrev pub lines_opened : Table → ℕ → State → LeafLines → State
 lines_opened table depth s lines = record (all_closed table depth s) {
-  stack = with_inner_blocks (block_begun (all_closed table depth s).stack) (leaf_behind table lines (open_of table lines) (block_begun (all_closed table depth s).stack).inner.blocks);
+  stack = with_inner_blocks (block_begun (all_closed table depth s).stack)
+      (leaf_behind table lines (open_of table lines) (block_begun (all_closed table depth s).stack).inner.blocks);
   leaf = open_of table lines;
 }
 
 -- the open paragraph became a heading
 abbrev pub heading_made : Table → ℕ → State → Text → State
 heading_made table level s text = record {
-  stack = record (with_inner_blocks s.stack (with_text (Heading level) (definitions_of table text).1 (finished s.stack.inner))) { blank = false };
+  stack = record (with_inner_blocks s.stack (with_text (Heading level) (definitions_of table text).1 (finished s.stack.inner))) {
+    blank = false;
+  };
   leaf = NoLeaf;
   refs = joined s.refs (targets_of (definitions_of table text).0);
 }
@@ -108,11 +119,18 @@ heading_made table level s text = record {
 
 -- the path behind a line, and what labels name then
 abbrev pub after_line : Table → State → Line → Path × Targets
-after_line table s line =
-    ((line_step 100 table line (path_at s.stack s.leaf)).path, joined s.refs (targets_of (line_step 100 table line (path_at s.stack s.leaf)).refs))
+after_line table s line = (
+  (line_step 100 table line (path_at s.stack s.leaf)).path,
+  joined s.refs
+      (targets_of (line_step 100 table line (path_at s.stack s.leaf)).refs),
+)
 
 -- the blocks of a document and what its labels name, when these lines are left, and this path and what labels name so far
 unfoldable pub document_left : Table → List Text → Path × Targets → Blocks × Targets
 document_left table [] now = (finished (closed table now.0), joined now.1 (targets_of (path_references table now.0)))
 document_left table (line ∷ more) now =
-    document_left table more ((line_step 100 table (cells_of (line_content line)) now.0).path, joined now.1 (targets_of (line_step 100 table (cells_of (line_content line)) now.0).refs))
+    document_left table more (
+      (line_step 100 table (cells_of (line_content line)) now.0).path,
+      joined now.1
+          (targets_of (line_step 100 table (cells_of (line_content line)) now.0).refs),
+    )

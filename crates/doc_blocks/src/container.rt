@@ -1,14 +1,14 @@
 //! Open containers: quotes and list items.
 ghost use Rattle.std.specs.Prelude.{◌≡◌, nat_le, ◌&&◌, ◌||◌, not};
 ghost use Rattle.doc_rules.specs.Columns.{indent, is_blank_line};
-ghost use Rattle.doc_one_pass.specs.Paths.{OpenItem, matched_open, gone_on};
+ghost use Rattle.doc_blocks_pass.specs.Paths.{OpenItem, matched_open, gone_on};
 ghost use Rattle.doc_lines.specs.Cursors.{left_of};
-ghost use Rattle.doc_starts.specs.Lines.{line_of};
+ghost use Rattle.doc_blocks_starts.specs.Lines.{line_of};
 ghost use Rattle.doc_blocks.specs.Containers.{container_shown};
 
+use doc_blocks_starts::indentation::{indent_up_to, is_blank_line};
+use doc_blocks_starts::quote::quote_start;
 use doc_lines::cursor::Cursor;
-use doc_starts::indentation::{indent_up_to, is_blank_line};
-use doc_starts::quote::quote_start;
 
 /// An open quote, or an open item with the columns before its content. An item is empty while it started blank and no line went on
 /// with it.
@@ -20,7 +20,7 @@ pub(crate) enum Container {
 
 impl Container {
     /// The line inside the container, where the line goes on with it (CommonMark 0.31.2, sections 5.1 and 5.2).
-    #[tactic(auto, unfolding(doc_one_pass::specs::Paths::matched_open))]
+    #[tactic(auto, unfolding(doc_blocks_pass::specs::Paths::matched_open))]
     pub(crate) fn matched<'a>(self, line: &Cursor<'a>) -> Option<Cursor<'a>>
         ensures { line_of result ≡ matched_open (container_shown self) (left_of line.now) }
     {
@@ -45,7 +45,7 @@ impl Container {
 }
 
 /// The line inside an item.
-#[tactic(auto, unfolding(doc_one_pass::specs::Paths::matched_open))]
+#[tactic(auto, unfolding(doc_blocks_pass::specs::Paths::matched_open))]
 fn matched_item<'a>(line: &Cursor<'a>, columns: usize, is_empty: bool) -> Option<Cursor<'a>>
     ensures { line_of result ≡ matched_open (OpenItem columns is_empty) (left_of line.now) }
 {

@@ -4,15 +4,15 @@ ghost use Rattle.doc_rules.specs.Blocks.{document_of};
 ghost use Rattle.doc_rules.specs.Columns.{cells_of};
 ghost use Rattle.doc_rules.specs.Lines.{line_content};
 ghost use Rattle.doc_refs.specs.Targets.{targets_of};
-ghost use Rattle.doc_leaves.specs.Views.{blocks_shown};
+ghost use Rattle.doc_blocks_leaves.specs.Views.{blocks_shown};
 ghost use Rattle.doc_blocks.specs.StateSteps.{shown, after_line, document_left};
 ghost use Rattle.doc_blocks.specs.BuilderSteps.{state_of};
 ghost use Rattle.doc_blocks.specs.LevelSteps.{IsSound};
 
 use crate::builder::Builder;
 use crate::content::{plain_content, secure_content};
+use doc_blocks_leaves::block::Block;
 use doc_heap::{Heap, Vec};
-use doc_leaves::block::Block;
 use doc_lines::cursor::Cursor;
 use doc_lines::entities::Entities;
 use doc_lines::lines::Lines;

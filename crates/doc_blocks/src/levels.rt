@@ -1,22 +1,22 @@
 //! The open containers of a document that is read line by line, with the finished blocks of all levels on one stack.
 ghost use Rattle.std.specs.Prelude.{◌≡◌, ◌+◌, ◌<◌, ◌≤◌, ℕ, false, None, OnOk, IfOk, IsTrue, vec_len};
-ghost use Rattle.doc_starts.specs.Items.{kind_of};
+ghost use Rattle.doc_blocks_starts.specs.Items.{kind_of};
 ghost use Rattle.doc_rules.specs.Blocks.{list_start};
-ghost use Rattle.doc_one_pass.specs.Paths.{finished};
-ghost use Rattle.doc_leaves.specs.Views.{with_block, blocks_shown};
-ghost use Rattle.doc_blocks.specs.Stacks.{empty_stack, with_inner_blocks, block_begun, item_begun, container_opened, quote_put, item_put, IsNotOf, ClosesLast};
+ghost use Rattle.doc_blocks_pass.specs.Paths.{finished};
+ghost use Rattle.doc_blocks_leaves.specs.Views.{with_block, blocks_shown};
+ghost use Rattle.doc_blocks.specs.StackSteps.{empty_stack, with_inner_blocks, block_begun, item_begun, container_opened, quote_put, item_put, IsNotOf, ClosesLast};
 ghost use Rattle.doc_blocks.specs.PathSteps.{gone_on_at, closed_to, GoesDown, MatchesAt};
 ghost use Rattle.doc_lines.specs.Cursors.{left_of};
-ghost use Rattle.doc_starts.specs.Lines.{line_of};
+ghost use Rattle.doc_blocks_starts.specs.Lines.{line_of};
 ghost use Rattle.doc_blocks.specs.Containers.{container_shown};
 ghost use Rattle.doc_blocks.specs.LevelSteps.{stack_of, IsSound, Leaves};
 
 use crate::container::Container;
+use doc_blocks_leaves::block::Block;
+use doc_blocks_starts::item::ListKind;
 use doc_heap::{Heap, Vec};
-use doc_leaves::block::Block;
 use doc_lines::cursor::Cursor;
 use doc_page::failure::Memory;
-use doc_starts::item::ListKind;
 use std::mem;
 
 /// A list that the next item may go on with. Its finished items stand on the stack from `base` on.
@@ -63,7 +63,7 @@ struct Left {
 }
 
 impl Levels {
-    #[tactic(auto, unfolding(doc_leaves::specs::Views::forest))]
+    #[tactic(auto, unfolding(doc_blocks_leaves::specs::Views::forest))]
     pub(crate) fn new(heap: Heap) -> Levels
         ensures stack { stack_of result ≡ empty_stack }
         ensures sound { IsSound result }
@@ -103,7 +103,7 @@ impl Levels {
     }
 
     /// A block comes behind the blocks of the innermost level, whose list closes in any case.
-    #[tactic(auto, unfolding(doc_leaves::specs::Views::with_block))]
+    #[tactic(auto, unfolding(doc_blocks_leaves::specs::Views::with_block))]
     pub(crate) fn put(&mut self, block: Option<Block>) -> Result<(), Memory>
         requires { IsSound self.old }
         ensures stack { OnOk result (stack_of self.new ≡ with_inner_blocks (stack_of self.old) (with_block block (finished (stack_of self.old).inner))) }

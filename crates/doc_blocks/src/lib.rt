@@ -8,5 +8,5 @@ mod content;
 mod document;
 mod levels;
 
-pub use doc_leaves::block::Block;
+pub use doc_blocks_leaves::block::Block;
 pub use document::{Document, blocks};

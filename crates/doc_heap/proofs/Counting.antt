@@ -8,7 +8,35 @@ use prog.Memory.{Memory}
 use prog.Routine.{Routine}
 use types.Logic.{Logic, sem}
 use contract.Monad.{Fun}
-use types.Kit.{Item, ‵, raw, mean, ◌⊛◌, some, later, given, ◌$◌, ◌∵◌, !, qed, move, keep, use1, split, join, pick, fjoin, feq_i, feq_l, check, show, await, updating, now as at_once, done}
+use types.Kit.{
+  Item,
+  ‵,
+  raw,
+  mean,
+  ◌⊛◌,
+  some,
+  later,
+  given,
+  ◌$◌,
+  ◌∵◌,
+  !,
+  qed,
+  move,
+  keep,
+  use1,
+  split,
+  join,
+  pick,
+  fjoin,
+  feq_i,
+  feq_l,
+  check,
+  show,
+  await,
+  updating,
+  now as at_once,
+  done,
+}
 use denote.Memory.{hidden_shr}
 use denote.Builtin.{bool}
 use denote.Steps.{nothing, only}
@@ -45,6 +73,7 @@ module _ {M : Type 1} {𝓤 : Ura M} (𝓛 : Logic 𝓤) (at_mem : Memory → SP
     pub counts_gives : (v : Val) → ent 𝓤 (Counts.post (counts_at κ q c) v) (H.⇛ (mean 𝓛 (Answers 𝓤 κ q v)))
     counts_gives v =
         qed 𝓛 (raw (Counts.post (counts_at κ q c) v) ∷ []) ∵ updating ! $
-        use1 𝓛 (later (some (λ (refused : Bool). ((‵ (flft κ q) ⊛ ‵ ftrue) ⊛ ‵ (bool.own_val refused (v ∷ []))) ⊛ some (λ (last : Unit {0} × Unit {0}). ‵ (fsep ftrue ftrue) ⊛ ‵ ftrue)))) (id⊢ 𝓤 _) $
+        use1 𝓛 (later (some (λ (refused : Bool). ((‵ (flft κ q) ⊛ ‵ ftrue) ⊛ ‵ (bool.own_val refused (v ∷ []))) ⊛ some
+        (λ (last : Unit {0} × Unit {0}). ‵ (fsep ftrue ftrue) ⊛ ‵ ftrue)))) (id⊢ 𝓤 _) $
         await ! tt $ pick ! (λ refused. split ! $ split ! $ move ! (1 ∷ []) $ feq_l ! (λ told. split ! $ at_once ! $
         show ! (λ (r : Bool). mean 𝓛 (given (v ≡ vbool r) (‵ (flft κ q)))) refused $ check ! (ap only told) $ keep ! (0 ∷ []) $ done !))

@@ -11,7 +11,8 @@ unlimited = 2 ^ 64 - 1
 
 -- One more growth: whether it is passed on, and what is planned after it.
 abbrev pub step_of : Plan → Step
-step_of (RefuseAfter left) = if left == 0 then Refused (RefuseAfter left) else if left == unlimited then PassedOn (RefuseAfter left) else PassedOn (RefuseAfter (left - 1))
+step_of (RefuseAfter left) = if left == 0 then Refused (RefuseAfter left) else if left == unlimited then PassedOn (RefuseAfter left) else
+    PassedOn (RefuseAfter (left - 1))
 step_of (RefuseOnly left) = if left == 0 then Refused (RefuseAfter unlimited) else PassedOn (RefuseOnly (left - 1))
 
 -- The growths that are passed on before the next that is refused.

@@ -19,7 +19,8 @@ behind [] = []
 behind (c ∷ rest) = elim (c == 10) [ true ↦ c ∷ rest | false ↦ behind rest ]
 
 many_at : (c : ℕ) (rest : Text) (b : Bool) → many (λ d. not (d == 10)) rest ≡ Some (behind rest) →
-    elim (not b) as (λ _. Option Text) [ true ↦ many (λ d. not (d == 10)) rest | false ↦ Some (c ∷ rest) ] ≡ Some (elim b as (λ _. Text) [ true ↦ c ∷ rest | false ↦ behind rest ])
+    elim (not b) as (λ _. Option Text) [ true ↦ many (λ d. not (d == 10)) rest | false ↦ Some (c ∷ rest) ]
+    ≡ Some (elim b as (λ _. Text) [ true ↦ c ∷ rest | false ↦ behind rest ])
 many_at c rest true h = refl
 many_at c rest false h = h
 
@@ -29,7 +30,8 @@ many_behind [] = refl
 many_behind (c ∷ rest) = many_at c rest (c == 10) (many_behind rest)
 
 cut_at : (c : ℕ) (rest : Text) (b : Bool) → rest ≡ line rest ++ behind rest →
-    c ∷ rest ≡ elim b as (λ _. Text) [ true ↦ [] | false ↦ c ∷ line rest ] ++ elim b as (λ _. Text) [ true ↦ c ∷ rest | false ↦ behind rest ]
+    c ∷ rest ≡ elim b as (λ _. Text) [ true ↦ [] | false ↦ c ∷ line rest ]
+    ++ elim b as (λ _. Text) [ true ↦ c ∷ rest | false ↦ behind rest ]
 cut_at c rest true h = refl
 cut_at c rest false h = ap (λ t. c ∷ t) h
 
@@ -38,8 +40,10 @@ unfolding line behind
 cut [] = refl
 cut (c ∷ rest) = cut_at c rest (c == 10) (cut rest)
 
-spaced_at : (c : ℕ) (rest : Text) (b : Bool) → spaced rest ≡ line rest ++ spaced (behind rest) → (b ≡ true → spaced (c ∷ rest) ≡ 32 ∷ spaced rest) →
-    (if b then 32 else c) ∷ spaced rest ≡ elim b as (λ _. Text) [ true ↦ [] | false ↦ c ∷ line rest ] ++ spaced (elim b as (λ _. Text) [ true ↦ c ∷ rest | false ↦ behind rest ])
+spaced_at : (c : ℕ) (rest : Text) (b : Bool) → spaced rest ≡ line rest ++ spaced (behind rest)
+    → (b ≡ true → spaced (c ∷ rest) ≡ 32 ∷ spaced rest) →
+    (if b then 32 else c) ∷ spaced rest ≡ elim b as (λ _. Text) [ true ↦ [] | false ↦ c ∷ line rest ]
+    ++ spaced (elim b as (λ _. Text) [ true ↦ c ∷ rest | false ↦ behind rest ])
 spaced_at c rest true h g = sym (g refl)
 spaced_at c rest false h g = ap (λ t. c ∷ t) h
 
@@ -65,7 +69,8 @@ first (c ∷ rest) d after e = first_at c rest (c == 10) d after refl (first res
 is_behind : (text rest : Text) → Some rest ≡ many (λ d. not (d == 10)) text → rest ≡ behind text
 is_behind text rest e = let f : Some rest ≡ Some (behind text) = e ∙ many_behind text in cc
 
-pub one_line : (text front rest : Text) (d : ℕ) (after : Text) → text ≡ front ++ rest → Some rest ≡ many (λ d. not (d == 10)) text → rest ≡ d ∷ after →
+pub one_line : (text front rest : Text) (d : ℕ) (after : Text) → text ≡ front ++ rest → Some rest ≡ many (λ d. not (d == 10)) text
+    → rest ≡ d ∷ after →
     spaced text ≡ front ++ 32 ∷ spaced after
 one_line text front rest d after e f g =
     let is : rest ≡ behind text = is_behind text rest f in
@@ -73,7 +78,8 @@ one_line text front rest d after e f g =
     let end : spaced (behind text) ≡ 32 ∷ spaced after = ap spaced (sym is ∙ g) ∙ spaced_first d after (first text d after (sym is ∙ g)) in
     spaced_cut text ∙ (ap (λ r. line text ++ r) end ∙ ap (λ s. s ++ 32 ∷ spaced after) (sym start))
 
-pub last_line : (text front rest : Text) → text ≡ front ++ rest → Some rest ≡ many (λ d. not (d == 10)) text → rest ≡ [] → spaced text ≡ text
+pub last_line : (text front rest : Text) → text ≡ front ++ rest → Some rest ≡ many (λ d. not (d == 10)) text → rest ≡ []
+    → spaced text ≡ text
 unfolding spaced
 last_line text front rest e f g =
     let is : behind text ≡ [] = sym (is_behind text rest f) ∙ g in

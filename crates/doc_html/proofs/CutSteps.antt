@@ -1,5 +1,29 @@
 -- Texts that are cut at what HTML writes otherwise.
-use Rattle.std.proofs.Common.{◌≡◌, ℕ, zero, suc, ◌<◌, inl, inr, Bool, true, false, not, List, [], ◌∷◌, ◌++◌, length, get_or, refl, ap, sym, ◌∙◌, subst, arith}
+use Rattle.std.proofs.Common.{
+  ◌≡◌,
+  ℕ,
+  zero,
+  suc,
+  ◌<◌,
+  inl,
+  inr,
+  Bool,
+  true,
+  false,
+  not,
+  List,
+  [],
+  ◌∷◌,
+  ◌++◌,
+  length,
+  get_or,
+  refl,
+  ap,
+  sym,
+  ◌∙◌,
+  subst,
+  arith,
+}
 use Rattle.std.specs.Prelude.{◌==◌, ◌||◌, ◌&&◌, encode_utf8_all, codes}
 use Rattle.std.specs.List.{list_all}
 use Rattle.std.specs.Str.{chars, IsUtf8}
@@ -8,8 +32,8 @@ use Rattle.std.proofs.lemmas.Str.{encodes-chars}
 use Rattle.doc_rules.specs.Characters.{one_of}
 use Rattle.doc_rules.specs.Characters as rules
 use Rattle.doc_rules.specs.Escaping.{escaped_char, html_escape}
-use Rattle.doc_marks.specs.Slices.{is_cut, IsCut, AreCut}
-use Rattle.doc_marks.specs.declared.mark.Mark.{Mark}
+use Rattle.doc_inlines_marks.specs.Slices.{is_cut, IsCut, AreCut}
+use Rattle.doc_inlines_marks.specs.declared.mark.Mark.{Mark}
 use Rattle.doc_html.proofs.PlainLinkSteps.{no_mark, one_byte}
 
 pub cut_mark : (marks : List Mark) (i : ℕ) (mark : Mark) → AreCut marks → i < length marks → mark ≡ get_or marks i mark → IsCut mark
@@ -23,7 +47,11 @@ abbrev escaped_at : ℕ → Bool → Bool → Bool → Bool → rules.Text
 escaped_at c a b d e =
     elim a [
       | true ↦ codes "&amp;"
-      | false ↦ elim b [ true ↦ codes "&lt;" | false ↦ elim d [ true ↦ codes "&gt;" | false ↦ elim e [ true ↦ codes "&quot;" | false ↦ c ∷ [] ] ] ]
+      | false ↦ elim b [
+        | true ↦ codes "&lt;"
+        | false ↦ elim d
+            [ true ↦ codes "&gt;" | false ↦ elim e [ true ↦ codes "&quot;" | false ↦ c ∷ [] ] ]
+      ]
     ]
 
 stays_at : (c : ℕ) (a b d e : Bool) → not (a || (b || (d || (e || false)))) ≡ true → escaped_at c a b d e ≡ c ∷ []
@@ -63,5 +91,6 @@ longer (c ∷ d ∷ rest) n h =
     let some : length (c ∷ d ∷ rest) == 1 ≡ false = ne_eqb (length (c ∷ d ∷ rest)) 1 (λ e. omega arith) in
     all_stay (c ∷ d ∷ rest) (sym (ap (λ b. b || list_all (λ x. not (one_of (codes "&<>\"") x)) (c ∷ d ∷ rest)) some) ∙ h)
 
-pub cut_text : (bytes : List ℕ) → IsUtf8 bytes → is_cut (chars bytes) ≡ true → (length bytes ≡ 1 → ⊥) → chars bytes ≡ html_escape (chars bytes)
+pub cut_text : (bytes : List ℕ) → IsUtf8 bytes → is_cut (chars bytes) ≡ true → (length bytes ≡ 1 → ⊥)
+    → chars bytes ≡ html_escape (chars bytes)
 cut_text bytes u h n = sym (longer (chars bytes) (λ e. n (ap length (sym (encodes-chars bytes u)) ∙ e)) h)

@@ -15,7 +15,11 @@ abbrev escaped_at : ℕ → Bool → Bool → Bool → Bool → Text
 escaped_at c a b d e =
     elim a [
       | true ↦ codes "&amp;"
-      | false ↦ elim b [ true ↦ codes "&lt;" | false ↦ elim d [ true ↦ codes "&gt;" | false ↦ elim e [ true ↦ codes "&quot;" | false ↦ c ∷ [] ] ] ]
+      | false ↦ elim b [
+        | true ↦ codes "&lt;"
+        | false ↦ elim d
+            [ true ↦ codes "&gt;" | false ↦ elim e [ true ↦ codes "&quot;" | false ↦ c ∷ [] ] ]
+      ]
     ]
 
 one_scalar : (c : ℕ) (a b d e : Bool) → scalar c ≡ true → all_scalars (escaped_at c a b d e) ≡ true
@@ -46,14 +50,17 @@ escaped_scalars (c ∷ rest) h =
 chars_escaped : (bytes : List ℕ) → IsUtf8 bytes → chars (escaped bytes) ≡ html_escape (chars bytes)
 chars_escaped bytes u =
     ap (λ b. chars (escaped b)) (sym (encodes-chars bytes u))
-    ∙ (ap chars (sym (escaping_is_by_bytes (chars bytes))) ∙ chars-encodes (html_escape (chars bytes)) (escaped_scalars (chars bytes) (scalars-chars bytes u)))
+    ∙ (ap chars (sym (escaping_is_by_bytes (chars bytes)))
+    ∙ chars-encodes (html_escape (chars bytes)) (escaped_scalars (chars bytes) (scalars-chars bytes u)))
 
-pub html_pushed : (old new text : List ℕ) → IsUtf8 old → IsUtf8 text → new ≡ old ++ escaped text → chars new ≡ chars old ++ html_escape (chars text)
+pub html_pushed : (old new text : List ℕ) → IsUtf8 old → IsUtf8 text → new ≡ old ++ escaped text
+    → chars new ≡ chars old ++ html_escape (chars text)
 html_pushed old new text u v e = ap chars e ∙ (chars-append old (escaped text) u ∙ ap (λ more. chars old ++ more) (chars_escaped text v))
 
 -- ---- destinations
 
-url_more : (front rest : Text) (c : ℕ) (old new : Text) → old ++ url_escape (c ∷ rest) ≡ front → new ≡ old ++ url_char c → new ++ url_escape rest ≡ front
+url_more : (front rest : Text) (c : ℕ) (old new : Text) → old ++ url_escape (c ∷ rest) ≡ front → new ≡ old ++ url_char c
+    → new ++ url_escape rest ≡ front
 unfolding url_escape
 url_more front rest c old new e f = ap (λ t. t ++ url_escape rest) f ∙ (append_assoc old (url_char c) (url_escape rest) ∙ e)
 
@@ -72,5 +79,6 @@ amp_chars = refl
 pub ampersand : (c : ℕ) → c ≡ 38 → chars (codes "&amp;") ≡ url_char c
 ampersand c e = amp_chars ∙ sym (ap url_char e ∙ at_38)
 
-pub url_goes_on : (whole text rest : Text) (c : ℕ) (old new : Text) → old ++ url_escape text ≡ whole → text ≡ c ∷ rest → new ≡ old ++ url_char c → new ++ url_escape rest ≡ whole
+pub url_goes_on : (whole text rest : Text) (c : ℕ) (old new : Text) → old ++ url_escape text ≡ whole → text ≡ c ∷ rest
+    → new ≡ old ++ url_char c → new ++ url_escape rest ≡ whole
 url_goes_on whole text rest c old new e t f = url_more whole rest c old new (sym (ap (λ s. old ++ url_escape s) t) ∙ e) f

@@ -1,5 +1,29 @@
 -- Marks as HTML, one after another.
-use Rattle.std.proofs.Common.{◌≡◌, ℕ, zero, suc, ◌+◌, ◌<◌, ◌≤◌, List, [], ◌∷◌, ◌++◌, take, length, get_or, refl, ap, sym, ◌∙◌, subst, append_assoc, append-nil, arith, chars}
+use Rattle.std.proofs.Common.{
+  ◌≡◌,
+  ℕ,
+  zero,
+  suc,
+  ◌+◌,
+  ◌<◌,
+  ◌≤◌,
+  List,
+  [],
+  ◌∷◌,
+  ◌++◌,
+  take,
+  length,
+  get_or,
+  refl,
+  ap,
+  sym,
+  ◌∙◌,
+  subst,
+  append_assoc,
+  append-nil,
+  arith,
+  chars,
+}
 use Rattle.std.proofs.lemmas.List.{take_more}
 use Rattle.std.proofs.lemmas.List.Concat.{flat_map-append}
 use Rattle.doc_rules.specs.Characters as rules
@@ -7,18 +31,20 @@ use Rattle.doc_rules.specs.Escaping.{escaped_char, html_escape}
 use Rattle.doc_rules.specs.Inlines.{Inline, literals}
 use Rattle.doc_rules.specs.Html.{characters, inline_html, images_after, html_among, inlines_html}
 use Rattle.doc_rules.specs.PlainTexts.{plain}
-use Rattle.doc_marks.specs.Views.{span_shown, inlines_in, inlines_shown}
-use Rattle.doc_marks.specs.declared.mark.Span.TheVariants as span
-use Rattle.doc_marks.specs.declared.mark.Mark.{Mark}
-use Rattle.doc_marks.specs.declared.mark.Mark.TheVariants.{Text, Code, Soft, Hard, Raw, Reference, Start, End}
+use Rattle.doc_inlines_marks.specs.Views.{span_shown, inlines_in, inlines_shown}
+use Rattle.doc_inlines_marks.specs.declared.mark.Span.TheVariants as span
+use Rattle.doc_inlines_marks.specs.declared.mark.Mark.{Mark}
+use Rattle.doc_inlines_marks.specs.declared.mark.Mark.TheVariants.{Text, Code, Soft, Hard, Raw, Reference, Start, End}
 use Rattle.doc_html.specs.InlineSteps.{images_along, images_behind, mark_html, mark_plain}
 use Rattle.doc_html.proofs.WriterSteps.{characters_append}
 
 -- ---- literals
 
-one_more : (c : ℕ) (rest : rules.Text) → characters (html_escape (c ∷ [])) ++ characters (html_escape rest) ≡ characters (html_escape (c ∷ rest))
+one_more : (c : ℕ) (rest : rules.Text) → characters (html_escape (c ∷ [])) ++ characters (html_escape rest)
+    ≡ characters (html_escape (c ∷ rest))
 unfolding html_escape
-one_more c rest = sym (characters_append (html_escape (c ∷ [])) (html_escape rest)) ∙ ap (λ t. characters (t ++ html_escape rest)) (append-nil (escaped_char c))
+one_more c rest = sym (characters_append (html_escape (c ∷ [])) (html_escape rest))
+    ∙ ap (λ t. characters (t ++ html_escape rest)) (append-nil (escaped_char c))
 
 literals_html : (text : rules.Text) → inlines_html 0 (literals text) ≡ characters (html_escape text)
 unfolding inlines_html html_among images_after inline_html html_escape characters
@@ -55,7 +81,8 @@ outside_0 (End span.Strong) = append-nil _
 outside_0 (End (span.Link target)) = append-nil _
 outside_0 (End (span.Image target)) = append-nil _
 
-inside : (n : ℕ) (mark : Mark) → 0 < images_behind (suc n) mark → inlines_html (suc n) (inlines_in mark) ≡ characters (html_escape (mark_plain mark))
+inside : (n : ℕ) (mark : Mark) → 0 < images_behind (suc n) mark
+    → inlines_html (suc n) (inlines_in mark) ≡ characters (html_escape (mark_plain mark))
 unfolding inlines_in inlines_html html_among images_after plain span_shown html_escape characters
 inside n (Text text) h = literals_inside n (chars text.now)
 inside n (Code text) h = append-nil _
@@ -91,11 +118,13 @@ last n (End (span.Link target)) h = absurd (omega arith)
 last zero (End (span.Image target)) h = append-nil _
 last (suc n) (End (span.Image target)) h = absurd (omega arith)
 
-pub is_inside : (n after : ℕ) (mark : Mark) → after ≡ images_behind n mark → 0 < n → 0 < after → characters (html_escape (mark_plain mark)) ≡ inlines_html n (inlines_in mark)
+pub is_inside : (n after : ℕ) (mark : Mark) → after ≡ images_behind n mark → 0 < n → 0 < after
+    → characters (html_escape (mark_plain mark)) ≡ inlines_html n (inlines_in mark)
 is_inside zero after mark e h g = absurd (omega arith)
 is_inside (suc n) after mark e h g = sym (inside n mark (subst (λ k. 0 < k) e g))
 
-pub is_outside : (n after : ℕ) (mark : Mark) → after ≡ images_behind n mark → (0 < n → after ≡ 0) → mark_html mark ≡ inlines_html n (inlines_in mark)
+pub is_outside : (n after : ℕ) (mark : Mark) → after ≡ images_behind n mark → (0 < n → after ≡ 0)
+    → mark_html mark ≡ inlines_html n (inlines_in mark)
 is_outside zero after mark e h = sym (outside_0 mark)
 is_outside (suc n) after mark e h = sym (last n mark (sym e ∙ h (omega arith)))
 
@@ -135,26 +164,31 @@ unfolding inlines_html images_along
 html_append n [] ys = refl
 html_append n (x ∷ xs) ys =
     ap (λ t. html_among n (images_after n x) x ++ t) (html_append (images_after n x) xs ys)
-    ∙ sym (append_assoc (html_among n (images_after n x) x) (inlines_html (images_after n x) xs) (inlines_html (images_along (images_after n x) xs) ys))
+    ∙ sym (append_assoc (html_among n (images_after n x) x) (inlines_html (images_after n x) xs)
+    (inlines_html (images_along (images_after n x) xs) ys))
 
 along_append : (n : ℕ) (xs ys : List Inline) → images_along n (xs ++ ys) ≡ images_along (images_along n xs) ys
 unfolding images_along
 along_append n [] ys = refl
 along_append n (x ∷ xs) ys = along_append (images_after n x) xs ys
 
-pub shown_more : (marks : List Mark) (i : ℕ) (d : Mark) → i < length marks → inlines_shown (take (i + 1) marks) ≡ inlines_shown (take i marks) ++ inlines_in (get_or marks i d)
+pub shown_more : (marks : List Mark) (i : ℕ) (d : Mark) → i < length marks
+    → inlines_shown (take (i + 1) marks) ≡ inlines_shown (take i marks) ++ inlines_in (get_or marks i d)
 shown_more marks i d h =
     ap inlines_shown (take_more marks i d h)
-    ∙ (flat_map-append inlines_in (take i marks) (get_or marks i d ∷ []) ∙ ap (λ t. inlines_shown (take i marks) ++ t) (append-nil (inlines_in (get_or marks i d))))
+    ∙ (flat_map-append inlines_in (take i marks) (get_or marks i d ∷ [])
+    ∙ ap (λ t. inlines_shown (take i marks) ++ t) (append-nil (inlines_in (get_or marks i d))))
 
-pub along_more : (marks : List Mark) (i : ℕ) (mark : Mark) (n m : ℕ) → i < length marks → mark ≡ get_or marks i mark → n ≡ images_along 0 (inlines_shown (take i marks)) →
+pub along_more : (marks : List Mark) (i : ℕ) (mark : Mark) (n m : ℕ) → i < length marks → mark ≡ get_or marks i mark
+    → n ≡ images_along 0 (inlines_shown (take i marks)) →
     m ≡ images_behind n mark → m ≡ images_along 0 (inlines_shown (take (i + 1) marks))
 along_more marks i mark n m h e f g =
     g ∙ (sym (along n mark) ∙ (ap (λ k. images_along k (inlines_in mark)) f
     ∙ (sym (along_append 0 (inlines_shown (take i marks)) (inlines_in mark))
     ∙ ap (images_along 0) (ap (λ x. inlines_shown (take i marks) ++ inlines_in x) e ∙ sym (shown_more marks i mark h)))))
 
-pub html_more : (marks : List Mark) (i : ℕ) (mark : Mark) (n : ℕ) → i < length marks → mark ≡ get_or marks i mark → n ≡ images_along 0 (inlines_shown (take i marks)) →
+pub html_more : (marks : List Mark) (i : ℕ) (mark : Mark) (n : ℕ) → i < length marks → mark ≡ get_or marks i mark
+    → n ≡ images_along 0 (inlines_shown (take i marks)) →
     inlines_html 0 (inlines_shown (take i marks)) ++ inlines_html n (inlines_in mark) ≡ inlines_html 0 (inlines_shown (take (i + 1) marks))
 html_more marks i mark n h e f =
     ap (λ k. inlines_html 0 (inlines_shown (take i marks)) ++ inlines_html k (inlines_in mark)) f

@@ -7,14 +7,28 @@ use Rattle.doc_rules.specs.Anchors.{anchor_name, free_anchor, anchors_behind}
 use Rattle.doc_rules.specs.Definitions.{Definition}
 use Rattle.doc_rules.specs.Entities.{Table}
 use Rattle.doc_rules.specs.Forests.{none, ◌▹◌, node}
-use Rattle.doc_rules.specs.Blocks.{Leaf, Paragraph, Heading, IndentedCode, FencedCode, HtmlBlock, ThematicBreak, Container, BlockQuote, ListBlock, ListItem, Blocks, document_of}
+use Rattle.doc_rules.specs.Blocks.{
+  Leaf,
+  Paragraph,
+  Heading,
+  IndentedCode,
+  FencedCode,
+  HtmlBlock,
+  ThematicBreak,
+  Container,
+  BlockQuote,
+  ListBlock,
+  ListItem,
+  Blocks,
+  document_of,
+}
 use Rattle.doc_rules.specs.PlainTexts.{headings_in, leaf_headings, leaf_texts, texts_in, text_in}
 use Rattle.doc_rules.specs.Reading.{inlines_of}
 use Rattle.doc_rules.specs.Html.{Output, characters, inlines_html, is_fresh, is_tight_inside, blocks_html, output_of}
 use Rattle.doc_rules.specs.Pages.{PageHeading, page_headings, pieces_of, document_anchors, document_page, page_of, encoded, rendered_of}
-use Rattle.doc_html.specs.Progress.{Progress, begun, told, on_new_line, text_met, anchored, heading_met_at}
-use Rattle.doc_html.specs.Telling.{paragraph_told, heading_told, code_told, leaf_told, start_told, end_told, blocks_told}
-use Rattle.doc_html.specs.WrittenPages.{page_told}
+use Rattle.doc_html.specs.ProgressSteps.{Progress, begun, told, on_new_line, text_met, anchored, heading_met_at}
+use Rattle.doc_html.specs.TellingSteps.{paragraph_told, heading_told, code_told, leaf_told, start_told, end_told, blocks_told}
+use Rattle.doc_html.specs.WrittenPageSteps.{page_told}
 use Rattle.doc_html.proofs.TellingLaws.{anchors_for, writing_of, blocks_at}
 
 -- the headings and the texts of a page, where these headings and texts come
@@ -25,13 +39,16 @@ line_rest : (p : Progress) (more : List (ℕ × Text)) (texts : List Text) → p
 unfolding on_new_line page_rest
 line_rest p more texts = at (is_fresh p.output)
   where
-    at : (b : Bool) → page_rest (elim b as (λ _. Progress) [ true ↦ p | false ↦ told (characters (codes "\n")) p ]) more texts ≡ page_rest p more texts
+    at : (b : Bool) → page_rest (elim b as (λ _. Progress) [ true ↦ p | false ↦ told (characters (codes "\n")) p ]) more texts
+        ≡ page_rest p more texts
     at true = refl
     at false = refl
 
-met_rest : (text : Text) (p : Progress) (more : List (ℕ × Text)) (texts : List Text) → page_rest (text_met text p) more texts ≡ page_rest p more (text ∷ texts)
+met_rest : (text : Text) (p : Progress) (more : List (ℕ × Text)) (texts : List Text)
+    → page_rest (text_met text p) more texts ≡ page_rest p more (text ∷ texts)
 unfolding page_rest text_met
-met_rest text p more texts = ap (λ ts. (p.headings ++ page_headings more (anchors_for p.used more), ts)) (append_assoc p.texts (text ∷ []) texts)
+met_rest text p more texts = ap (λ ts. (p.headings ++ page_headings more (anchors_for p.used more), ts))
+    (append_assoc p.texts (text ∷ []) texts)
 
 no_anchors : (more : List (ℕ × Text)) → page_headings more [] ≡ []
 unfolding page_headings
@@ -39,10 +56,12 @@ no_anchors [] = refl
 no_anchors (heading ∷ more) = refl
 
 heading_rest : (used : Option (List Text)) (level : ℕ) (text : Text) (p : Progress) (more : List (ℕ × Text)) (texts : List Text) →
-    page_rest (heading_met_at used level text (record p { used = used })) more texts ≡ page_rest (record p { used = used }) ((level, text) ∷ more) (text ∷ texts)
+    page_rest (heading_met_at used level text (record p { used = used })) more texts
+    ≡ page_rest (record p { used = used }) ((level, text) ∷ more) (text ∷ texts)
 unfolding page_rest heading_met_at text_met anchored anchors_for anchors_behind page_headings
 heading_rest None level text p more texts =
-    ap (λ hs. (p.headings ++ hs, (p.texts ++ text ∷ []) ++ texts)) (no_anchors more) ∙ ap (λ ts. (p.headings ++ [], ts)) (append_assoc p.texts (text ∷ []) texts)
+    ap (λ hs. (p.headings ++ hs, (p.texts ++ text ∷ []) ++ texts)) (no_anchors more)
+    ∙ ap (λ ts. (p.headings ++ [], ts)) (append_assoc p.texts (text ∷ []) texts)
 heading_rest (Some used) level text p more texts =
     let anchor : Text = free_anchor used (anchor_name text) in
     let rest : List PageHeading = page_headings more (anchors_behind (anchor ∷ used) (map (λ heading. heading.1) more)) in
@@ -51,38 +70,45 @@ heading_rest (Some used) level text p more texts =
     ∙ ap (λ ts. (p.headings ++ (heading ∷ rest), ts)) (append_assoc p.texts (text ∷ []) texts)
 
 module _ (table : Table) (refs : List Definition) where
-  paragraph_rest : (tight : Bool) (inside : Output) (p : Progress) (more : List (ℕ × Text)) (texts : List Text) → page_rest (paragraph_told tight inside p) more texts ≡ page_rest p more texts
+  paragraph_rest : (tight : Bool) (inside : Output) (p : Progress) (more : List (ℕ × Text)) (texts : List Text)
+      → page_rest (paragraph_told tight inside p) more texts ≡ page_rest p more texts
   unfolding paragraph_told page_rest
   paragraph_rest true inside p more texts = refl
   paragraph_rest false inside p more texts = line_rest p more texts
 
   leaf_rest : (tight : Bool) (leaf : Leaf) (p : Progress) (more : List (ℕ × Text)) (texts : List Text) →
-      page_rest (leaf_told table refs tight leaf p) more texts ≡ page_rest p (leaf_headings table refs leaf ++ more) (leaf_texts table refs leaf ++ texts)
+      page_rest (leaf_told table refs tight leaf p) more texts ≡ page_rest p (leaf_headings table refs leaf ++ more)
+      (leaf_texts table refs leaf ++ texts)
   unfolding leaf_told leaf_headings leaf_texts heading_told code_told page_rest
   leaf_rest tight (Paragraph text) p more texts =
-      paragraph_rest tight (inlines_html 0 (inlines_of table refs text)) (text_met (text_in table refs text) p) more texts ∙ met_rest (text_in table refs text) p more texts
+      paragraph_rest tight (inlines_html 0 (inlines_of table refs text)) (text_met (text_in table refs text) p) more texts
+      ∙ met_rest (text_in table refs text) p more texts
   leaf_rest tight (Heading level text) p more texts =
-      heading_rest (on_new_line p).used level (text_in table refs text) (told (characters (codes "<h" ++ decimal level)) (on_new_line p)) more texts
+      heading_rest (on_new_line p).used level (text_in table refs text) (told (characters (codes "<h" ++ decimal level)) (on_new_line p))
+      more texts
       ∙ line_rest p ((level, text_in table refs text) ∷ more) (text_in table refs text ∷ texts)
   leaf_rest tight (IndentedCode text) p more texts = line_rest (text_met text p) more texts ∙ met_rest text p more texts
   leaf_rest tight (FencedCode info text) p more texts = line_rest (text_met text p) more texts ∙ met_rest text p more texts
   leaf_rest tight (HtmlBlock text) p more texts = line_rest (told (characters text) (on_new_line p)) more texts ∙ line_rest p more texts
   leaf_rest tight ThematicBreak p more texts = line_rest p more texts
 
-  start_rest : (container : Container) (p : Progress) (more : List (ℕ × Text)) (texts : List Text) → page_rest (start_told container p) more texts ≡ page_rest p more texts
+  start_rest : (container : Container) (p : Progress) (more : List (ℕ × Text)) (texts : List Text)
+      → page_rest (start_told container p) more texts ≡ page_rest p more texts
   unfolding start_told page_rest
   start_rest BlockQuote p more texts = line_rest p more texts
   start_rest (ListBlock start tight) p more texts = line_rest p more texts
   start_rest ListItem p more texts = refl
 
-  end_rest : (container : Container) (p : Progress) (more : List (ℕ × Text)) (texts : List Text) → page_rest (end_told container p) more texts ≡ page_rest p more texts
+  end_rest : (container : Container) (p : Progress) (more : List (ℕ × Text)) (texts : List Text)
+      → page_rest (end_told container p) more texts ≡ page_rest p more texts
   unfolding end_told page_rest
   end_rest BlockQuote p more texts = line_rest p more texts
   end_rest (ListBlock start tight) p more texts = line_rest p more texts
   end_rest ListItem p more texts = refl
 
   blocks_rest : (tight : Bool) (blocks : Blocks) (p : Progress) (more : List (ℕ × Text)) (texts : List Text) →
-      page_rest (blocks_told table refs tight blocks p) more texts ≡ page_rest p (headings_in table refs blocks ++ more) (texts_in table refs blocks ++ texts)
+      page_rest (blocks_told table refs tight blocks p) more texts
+      ≡ page_rest p (headings_in table refs blocks ++ more) (texts_in table refs blocks ++ texts)
   unfolding blocks_told headings_in texts_in
   blocks_rest tight none p more texts = refl
   blocks_rest tight (before ▹ leaf) p more texts =
@@ -90,7 +116,8 @@ module _ (table : Table) (refs : List Definition) where
       let said : List Text = leaf_texts table refs leaf in
       leaf_rest tight leaf (blocks_told table refs tight before p) more texts
       ∙ (blocks_rest tight before p (own ++ more) (said ++ texts)
-      ∙ (ap (λ hs. page_rest p hs (texts_in table refs before ++ (said ++ texts))) (sym (append_assoc (headings_in table refs before) own more))
+      ∙ (ap (λ hs. page_rest p hs (texts_in table refs before ++ (said ++ texts)))
+      (sym (append_assoc (headings_in table refs before) own more))
       ∙ ap (page_rest p ((headings_in table refs before ++ own) ++ more)) (sym (append_assoc (texts_in table refs before) said texts))))
   blocks_rest tight (node before container inside) p more texts =
       let own : List (ℕ × Text) = headings_in table refs inside in
@@ -101,7 +128,8 @@ module _ (table : Table) (refs : List Definition) where
       ∙ (blocks_rest deeper inside (start_told container here) more texts
       ∙ (start_rest container here (own ++ more) (said ++ texts)
       ∙ (blocks_rest tight before p (own ++ more) (said ++ texts)
-      ∙ (ap (λ hs. page_rest p hs (texts_in table refs before ++ (said ++ texts))) (sym (append_assoc (headings_in table refs before) own more))
+      ∙ (ap (λ hs. page_rest p hs (texts_in table refs before ++ (said ++ texts)))
+      (sym (append_assoc (headings_in table refs before) own more))
       ∙ ap (page_rest p ((headings_in table refs before ++ own) ++ more)) (sym (append_assoc (texts_in table refs before) said texts))))))
 
   -- ---- documents
@@ -113,32 +141,48 @@ module _ (table : Table) (refs : List Definition) where
     abbrev anchors : List Text
     anchors = document_anchors table (record { blocks = blocks; refs = refs })
 
-    rest_told : ◌≡◌ {A = List PageHeading × List Text} (all.headings, all.texts) (page_headings (headings_in table refs blocks) anchors, texts_in table refs blocks)
+    rest_told : ◌≡◌ {A = List PageHeading × List Text} (all.headings, all.texts)
+        (page_headings (headings_in table refs blocks) anchors, texts_in table refs blocks)
     unfolding document_anchors page_rest anchors_for page_headings
     rest_told =
         ap (λ hs. (hs, all.texts)) (sym (append-nil all.headings))
         ∙ (ap (λ ts. (all.headings ++ [], ts)) (sym (append-nil all.texts))
         ∙ (whole
-        ∙ (ap (λ hs. (page_headings hs (anchors_behind [] (map (λ heading. heading.1) hs)), texts_in table refs blocks ++ [])) (append-nil (headings_in table refs blocks))
+        ∙ (ap (λ hs. (page_headings hs (anchors_behind [] (map (λ heading. heading.1) hs)), texts_in table refs blocks ++ []))
+        (append-nil (headings_in table refs blocks))
         ∙ ap (λ ts. (page_headings (headings_in table refs blocks) anchors, ts)) (append-nil (texts_in table refs blocks)))))
       where
-        whole : ◌≡◌ {A = List PageHeading × List Text} (all.headings ++ [], all.texts ++ [])
-            (page_headings (headings_in table refs blocks ++ []) (anchors_behind [] (map (λ heading. heading.1) (headings_in table refs blocks ++ []))), texts_in table refs blocks ++ [])
+        whole : ◌≡◌ {A = List PageHeading × List Text} (all.headings ++ [], all.texts ++ []) (
+          page_headings (headings_in table refs blocks ++ [])
+              (anchors_behind [] (map (λ heading. heading.1) (headings_in table refs blocks ++ []))),
+          texts_in table refs blocks ++ [],
+        )
         whole = blocks_rest false blocks (begun shown (Some [])) [] []
 
     output_told : all.output ≡ output_of table anchors (record { blocks = blocks; refs = refs })
     unfolding output_of document_anchors writing_of anchors_for
     output_told =
-        sym whole ∙ ap (λ hs. (blocks_html table refs false blocks (record { output = []; anchors = anchors_behind [] (map (λ heading. heading.1) hs) })).output) (append-nil (headings_in table refs blocks))
+        sym whole
+        ∙ ap (λ hs. (blocks_html table refs false blocks
+        (record { output = []; anchors = anchors_behind [] (map (λ heading. heading.1) hs) })).output)
+        (append-nil (headings_in table refs blocks))
       where
-        whole : (blocks_html table refs false blocks (record { output = []; anchors = anchors_behind [] (map (λ heading. heading.1) (headings_in table refs blocks ++ [])) })).output ≡ all.output
+        whole : (blocks_html table refs false blocks
+            (record {
+              output = [];
+              anchors = anchors_behind [] (map (λ heading. heading.1) (headings_in table refs blocks ++ []));
+            })).output ≡ all.output
         whole = ap (λ w. w.output) (blocks_at table refs false blocks (begun shown (Some [])) [])
 
     pub page_is : page_told all ≡ encoded (document_page table (record { blocks = blocks; refs = refs }))
     unfolding document_page
     page_is =
         ap (λ o. encoded (record { pieces = pieces_of o; headings = all.headings; texts = all.texts })) output_told
-        ∙ ap (λ r. encoded (record { pieces = pieces_of (output_of table anchors (record { blocks = blocks; refs = refs })); headings = r.0; texts = r.1 })) rest_told
+        ∙ ap (λ r. encoded (record {
+          pieces = pieces_of (output_of table anchors (record { blocks = blocks; refs = refs }));
+          headings = r.0;
+          texts = r.1;
+        })) rest_told
 
 pub text_page : (table : Table) (text : Text) (blocks : Blocks) → blocks ≡ (document_of table text).blocks →
     encoded (document_page table (record { blocks = blocks; refs = (document_of table text).refs })) ≡ rendered_of table text

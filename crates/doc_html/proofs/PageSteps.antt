@@ -18,17 +18,19 @@ use Rattle.doc_rules.specs.Escaping.{html_escape}
 use Rattle.doc_rules.specs.Html.{LinkTag, characters, is_fresh}
 use Rattle.doc_rules.specs.Pages.{LinkPiece, pieces_of, encoded_piece, encoded_heading, encoded}
 use Rattle.doc_rules.proofs.EscapingLaws.{escaping_is_by_bytes}
-use Rattle.doc_anchors.specs.Uses.{Uses}
-use Rattle.doc_html.specs.Progress.{Progress, begun, told, on_new_line, text_met, anchored, heading_met, heading_met_at}
-use Rattle.doc_html.specs.Written.{fresh_behind, read_again}
-use Rattle.doc_html.specs.WrittenPages.{HoldsPage, page_told}
+use Rattle.doc_html_anchors.specs.Uses.{Uses}
+use Rattle.doc_html.specs.ProgressSteps.{Progress, begun, told, on_new_line, text_met, anchored, heading_met, heading_met_at}
+use Rattle.doc_html.specs.WrittenSteps.{fresh_behind, read_again}
+use Rattle.doc_html.specs.WrittenPageSteps.{HoldsPage, page_told}
 use Rattle.doc_html.proofs.PieceSteps.{html_piece, split_begins, split_text, split_link, split_ends, encoded_end, encoded_link}
 use Rattle.doc_html.proofs.WrittenSteps.{fresh_text, fresh_append, tag_last}
 
 -- ---- texts
 
-pub holds_text : (pieces : List Piece) (old new add : List ℕ) (fresh after : Bool) (anchors : List Text) (headings : List Heading) (texts : List (List ℕ)) (p : Progress) (x : Text) →
-    HoldsPage pieces old fresh anchors headings texts p → new ≡ old ++ add → add ≡ encode_utf8_all x → after ≡ is_fresh (p.output ++ characters x) →
+pub holds_text : (pieces : List Piece) (old new add : List ℕ) (fresh after : Bool) (anchors : List Text) (headings : List Heading)
+    (texts : List (List ℕ)) (p : Progress) (x : Text) →
+    HoldsPage pieces old fresh anchors headings texts p → new ≡ old ++ add → add ≡ encode_utf8_all x
+    → after ≡ is_fresh (p.output ++ characters x) →
     HoldsPage pieces new after anchors headings texts (told (characters x) p)
 holds_text pieces old new add fresh after anchors headings texts p x h e f g = record {
   cut = h.cut;
@@ -52,32 +54,39 @@ escapes_are bytes u = ap escaped (sym (encodes-chars bytes u)) ∙ sym (escaping
 
 -- ---- a new line
 
-pub holds_line : (pieces : List Piece) (html : List ℕ) (fresh : Bool) (anchors : List Text) (headings : List Heading) (texts : List (List ℕ)) (p : Progress) →
+pub holds_line : (pieces : List Piece) (html : List ℕ) (fresh : Bool) (anchors : List Text) (headings : List Heading)
+    (texts : List (List ℕ)) (p : Progress) →
     HoldsPage pieces html fresh anchors headings texts p → fresh ≡ true → HoldsPage pieces html fresh anchors headings texts (on_new_line p)
 unfolding on_new_line
 holds_line pieces html fresh anchors headings texts p h e = at (is_fresh p.output) (sym h.begins ∙ e)
   where
-    at : (b : Bool) → b ≡ true → HoldsPage pieces html fresh anchors headings texts (elim b as (λ _. Progress) [ true ↦ p | false ↦ told (characters (codes "\n")) p ])
+    at : (b : Bool) → b ≡ true → HoldsPage pieces html fresh anchors headings texts
+        (elim b as (λ _. Progress) [ true ↦ p | false ↦ told (characters (codes "\n")) p ])
     at true f = h
     at false f = cc
 
-pub holds_new_line : (pieces : List Piece) (old new : List ℕ) (fresh after : Bool) (anchors : List Text) (headings : List Heading) (texts : List (List ℕ)) (p : Progress) →
+pub holds_new_line : (pieces : List Piece) (old new : List ℕ) (fresh after : Bool) (anchors : List Text) (headings : List Heading)
+    (texts : List (List ℕ)) (p : Progress) →
     HoldsPage pieces old fresh anchors headings texts p → fresh ≡ false → new ≡ old ++ codes "\n" → after ≡ true →
     HoldsPage pieces new after anchors headings texts (on_new_line p)
 unfolding on_new_line fresh_behind encode_utf8
 holds_new_line pieces old new fresh after anchors headings texts p h e n t = at (is_fresh p.output) (sym h.begins ∙ e)
   where
     more : HoldsPage pieces new after anchors headings texts (told (characters (codes "\n")) p)
-    more = holds_text pieces old new (codes "\n") fresh after anchors headings texts p (codes "\n") h n refl (t ∙ fresh_text p.output (codes "\n"))
+    more = holds_text pieces old new (codes "\n") fresh after anchors headings texts p (codes "\n") h n refl (t
+        ∙ fresh_text p.output (codes "\n"))
 
-    at : (b : Bool) → b ≡ false → HoldsPage pieces new after anchors headings texts (elim b as (λ _. Progress) [ true ↦ p | false ↦ told (characters (codes "\n")) p ])
+    at : (b : Bool) → b ≡ false → HoldsPage pieces new after anchors headings texts
+        (elim b as (λ _. Progress) [ true ↦ p | false ↦ told (characters (codes "\n")) p ])
     at true f = cc
     at false f = more
 
 -- ---- links
 
-pub holds_link : (pieces cut_off new : List Piece) (old html : List ℕ) (fresh after : Bool) (anchors : List Text) (headings : List Heading) (texts : List (List ℕ)) (p : Progress) (link : Piece) (t : Target) →
-    HoldsPage pieces old fresh anchors headings texts p → cut_off ≡ pieces ++ html_pieces old → html ≡ [] → new ≡ cut_off ++ link ∷ [] → link ≡ encoded_piece (LinkPiece t) → after ≡ false →
+pub holds_link : (pieces cut_off new : List Piece) (old html : List ℕ) (fresh after : Bool) (anchors : List Text) (headings : List Heading)
+    (texts : List (List ℕ)) (p : Progress) (link : Piece) (t : Target) →
+    HoldsPage pieces old fresh anchors headings texts p → cut_off ≡ pieces ++ html_pieces old → html ≡ [] → new ≡ cut_off ++ link ∷ []
+    → link ≡ encoded_piece (LinkPiece t) → after ≡ false →
     HoldsPage new html after anchors headings texts (told (LinkTag t ∷ []) p)
 holds_link pieces cut_off new old html fresh after anchors headings texts p link t h c e n l f = record {
   cut = h.cut ++ (html_piece h.behind ++ LinkPiece t ∷ []);
@@ -96,13 +105,15 @@ holds_link pieces cut_off new old html fresh after anchors headings texts p link
 pub no_title : (title copy : Option (List ℕ)) → title ≡ None → copy ≡ None → copy ≡ read_again title
 no_title title copy e f = f ∙ ap read_again (sym e)
 
-pub some_title : (title : Option (List ℕ)) (text copy : List ℕ) → title ≡ Some text → copy ≡ encode_utf8_all (chars text) → Some copy ≡ read_again title
+pub some_title : (title : Option (List ℕ)) (text copy : List ℕ) → title ≡ Some text → copy ≡ encode_utf8_all (chars text)
+    → Some copy ≡ read_again title
 some_title title text copy e f = ap Some f ∙ ap read_again (sym e)
 
 pub same_bytes : (copy got text : List ℕ) → copy ≡ got → got ≡ text → IsUtf8 got → copy ≡ encode_utf8_all (chars text)
 same_bytes copy got text e f u = e ∙ (sym (encodes-chars got u) ∙ ap (λ t. encode_utf8_all (chars t)) f)
 
-pub spot_is : (target : Target) (dest : List ℕ) (title : Option (List ℕ)) → dest ≡ encode_utf8_all target.dest → title ≡ option_map encode_utf8_all target.title →
+pub spot_is : (target : Target) (dest : List ℕ) (title : Option (List ℕ)) → dest ≡ encode_utf8_all target.dest
+    → title ≡ option_map encode_utf8_all target.title →
     Link (record { dest = dest; title = title }) ≡ encoded_piece (LinkPiece target)
 unfolding encoded_piece
 spot_is target dest title e f =
@@ -110,8 +121,10 @@ spot_is target dest title e f =
 
 -- ---- blocks' texts and headings
 
-pub holds_met : (pieces : List Piece) (html : List ℕ) (fresh : Bool) (anchors : List Text) (headings : List Heading) (texts more : List (List ℕ)) (p : Progress) (x : Text) (text : List ℕ) →
-    HoldsPage pieces html fresh anchors headings texts p → text ≡ encode_utf8_all x → more ≡ texts ++ text ∷ [] → HoldsPage pieces html fresh anchors headings more (text_met x p)
+pub holds_met : (pieces : List Piece) (html : List ℕ) (fresh : Bool) (anchors : List Text) (headings : List Heading)
+    (texts more : List (List ℕ)) (p : Progress) (x : Text) (text : List ℕ) →
+    HoldsPage pieces html fresh anchors headings texts p → text ≡ encode_utf8_all x → more ≡ texts ++ text ∷ []
+    → HoldsPage pieces html fresh anchors headings more (text_met x p)
 unfolding text_met
 holds_met pieces html fresh anchors headings texts more p x text h e f = record {
   cut = h.cut;
@@ -124,14 +137,17 @@ holds_met pieces html fresh anchors headings texts more p x text h e f = record 
   named = h.named;
   uses = h.uses;
   headings_are = h.headings_are;
-  texts_are = f ∙ (ap (λ t. t ++ text ∷ []) h.texts_are ∙ (ap (λ t. map encode_utf8_all p.texts ++ t ∷ []) e ∙ sym (map-append encode_utf8_all p.texts (x ∷ []))));
+  texts_are = f ∙ (ap (λ t. t ++ text ∷ []) h.texts_are ∙ (ap (λ t. map encode_utf8_all p.texts ++ t ∷ []) e
+      ∙ sym (map-append encode_utf8_all p.texts (x ∷ []))));
 }
 
 -- the next anchor of a heading whose text is this one
 abbrev pub IsNext : List Text → List Text → List ℕ → List ℕ → Type 0
-IsNext old new text anchor = (used : List Text) → Uses old used → (chars anchor ≡ free_anchor used (anchor_name (chars text))) × Uses new (free_anchor used (anchor_name (chars text)) ∷ used)
+IsNext old new text anchor = (used : List Text) → Uses old used → (chars anchor ≡ free_anchor used (anchor_name (chars text)))
+    × Uses new (free_anchor used (anchor_name (chars text)) ∷ used)
 
-module _ (pieces : List Piece) (html : List ℕ) (fresh : Bool) (anchors : List Text) (headings : List Heading) (texts : List (List ℕ)) (p : Progress) (h : HoldsPage pieces html fresh anchors headings texts p) (level : ℕ) (x : Text) where
+module _ (pieces : List Piece) (html : List ℕ) (fresh : Bool) (anchors : List Text) (headings : List Heading) (texts : List (List ℕ))
+    (p : Progress) (h : HoldsPage pieces html fresh anchors headings texts p) (level : ℕ) (x : Text) where
   abbrev name : Text
   name = free_anchor h.used (anchor_name x)
 
@@ -142,15 +158,19 @@ module _ (pieces : List Piece) (html : List ℕ) (fresh : Bool) (anchors : List 
   unfolding encode_utf8
   id_bytes anchor u e =
       ap (λ t. codes " id=\"" ++ t ++ codes "\"") (escapes_are anchor u ∙ ap (λ t. encode_utf8_all (html_escape t)) e)
-      ∙ sym (encodes-append (codes " id=\"" ++ html_escape name) (codes "\"") ∙ ap (λ t. t ++ codes "\"") (encodes-append (codes " id=\"") (html_escape name)))
+      ∙ sym (encodes-append (codes " id=\"" ++ html_escape name) (codes "\"")
+      ∙ ap (λ t. t ++ codes "\"") (encodes-append (codes " id=\"") (html_escape name)))
 
   id_ends : false ≡ is_fresh (p.output ++ characters id)
   unfolding fresh_behind
   id_ends = sym (fresh_append (is_fresh p.output) (codes " id=\"" ++ html_escape name) (codes "\"")) ∙ fresh_text p.output id
 
-  pub holds_heading : (new : List ℕ) (after : Bool) (more_anchors : List Text) (more_headings : List Heading) (more_texts : List (List ℕ)) (text copy got anchor written kept : List ℕ) →
-      text ≡ encode_utf8_all x → copy ≡ text → got ≡ text → IsUtf8 got → IsNext anchors more_anchors got anchor → written ≡ anchor → IsUtf8 written → kept ≡ anchor →
-      new ≡ html ++ (codes " id=\"" ++ escaped written ++ codes "\"") → after ≡ false → more_headings ≡ headings ++ record { level = level; anchor = kept; text = copy } ∷ [] → more_texts ≡ texts ++ text ∷ [] →
+  pub holds_heading : (new : List ℕ) (after : Bool) (more_anchors : List Text) (more_headings : List Heading) (more_texts : List (List ℕ))
+      (text copy got anchor written kept : List ℕ) →
+      text ≡ encode_utf8_all x → copy ≡ text → got ≡ text → IsUtf8 got → IsNext anchors more_anchors got anchor → written ≡ anchor
+      → IsUtf8 written → kept ≡ anchor →
+      new ≡ html ++ (codes " id=\"" ++ escaped written ++ codes "\"") → after ≡ false
+      → more_headings ≡ headings ++ record { level = level; anchor = kept; text = copy } ∷ [] → more_texts ≡ texts ++ text ∷ [] →
       HoldsPage pieces new after more_anchors more_headings more_texts (heading_met level x p)
   unfolding heading_met_at anchored encoded_heading
   holds_heading new after more_anchors more_headings more_texts text copy got anchor written kept e c g u next w v k n f hs ts =
@@ -158,13 +178,15 @@ module _ (pieces : List Piece) (html : List ℕ) (fresh : Bool) (anchors : List 
       let is : chars anchor ≡ name = (next h.used h.uses).0 ∙ ap (λ t. free_anchor h.used (anchor_name t)) (sym same) in
       let written_is : chars written ≡ name = ap chars w ∙ is in
       let anchor_bytes : anchor ≡ encode_utf8_all name = sym w ∙ (bytes_are written v ∙ ap encode_utf8_all written_is) in
-      subst (λ used. HoldsPage pieces new after more_anchors more_headings more_texts (heading_met_at used level x p)) (sym h.named) (record {
+      subst (λ used. HoldsPage pieces new after more_anchors more_headings more_texts (heading_met_at used level x p)) (sym h.named)
+      (record {
         cut = h.cut;
         behind = h.behind ++ id;
         used = name ∷ h.used;
         splits = split_text p.output h.cut h.behind id h.splits;
         pieces_are = h.pieces_are;
-        html_is = n ∙ (ap (λ t. html ++ t) (id_bytes written v written_is) ∙ (ap (λ t. t ++ encode_utf8_all id) h.html_is ∙ sym (encodes-append h.behind id)));
+        html_is = n ∙ (ap (λ t. html ++ t) (id_bytes written v written_is)
+            ∙ (ap (λ t. t ++ encode_utf8_all id) h.html_is ∙ sym (encodes-append h.behind id)));
         begins = f ∙ id_ends;
         named = refl;
         uses = subst (λ t. Uses more_anchors (free_anchor h.used (anchor_name t) ∷ h.used)) (sym same) (next h.used h.uses).1;
@@ -172,12 +194,14 @@ module _ (pieces : List Piece) (html : List ℕ) (fresh : Bool) (anchors : List 
             ∙ (ap (λ a. map encoded_heading p.headings ++ record { level = level; anchor = a; text = copy } ∷ []) (k ∙ anchor_bytes)
             ∙ (ap (λ t. map encoded_heading p.headings ++ record { level = level; anchor = encode_utf8_all name; text = t } ∷ []) (c ∙ e)
             ∙ sym (map-append encoded_heading p.headings (record { level = level; anchor = name; text = x } ∷ [])))));
-        texts_are = ts ∙ (ap (λ t. t ++ text ∷ []) h.texts_are ∙ (ap (λ t. map encode_utf8_all p.texts ++ t ∷ []) e ∙ sym (map-append encode_utf8_all p.texts (x ∷ []))));
+        texts_are = ts ∙ (ap (λ t. t ++ text ∷ []) h.texts_are
+            ∙ (ap (λ t. map encode_utf8_all p.texts ++ t ∷ []) e ∙ sym (map-append encode_utf8_all p.texts (x ∷ []))));
       })
 
 -- ---- the first and the last
 
-pub holds_nothing : (pieces : List Piece) (html : List ℕ) (anchors : List Text) (headings : List Heading) (texts : List (List ℕ)) (shown : List ℕ → Shown) → pieces ≡ [] → html ≡ [] → Uses anchors [] → headings ≡ [] → texts ≡ [] →
+pub holds_nothing : (pieces : List Piece) (html : List ℕ) (anchors : List Text) (headings : List Heading) (texts : List (List ℕ))
+    (shown : List ℕ → Shown) → pieces ≡ [] → html ≡ [] → Uses anchors [] → headings ≡ [] → texts ≡ [] →
     HoldsPage pieces html true anchors headings texts (begun shown (Some []))
 unfolding is_fresh
 holds_nothing pieces html anchors headings texts shown e f g k l = record {
@@ -194,13 +218,17 @@ holds_nothing pieces html anchors headings texts shown e f g k l = record {
   texts_are = l;
 }
 
-pub page_made : (pieces all : List Piece) (html : List ℕ) (fresh : Bool) (anchors : List Text) (headings : List Heading) (texts : List (List ℕ)) (p : Progress) (some_pieces : List Piece) (some_headings : List Heading) (some_texts : List (List ℕ)) →
-    HoldsPage pieces html fresh anchors headings texts p → all ≡ pieces ++ html_pieces html → some_pieces ≡ all → some_headings ≡ headings → some_texts ≡ texts →
+pub page_made : (pieces all : List Piece) (html : List ℕ) (fresh : Bool) (anchors : List Text) (headings : List Heading)
+    (texts : List (List ℕ)) (p : Progress) (some_pieces : List Piece) (some_headings : List Heading) (some_texts : List (List ℕ)) →
+    HoldsPage pieces html fresh anchors headings texts p → all ≡ pieces ++ html_pieces html → some_pieces ≡ all → some_headings ≡ headings
+    → some_texts ≡ texts →
     record { pieces = some_pieces; headings = some_headings; texts = some_texts } ≡ page_told p
 unfolding encoded
 page_made pieces all html fresh anchors headings texts p some_pieces some_headings some_texts h e f g k =
     let pieces_all : some_pieces ≡ map encoded_piece (pieces_of p.output)
-    = f ∙ (encoded_end pieces all html h.cut h.behind h.pieces_are h.html_is e ∙ ap (map encoded_piece) (sym (split_ends p.output h.cut h.behind h.splits))) in
+    = f ∙ (encoded_end pieces all html h.cut h.behind h.pieces_are h.html_is e
+    ∙ ap (map encoded_piece) (sym (split_ends p.output h.cut h.behind h.splits))) in
     ap (λ ps. record { pieces = ps; headings = some_headings; texts = some_texts }) pieces_all
     ∙ (ap (λ hs. record { pieces = map encoded_piece (pieces_of p.output); headings = hs; texts = some_texts }) (g ∙ h.headings_are)
-    ∙ ap (λ ts. record { pieces = map encoded_piece (pieces_of p.output); headings = map encoded_heading p.headings; texts = ts }) (k ∙ h.texts_are))
+    ∙ ap (λ ts. record { pieces = map encoded_piece (pieces_of p.output); headings = map encoded_heading p.headings; texts = ts }) (k
+    ∙ h.texts_are))

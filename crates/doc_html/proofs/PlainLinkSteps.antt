@@ -52,7 +52,8 @@ high_sum k n h = high_byte (k + n) (omega arith)
 
 all_percented : (bytes : List ℕ) → AllByRecursion Percented bytes → flat_map percent bytes ≡ flat_map url_byte bytes
 all_percented [] h = refl
-all_percented (b ∷ bytes) h = ap (λ front. front ++ flat_map percent bytes) (sym h.0) ∙ ap (λ more. url_byte b ++ more) (all_percented bytes h.1)
+all_percented (b ∷ bytes) h = ap (λ front. front ++ flat_map percent bytes) (sym h.0)
+    ∙ ap (λ more. url_byte b ++ more) (all_percented bytes h.1)
 
 pub one_byte : (c : ℕ) → c < 128 → encode_utf8 c ≡ c ∷ []
 unfolding encode_utf8
@@ -66,18 +67,26 @@ three_bytes : (c : ℕ) → 2048 ≤ c → c < 65536 → encode_utf8 c ≡ (224 
 unfolding encode_utf8
 three_bytes c l h = rw (le-ltb c 128 (omega arith), le-ltb c 2048 l, lt-ltb c 65536 h)
 
-four_bytes : (c : ℕ) → 65536 ≤ c → encode_utf8 c ≡ (240 + c / 262144) ∷ (128 + (c / 4096) % 64) ∷ (128 + (c / 64) % 64) ∷ (128 + c % 64) ∷ []
+four_bytes : (c : ℕ) → 65536 ≤ c → encode_utf8 c ≡ (240 + c / 262144) ∷ (128 + (c / 4096) % 64) ∷ (128 + (c / 64) % 64) ∷ (128 + c % 64) ∷
+    []
 unfolding encode_utf8
 four_bytes c l = rw (le-ltb c 128 (omega arith), le-ltb c 2048 (omega arith), le-ltb c 65536 l)
 
 high_bytes : (c : ℕ) → 128 ≤ c → AllByRecursion Percented (encode_utf8 c)
 high_bytes c h =
     elim (cases_lt c 2048) [
-      | inl l ↦ subst (AllByRecursion Percented) (sym (two_bytes c h l)) (high_sum 192 (c / 64) (omega arith), (high_sum 128 (c % 64) (omega arith), tt))
+      | inl l ↦ subst (AllByRecursion Percented) (sym (two_bytes c h l))
+          (high_sum 192 (c / 64) (omega arith), (high_sum 128 (c % 64) (omega arith), tt))
       | inr g ↦ elim (cases_lt c 65536) [
-        | inl l ↦ subst (AllByRecursion Percented) (sym (three_bytes c g l)) (high_sum 224 (c / 4096) (omega arith), (high_sum 128 ((c / 64) % 64) (omega arith), (high_sum 128 (c % 64) (omega arith), tt)))
-        | inr k ↦ subst (AllByRecursion Percented) (sym (four_bytes c k))
-            (high_sum 240 (c / 262144) (omega arith), (high_sum 128 ((c / 4096) % 64) (omega arith), (high_sum 128 ((c / 64) % 64) (omega arith), (high_sum 128 (c % 64) (omega arith), tt))))
+        | inl l ↦ subst (AllByRecursion Percented) (sym (three_bytes c g l))
+            (high_sum 224 (c / 4096) (omega arith), (high_sum 128 ((c / 64) % 64) (omega arith), (high_sum 128 (c % 64) (omega arith), tt)))
+        | inr k ↦ subst (AllByRecursion Percented) (sym (four_bytes c k)) (
+          high_sum 240 (c / 262144) (omega arith),
+          (
+            high_sum 128 ((c / 4096) % 64) (omega arith),
+            (high_sum 128 ((c / 64) % 64) (omega arith), (high_sum 128 (c % 64) (omega arith), tt)),
+          ),
+        )
       ]
     ]
 
@@ -94,7 +103,8 @@ stays_of c = is_ascii_alphanumeric c || one_of (codes "-_.+!*'(),%#@?=;:/$~") c
 
 low : (c : ℕ) → c < 128 → url_char c ≡ flat_map url_byte (encode_utf8 c)
 unfolding url_char url_byte
-low c l = ap (char_at c (stays_of c) (c == 38)) (one_byte c l) ∙ (low_at c (stays_of c) (c == 38) ∙ ap (flat_map url_byte) (sym (one_byte c l)))
+low c l = ap (char_at c (stays_of c) (c == 38)) (one_byte c l)
+    ∙ (low_at c (stays_of c) (c == 38) ∙ ap (flat_map url_byte) (sym (one_byte c l)))
 
 high : (c : ℕ) → 128 ≤ c → url_char c ≡ flat_map url_byte (encode_utf8 c)
 unfolding url_char
@@ -110,15 +120,18 @@ unfolding url_escape
 url_by_bytes [] = refl
 url_by_bytes (c ∷ rest) =
     ap (λ front. front ++ url_escape rest) (char_by_bytes c)
-    ∙ (ap (λ more. flat_map url_byte (encode_utf8 c) ++ more) (url_by_bytes rest) ∙ sym (flat_map-append url_byte (encode_utf8 c) (encode_utf8_all rest)))
+    ∙ (ap (λ more. flat_map url_byte (encode_utf8 c) ++ more) (url_by_bytes rest)
+    ∙ sym (flat_map-append url_byte (encode_utf8 c) (encode_utf8_all rest)))
 
 pub plain_alike : ShowsAlike plain_shown plain_linker
 unfolding plain_shown plain_linker encoded_shown
 plain_alike dest = ap (λ u. Href (encode_utf8_all u)) (sym (url_by_bytes dest))
 
-pub url_is_shown : (url dest : List ℕ) → IsUtf8 url → IsUtf8 dest → chars url ≡ url_escape (chars dest) → url ≡ encode_utf8_all (flat_map url_byte dest)
+pub url_is_shown : (url dest : List ℕ) → IsUtf8 url → IsUtf8 dest → chars url ≡ url_escape (chars dest)
+    → url ≡ encode_utf8_all (flat_map url_byte dest)
 url_is_shown url dest u v e =
-    sym (encodes-chars url u) ∙ (ap encode_utf8_all (e ∙ url_by_bytes (chars dest)) ∙ ap (λ b. encode_utf8_all (flat_map url_byte b)) (encodes-chars dest v))
+    sym (encodes-chars url u) ∙ (ap encode_utf8_all (e ∙ url_by_bytes (chars dest))
+    ∙ ap (λ b. encode_utf8_all (flat_map url_byte b)) (encodes-chars dest v))
 
 pub plain_told : (table : Table) (text : Text) (blocks : Blocks) → blocks ≡ (document_of table text).blocks →
     html_of table plain_linker [] (record { blocks = blocks; refs = (document_of table text).refs }) ≡ rendered_plain table text

@@ -8,9 +8,9 @@ use Rattle.doc_rules.specs.Characters as rules
 use Rattle.doc_rules.specs.CodeSpans.{spaced}
 use Rattle.doc_rules.specs.Inlines.{literals}
 use Rattle.doc_rules.specs.PlainTexts.{plain, plain_text}
-use Rattle.doc_marks.specs.Views.{inlines_in, inlines_shown}
-use Rattle.doc_marks.specs.declared.mark.Mark.{Mark}
-use Rattle.doc_marks.specs.declared.mark.Mark.TheVariants.{Text, Code, Soft, Hard, Raw, Reference, Start, End}
+use Rattle.doc_inlines_marks.specs.Views.{inlines_in, inlines_shown}
+use Rattle.doc_inlines_marks.specs.declared.mark.Mark.{Mark}
+use Rattle.doc_inlines_marks.specs.declared.mark.Mark.TheVariants.{Text, Code, Soft, Hard, Raw, Reference, Start, End}
 use Rattle.doc_html.specs.InlineSteps.{mark_plain}
 use Rattle.doc_html.proofs.InlineLaws.{shown_more}
 
@@ -50,14 +50,16 @@ pub plain_goes_on : (marks : List Mark) (i : ℕ) (mark : Mark) (old new : List 
     new ≡ encode_utf8_all (plain_text (inlines_shown (take (i + 1) marks)))
 plain_goes_on marks i mark old new h e f g =
     g ∙ (ap (λ t. t ++ encode_utf8_all (mark_plain mark)) f
-    ∙ (sym (encodes-append (plain_text (inlines_shown (take i marks))) (mark_plain mark)) ∙ ap encode_utf8_all (sym (plain_more marks i mark h e))))
+    ∙ (sym (encodes-append (plain_text (inlines_shown (take i marks))) (mark_plain mark))
+    ∙ ap encode_utf8_all (sym (plain_more marks i mark h e))))
 
 pub text_pushed : (old new text : List ℕ) → IsUtf8 text → new ≡ old ++ text → new ≡ old ++ encode_utf8_all (chars text)
 text_pushed old new text u e = e ∙ ap (λ t. old ++ t) (sym (encodes-chars text u))
 
 -- ---- code
 
-pub line_pushed : (start old a b : List ℕ) (all text line behind : rules.Text) → old ++ encode_utf8_all (spaced text) ≡ start ++ encode_utf8_all (spaced all) →
+pub line_pushed : (start old a b : List ℕ) (all text line behind : rules.Text)
+    → old ++ encode_utf8_all (spaced text) ≡ start ++ encode_utf8_all (spaced all) →
     spaced text ≡ line ++ 32 ∷ spaced behind → a ≡ old ++ encode_utf8_all line → b ≡ a ++ encode_utf8_all (32 ∷ []) →
     b ++ encode_utf8_all (spaced behind) ≡ start ++ encode_utf8_all (spaced all)
 line_pushed start old a b all text line behind h e f g =
@@ -68,6 +70,7 @@ line_pushed start old a b all text line behind h e f g =
     ∙ (ap (λ t. old ++ t) (sym (encodes-append line (32 ∷ spaced behind)))
     ∙ (ap (λ t. old ++ encode_utf8_all t) (sym e) ∙ h)))))
 
-pub rest_pushed : (start old new : List ℕ) (all rest : rules.Text) → old ++ encode_utf8_all (spaced rest) ≡ start ++ encode_utf8_all (spaced all) → spaced rest ≡ rest →
+pub rest_pushed : (start old new : List ℕ) (all rest : rules.Text)
+    → old ++ encode_utf8_all (spaced rest) ≡ start ++ encode_utf8_all (spaced all) → spaced rest ≡ rest →
     new ≡ old ++ encode_utf8_all rest → new ≡ start ++ encode_utf8_all (spaced all)
 rest_pushed start old new all rest h e f = f ∙ (ap (λ t. old ++ encode_utf8_all t) (sym e) ∙ h)

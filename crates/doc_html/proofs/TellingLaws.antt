@@ -3,7 +3,7 @@ use Rattle.std.proofs.Common.{◌≡◌, ℕ, Bool, true, false, List, [], ◌�
 use Rattle.std.specs.Prelude.{codes, decimal, flat_map, encode_utf8_all, Option, Some, None}
 use Rattle.doc_page.specs.declared.linker.Shown.{Shown}
 use Rattle.doc_rules.specs.Laws.{ShowsAlike}
-use Rattle.doc_html.specs.Written.{HoldsHtml}
+use Rattle.doc_html.specs.WrittenSteps.{HoldsHtml}
 use Rattle.doc_rules.specs.Characters.{Text}
 use Rattle.doc_rules.specs.Anchors.{anchor_name, free_anchor, anchors_behind}
 use Rattle.doc_rules.specs.Definitions.{Definition}
@@ -11,11 +11,47 @@ use Rattle.doc_rules.specs.Entities.{Table}
 use Rattle.doc_rules.specs.Escaping.{html_escape}
 use Rattle.doc_rules.specs.Forests.{none, ◌▹◌, node}
 use Rattle.doc_rules.specs.Reading.{inlines_of}
-use Rattle.doc_rules.specs.Blocks.{Leaf, Paragraph, Heading, IndentedCode, FencedCode, HtmlBlock, ThematicBreak, Container, BlockQuote, ListBlock, ListItem, Blocks}
+use Rattle.doc_rules.specs.Blocks.{
+  Leaf,
+  Paragraph,
+  Heading,
+  IndentedCode,
+  FencedCode,
+  HtmlBlock,
+  ThematicBreak,
+  Container,
+  BlockQuote,
+  ListBlock,
+  ListItem,
+  Blocks,
+}
 use Rattle.doc_rules.specs.PlainTexts.{headings_in, leaf_headings, text_in}
-use Rattle.doc_rules.specs.Html.{Output, Writing, characters, inlines_html, is_fresh, write, write_text, new_line, paragraph_html, id_attribute, heading_html, code_html, leaf_html, class_attribute, is_tight_inside, container_start, container_end, blocks_html, output_of, html_of, Linker, written_text}
-use Rattle.doc_html.specs.Progress.{Progress, begun, told, on_new_line, text_met, anchored, heading_met_at}
-use Rattle.doc_html.specs.Telling.{paragraph_told, heading_told, code_told, leaf_told, start_told, end_told, blocks_told}
+use Rattle.doc_rules.specs.Html.{
+  Output,
+  Writing,
+  characters,
+  inlines_html,
+  is_fresh,
+  write,
+  write_text,
+  new_line,
+  paragraph_html,
+  id_attribute,
+  heading_html,
+  code_html,
+  leaf_html,
+  class_attribute,
+  is_tight_inside,
+  container_start,
+  container_end,
+  blocks_html,
+  output_of,
+  html_of,
+  Linker,
+  written_text,
+}
+use Rattle.doc_html.specs.ProgressSteps.{Progress, begun, told, on_new_line, text_met, anchored, heading_met_at}
+use Rattle.doc_html.specs.TellingSteps.{paragraph_told, heading_told, code_told, leaf_told, start_told, end_told, blocks_told}
 use Rattle.doc_html.proofs.WriterSteps.{characters_append}
 
 -- the anchors of headings to come
@@ -45,7 +81,8 @@ heading_none : (o : Output) (front : Text) (inside end : Output) →
 heading_none o front inside end = simp (append-nil, characters_append, append_assoc)
 
 heading_some : (o : Output) (front id : Text) (inside end : Output) →
-    o ++ (characters ((front ++ id) ++ codes ">") ++ inside ++ end) ≡ ((o ++ characters front) ++ characters id) ++ (characters (codes ">") ++ inside ++ end)
+    o ++ (characters ((front ++ id) ++ codes ">") ++ inside ++ end) ≡ ((o ++ characters front) ++ characters id)
+    ++ (characters (codes ">") ++ inside ++ end)
 heading_some o front id inside end = simp (characters_append, append_assoc)
 
 heading_at : (used : Option (List Text)) (level : ℕ) (inside : Output) (text : Text) (o : Output) (p : Progress) (more : List (ℕ × Text)) →
@@ -54,11 +91,13 @@ heading_at : (used : Option (List Text)) (level : ℕ) (inside : Output) (text :
     (heading_met_at used level text (record p { output = o ++ characters (codes "<h" ++ decimal level); used = used }))) more
 unfolding heading_html write id_attribute heading_met_at text_met anchored writing_of anchors_for anchors_behind
 heading_at None level inside text o p more =
-    ap (λ out. record { output = out; anchors = [] }) (heading_none o (codes "<h" ++ decimal level) inside (characters (codes "</h" ++ decimal level ++ codes ">\n")))
+    ap (λ out. record { output = out; anchors = [] }) (heading_none o (codes "<h" ++ decimal level) inside
+    (characters (codes "</h" ++ decimal level ++ codes ">\n")))
 heading_at (Some used) level inside text o p more =
     let anchor : Text = free_anchor used (anchor_name text) in
     ap (λ out. record { output = out; anchors = anchors_behind (anchor ∷ used) (map (λ heading. heading.1) more) })
-    (heading_some o (codes "<h" ++ decimal level) (codes " id=\"" ++ html_escape anchor ++ codes "\"") inside (characters (codes "</h" ++ decimal level ++ codes ">\n")))
+    (heading_some o (codes "<h" ++ decimal level) (codes " id=\"" ++ html_escape anchor ++ codes "\"") inside
+    (characters (codes "</h" ++ decimal level ++ codes ">\n")))
 
 used_stays : (b : Bool) (p : Progress) → (elim b as (λ _. Progress) [ true ↦ p | false ↦ told (characters (codes "\n")) p ]).used ≡ p.used
 used_stays true p = refl
@@ -67,57 +106,69 @@ used_stays false p = refl
 -- ---- leaves
 
 module _ (table : Table) (refs : List Definition) where
-  paragraph_at : (tight : Bool) (inside : Output) (p : Progress) (more : List (ℕ × Text)) → paragraph_html tight inside (writing_of p more) ≡ writing_of (paragraph_told tight inside p) more
+  paragraph_at : (tight : Bool) (inside : Output) (p : Progress) (more : List (ℕ × Text))
+      → paragraph_html tight inside (writing_of p more) ≡ writing_of (paragraph_told tight inside p) more
   unfolding paragraph_html paragraph_told write writing_of
   paragraph_at true inside p more = refl
   paragraph_at false inside p more = ap (write (characters (codes "<p>") ++ inside ++ characters (codes "</p>\n"))) (on_line p more)
 
-  code_at : (class text : Text) (p : Progress) (more : List (ℕ × Text)) → code_html class text (new_line (writing_of p more)) ≡ writing_of (code_told class text p) more
+  code_at : (class text : Text) (p : Progress) (more : List (ℕ × Text))
+      → code_html class text (new_line (writing_of p more)) ≡ writing_of (code_told class text p) more
   unfolding code_html code_told write writing_of text_met
   code_at class text p more = ap (code_html class text) (on_line (text_met text p) more)
 
   leaf_at : (tight : Bool) (leaf : Leaf) (p : Progress) (more : List (ℕ × Text)) →
-      leaf_html table refs tight leaf (writing_of p (leaf_headings table refs leaf ++ more)) ≡ writing_of (leaf_told table refs tight leaf p) more
+      leaf_html table refs tight leaf (writing_of p (leaf_headings table refs leaf ++ more))
+      ≡ writing_of (leaf_told table refs tight leaf p) more
   unfolding leaf_html leaf_told leaf_headings heading_told write writing_of text_met
-  leaf_at tight (Paragraph text) p more = paragraph_at tight (inlines_html 0 (inlines_of table refs text)) (text_met (text_in table refs text) p) more
+  leaf_at tight (Paragraph text) p more = paragraph_at tight (inlines_html 0 (inlines_of table refs text))
+      (text_met (text_in table refs text) p) more
   leaf_at tight (Heading level text) p more =
       let inside : Output = inlines_html 0 (inlines_of table refs text) in
       ap (heading_html level inside) (on_line p ((level, text_in table refs text) ∷ more))
       ∙ heading_at (on_new_line p).used level inside (text_in table refs text) (on_new_line p).output (on_new_line p) more
   leaf_at tight (IndentedCode text) p more = code_at [] text p more
   leaf_at tight (FencedCode info text) p more = code_at (class_attribute info) text p more
-  leaf_at tight (HtmlBlock text) p more = ap (λ w. new_line (write_text text w)) (on_line p more) ∙ on_line (told (characters text) (on_new_line p)) more
+  leaf_at tight (HtmlBlock text) p more = ap (λ w. new_line (write_text text w)) (on_line p more)
+      ∙ on_line (told (characters text) (on_new_line p)) more
   leaf_at tight ThematicBreak p more = ap (write_text (codes "<hr />\n")) (on_line p more)
 
   -- ---- containers
 
-  start_at : (container : Container) (p : Progress) (more : List (ℕ × Text)) → container_start container (writing_of p more) ≡ writing_of (start_told container p) more
+  start_at : (container : Container) (p : Progress) (more : List (ℕ × Text))
+      → container_start container (writing_of p more) ≡ writing_of (start_told container p) more
   unfolding container_start start_told write writing_of
   start_at BlockQuote p more = ap (write_text (codes "<blockquote>\n")) (on_line p more)
   start_at (ListBlock start tight) p more = ap (container_start (ListBlock start tight)) refl ∙ ap (write_text _) (on_line p more)
   start_at ListItem p more = refl
 
-  end_at : (container : Container) (p : Progress) (more : List (ℕ × Text)) → container_end container (writing_of p more) ≡ writing_of (end_told container p) more
+  end_at : (container : Container) (p : Progress) (more : List (ℕ × Text))
+      → container_end container (writing_of p more) ≡ writing_of (end_told container p) more
   unfolding container_end end_told write writing_of
   end_at BlockQuote p more = ap (write_text (codes "</blockquote>\n")) (on_line p more)
   end_at (ListBlock start tight) p more = ap (write_text _) (on_line p more)
   end_at ListItem p more = refl
 
   pub blocks_at : (tight : Bool) (blocks : Blocks) (p : Progress) (more : List (ℕ × Text)) →
-      blocks_html table refs tight blocks (writing_of p (headings_in table refs blocks ++ more)) ≡ writing_of (blocks_told table refs tight blocks p) more
+      blocks_html table refs tight blocks (writing_of p (headings_in table refs blocks ++ more))
+      ≡ writing_of (blocks_told table refs tight blocks p) more
   unfolding blocks_html blocks_told headings_in
   blocks_at tight none p more = refl
   blocks_at tight (before ▹ leaf) p more =
       let own : List (ℕ × Text) = leaf_headings table refs leaf in
-      ap (λ hs. leaf_html table refs tight leaf (blocks_html table refs tight before (writing_of p hs))) (append_assoc (headings_in table refs before) own more)
-      ∙ (ap (leaf_html table refs tight leaf) (blocks_at tight before p (own ++ more)) ∙ leaf_at tight leaf (blocks_told table refs tight before p) more)
+      ap (λ hs. leaf_html table refs tight leaf (blocks_html table refs tight before (writing_of p hs)))
+      (append_assoc (headings_in table refs before) own more)
+      ∙ (ap (leaf_html table refs tight leaf) (blocks_at tight before p (own ++ more))
+      ∙ leaf_at tight leaf (blocks_told table refs tight before p) more)
   blocks_at tight (node before container inside) p more =
       let own : List (ℕ × Text) = headings_in table refs inside in
       let deeper : Bool = is_tight_inside tight container in
       let here : Progress = blocks_told table refs tight before p in
-      ap (λ hs. container_end container (blocks_html table refs deeper inside (container_start container (blocks_html table refs tight before (writing_of p hs)))))
+      ap (λ hs. container_end container (blocks_html table refs deeper inside
+      (container_start container (blocks_html table refs tight before (writing_of p hs)))))
       (append_assoc (headings_in table refs before) own more)
-      ∙ (ap (λ w. container_end container (blocks_html table refs deeper inside (container_start container w))) (blocks_at tight before p (own ++ more))
+      ∙ (ap (λ w. container_end container (blocks_html table refs deeper inside (container_start container w)))
+      (blocks_at tight before p (own ++ more))
       ∙ (ap (λ w. container_end container (blocks_html table refs deeper inside w)) (start_at container here (own ++ more))
       ∙ (ap (container_end container) (blocks_at deeper inside (start_told container here) more)
       ∙ end_at container (blocks_told table refs deeper inside (start_told container here)) more)))
@@ -142,11 +193,14 @@ unfolding paragraph_told
 paragraph_keeps true inside p = refl
 paragraph_keeps false inside p = on_line_keeps p
 
-leaf_keeps : (table : Table) (refs : List Definition) (tight : Bool) (leaf : Leaf) (p : Progress) → (leaf_told table refs tight leaf p).shown ≡ p.shown
+leaf_keeps : (table : Table) (refs : List Definition) (tight : Bool) (leaf : Leaf) (p : Progress)
+    → (leaf_told table refs tight leaf p).shown ≡ p.shown
 unfolding leaf_told heading_told code_told text_met
-leaf_keeps table refs tight (Paragraph text) p = paragraph_keeps tight (inlines_html 0 (inlines_of table refs text)) (text_met (text_in table refs text) p)
+leaf_keeps table refs tight (Paragraph text) p = paragraph_keeps tight (inlines_html 0 (inlines_of table refs text))
+    (text_met (text_in table refs text) p)
 leaf_keeps table refs tight (Heading level text) p =
-    heading_keeps (on_new_line p).used level (text_in table refs text) (told (characters (codes "<h" ++ decimal level)) (on_new_line p)) ∙ on_line_keeps p
+    heading_keeps (on_new_line p).used level (text_in table refs text) (told (characters (codes "<h" ++ decimal level)) (on_new_line p))
+    ∙ on_line_keeps p
 leaf_keeps table refs tight (IndentedCode text) p = on_line_keeps (text_met text p)
 leaf_keeps table refs tight (FencedCode info text) p = on_line_keeps (text_met text p)
 leaf_keeps table refs tight (HtmlBlock text) p = on_line_keeps (told (characters text) (on_new_line p)) ∙ on_line_keeps p
@@ -164,12 +218,15 @@ end_keeps BlockQuote p = on_line_keeps p
 end_keeps (ListBlock start tight) p = on_line_keeps p
 end_keeps ListItem p = refl
 
-pub blocks_keep : (table : Table) (refs : List Definition) (tight : Bool) (blocks : Blocks) (p : Progress) → (blocks_told table refs tight blocks p).shown ≡ p.shown
+pub blocks_keep : (table : Table) (refs : List Definition) (tight : Bool) (blocks : Blocks) (p : Progress)
+    → (blocks_told table refs tight blocks p).shown ≡ p.shown
 unfolding blocks_told
 blocks_keep table refs tight none p = refl
-blocks_keep table refs tight (before ▹ leaf) p = leaf_keeps table refs tight leaf (blocks_told table refs tight before p) ∙ blocks_keep table refs tight before p
+blocks_keep table refs tight (before ▹ leaf) p = leaf_keeps table refs tight leaf (blocks_told table refs tight before p)
+    ∙ blocks_keep table refs tight before p
 blocks_keep table refs tight (node before container inside) p =
-    end_keeps container (blocks_told table refs (is_tight_inside tight container) inside (start_told container (blocks_told table refs tight before p)))
+    end_keeps container (blocks_told table refs (is_tight_inside tight container) inside
+    (start_told container (blocks_told table refs tight before p)))
     ∙ (blocks_keep table refs (is_tight_inside tight container) inside (start_told container (blocks_told table refs tight before p))
     ∙ (start_keeps container (blocks_told table refs tight before p) ∙ blocks_keep table refs tight before p))
 
@@ -180,10 +237,12 @@ output_told : (table : Table) (refs : List Definition) (blocks : Blocks) (shown 
 unfolding output_of writing_of anchors_for
 output_told table refs blocks shown = ap (λ w. w.output) (sym (blocks_at table refs false blocks (begun shown None) []))
 
-pub html_told : (table : Table) (refs : List Definition) (blocks : Blocks) (shown last : List ℕ → Shown) (bytes : List ℕ) (fresh : Bool) (rule : Linker) →
+pub html_told : (table : Table) (refs : List Definition) (blocks : Blocks) (shown last : List ℕ
+    → Shown) (bytes : List ℕ) (fresh : Bool) (rule : Linker) →
     HoldsHtml last bytes fresh (blocks_told table refs false blocks (begun shown None)) → ShowsAlike shown rule →
     bytes ≡ encode_utf8_all (html_of table rule [] (record { blocks = blocks; refs = refs }))
 unfolding html_of
 html_told table refs blocks shown last bytes fresh rule h alike =
     let same : last ≡ shown = sym h.shows ∙ blocks_keep table refs false blocks (begun shown None) in
-    h.spelled rule (subst (λ s. ShowsAlike s rule) (sym same) alike) ∙ ap (λ o. encode_utf8_all (flat_map (written_text rule) o)) (output_told table refs blocks shown)
+    h.spelled rule (subst (λ s. ShowsAlike s rule) (sym same) alike)
+    ∙ ap (λ o. encode_utf8_all (flat_map (written_text rule) o)) (output_told table refs blocks shown)

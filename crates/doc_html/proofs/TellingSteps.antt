@@ -1,11 +1,31 @@
 -- Blocks as they are written, step by step.
-use Rattle.std.proofs.Common.{◌≡◌, ℕ, ◌<◌, Bool, true, false, List, [], ◌∷◌, ◌++◌, ap, sym, ◌∙◌, subst, append_assoc, ◌+◌, length, take, get_or}
+use Rattle.std.proofs.Common.{
+  ◌≡◌,
+  ℕ,
+  ◌<◌,
+  Bool,
+  true,
+  false,
+  List,
+  [],
+  ◌∷◌,
+  ◌++◌,
+  ap,
+  sym,
+  ◌∙◌,
+  subst,
+  append_assoc,
+  ◌+◌,
+  length,
+  take,
+  get_or,
+}
 use Rattle.std.specs.Prelude.{codes, decimal, ◌^◌}
 use Rattle.std.specs.Str.{chars}
 use Rattle.std.proofs.lemmas.Str.{chars-IsAscii}
 use Rattle.std.proofs.lemmas.Fmt.{IsAscii-decimal}
 use Rattle.std.proofs.lemmas.List.{take_more}
-use Rattle.doc_leaves.proofs.Forests.{forest_push}
+use Rattle.doc_blocks_leaves.proofs.Forests.{forest_push}
 use Rattle.doc_rules.specs.Characters.{Text}
 use Rattle.doc_rules.specs.Definitions.{Definition}
 use Rattle.doc_rules.specs.Entities.{Table}
@@ -15,13 +35,14 @@ use Rattle.doc_rules.specs.Blocks.{Leaf, Container, Blocks}
 use Rattle.doc_rules.specs.Inlines.{Inline}
 use Rattle.doc_rules.specs.PlainTexts.{plain_text}
 use Rattle.doc_rules.specs.Html.{Output, characters, inlines_html, language_class, is_tight_inside}
-use Rattle.doc_leaves.specs.declared.block.Block.{Block}
-use Rattle.doc_leaves.specs.Views.{behind, forest, blocks_shown}
-use Rattle.doc_html.specs.Progress.{Progress, told, on_new_line, text_met, heading_met, Goes, Writes}
-use Rattle.doc_html.specs.Telling.{paragraph_told, heading_told, code_told, leaf_told, start_told, end_told, blocks_told}
+use Rattle.doc_blocks_leaves.specs.declared.block.Block.{Block}
+use Rattle.doc_blocks_leaves.specs.Views.{behind, forest, blocks_shown}
+use Rattle.doc_html.specs.ProgressSteps.{Progress, told, on_new_line, text_met, heading_met, Goes, Writes}
+use Rattle.doc_html.specs.TellingSteps.{paragraph_told, heading_told, code_told, leaf_told, start_told, end_told, blocks_told}
 use Rattle.doc_html.proofs.WriterSteps.{nothing, both, same, texts}
 
-pub three : {W : Type 0} (holds : W → Progress → Type 0) (a b c d : W) (x y z : Output) → Writes holds a b x → Writes holds b c y → Writes holds c d z → Writes holds a d (x ++ y ++ z)
+pub three : {W : Type 0} (holds : W → Progress → Type 0) (a b c d : W) (x y z : Output) → Writes holds a b x → Writes holds b c y
+    → Writes holds c d z → Writes holds a d (x ++ y ++ z)
 three holds a b c d x y z f g h = both holds a c d (x ++ y) z (both holds a b c x y f g) h
 
 pub nothing_said : {W : Type 0} (holds : W → Progress → Type 0) (a : W) → Writes holds a a (characters [])
@@ -30,28 +51,35 @@ nothing_said holds a = nothing holds a
 
 -- ---- paragraphs
 
-pub tight_paragraph : {W : Type 0} (holds : W → Progress → Type 0) (a b c : W) (tight : Bool) (made read : List Inline) → tight ≡ true → made ≡ read →
+pub tight_paragraph : {W : Type 0} (holds : W → Progress → Type 0) (a b c : W) (tight : Bool) (made read : List Inline) → tight ≡ true
+    → made ≡ read →
     Goes holds a b (text_met (plain_text made)) → Writes holds b c (inlines_html 0 made) →
     Goes holds a c (λ p. paragraph_told tight (inlines_html 0 read) (text_met (plain_text read) p))
 unfolding paragraph_told
 tight_paragraph holds a b c tight made read e f m w =
     subst (λ t. Goes holds a c (λ p. paragraph_told t (inlines_html 0 read) (text_met (plain_text read) p))) (sym e)
-    (subst (λ i. Goes holds a c (λ p. paragraph_told true (inlines_html 0 i) (text_met (plain_text i) p))) f (λ p h. w (text_met (plain_text made) p) (m p h)))
+    (subst (λ i. Goes holds a c (λ p. paragraph_told true (inlines_html 0 i) (text_met (plain_text i) p))) f
+    (λ p h. w (text_met (plain_text made) p) (m p h)))
 
-pub loose_paragraph : {W : Type 0} (holds : W → Progress → Type 0) (a b c d e f : W) (tight : Bool) (made read : List Inline) → tight ≡ false → made ≡ read →
-    Goes holds a b (text_met (plain_text made)) → Goes holds b c on_new_line → Writes holds c d (characters (codes "<p>")) → Writes holds d e (inlines_html 0 made) →
+pub loose_paragraph : {W : Type 0} (holds : W → Progress → Type 0) (a b c d e f : W) (tight : Bool) (made read : List Inline)
+    → tight ≡ false → made ≡ read →
+    Goes holds a b (text_met (plain_text made)) → Goes holds b c on_new_line → Writes holds c d (characters (codes "<p>"))
+    → Writes holds d e (inlines_html 0 made) →
     Writes holds e f (characters (codes "</p>\n")) →
     Goes holds a f (λ p. paragraph_told tight (inlines_html 0 read) (text_met (plain_text read) p))
 unfolding paragraph_told
 loose_paragraph holds a b c d e f tight made read t i m n w1 w2 w3 =
     subst (λ t. Goes holds a f (λ p. paragraph_told t (inlines_html 0 read) (text_met (plain_text read) p))) (sym t)
     (subst (λ i. Goes holds a f (λ p. paragraph_told false (inlines_html 0 i) (text_met (plain_text i) p))) i
-    (λ p h. three holds c d e f (characters (codes "<p>")) (inlines_html 0 made) (characters (codes "</p>\n")) w1 w2 w3 (on_new_line (text_met (plain_text made) p)) (n (text_met (plain_text made) p) (m p h))))
+    (λ p h. three holds c d e f (characters (codes "<p>")) (inlines_html 0 made) (characters (codes "</p>\n")) w1 w2 w3
+    (on_new_line (text_met (plain_text made) p)) (n (text_met (plain_text made) p) (m p h))))
 
 -- ---- headings
 
-pub heading_goes : {W : Type 0} (holds : W → Progress → Type 0) (a b c d e f g h i j : W) (level : ℕ) (made read : List Inline) → made ≡ read →
-    Goes holds a b on_new_line → Writes holds b c (characters (codes "<h")) → Writes holds c d (characters (decimal level)) → Goes holds d e (heading_met level (plain_text made)) →
+pub heading_goes : {W : Type 0} (holds : W → Progress → Type 0) (a b c d e f g h i j : W) (level : ℕ) (made read : List Inline)
+    → made ≡ read →
+    Goes holds a b on_new_line → Writes holds b c (characters (codes "<h")) → Writes holds c d (characters (decimal level))
+    → Goes holds d e (heading_met level (plain_text made)) →
     Writes holds e f (characters (codes ">")) → Writes holds f g (inlines_html 0 made) → Writes holds g h (characters (codes "</h")) →
     Writes holds h i (characters (decimal level)) → Writes holds i j (characters (codes ">\n")) →
     Goes holds a j (heading_told level (inlines_html 0 read) (plain_text read))
@@ -61,7 +89,8 @@ heading_goes holds a b c d e f g h i j level made read same_inlines n w1 w2 m w3
     let end : Writes holds g j (characters (codes "</h" ++ decimal level ++ codes ">\n"))
     = texts holds g i j (codes "</h" ++ decimal level) (codes ">\n") (texts holds g h i (codes "</h") (decimal level) w5 w6) w7 in
     let back : Writes holds e j (characters (codes ">") ++ inlines_html 0 made ++ characters (codes "</h" ++ decimal level ++ codes ">\n"))
-    = three holds e f g j (characters (codes ">")) (inlines_html 0 made) (characters (codes "</h" ++ decimal level ++ codes ">\n")) w3 w4 end in
+    = three holds e f g j (characters (codes ">")) (inlines_html 0 made) (characters (codes "</h" ++ decimal level ++ codes ">\n")) w3 w4
+    end in
     subst (λ s. Goes holds a j (heading_told level (inlines_html 0 s) (plain_text s))) same_inlines
     (λ p k. back (heading_met level (plain_text made) (told (characters (codes "<h" ++ decimal level)) (on_new_line p)))
     (m (told (characters (codes "<h" ++ decimal level)) (on_new_line p)) (front (on_new_line p) (n p k))))
@@ -74,7 +103,8 @@ decimal_chars n h = chars-IsAscii (decimal n) (IsAscii-decimal n h)
 code_assoc : (a b c d e : Text) → a ++ (b ++ ((c ++ d) ++ e)) ≡ (((a ++ b) ++ c) ++ d) ++ e
 code_assoc a b c d e = simp append_assoc
 
-pub code_goes : {W : Type 0} (holds : W → Progress → Type 0) (a b c d e f : W) (class text : Text) → Goes holds a b (text_met text) → Goes holds b c on_new_line →
+pub code_goes : {W : Type 0} (holds : W → Progress → Type 0) (a b c d e f : W) (class text : Text) → Goes holds a b (text_met text)
+    → Goes holds b c on_new_line →
     Writes holds c d (characters (codes "<pre><code")) → Writes holds d e (characters class) →
     Writes holds e f (characters (codes ">" ++ html_escape text ++ codes "</code></pre>\n")) → Goes holds a f (code_told class text)
 unfolding code_told
@@ -83,52 +113,68 @@ code_goes holds a b c d e f class text m n w1 w2 w3 =
     let all : Writes holds c f (characters (codes "<pre><code" ++ (class ++ rest)))
     = texts holds c d f (codes "<pre><code") (class ++ rest) w1 (texts holds d e f class rest w2 w3) in
     let told_all : Writes holds c f (characters (codes "<pre><code" ++ class ++ codes ">" ++ html_escape text ++ codes "</code></pre>\n"))
-    = same holds c f _ _ (ap characters (code_assoc (codes "<pre><code") class (codes ">") (html_escape text) (codes "</code></pre>\n"))) all in
+    = same holds c f _ _ (ap characters (code_assoc (codes "<pre><code") class (codes ">") (html_escape text) (codes "</code></pre>\n")))
+    all in
     λ p h. told_all (on_new_line (text_met text p)) (n (text_met text p) (m p h))
 
-pub no_class : {W : Type 0} (holds : W → Progress → Type 0) (a : W) (word : Text) → word ≡ [] → Writes holds a a (characters (language_class word))
+pub no_class : {W : Type 0} (holds : W → Progress → Type 0) (a : W) (word : Text) → word ≡ []
+    → Writes holds a a (characters (language_class word))
 unfolding language_class characters
 no_class holds a word e = subst (λ t. Writes holds a a (characters (language_class t))) (sym e) (nothing holds a)
 
 pub some_class : {W : Type 0} (holds : W → Progress → Type 0) (a b c d : W) (word rest : Text) (first : ℕ) → word ≡ first ∷ rest →
-    Writes holds a b (characters (codes " class=\"language-")) → Writes holds b c (characters (html_escape word)) → Writes holds c d (characters (codes "\"")) →
+    Writes holds a b (characters (codes " class=\"language-")) → Writes holds b c (characters (html_escape word))
+    → Writes holds c d (characters (codes "\"")) →
     Writes holds a d (characters (language_class word))
 unfolding language_class
 some_class holds a b c d word rest first e f g h =
-    let word_is : Writes holds b c (characters (html_escape (first ∷ rest))) = subst (λ t. Writes holds b c (characters (html_escape t))) e g in
+    let word_is : Writes holds b c (characters (html_escape (first ∷ rest))) = subst (λ t. Writes holds b c (characters (html_escape t))) e
+    g in
     subst (λ t. Writes holds a d (characters (language_class t))) (sym e)
-    (texts holds a c d (codes " class=\"language-" ++ html_escape (first ∷ rest)) (codes "\"") (texts holds a b c (codes " class=\"language-") (html_escape (first ∷ rest)) f word_is) h)
+    (texts holds a c d (codes " class=\"language-" ++ html_escape (first ∷ rest)) (codes "\"")
+    (texts holds a b c (codes " class=\"language-") (html_escape (first ∷ rest)) f word_is) h)
 
 -- ---- blocks
 
-pub none_told : (P : Progress → Type 0) (table : Table) (refs : List Definition) (tight : Bool) (p : Progress) → P p → P (blocks_told table refs tight none p)
+pub none_told : (P : Progress → Type 0) (table : Table) (refs : List Definition) (tight : Bool) (p : Progress) → P p
+    → P (blocks_told table refs tight none p)
 unfolding blocks_told
 none_told P table refs tight p h = h
 
 module _ {W : Type 0} (holds : W → Progress → Type 0) (table : Table) (refs : List Definition) (tight : Bool) (p : Progress) where
   pub leaf_block : (a b : W) (block : Block) (leaf : Leaf) (before : Blocks) → behind block before ≡ before ▹ leaf →
-      holds a (blocks_told table refs tight before p) → Goes holds a b (leaf_told table refs tight leaf) → holds b (blocks_told table refs tight (behind block before) p)
+      holds a (blocks_told table refs tight before p) → Goes holds a b (leaf_told table refs tight leaf)
+      → holds b (blocks_told table refs tight (behind block before) p)
   unfolding blocks_told
-  leaf_block a b block leaf before e h f = subst (λ t. holds b (blocks_told table refs tight t p)) (sym e) (f (blocks_told table refs tight before p) h)
+  leaf_block a b block leaf before e h f = subst (λ t. holds b (blocks_told table refs tight t p)) (sym e)
+      (f (blocks_told table refs tight before p) h)
 
-  pub node_block : (a b c d : W) (block : Block) (container : Container) (items : List Block) (before : Blocks) → behind block before ≡ node before container (blocks_shown items) →
+  pub node_block : (a b c d : W) (block : Block) (container : Container) (items : List Block) (before : Blocks)
+      → behind block before ≡ node before container (blocks_shown items) →
       holds a (blocks_told table refs tight before p) → Goes holds a b (start_told container) →
-      ((q : Progress) → holds b (blocks_told table refs (is_tight_inside tight container) none q) → holds c (blocks_told table refs (is_tight_inside tight container) (forest items none) q)) →
+      ((q : Progress) → holds b (blocks_told table refs (is_tight_inside tight container) none q)
+      → holds c (blocks_told table refs (is_tight_inside tight container) (forest items none) q)) →
       Goes holds c d (end_told container) → holds d (blocks_told table refs tight (behind block before) p)
   unfolding blocks_told
   node_block a b c d block container items before e h start inside end =
       let here : Progress = start_told container (blocks_told table refs tight before p) in
       subst (λ t. holds d (blocks_told table refs tight t p)) (sym e)
-      (end (blocks_told table refs (is_tight_inside tight container) (forest items none) here) (inside here (start (blocks_told table refs tight before p) h)))
+      (end (blocks_told table refs (is_tight_inside tight container) (forest items none) here)
+      (inside here (start (blocks_told table refs tight before p) h)))
 
-  pub forest_begins : (a : W) (before : Blocks) → holds a (blocks_told table refs tight before p) → holds a (blocks_told table refs tight (forest [] before) p)
+  pub forest_begins : (a : W) (before : Blocks) → holds a (blocks_told table refs tight before p)
+      → holds a (blocks_told table refs tight (forest [] before) p)
   unfolding forest
   forest_begins a before h = h
 
-  pub forest_goes_on : (a b : W) (items : List Block) (i : ℕ) (block : Block) (before : Blocks) → i < length items → block ≡ get_or items i block →
-      (holds a (blocks_told table refs tight (forest (take i items) before) p) → holds b (blocks_told table refs tight (behind block (forest (take i items) before)) p)) →
-      holds a (blocks_told table refs tight (forest (take i items) before) p) → holds b (blocks_told table refs tight (forest (take (i + 1) items) before) p)
+  pub forest_goes_on : (a b : W) (items : List Block) (i : ℕ) (block : Block) (before : Blocks) → i < length items
+      → block ≡ get_or items i block →
+      (holds a (blocks_told table refs tight (forest (take i items) before) p)
+      → holds b (blocks_told table refs tight (behind block (forest (take i items) before)) p)) →
+      holds a (blocks_told table refs tight (forest (take i items) before) p)
+      → holds b (blocks_told table refs tight (forest (take (i + 1) items) before) p)
   forest_goes_on a b items i block before l e step h =
       let more : forest (take (i + 1) items) before ≡ behind block (forest (take i items) before)
-      = ap (λ some. forest some before) (take_more items i block l) ∙ (forest_push (take i items) (get_or items i block) before ∙ ap (λ one. behind one (forest (take i items) before)) (sym e)) in
+      = ap (λ some. forest some before) (take_more items i block l)
+      ∙ (forest_push (take i items) (get_or items i block) before ∙ ap (λ one. behind one (forest (take i items) before)) (sym e)) in
       subst (λ f. holds b (blocks_told table refs tight f p)) (sym more) (step h)

@@ -22,7 +22,8 @@ left [] = []
 left (c ∷ rest) = elim (does_stay c) [ true ↦ left rest | false ↦ c ∷ rest ]
 
 many_at : (c : ℕ) (rest : Text) (b : Bool) → many (λ d. does_stay d) rest ≡ Some (left rest) →
-    elim b as (λ _. Option Text) [ true ↦ many (λ d. does_stay d) rest | false ↦ Some (c ∷ rest) ] ≡ Some (elim b as (λ _. Text) [ true ↦ left rest | false ↦ c ∷ rest ])
+    elim b as (λ _. Option Text) [ true ↦ many (λ d. does_stay d) rest | false ↦ Some (c ∷ rest) ]
+    ≡ Some (elim b as (λ _. Text) [ true ↦ left rest | false ↦ c ∷ rest ])
 many_at c rest true h = h
 many_at c rest false h = refl
 
@@ -43,10 +44,16 @@ cut (c ∷ rest) = cut_at c rest (does_stay c) (cut rest)
 
 itself : (c : ℕ) → does_stay c ≡ true → url_char c ≡ c ∷ []
 unfolding url_char
-itself c h = ap (λ b. elim b as (λ _. Text) [ true ↦ c ∷ [] | false ↦ elim (c == 38) [ true ↦ codes "&amp;" | false ↦ flat_map percent (encode_utf8 c) ] ]) h
+itself c h = ap (λ b. elim b as (λ _. Text) [
+  | true ↦ c ∷ []
+  | false ↦ elim (c == 38)
+      [ true ↦ codes "&amp;" | false ↦ flat_map percent (encode_utf8 c) ]
+]) h
 
-escape_at : (c : ℕ) (rest : Text) (b : Bool) → url_escape rest ≡ kept rest ++ url_escape (left rest) → (b ≡ true → url_escape (c ∷ rest) ≡ c ∷ url_escape rest) →
-    url_escape (c ∷ rest) ≡ elim b as (λ _. Text) [ true ↦ c ∷ kept rest | false ↦ [] ] ++ url_escape (elim b as (λ _. Text) [ true ↦ left rest | false ↦ c ∷ rest ])
+escape_at : (c : ℕ) (rest : Text) (b : Bool) → url_escape rest ≡ kept rest ++ url_escape (left rest)
+    → (b ≡ true → url_escape (c ∷ rest) ≡ c ∷ url_escape rest) →
+    url_escape (c ∷ rest) ≡ elim b as (λ _. Text) [ true ↦ c ∷ kept rest | false ↦ [] ]
+    ++ url_escape (elim b as (λ _. Text) [ true ↦ left rest | false ↦ c ∷ rest ])
 escape_at c rest true h g = g refl ∙ ap (λ t. c ∷ t) h
 escape_at c rest false h g = refl
 
@@ -63,7 +70,8 @@ unfolding kept left
 escape_kept [] = refl
 escape_kept (c ∷ rest) = escape_at c rest (does_stay c) (escape_kept rest) (escape_first c rest)
 
-pub front_stays : (text front rest : Text) (old : List ℕ) (new : Text) → text ≡ front ++ rest → Some rest ≡ many (λ d. does_stay d) text → old ≡ [] → new ≡ chars old ++ front → new ++ url_escape rest ≡ url_escape text
+pub front_stays : (text front rest : Text) (old : List ℕ) (new : Text) → text ≡ front ++ rest → Some rest ≡ many (λ d. does_stay d) text
+    → old ≡ [] → new ≡ chars old ++ front → new ++ url_escape rest ≡ url_escape text
 front_stays text front rest old new e f g h =
     let is : rest ≡ left text = (let k : Some rest ≡ Some (left text) = f ∙ many_left text in cc) in
     let start : front ≡ kept text = append_cancel_right front (kept text) rest (sym e ∙ (cut text ∙ ap (λ r. kept text ++ r) (sym is))) in

@@ -1,5 +1,25 @@
 -- What a buffer of HTML holds behind what is written.
-use Rattle.std.proofs.Common.{◌≡◌, ℕ, inl, inr, Bool, true, false, List, [], ◌∷◌, ◌++◌, map, refl, ap, sym, ◌∙◌, subst, append_assoc, append-nil}
+use Rattle.std.proofs.Common.{
+  ◌≡◌,
+  ℕ,
+  inl,
+  inr,
+  Bool,
+  true,
+  false,
+  List,
+  [],
+  ◌∷◌,
+  ◌++◌,
+  map,
+  refl,
+  ap,
+  sym,
+  ◌∙◌,
+  subst,
+  append_assoc,
+  append-nil,
+}
 use Rattle.std.specs.Prelude.{◌==◌, flat_map, encode_utf8_all, Option, Some, None, option_map, codes}
 use Rattle.std.specs.Char.{encode_utf8}
 use Rattle.std.specs.Str.{chars, IsUtf8}
@@ -17,8 +37,8 @@ use Rattle.doc_rules.specs.Pages.{Page, LinkPiece, filled, piece_text, encoded, 
 use Rattle.doc_rules.specs.Laws.{ShowsAlike}
 use Rattle.doc_rules.proofs.EscapingLaws.{escaping_is_by_bytes}
 use Rattle.doc_rules.proofs.FillingLaws.{filling_is_by_bytes}
-use Rattle.doc_html.specs.Progress.{Progress, begun, told, on_new_line, text_met, heading_met, heading_met_at}
-use Rattle.doc_html.specs.Written.{HoldsHtml, fresh_behind, read_again}
+use Rattle.doc_html.specs.ProgressSteps.{Progress, begun, told, on_new_line, text_met, heading_met, heading_met_at}
+use Rattle.doc_html.specs.WrittenSteps.{HoldsHtml, fresh_behind, read_again}
 
 -- ---- a new line
 
@@ -45,7 +65,8 @@ fresh_text xs (c ∷ rest) =
     ap (λ b. fresh_behind b rest) (sym (character_last xs c))
     ∙ (fresh_text (xs ++ Character c ∷ []) rest ∙ ap is_fresh (append_assoc xs (Character c ∷ []) (map Character rest)))
 
-pub text_begins : (fresh old : Bool) (xs : Output) (text : Text) → fresh ≡ fresh_behind old text → old ≡ is_fresh xs → fresh ≡ is_fresh (xs ++ characters text)
+pub text_begins : (fresh old : Bool) (xs : Output) (text : Text) → fresh ≡ fresh_behind old text → old ≡ is_fresh xs
+    → fresh ≡ is_fresh (xs ++ characters text)
 text_begins fresh old xs text e f = e ∙ (ap (λ b. fresh_behind b text) f ∙ fresh_text xs text)
 
 pub fresh_append : (b : Bool) (x y : Text) → fresh_behind b (x ++ y) ≡ fresh_behind (fresh_behind b x) y
@@ -60,7 +81,11 @@ abbrev escaped_at : ℕ → Bool → Bool → Bool → Bool → Text
 escaped_at c a b d e =
     elim a [
       | true ↦ codes "&amp;"
-      | false ↦ elim b [ true ↦ codes "&lt;" | false ↦ elim d [ true ↦ codes "&gt;" | false ↦ elim e [ true ↦ codes "&quot;" | false ↦ c ∷ [] ] ] ]
+      | false ↦ elim b [
+        | true ↦ codes "&lt;"
+        | false ↦ elim d
+            [ true ↦ codes "&gt;" | false ↦ elim e [ true ↦ codes "&quot;" | false ↦ c ∷ [] ] ]
+      ]
     ]
 
 alike_38 : (b : Bool) → Alike b 38
@@ -108,7 +133,8 @@ fresh_escape b (c ∷ rest) =
     fresh_escape (c == 10) rest
     ∙ (ap (λ f. fresh_behind f (html_escape rest)) (sym (alike b c)) ∙ sym (fresh_append b (escaped_char c) (html_escape rest)))
 
-pub escape_begins : (fresh old : Bool) (xs : Output) (text : Text) → fresh ≡ fresh_behind old text → old ≡ is_fresh xs → fresh ≡ is_fresh (xs ++ characters (html_escape text))
+pub escape_begins : (fresh old : Bool) (xs : Output) (text : Text) → fresh ≡ fresh_behind old text → old ≡ is_fresh xs
+    → fresh ≡ is_fresh (xs ++ characters (html_escape text))
 escape_begins fresh old xs text e f = text_begins fresh old xs (html_escape text) (e ∙ fresh_escape old text) f
 
 pub fresh_end : (b : Bool) (text front : Text) (c : ℕ) → text ≡ front ++ c ∷ [] → (c == 10) ≡ fresh_behind b text
@@ -126,25 +152,31 @@ unfolding characters written_text
 spells linker [] = refl
 spells linker (c ∷ rest) = ap (λ t. c ∷ t) (spells linker rest)
 
-pub spells_text : (linker : Linker) (bytes : List ℕ) → IsUtf8 bytes → bytes ≡ encode_utf8_all (flat_map (written_text linker) (characters (chars bytes)))
+pub spells_text : (linker : Linker) (bytes : List ℕ) → IsUtf8 bytes
+    → bytes ≡ encode_utf8_all (flat_map (written_text linker) (characters (chars bytes)))
 spells_text linker bytes u = sym (encodes-chars bytes u) ∙ ap encode_utf8_all (spells linker (chars bytes))
 
-pub spells_escape : (linker : Linker) (bytes : List ℕ) → IsUtf8 bytes → escaped bytes ≡ encode_utf8_all (flat_map (written_text linker) (characters (html_escape (chars bytes))))
+pub spells_escape : (linker : Linker) (bytes : List ℕ) → IsUtf8 bytes
+    → escaped bytes ≡ encode_utf8_all (flat_map (written_text linker) (characters (html_escape (chars bytes))))
 spells_escape linker bytes u =
-    ap escaped (sym (encodes-chars bytes u)) ∙ (sym (escaping_is_by_bytes (chars bytes)) ∙ ap encode_utf8_all (spells linker (html_escape (chars bytes))))
+    ap escaped (sym (encodes-chars bytes u)) ∙ (sym (escaping_is_by_bytes (chars bytes))
+    ∙ ap encode_utf8_all (spells linker (html_escape (chars bytes))))
 
 page_of_link : Target → Page
 page_of_link target = record { pieces = LinkPiece target ∷ []; headings = []; texts = [] }
 
 pub spells_tag : (linker : Linker) (shown : List ℕ → PageShown) → ShowsAlike shown linker → (target : Target) →
-    opening_tag (option_map encode_utf8_all target.title) (shown (encode_utf8_all target.dest)) ≡ encode_utf8_all (flat_map (written_text linker) (LinkTag target ∷ []))
+    opening_tag (option_map encode_utf8_all target.title) (shown (encode_utf8_all target.dest))
+    ≡ encode_utf8_all (flat_map (written_text linker) (LinkTag target ∷ []))
 unfolding page_of_link page_filled filled piece_text encoded encoded_piece written_text
 spells_tag linker shown alike target =
     sym (append-nil (opening_tag (option_map encode_utf8_all target.title) (shown (encode_utf8_all target.dest))))
     ∙ filling_is_by_bytes linker shown alike (page_of_link target)
 
-pub link_spells : (title : Option (List ℕ)) (dest got : List ℕ) (how : PageShown) (shown : List ℕ → PageShown) → how ≡ shown got → got ≡ dest → IsUtf8 got → (linker : Linker) → ShowsAlike shown linker →
-    opening_tag (read_again title) how ≡ encode_utf8_all (flat_map (written_text linker) (LinkTag (record { dest = chars dest; title = option_map chars title }) ∷ []))
+pub link_spells : (title : Option (List ℕ)) (dest got : List ℕ) (how : PageShown) (shown : List ℕ → PageShown) → how ≡ shown got
+    → got ≡ dest → IsUtf8 got → (linker : Linker) → ShowsAlike shown linker →
+    opening_tag (read_again title) how ≡ encode_utf8_all (flat_map (written_text linker)
+    (LinkTag (record { dest = chars dest; title = option_map chars title }) ∷ []))
 link_spells title dest got how shown e f u linker alike =
     ap (opening_tag (read_again title)) (e ∙ ap shown (sym (encodes-chars got u) ∙ ap (λ d. encode_utf8_all (chars d)) f))
     ∙ spells_tag linker shown alike (record { dest = chars dest; title = option_map chars title })
@@ -152,37 +184,47 @@ link_spells title dest got how shown e f u linker alike =
 pub no_title : (bytes : List ℕ) (title : Option (List ℕ)) → title ≡ None → bytes ≡ bytes ++ title_attribute (read_again title)
 no_title bytes title e = sym (append-nil bytes) ∙ ap (λ t. bytes ++ title_attribute (read_again t)) (sym e)
 
-pub some_title : (old a b c : List ℕ) (title : Option (List ℕ)) (text got : List ℕ) → title ≡ Some text → got ≡ text → IsUtf8 got → a ≡ old ++ codes " title=\"" → b ≡ a ++ escaped got → c ≡ b ++ codes "\"" →
+pub some_title : (old a b c : List ℕ) (title : Option (List ℕ)) (text got : List ℕ) → title ≡ Some text → got ≡ text → IsUtf8 got
+    → a ≡ old ++ codes " title=\"" → b ≡ a ++ escaped got → c ≡ b ++ codes "\"" →
     c ≡ old ++ title_attribute (read_again title)
 some_title old a b c title text got e f u x y z =
     let again : got ≡ encode_utf8_all (chars text) = sym (encodes-chars got u) ∙ ap (λ t. encode_utf8_all (chars t)) f in
     z ∙ (ap (λ t. t ++ codes "\"") (y ∙ ap (λ t. t ++ escaped got) x)
-    ∙ (append_assoc (old ++ codes " title=\"") (escaped got) (codes "\"") ∙ (append_assoc old (codes " title=\"") (escaped got ++ codes "\"")
+    ∙ (append_assoc (old ++ codes " title=\"") (escaped got) (codes "\"")
+    ∙ (append_assoc old (codes " title=\"") (escaped got ++ codes "\"")
     ∙ (ap (λ t. old ++ (codes " title=\"" ++ (escaped t ++ codes "\""))) again
-    ∙ (ap (λ t. old ++ t) (sym (append_assoc (codes " title=\"") (escaped (encode_utf8_all (chars text))) (codes "\""))) ∙ ap (λ t. old ++ title_attribute (read_again t)) (sym e))))))
+    ∙ (ap (λ t. old ++ t) (sym (append_assoc (codes " title=\"") (escaped (encode_utf8_all (chars text))) (codes "\"")))
+    ∙ ap (λ t. old ++ title_attribute (read_again t)) (sym e))))))
 
 -- ---- what is held
 
-pub holds_more : (shown : List ℕ → PageShown) (old new add : List ℕ) (fresh after : Bool) (p : Progress) (x : Output) → HoldsHtml shown old fresh p → new ≡ old ++ add →
-    after ≡ is_fresh (p.output ++ x) → ((linker : Linker) → ShowsAlike shown linker → add ≡ encode_utf8_all (flat_map (written_text linker) x)) → HoldsHtml shown new after (told x p)
+pub holds_more : (shown : List ℕ → PageShown) (old new add : List ℕ) (fresh after : Bool) (p : Progress) (x : Output)
+    → HoldsHtml shown old fresh p → new ≡ old ++ add →
+    after ≡ is_fresh (p.output ++ x) → ((linker : Linker) → ShowsAlike shown linker
+    → add ≡ encode_utf8_all (flat_map (written_text linker) x)) → HoldsHtml shown new after (told x p)
 holds_more shown old new add fresh after p x h e f g = record {
   shows = h.shows;
   unnamed = h.unnamed;
   begins = f;
   spelled = λ linker alike.
-      e ∙ (ap (λ t. t ++ add) (h.spelled linker alike) ∙ (ap (λ t. encode_utf8_all (flat_map (written_text linker) p.output) ++ t) (g linker alike)
-      ∙ (sym (encodes-append (flat_map (written_text linker) p.output) (flat_map (written_text linker) x)) ∙ ap encode_utf8_all (sym (flat_map-append (written_text linker) p.output x)))));
+      e ∙ (ap (λ t. t ++ add) (h.spelled linker alike)
+      ∙ (ap (λ t. encode_utf8_all (flat_map (written_text linker) p.output) ++ t) (g linker alike)
+      ∙ (sym (encodes-append (flat_map (written_text linker) p.output) (flat_map (written_text linker) x))
+      ∙ ap encode_utf8_all (sym (flat_map-append (written_text linker) p.output x)))));
 }
 
-pub holds_line : (shown : List ℕ → PageShown) (bytes : List ℕ) (fresh : Bool) (p : Progress) → HoldsHtml shown bytes fresh p → fresh ≡ true → HoldsHtml shown bytes fresh (on_new_line p)
+pub holds_line : (shown : List ℕ → PageShown) (bytes : List ℕ) (fresh : Bool) (p : Progress) → HoldsHtml shown bytes fresh p → fresh ≡ true
+    → HoldsHtml shown bytes fresh (on_new_line p)
 unfolding on_new_line
 holds_line shown bytes fresh p h e = at (is_fresh p.output) (sym h.begins ∙ e)
   where
-    at : (b : Bool) → b ≡ true → HoldsHtml shown bytes fresh (elim b as (λ _. Progress) [ true ↦ p | false ↦ told (characters (codes "\n")) p ])
+    at : (b : Bool) → b ≡ true
+        → HoldsHtml shown bytes fresh (elim b as (λ _. Progress) [ true ↦ p | false ↦ told (characters (codes "\n")) p ])
     at true f = h
     at false f = cc
 
-pub holds_new_line : (shown : List ℕ → PageShown) (old new : List ℕ) (fresh after : Bool) (p : Progress) → HoldsHtml shown old fresh p → fresh ≡ false → new ≡ old ++ codes "\n" → after ≡ true →
+pub holds_new_line : (shown : List ℕ → PageShown) (old new : List ℕ) (fresh after : Bool) (p : Progress) → HoldsHtml shown old fresh p
+    → fresh ≡ false → new ≡ old ++ codes "\n" → after ≡ true →
     HoldsHtml shown new after (on_new_line p)
 unfolding on_new_line fresh_behind encode_utf8
 holds_new_line shown old new fresh after p h e n t = at (is_fresh p.output) (sym h.begins ∙ e)
@@ -191,15 +233,18 @@ holds_new_line shown old new fresh after p h e n t = at (is_fresh p.output) (sym
     more = holds_more shown old new (codes "\n") fresh after p (characters (codes "\n")) h n (t ∙ fresh_text p.output (codes "\n"))
         (λ linker alike. ap encode_utf8_all (spells linker (codes "\n")))
 
-    at : (b : Bool) → b ≡ false → HoldsHtml shown new after (elim b as (λ _. Progress) [ true ↦ p | false ↦ told (characters (codes "\n")) p ])
+    at : (b : Bool) → b ≡ false
+        → HoldsHtml shown new after (elim b as (λ _. Progress) [ true ↦ p | false ↦ told (characters (codes "\n")) p ])
     at true f = cc
     at false f = more
 
-pub holds_text : (shown : List ℕ → PageShown) (bytes : List ℕ) (fresh : Bool) (p : Progress) (text : Text) → HoldsHtml shown bytes fresh p → HoldsHtml shown bytes fresh (text_met text p)
+pub holds_text : (shown : List ℕ → PageShown) (bytes : List ℕ) (fresh : Bool) (p : Progress) (text : Text) → HoldsHtml shown bytes fresh p
+    → HoldsHtml shown bytes fresh (text_met text p)
 unfolding text_met
 holds_text shown bytes fresh p text h = record { shows = h.shows; unnamed = h.unnamed; begins = h.begins; spelled = h.spelled }
 
-pub holds_heading : (shown : List ℕ → PageShown) (bytes : List ℕ) (fresh : Bool) (p : Progress) (level : ℕ) (text : Text) → HoldsHtml shown bytes fresh p →
+pub holds_heading : (shown : List ℕ → PageShown) (bytes : List ℕ) (fresh : Bool) (p : Progress) (level : ℕ) (text : Text)
+    → HoldsHtml shown bytes fresh p →
     HoldsHtml shown bytes fresh (heading_met level text p)
 unfolding heading_met_at
 holds_heading shown bytes fresh p level text h =

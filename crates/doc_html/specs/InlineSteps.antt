@@ -7,10 +7,10 @@ use Rattle.doc_rules.specs.Escaping.{html_escape}
 use Rattle.doc_rules.specs.Inlines as inlines
 use Rattle.doc_rules.specs.Inlines.{Inline}
 use Rattle.doc_rules.specs.Html.{Output, characters, inline_html, span_start, span_end, images_after}
-use Rattle.doc_marks.specs.Views.{span_shown}
-use Rattle.doc_marks.specs.declared.mark.Span.TheVariants as span
-use Rattle.doc_marks.specs.declared.mark.Mark.{Mark}
-use Rattle.doc_marks.specs.declared.mark.Mark.TheVariants.{Text, Code, Soft, Hard, Raw, Reference, Start, End}
+use Rattle.doc_inlines_marks.specs.Views.{span_shown}
+use Rattle.doc_inlines_marks.specs.declared.mark.Span.TheVariants as span
+use Rattle.doc_inlines_marks.specs.declared.mark.Mark.{Mark}
+use Rattle.doc_inlines_marks.specs.declared.mark.Mark.TheVariants.{Text, Code, Soft, Hard, Raw, Reference, Start, End}
 
 -- how many images stand around what follows these inlines, where n stand around them
 unfoldable pub images_along : ℕ → List Inline → ℕ

@@ -1,6 +1,6 @@
 pub mod InlineSteps
-pub mod Progress
-pub mod Telling
-pub mod Written
-pub mod WrittenPages
+pub mod ProgressSteps
+pub mod TellingSteps
+pub mod WrittenSteps
+pub mod WrittenPageSteps
 pub mod PlainLinks

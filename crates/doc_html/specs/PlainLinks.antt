@@ -9,7 +9,8 @@ use Rattle.doc_rules.specs.Escaping.{percent}
 -- a byte of a destination, as it is written
 unfoldable pub url_byte : ℕ → List ℕ
 url_byte b =
-    elim (is_ascii_alphanumeric b || one_of (codes "-_.+!*'(),%#@?=;:/$~") b) [ true ↦ b ∷ [] | false ↦ elim (b == 38) [ true ↦ codes "&amp;" | false ↦ percent b ] ]
+    elim (is_ascii_alphanumeric b || one_of (codes "-_.+!*'(),%#@?=;:/$~") b)
+    [ true ↦ b ∷ [] | false ↦ elim (b == 38) [ true ↦ codes "&amp;" | false ↦ percent b ] ]
 
 -- each destination is shown as it stands, escaped
 unfoldable pub plain_shown : List ℕ → Shown

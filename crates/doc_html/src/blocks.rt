@@ -4,9 +4,9 @@ ghost use Rattle.doc_rules.specs.Blocks.{Blocks, BlockQuote, ListBlock, ListItem
 ghost use Rattle.doc_rules.specs.Definitions.{Definition};
 ghost use Rattle.doc_rules.specs.Html.{characters, list_tag, list_end};
 ghost use Rattle.doc_refs.specs.Targets.{targets_of};
-ghost use Rattle.doc_leaves.specs.Views.{behind, blocks_shown, forest};
-ghost use Rattle.doc_html.specs.Progress.{Progress, Goes, Writes};
-ghost use Rattle.doc_html.specs.Telling.{blocks_told, start_told, end_told};
+ghost use Rattle.doc_blocks_leaves.specs.Views.{behind, blocks_shown, forest};
+ghost use Rattle.doc_html.specs.ProgressSteps.{Progress, Goes, Writes};
+ghost use Rattle.doc_html.specs.TellingSteps.{blocks_told, start_told, end_told};
 
 use crate::leaves::{
     push_break, push_decimal, push_fenced, push_heading, push_html_block, push_indented,
@@ -14,9 +14,9 @@ use crate::leaves::{
 };
 use crate::reading::Source;
 use crate::writer::{Writer, markup};
+use doc_blocks_leaves::block::Block;
 use doc_heap::Heap;
 use doc_inlines::Reader;
-use doc_leaves::block::Block;
 use doc_page::failure::Memory;
 
 /// Writes the blocks of a document.

@@ -3,7 +3,7 @@ ghost use Rattle.std.specs.Prelude.{◌≡◌, [], ◌∷◌, ◌++◌, chars, I
 ghost use Rattle.doc_rules.specs.CodeSpans.{spaced};
 ghost use Rattle.doc_rules.specs.Escaping.{html_escape};
 ghost use Rattle.doc_rules.specs.Html.{characters};
-ghost use Rattle.doc_html.specs.Progress.{Writes};
+ghost use Rattle.doc_html.specs.ProgressSteps.{Writes};
 
 use crate::writer::{Writer, markup};
 use doc_lines::scan::character::next_char;

@@ -5,7 +5,7 @@ ghost use Rattle.doc_rules.specs.Html.{html_of};
 ghost use Rattle.doc_rules.specs.Html as rules;
 ghost use Rattle.doc_rules.specs.Laws.{ShowsAlike};
 ghost use Rattle.doc_refs.specs.Targets.{targets_of};
-ghost use Rattle.doc_leaves.specs.Views.{blocks_shown};
+ghost use Rattle.doc_blocks_leaves.specs.Views.{blocks_shown};
 
 use crate::blocks::push_all;
 use crate::html_writer::HtmlWriter;

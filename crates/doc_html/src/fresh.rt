@@ -1,6 +1,6 @@
 //! Whether what is written next stands at the front of a line.
 ghost use Rattle.std.specs.Prelude.{◌≡◌, ◌==◌, chars};
-ghost use Rattle.doc_html.specs.Written.{fresh_behind};
+ghost use Rattle.doc_html.specs.WrittenSteps.{fresh_behind};
 
 use doc_lines::scan::character::last_char;
 

@@ -2,13 +2,13 @@
 ghost use Rattle.std.specs.Prelude.{◌≡◌, ◌++◌, string_bytes, IfOk, OnOk};
 ghost use Rattle.doc_page.specs.Escaping.{escaped};
 ghost use Rattle.doc_page.specs.Pages.{opening_tag, title_attribute};
-ghost use Rattle.doc_html.specs.Progress.{begun};
-ghost use Rattle.doc_html.specs.Written.{HoldsHtml, read_again};
+ghost use Rattle.doc_html.specs.ProgressSteps.{begun};
+ghost use Rattle.doc_html.specs.WrittenSteps.{HoldsHtml, read_again};
 
 use crate::fresh::fresh_behind;
 use crate::writer::Writer;
 use doc_heap::{Heap, String};
-use doc_marks::mark::Mark;
+use doc_inlines_marks::mark::Mark;
 use doc_page::escaping::push_escaped;
 use doc_page::failure::Memory;
 use doc_page::linker::{Linker, Shown};

@@ -5,16 +5,16 @@ ghost use Rattle.doc_rules.specs.Inlines as rules;
 ghost use Rattle.doc_rules.specs.Html.{characters, inline_html, inlines_html, span_start, span_end};
 ghost use Rattle.doc_page.specs.Pages.{title_attribute};
 ghost use Rattle.doc_refs.specs.Targets.{target_shown};
-ghost use Rattle.doc_marks.specs.Slices.{AreCut, IsCut, is_cut};
-ghost use Rattle.doc_marks.specs.Views.{inlines_in, inlines_shown, span_shown};
-ghost use Rattle.doc_html.specs.Progress.{Writes};
+ghost use Rattle.doc_inlines_marks.specs.Slices.{AreCut, IsCut, is_cut};
+ghost use Rattle.doc_inlines_marks.specs.Views.{inlines_in, inlines_shown, span_shown};
+ghost use Rattle.doc_html.specs.ProgressSteps.{Writes};
 ghost use Rattle.doc_html.specs.InlineSteps.{images_behind, mark_html, mark_plain};
 
 use crate::code::{push_nothing, push_space, push_spaced};
 use crate::escaping::url;
 use crate::writer::{Writer, markup};
 use doc_heap::Heap;
-use doc_marks::mark::{Mark, Span};
+use doc_inlines_marks::mark::{Mark, Span};
 use doc_page::failure::Memory;
 use doc_page::text::Text;
 use doc_refs::Target;
@@ -138,7 +138,7 @@ fn push_code<W: Writer>(writer: &mut W, text: &str) -> Result<(), Memory>
 }
 
 /// Writes the start of a span.
-#[tactic(auto, unfolding(doc_rules::specs::Html::span_start, doc_marks::specs::Views::span_shown))]
+#[tactic(auto, unfolding(doc_rules::specs::Html::span_start, doc_inlines_marks::specs::Views::span_shown))]
 fn push_start<W: Writer>(writer: &mut W, heap: Heap, span: &Span) -> Result<(), Memory>
     ensures { OnOk result (Writes W.holds writer.old writer.new (span_start (span_shown span.now))) }
 {
@@ -162,7 +162,7 @@ fn push_image_start<W: Writer>(writer: &mut W, heap: Heap, target: &Target) -> R
 }
 
 /// Writes the end of a span.
-#[tactic(auto, unfolding(doc_rules::specs::Html::span_end, doc_marks::specs::Views::span_shown))]
+#[tactic(auto, unfolding(doc_rules::specs::Html::span_end, doc_inlines_marks::specs::Views::span_shown))]
 fn push_end<W: Writer>(writer: &mut W, span: &Span) -> Result<(), Memory>
     ensures { OnOk result (Writes W.holds writer.old writer.new (characters (span_end (span_shown span.now)))) }
 {

@@ -7,8 +7,8 @@ ghost use Rattle.doc_rules.specs.Entities.{Table};
 ghost use Rattle.doc_rules.specs.Escaping.{html_escape};
 ghost use Rattle.doc_rules.specs.Html.{characters, class_attribute, first_word, language_class};
 ghost use Rattle.doc_refs.specs.Targets.{targets_of};
-ghost use Rattle.doc_html.specs.Progress.{Goes, Writes};
-ghost use Rattle.doc_html.specs.Telling.{leaf_told, code_told};
+ghost use Rattle.doc_html.specs.ProgressSteps.{Goes, Writes};
+ghost use Rattle.doc_html.specs.TellingSteps.{leaf_told, code_told};
 
 use crate::inlines::push_marks;
 use crate::reading::Source;

@@ -3,7 +3,7 @@ ghost use Rattle.std.specs.Prelude.{◌≡◌, List, chars, IfOk};
 ghost use Rattle.doc_rules.specs.Definitions.{Definition};
 ghost use Rattle.doc_rules.specs.Pages.{document_page, encoded, rendered_of};
 ghost use Rattle.doc_refs.specs.Targets.{targets_of};
-ghost use Rattle.doc_leaves.specs.Views.{blocks_shown};
+ghost use Rattle.doc_blocks_leaves.specs.Views.{blocks_shown};
 
 use crate::blocks::push_all;
 use crate::page_writer::PageWriter;

@@ -2,12 +2,12 @@
 ghost use Rattle.std.specs.Prelude.{◌≡◌, [], ◌∷◌, ◌++◌, chars, encode_utf8_all, string_bytes, IfOk, OnOk};
 ghost use Rattle.doc_rules.specs.CodeSpans.{spaced};
 ghost use Rattle.doc_rules.specs.PlainTexts.{plain_text};
-ghost use Rattle.doc_marks.specs.Views.{inlines_shown};
+ghost use Rattle.doc_inlines_marks.specs.Views.{inlines_shown};
 ghost use Rattle.doc_html.specs.InlineSteps.{mark_plain};
 
 use crate::code::first_line;
 use doc_heap::{Heap, String};
-use doc_marks::mark::Mark;
+use doc_inlines_marks::mark::Mark;
 use doc_page::failure::Memory;
 use doc_page::text::Text;
 

@@ -4,11 +4,11 @@ ghost use Rattle.doc_rules.specs.Escaping.{html_escape};
 ghost use Rattle.doc_rules.specs.Html.{characters, LinkTag};
 ghost use Rattle.doc_rules.specs.PlainTexts.{plain_text};
 ghost use Rattle.doc_refs.specs.Targets.{target_shown};
-ghost use Rattle.doc_marks.specs.Views.{inlines_shown};
-ghost use Rattle.doc_html.specs.Progress.{Progress, Goes, Writes, on_new_line, text_met, heading_met};
+ghost use Rattle.doc_inlines_marks.specs.Views.{inlines_shown};
+ghost use Rattle.doc_html.specs.ProgressSteps.{Progress, Goes, Writes, on_new_line, text_met, heading_met};
 ghost use Rattle.doc_html.specs.InlineSteps.{is_ascii};
 
-use doc_marks::mark::Mark;
+use doc_inlines_marks::mark::Mark;
 use doc_page::failure::Memory;
 use doc_refs::Target;
 

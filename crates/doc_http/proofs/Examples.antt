@@ -3,9 +3,9 @@ use Rattle.std.proofs.Common.{◌≡◌, [], ◌∷◌, true, false, codes, refl
 use Rattle.std.specs.Prelude.{Some, None}
 use Rattle.std.specs.Fmt.{digits}
 use Rattle.httparse.specs.Grammar.{crlf, trim_ows}
-use Rattle.doc_bodies.specs.Chunks.{extent_in, data_in}
-use Rattle.doc_bodies.specs.Framings.{framing_of, body_limit}
-use Rattle.doc_bodies.specs.Readings.{encoded_limit, reading_of}
+use Rattle.doc_http_bodies.specs.Chunks.{extent_in, data_in}
+use Rattle.doc_http_bodies.specs.Framings.{framing_of, body_limit}
+use Rattle.doc_http_bodies.specs.Readings.{encoded_limit, reading_of}
 use Rattle.doc_http.specs.declared.head.HeadSpan.TheVariants.{Unfinished, At}
 use Rattle.doc_http.specs.declared.request.Next.TheVariants as next
 use Rattle.doc_http.specs.declared.reply.Allow.TheVariants.{Page, Read}
@@ -18,7 +18,8 @@ use Rattle.doc_page.specs.Tokens.{is_token}
 
 -- one name to unfold where an example computes
 unfoldable computing : Unit {0}
-unfolding digits trim_ows head_limit head_span_of next_behind framing_of body_limit encoded_limit extent_in data_in reading_of is_token reason_of field_line reply_head reply_bytes
+unfolding digits trim_ows head_limit head_span_of next_behind framing_of body_limit encoded_limit extent_in data_in reading_of is_token
+    reason_of field_line reply_head reply_bytes
 computing = tt
 
 -- ---- heads
@@ -53,91 +54,336 @@ close_with_a_parameter = refl
 
 -- ---- requests
 
-a_request : request_of (codes "GET /page/a.md HTTP/1.1\r\nHost: docs\r\nAuthorization: Bearer tok-ann\r\n\r\n") (Some (record { blank = []; method = codes "GET"; target = codes "/page/a.md"; minor = 1; line_end = crlf; fields = record { name = codes "Host"; raw = codes " docs"; end = crlf } ∷ record { name = codes "Authorization"; raw = codes " Bearer tok-ann"; end = crlf } ∷ []; last = crlf })) ≡ next.Request 70 (record { method = codes "GET"; target = codes "/page/a.md"; authorization = Some (codes "Bearer tok-ann"); close = false; body = [] })
+a_request : request_of (codes "GET /page/a.md HTTP/1.1\r\nHost: docs\r\nAuthorization: Bearer tok-ann\r\n\r\n")
+    (Some (record {
+      blank = [];
+      method = codes "GET";
+      target = codes "/page/a.md";
+      minor = 1;
+      line_end = crlf;
+      fields = record { name = codes "Host"; raw = codes " docs"; end = crlf } ∷
+          record { name = codes "Authorization"; raw = codes " Bearer tok-ann"; end = crlf } ∷ [];
+      last = crlf;
+    }))
+    ≡ next.Request 70 (record {
+      method = codes "GET";
+      target = codes "/page/a.md";
+      authorization = Some (codes "Bearer tok-ann");
+      close = false;
+      body = [];
+    })
 unfolding computing
 a_request = refl
 
-a_request_and_more : request_of (codes "GET /page/a.md HTTP/1.1\r\nHost: docs\r\nAuthorization: Bearer tok-ann\r\n\r\nGET /") (Some (record { blank = []; method = codes "GET"; target = codes "/page/a.md"; minor = 1; line_end = crlf; fields = record { name = codes "Host"; raw = codes " docs"; end = crlf } ∷ record { name = codes "Authorization"; raw = codes " Bearer tok-ann"; end = crlf } ∷ []; last = crlf })) ≡ next.Request 70 (record { method = codes "GET"; target = codes "/page/a.md"; authorization = Some (codes "Bearer tok-ann"); close = false; body = [] })
+a_request_and_more : request_of (codes "GET /page/a.md HTTP/1.1\r\nHost: docs\r\nAuthorization: Bearer tok-ann\r\n\r\nGET /")
+    (Some (record {
+      blank = [];
+      method = codes "GET";
+      target = codes "/page/a.md";
+      minor = 1;
+      line_end = crlf;
+      fields = record { name = codes "Host"; raw = codes " docs"; end = crlf } ∷
+          record { name = codes "Authorization"; raw = codes " Bearer tok-ann"; end = crlf } ∷ [];
+      last = crlf;
+    }))
+    ≡ next.Request 70 (record {
+      method = codes "GET";
+      target = codes "/page/a.md";
+      authorization = Some (codes "Bearer tok-ann");
+      close = false;
+      body = [];
+    })
 unfolding computing
 a_request_and_more = refl
 
-without_authorization : request_of (codes "GET /page/a.md HTTP/1.1\r\nHost: docs\r\n\r\n") (Some (record { blank = []; method = codes "GET"; target = codes "/page/a.md"; minor = 1; line_end = crlf; fields = record { name = codes "Host"; raw = codes " docs"; end = crlf } ∷ []; last = crlf })) ≡ next.Request 39 (record { method = codes "GET"; target = codes "/page/a.md"; authorization = None; close = false; body = [] })
+without_authorization : request_of (codes "GET /page/a.md HTTP/1.1\r\nHost: docs\r\n\r\n")
+    (Some (record {
+      blank = [];
+      method = codes "GET";
+      target = codes "/page/a.md";
+      minor = 1;
+      line_end = crlf;
+      fields = record { name = codes "Host"; raw = codes " docs"; end = crlf } ∷ [];
+      last = crlf;
+    }))
+    ≡ next.Request 39 (record { method = codes "GET"; target = codes "/page/a.md"; authorization = None; close = false; body = [] })
 unfolding computing
 without_authorization = refl
 
-two_authorization_fields : request_of (codes "GET /page/a.md HTTP/1.1\r\nHost: docs\r\nAuthorization: Bearer tok-ann\r\nAuthorization: Bearer tok-ann\r\n\r\n") (Some (record { blank = []; method = codes "GET"; target = codes "/page/a.md"; minor = 1; line_end = crlf; fields = record { name = codes "Host"; raw = codes " docs"; end = crlf } ∷ record { name = codes "Authorization"; raw = codes " Bearer tok-ann"; end = crlf } ∷ record { name = codes "Authorization"; raw = codes " Bearer tok-ann"; end = crlf } ∷ []; last = crlf })) ≡ next.Fault 400 false
+two_authorization_fields : request_of
+    (codes "GET /page/a.md HTTP/1.1\r\nHost: docs\r\nAuthorization: Bearer tok-ann\r\nAuthorization: Bearer tok-ann\r\n\r\n")
+    (Some (record {
+      blank = [];
+      method = codes "GET";
+      target = codes "/page/a.md";
+      minor = 1;
+      line_end = crlf;
+      fields = record { name = codes "Host"; raw = codes " docs"; end = crlf } ∷
+          record { name = codes "Authorization"; raw = codes " Bearer tok-ann"; end = crlf } ∷
+          record { name = codes "Authorization"; raw = codes " Bearer tok-ann"; end = crlf } ∷ [];
+      last = crlf;
+    })) ≡ next.Fault 400 false
 unfolding computing
 two_authorization_fields = refl
 
-without_host : request_of (codes "GET /page/a.md HTTP/1.1\r\nAuthorization: Bearer tok-ann\r\n\r\n") (Some (record { blank = []; method = codes "GET"; target = codes "/page/a.md"; minor = 1; line_end = crlf; fields = record { name = codes "Authorization"; raw = codes " Bearer tok-ann"; end = crlf } ∷ []; last = crlf })) ≡ next.Fault 400 false
+without_host : request_of (codes "GET /page/a.md HTTP/1.1\r\nAuthorization: Bearer tok-ann\r\n\r\n")
+    (Some (record {
+      blank = [];
+      method = codes "GET";
+      target = codes "/page/a.md";
+      minor = 1;
+      line_end = crlf;
+      fields = record { name = codes "Authorization"; raw = codes " Bearer tok-ann"; end = crlf } ∷ [];
+      last = crlf;
+    })) ≡ next.Fault 400 false
 unfolding computing
 without_host = refl
 
-two_hosts : request_of (codes "GET / HTTP/1.1\r\nHost: docs\r\nhost:docs\r\n\r\n") (Some (record { blank = []; method = codes "GET"; target = codes "/"; minor = 1; line_end = crlf; fields = record { name = codes "Host"; raw = codes " docs"; end = crlf } ∷ record { name = codes "host"; raw = codes "docs"; end = crlf } ∷ []; last = crlf })) ≡ next.Fault 400 false
+two_hosts : request_of (codes "GET / HTTP/1.1\r\nHost: docs\r\nhost:docs\r\n\r\n")
+    (Some (record {
+      blank = [];
+      method = codes "GET";
+      target = codes "/";
+      minor = 1;
+      line_end = crlf;
+      fields = record { name = codes "Host"; raw = codes " docs"; end = crlf } ∷
+          record { name = codes "host"; raw = codes "docs"; end = crlf } ∷ [];
+      last = crlf;
+    })) ≡ next.Fault 400 false
 unfolding computing
 two_hosts = refl
 
-the_older_version : request_of (codes "GET /page/a.md HTTP/1.0\r\nAuthorization: Bearer tok-ann\r\n\r\n") (Some (record { blank = []; method = codes "GET"; target = codes "/page/a.md"; minor = 0; line_end = crlf; fields = record { name = codes "Authorization"; raw = codes " Bearer tok-ann"; end = crlf } ∷ []; last = crlf })) ≡ next.Request 58 (record { method = codes "GET"; target = codes "/page/a.md"; authorization = Some (codes "Bearer tok-ann"); close = true; body = [] })
+the_older_version : request_of (codes "GET /page/a.md HTTP/1.0\r\nAuthorization: Bearer tok-ann\r\n\r\n")
+    (Some (record {
+      blank = [];
+      method = codes "GET";
+      target = codes "/page/a.md";
+      minor = 0;
+      line_end = crlf;
+      fields = record { name = codes "Authorization"; raw = codes " Bearer tok-ann"; end = crlf } ∷ [];
+      last = crlf;
+    }))
+    ≡ next.Request 58 (record {
+      method = codes "GET";
+      target = codes "/page/a.md";
+      authorization = Some (codes "Bearer tok-ann");
+      close = true;
+      body = [];
+    })
 unfolding computing
 the_older_version = refl
 
-close_asked : request_of (codes "GET / HTTP/1.1\r\nHost: docs\r\nCONNECTION: keep-alive,\tClose \r\n\r\n") (Some (record { blank = []; method = codes "GET"; target = codes "/"; minor = 1; line_end = crlf; fields = record { name = codes "Host"; raw = codes " docs"; end = crlf } ∷ record { name = codes "CONNECTION"; raw = codes " keep-alive,\tClose "; end = crlf } ∷ []; last = crlf })) ≡ next.Request 62 (record { method = codes "GET"; target = codes "/"; authorization = None; close = true; body = [] })
+close_asked : request_of (codes "GET / HTTP/1.1\r\nHost: docs\r\nCONNECTION: keep-alive,\tClose \r\n\r\n")
+    (Some (record {
+      blank = [];
+      method = codes "GET";
+      target = codes "/";
+      minor = 1;
+      line_end = crlf;
+      fields = record { name = codes "Host"; raw = codes " docs"; end = crlf } ∷
+          record { name = codes "CONNECTION"; raw = codes " keep-alive,\tClose "; end = crlf } ∷ [];
+      last = crlf;
+    }))
+    ≡ next.Request 62 (record { method = codes "GET"; target = codes "/"; authorization = None; close = true; body = [] })
 unfolding computing
 close_asked = refl
 
-a_length : request_of (codes "PUT /page/a.md HTTP/1.1\r\nHost: docs\r\nContent-Length: 1\r\n\r\nxGET") (Some (record { blank = []; method = codes "PUT"; target = codes "/page/a.md"; minor = 1; line_end = crlf; fields = record { name = codes "Host"; raw = codes " docs"; end = crlf } ∷ record { name = codes "Content-Length"; raw = codes " 1"; end = crlf } ∷ []; last = crlf })) ≡ next.Request 59 (record { method = codes "PUT"; target = codes "/page/a.md"; authorization = None; close = false; body = codes "x" })
+a_length : request_of (codes "PUT /page/a.md HTTP/1.1\r\nHost: docs\r\nContent-Length: 1\r\n\r\nxGET")
+    (Some (record {
+      blank = [];
+      method = codes "PUT";
+      target = codes "/page/a.md";
+      minor = 1;
+      line_end = crlf;
+      fields = record { name = codes "Host"; raw = codes " docs"; end = crlf } ∷
+          record { name = codes "Content-Length"; raw = codes " 1"; end = crlf } ∷ [];
+      last = crlf;
+    }))
+    ≡ next.Request 59 (record { method = codes "PUT"; target = codes "/page/a.md"; authorization = None; close = false; body = codes "x" })
 unfolding computing
 a_length = refl
 
-a_length_undecided : request_of (codes "PUT /page/a.md HTTP/1.1\r\nHost: docs\r\nContent-Length: 2\r\n\r\nx") (Some (record { blank = []; method = codes "PUT"; target = codes "/page/a.md"; minor = 1; line_end = crlf; fields = record { name = codes "Host"; raw = codes " docs"; end = crlf } ∷ record { name = codes "Content-Length"; raw = codes " 2"; end = crlf } ∷ []; last = crlf })) ≡ next.More
+a_length_undecided : request_of (codes "PUT /page/a.md HTTP/1.1\r\nHost: docs\r\nContent-Length: 2\r\n\r\nx")
+    (Some (record {
+      blank = [];
+      method = codes "PUT";
+      target = codes "/page/a.md";
+      minor = 1;
+      line_end = crlf;
+      fields = record { name = codes "Host"; raw = codes " docs"; end = crlf } ∷
+          record { name = codes "Content-Length"; raw = codes " 2"; end = crlf } ∷ [];
+      last = crlf;
+    })) ≡ next.More
 unfolding computing
 a_length_undecided = refl
 
-no_length : request_of (codes "GET / HTTP/1.1\r\nHost: docs\r\ncontent-length:x\r\n\r\n") (Some (record { blank = []; method = codes "GET"; target = codes "/"; minor = 1; line_end = crlf; fields = record { name = codes "Host"; raw = codes " docs"; end = crlf } ∷ record { name = codes "content-length"; raw = codes "x"; end = crlf } ∷ []; last = crlf })) ≡ next.Fault 400 false
+no_length : request_of (codes "GET / HTTP/1.1\r\nHost: docs\r\ncontent-length:x\r\n\r\n")
+    (Some (record {
+      blank = [];
+      method = codes "GET";
+      target = codes "/";
+      minor = 1;
+      line_end = crlf;
+      fields = record { name = codes "Host"; raw = codes " docs"; end = crlf } ∷
+          record { name = codes "content-length"; raw = codes "x"; end = crlf } ∷ [];
+      last = crlf;
+    })) ≡ next.Fault 400 false
 unfolding computing
 no_length = refl
 
-too_long_a_body : request_of (codes "PUT /page/a.md HTTP/1.1\r\nHost: docs\r\nContent-Length: 1048577\r\n\r\n") (Some (record { blank = []; method = codes "PUT"; target = codes "/page/a.md"; minor = 1; line_end = crlf; fields = record { name = codes "Host"; raw = codes " docs"; end = crlf } ∷ record { name = codes "Content-Length"; raw = codes " 1048577"; end = crlf } ∷ []; last = crlf })) ≡ next.Fault 413 false
+too_long_a_body : request_of (codes "PUT /page/a.md HTTP/1.1\r\nHost: docs\r\nContent-Length: 1048577\r\n\r\n")
+    (Some (record {
+      blank = [];
+      method = codes "PUT";
+      target = codes "/page/a.md";
+      minor = 1;
+      line_end = crlf;
+      fields = record { name = codes "Host"; raw = codes " docs"; end = crlf } ∷
+          record { name = codes "Content-Length"; raw = codes " 1048577"; end = crlf } ∷ [];
+      last = crlf;
+    })) ≡ next.Fault 413 false
 unfolding computing
 too_long_a_body = refl
 
-too_long_a_body_by_head : request_of (codes "HEAD /page/a.md HTTP/1.1\r\nHost: docs\r\nContent-Length: 1048577\r\n\r\n") (Some (record { blank = []; method = codes "HEAD"; target = codes "/page/a.md"; minor = 1; line_end = crlf; fields = record { name = codes "Host"; raw = codes " docs"; end = crlf } ∷ record { name = codes "Content-Length"; raw = codes " 1048577"; end = crlf } ∷ []; last = crlf })) ≡ next.Fault 413 true
+too_long_a_body_by_head : request_of (codes "HEAD /page/a.md HTTP/1.1\r\nHost: docs\r\nContent-Length: 1048577\r\n\r\n")
+    (Some (record {
+      blank = [];
+      method = codes "HEAD";
+      target = codes "/page/a.md";
+      minor = 1;
+      line_end = crlf;
+      fields = record { name = codes "Host"; raw = codes " docs"; end = crlf } ∷
+          record { name = codes "Content-Length"; raw = codes " 1048577"; end = crlf } ∷ [];
+      last = crlf;
+    })) ≡ next.Fault 413 true
 unfolding computing
 too_long_a_body_by_head = refl
 
-chunks : request_of (codes "PUT /page/a.md HTTP/1.1\r\nHost: docs\r\nTransfer-Encoding: Chunked\r\n\r\n1\r\nh\r\n1\r\ni\r\n0\r\n\r\n") (Some (record { blank = []; method = codes "PUT"; target = codes "/page/a.md"; minor = 1; line_end = crlf; fields = record { name = codes "Host"; raw = codes " docs"; end = crlf } ∷ record { name = codes "Transfer-Encoding"; raw = codes " Chunked"; end = crlf } ∷ []; last = crlf })) ≡ next.Request 84 (record { method = codes "PUT"; target = codes "/page/a.md"; authorization = None; close = false; body = codes "hi" })
+chunks : request_of (codes "PUT /page/a.md HTTP/1.1\r\nHost: docs\r\nTransfer-Encoding: Chunked\r\n\r\n1\r\nh\r\n1\r\ni\r\n0\r\n\r\n")
+    (Some (record {
+      blank = [];
+      method = codes "PUT";
+      target = codes "/page/a.md";
+      minor = 1;
+      line_end = crlf;
+      fields = record { name = codes "Host"; raw = codes " docs"; end = crlf } ∷
+          record { name = codes "Transfer-Encoding"; raw = codes " Chunked"; end = crlf } ∷ [];
+      last = crlf;
+    }))
+    ≡ next.Request 84 (record { method = codes "PUT"; target = codes "/page/a.md"; authorization = None; close = false; body = codes "hi" })
 unfolding computing
 chunks = refl
 
-chunks_undecided : request_of (codes "PUT /page/a.md HTTP/1.1\r\nHost: docs\r\nTransfer-Encoding: chunked\r\n\r\n1\r\nh\r\n1\r\ni\r\n0\r\n\r") (Some (record { blank = []; method = codes "PUT"; target = codes "/page/a.md"; minor = 1; line_end = crlf; fields = record { name = codes "Host"; raw = codes " docs"; end = crlf } ∷ record { name = codes "Transfer-Encoding"; raw = codes " chunked"; end = crlf } ∷ []; last = crlf })) ≡ next.More
+chunks_undecided : request_of
+    (codes "PUT /page/a.md HTTP/1.1\r\nHost: docs\r\nTransfer-Encoding: chunked\r\n\r\n1\r\nh\r\n1\r\ni\r\n0\r\n\r")
+    (Some (record {
+      blank = [];
+      method = codes "PUT";
+      target = codes "/page/a.md";
+      minor = 1;
+      line_end = crlf;
+      fields = record { name = codes "Host"; raw = codes " docs"; end = crlf } ∷
+          record { name = codes "Transfer-Encoding"; raw = codes " chunked"; end = crlf } ∷ [];
+      last = crlf;
+    })) ≡ next.More
 unfolding computing
 chunks_undecided = refl
 
-a_fault_in_chunks : request_of (codes "HEAD / HTTP/1.1\r\nHost: docs\r\nTransfer-Encoding: chunked\r\n\r\n1\r\nhi\r\n") (Some (record { blank = []; method = codes "HEAD"; target = codes "/"; minor = 1; line_end = crlf; fields = record { name = codes "Host"; raw = codes " docs"; end = crlf } ∷ record { name = codes "Transfer-Encoding"; raw = codes " chunked"; end = crlf } ∷ []; last = crlf })) ≡ next.Fault 400 true
+a_fault_in_chunks : request_of (codes "HEAD / HTTP/1.1\r\nHost: docs\r\nTransfer-Encoding: chunked\r\n\r\n1\r\nhi\r\n")
+    (Some (record {
+      blank = [];
+      method = codes "HEAD";
+      target = codes "/";
+      minor = 1;
+      line_end = crlf;
+      fields = record { name = codes "Host"; raw = codes " docs"; end = crlf } ∷
+          record { name = codes "Transfer-Encoding"; raw = codes " chunked"; end = crlf } ∷ [];
+      last = crlf;
+    })) ≡ next.Fault 400 true
 unfolding computing
 a_fault_in_chunks = refl
 
-chunks_and_a_length : request_of (codes "PUT / HTTP/1.1\r\nHost: docs\r\nTransfer-Encoding: chunked\r\nContent-Length: 1\r\n\r\n") (Some (record { blank = []; method = codes "PUT"; target = codes "/"; minor = 1; line_end = crlf; fields = record { name = codes "Host"; raw = codes " docs"; end = crlf } ∷ record { name = codes "Transfer-Encoding"; raw = codes " chunked"; end = crlf } ∷ record { name = codes "Content-Length"; raw = codes " 1"; end = crlf } ∷ []; last = crlf })) ≡ next.Fault 400 false
+chunks_and_a_length : request_of (codes "PUT / HTTP/1.1\r\nHost: docs\r\nTransfer-Encoding: chunked\r\nContent-Length: 1\r\n\r\n")
+    (Some (record {
+      blank = [];
+      method = codes "PUT";
+      target = codes "/";
+      minor = 1;
+      line_end = crlf;
+      fields = record { name = codes "Host"; raw = codes " docs"; end = crlf } ∷
+          record { name = codes "Transfer-Encoding"; raw = codes " chunked"; end = crlf } ∷
+          record { name = codes "Content-Length"; raw = codes " 1"; end = crlf } ∷ [];
+      last = crlf;
+    })) ≡ next.Fault 400 false
 unfolding computing
 chunks_and_a_length = refl
 
-chunks_in_the_older_version : request_of (codes "PUT / HTTP/1.0\r\nTransfer-Encoding: chunked\r\n\r\n") (Some (record { blank = []; method = codes "PUT"; target = codes "/"; minor = 0; line_end = crlf; fields = record { name = codes "Transfer-Encoding"; raw = codes " chunked"; end = crlf } ∷ []; last = crlf })) ≡ next.Fault 400 false
+chunks_in_the_older_version : request_of (codes "PUT / HTTP/1.0\r\nTransfer-Encoding: chunked\r\n\r\n")
+    (Some (record {
+      blank = [];
+      method = codes "PUT";
+      target = codes "/";
+      minor = 0;
+      line_end = crlf;
+      fields = record { name = codes "Transfer-Encoding"; raw = codes " chunked"; end = crlf } ∷ [];
+      last = crlf;
+    })) ≡ next.Fault 400 false
 unfolding computing
 chunks_in_the_older_version = refl
 
-another_coding : request_of (codes "PUT / HTTP/1.1\r\nHost: docs\r\nTransfer-Encoding: gzip, chunked\r\nContent-Length:x\r\n\r\n") (Some (record { blank = []; method = codes "PUT"; target = codes "/"; minor = 1; line_end = crlf; fields = record { name = codes "Host"; raw = codes " docs"; end = crlf } ∷ record { name = codes "Transfer-Encoding"; raw = codes " gzip, chunked"; end = crlf } ∷ record { name = codes "Content-Length"; raw = codes "x"; end = crlf } ∷ []; last = crlf })) ≡ next.Fault 501 false
+another_coding : request_of (codes "PUT / HTTP/1.1\r\nHost: docs\r\nTransfer-Encoding: gzip, chunked\r\nContent-Length:x\r\n\r\n")
+    (Some (record {
+      blank = [];
+      method = codes "PUT";
+      target = codes "/";
+      minor = 1;
+      line_end = crlf;
+      fields = record { name = codes "Host"; raw = codes " docs"; end = crlf } ∷
+          record { name = codes "Transfer-Encoding"; raw = codes " gzip, chunked"; end = crlf } ∷
+          record { name = codes "Content-Length"; raw = codes "x"; end = crlf } ∷ [];
+      last = crlf;
+    })) ≡ next.Fault 501 false
 unfolding computing
 another_coding = refl
 
-another_coding_by_head : request_of (codes "HEAD / HTTP/1.1\r\nHost: docs\r\nTransfer-Encoding: gzip\r\n\r\n") (Some (record { blank = []; method = codes "HEAD"; target = codes "/"; minor = 1; line_end = crlf; fields = record { name = codes "Host"; raw = codes " docs"; end = crlf } ∷ record { name = codes "Transfer-Encoding"; raw = codes " gzip"; end = crlf } ∷ []; last = crlf })) ≡ next.Fault 501 true
+another_coding_by_head : request_of (codes "HEAD / HTTP/1.1\r\nHost: docs\r\nTransfer-Encoding: gzip\r\n\r\n")
+    (Some (record {
+      blank = [];
+      method = codes "HEAD";
+      target = codes "/";
+      minor = 1;
+      line_end = crlf;
+      fields = record { name = codes "Host"; raw = codes " docs"; end = crlf } ∷
+          record { name = codes "Transfer-Encoding"; raw = codes " gzip"; end = crlf } ∷ [];
+      last = crlf;
+    })) ≡ next.Fault 501 true
 unfolding computing
 another_coding_by_head = refl
 
-a_bad_head_by_head : request_of (codes "HEAD / HTTP/1.1\r\nTransfer-Encoding: gzip\r\n\r\n") (Some (record { blank = []; method = codes "HEAD"; target = codes "/"; minor = 1; line_end = crlf; fields = record { name = codes "Transfer-Encoding"; raw = codes " gzip"; end = crlf } ∷ []; last = crlf })) ≡ next.Fault 400 false
+a_bad_head_by_head : request_of (codes "HEAD / HTTP/1.1\r\nTransfer-Encoding: gzip\r\n\r\n")
+    (Some (record {
+      blank = [];
+      method = codes "HEAD";
+      target = codes "/";
+      minor = 1;
+      line_end = crlf;
+      fields = record { name = codes "Transfer-Encoding"; raw = codes " gzip"; end = crlf } ∷ [];
+      last = crlf;
+    })) ≡ next.Fault 400 false
 unfolding computing
 a_bad_head_by_head = refl
 
-head_has_case : request_of (codes "head / HTTP/1.1\r\nHost: docs\r\nTransfer-Encoding: gzip\r\n\r\n") (Some (record { blank = []; method = codes "head"; target = codes "/"; minor = 1; line_end = crlf; fields = record { name = codes "Host"; raw = codes " docs"; end = crlf } ∷ record { name = codes "Transfer-Encoding"; raw = codes " gzip"; end = crlf } ∷ []; last = crlf })) ≡ next.Fault 501 false
+head_has_case : request_of (codes "head / HTTP/1.1\r\nHost: docs\r\nTransfer-Encoding: gzip\r\n\r\n")
+    (Some (record {
+      blank = [];
+      method = codes "head";
+      target = codes "/";
+      minor = 1;
+      line_end = crlf;
+      fields = record { name = codes "Host"; raw = codes " docs"; end = crlf } ∷
+          record { name = codes "Transfer-Encoding"; raw = codes " gzip"; end = crlf } ∷ [];
+      last = crlf;
+    })) ≡ next.Fault 501 false
 unfolding computing
 head_has_case = refl
 
@@ -189,46 +435,71 @@ no_value = refl
 
 -- ---- replies
 
-a_page : reply_bytes (record { code = 200; html = true; allow = None; location = None; body = codes "<!DOCTYPE html>\n<title>a.md</title>\n<p>Hello</p>\n" }) false false ≡ codes "HTTP/1.1 200 OK\r\nContent-Type: text/html; charset=utf-8\r\nContent-Length: 49\r\n\r\n<!DOCTYPE html>\n<title>a.md</title>\n<p>Hello</p>\n"
+a_page : reply_bytes (record {
+  code = 200;
+  html = true;
+  allow = None;
+  location = None;
+  body = codes
+      "<!DOCTYPE html>\n<title>a.md</title>\n<p>Hello</p>\n";
+}) false false
+    ≡ codes "HTTP/1.1 200 OK\r\nContent-Type: text/html; charset=utf-8\r\nContent-Length: 49\r\n\r\n<!DOCTYPE html>\n<title>a.md</title>\n<p>Hello</p>\n"
 unfolding computing
 a_page = refl
 
-a_page_by_its_head : reply_bytes (record { code = 200; html = true; allow = None; location = None; body = codes "<!DOCTYPE html>\n<title>a.md</title>\n<p>Hello</p>\n" }) true false ≡ codes "HTTP/1.1 200 OK\r\nContent-Type: text/html; charset=utf-8\r\nContent-Length: 49\r\n\r\n"
+a_page_by_its_head : reply_bytes (record {
+  code = 200;
+  html = true;
+  allow = None;
+  location = None;
+  body = codes
+      "<!DOCTYPE html>\n<title>a.md</title>\n<p>Hello</p>\n";
+}) true false
+    ≡ codes "HTTP/1.1 200 OK\r\nContent-Type: text/html; charset=utf-8\r\nContent-Length: 49\r\n\r\n"
 unfolding computing
 a_page_by_its_head = refl
 
-plain_text : reply_bytes (record { code = 200; html = false; allow = None; location = None; body = codes "1\ta.md\n" }) false true ≡ codes "HTTP/1.1 200 OK\r\nContent-Type: text/plain; charset=utf-8\r\nContent-Length: 7\r\nConnection: close\r\n\r\n1\ta.md\n"
+plain_text : reply_bytes (record { code = 200; html = false; allow = None; location = None; body = codes "1\ta.md\n" }) false true
+    ≡ codes "HTTP/1.1 200 OK\r\nContent-Type: text/plain; charset=utf-8\r\nContent-Length: 7\r\nConnection: close\r\n\r\n1\ta.md\n"
 unfolding computing
 plain_text = refl
 
-no_reader : reply_bytes (record { code = 401; html = false; allow = None; location = None; body = [] }) false false ≡ codes "HTTP/1.1 401 Unauthorized\r\nContent-Type: text/plain; charset=utf-8\r\nContent-Length: 17\r\nWWW-Authenticate: Bearer realm=\"docs\"\r\n\r\n401 Unauthorized\n"
+no_reader : reply_bytes (record { code = 401; html = false; allow = None; location = None; body = [] }) false false
+    ≡ codes "HTTP/1.1 401 Unauthorized\r\nContent-Type: text/plain; charset=utf-8\r\nContent-Length: 17\r\nWWW-Authenticate: Bearer realm=\"docs\"\r\n\r\n401 Unauthorized\n"
 unfolding computing
 no_reader = refl
 
-a_bad_request : reply_bytes (record { code = 400; html = false; allow = None; location = None; body = [] }) false true ≡ codes "HTTP/1.1 400 Bad Request\r\nContent-Type: text/plain; charset=utf-8\r\nContent-Length: 16\r\nConnection: close\r\n\r\n400 Bad Request\n"
+a_bad_request : reply_bytes (record { code = 400; html = false; allow = None; location = None; body = [] }) false true
+    ≡ codes "HTTP/1.1 400 Bad Request\r\nContent-Type: text/plain; charset=utf-8\r\nContent-Length: 16\r\nConnection: close\r\n\r\n400 Bad Request\n"
 unfolding computing
 a_bad_request = refl
 
-not_found : reply_bytes (record { code = 404; html = false; allow = None; location = None; body = [] }) false false ≡ codes "HTTP/1.1 404 Not Found\r\nContent-Type: text/plain; charset=utf-8\r\nContent-Length: 14\r\n\r\n404 Not Found\n"
+not_found : reply_bytes (record { code = 404; html = false; allow = None; location = None; body = [] }) false false
+    ≡ codes "HTTP/1.1 404 Not Found\r\nContent-Type: text/plain; charset=utf-8\r\nContent-Length: 14\r\n\r\n404 Not Found\n"
 unfolding computing
 not_found = refl
 
-no_content : reply_bytes (record { code = 204; html = false; allow = None; location = None; body = [] }) false false ≡ codes "HTTP/1.1 204 No Content\r\n\r\n"
+no_content : reply_bytes (record { code = 204; html = false; allow = None; location = None; body = [] }) false false
+    ≡ codes "HTTP/1.1 204 No Content\r\n\r\n"
 unfolding computing
 no_content = refl
 
-too_long_a_head : reply_bytes (record { code = 431; html = false; allow = None; location = None; body = [] }) false true ≡ codes "HTTP/1.1 431 Request Header Fields Too Large\r\nContent-Type: text/plain; charset=utf-8\r\nContent-Length: 36\r\nConnection: close\r\n\r\n431 Request Header Fields Too Large\n"
+too_long_a_head : reply_bytes (record { code = 431; html = false; allow = None; location = None; body = [] }) false true
+    ≡ codes "HTTP/1.1 431 Request Header Fields Too Large\r\nContent-Type: text/plain; charset=utf-8\r\nContent-Length: 36\r\nConnection: close\r\n\r\n431 Request Header Fields Too Large\n"
 unfolding computing
 too_long_a_head = refl
 
-another_method : reply_bytes (record { code = 405; html = false; allow = Some Page; location = None; body = [] }) false false ≡ codes "HTTP/1.1 405 Method Not Allowed\r\nContent-Type: text/plain; charset=utf-8\r\nContent-Length: 23\r\nAllow: GET, HEAD, PUT, DELETE\r\n\r\n405 Method Not Allowed\n"
+another_method : reply_bytes (record { code = 405; html = false; allow = Some Page; location = None; body = [] }) false false
+    ≡ codes "HTTP/1.1 405 Method Not Allowed\r\nContent-Type: text/plain; charset=utf-8\r\nContent-Length: 23\r\nAllow: GET, HEAD, PUT, DELETE\r\n\r\n405 Method Not Allowed\n"
 unfolding computing
 another_method = refl
 
-a_resource_to_read : reply_bytes (record { code = 405; html = false; allow = Some Read; location = None; body = [] }) false true ≡ codes "HTTP/1.1 405 Method Not Allowed\r\nContent-Type: text/plain; charset=utf-8\r\nContent-Length: 23\r\nAllow: GET, HEAD\r\nConnection: close\r\n\r\n405 Method Not Allowed\n"
+a_resource_to_read : reply_bytes (record { code = 405; html = false; allow = Some Read; location = None; body = [] }) false true
+    ≡ codes "HTTP/1.1 405 Method Not Allowed\r\nContent-Type: text/plain; charset=utf-8\r\nContent-Length: 23\r\nAllow: GET, HEAD\r\nConnection: close\r\n\r\n405 Method Not Allowed\n"
 unfolding computing
 a_resource_to_read = refl
 
-moved : reply_bytes (record { code = 301; html = false; allow = None; location = Some (codes "/page/b.md"); body = [] }) false false ≡ codes "HTTP/1.1 301 Moved Permanently\r\nContent-Type: text/plain; charset=utf-8\r\nContent-Length: 22\r\nLocation: /page/b.md\r\n\r\n301 Moved Permanently\n"
+moved : reply_bytes (record { code = 301; html = false; allow = None; location = Some (codes "/page/b.md"); body = [] }) false false
+    ≡ codes "HTTP/1.1 301 Moved Permanently\r\nContent-Type: text/plain; charset=utf-8\r\nContent-Length: 22\r\nLocation: /page/b.md\r\n\r\n301 Moved Permanently\n"
 unfolding computing
 moved = refl

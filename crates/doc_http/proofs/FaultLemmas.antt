@@ -7,14 +7,14 @@ use Rattle.doc_http.specs.Heads.{head_span_of}
 use Rattle.doc_http.specs.Requests.{is_bad, is_bare, next_at, next_behind, next_framed, next_read, request_with}
 use Rattle.doc_http.specs.declared.head.HeadSpan.{HeadSpan}
 use Rattle.doc_http.specs.declared.head.HeadSpan.TheVariants.{Unfinished, TooLong, At}
-use Rattle.doc_bodies.specs.declared.fault.Fault.{Fault as BodyFault}
-use Rattle.doc_bodies.specs.declared.framing.Framing.{Framing}
-use Rattle.doc_bodies.specs.declared.reader.Reading.{Reading}
-use Rattle.doc_bodies.specs.declared.reader.Reading.TheVariants.{More, Fault, Whole}
-use Rattle.doc_bodies.specs.Framings.{framing_of}
-use Rattle.doc_bodies.specs.Readings.{reading_of}
-use Rattle.doc_bodies.specs.declared.fault.Fault.TheVariants as faults
-use Rattle.doc_bodies.specs.Faults.{code_of}
+use Rattle.doc_http_bodies.specs.declared.fault.Fault.{Fault as BodyFault}
+use Rattle.doc_http_bodies.specs.declared.framing.Framing.{Framing}
+use Rattle.doc_http_bodies.specs.declared.reader.Reading.{Reading}
+use Rattle.doc_http_bodies.specs.declared.reader.Reading.TheVariants.{More, Fault, Whole}
+use Rattle.doc_http_bodies.specs.Framings.{framing_of}
+use Rattle.doc_http_bodies.specs.Readings.{reading_of}
+use Rattle.doc_http_bodies.specs.declared.fault.Fault.TheVariants as faults
+use Rattle.doc_http_bodies.specs.Faults.{code_of}
 use Rattle.doc_http.specs.declared.request.Next.{Next}
 use Rattle.doc_http.specs.declared.request.Next.TheVariants as nexts
 use Rattle.doc_http.specs.declared.request.Request.{Request}
@@ -36,7 +36,8 @@ by_reading request bare end More = tt
 by_reading request bare end (Fault fault) = by_fault fault
 by_reading request bare end (Whole used body) = tt
 
-by_framing : (request : List ℕ → Request) (bare : Bool) (end : ℕ) (rest : List ℕ) (framing : Result Framing BodyFault) → HasCode (next_framed request bare end rest framing)
+by_framing : (request : List ℕ → Request) (bare : Bool) (end : ℕ) (rest : List ℕ) (framing : Result Framing BodyFault)
+    → HasCode (next_framed request bare end rest framing)
 by_framing request bare end rest (Err fault) = by_fault fault
 by_framing request bare end rest (Ok framing) = by_reading request bare end (reading_of framing rest)
 
@@ -49,7 +50,8 @@ unfolding next_behind
 behind_has_code text None end rest = refl
 behind_has_code text (Some head) end rest =
     by_counts (is_bad text (Some head)) _
-    (by_framing (λ body. request_with head.method head.target head.minor (fields_of head) body) (is_bare head.method) end rest (framing_of (head.minor == 0) (fields_of head)))
+    (by_framing (λ body. request_with head.method head.target head.minor (fields_of head) body) (is_bare head.method) end rest
+    (framing_of (head.minor == 0) (fields_of head)))
 
 next_has_code : (bytes : List ℕ) (span : HeadSpan) (read : Option RequestHead) → HasCode (next_at bytes span read)
 next_has_code bytes Unfinished read = tt

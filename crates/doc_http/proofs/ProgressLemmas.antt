@@ -1,17 +1,47 @@
 -- What is known of unread bytes, and what they begin with.
-use Rattle.std.proofs.Common.{◌≡◌, ℕ, ◌==◌, ◌-◌, ◌<◌, ◌≤◌, ◌^◌, true, false, List, [], ◌++◌, Option, Some, None, length, take, drop, slice_range, refl, ap, sym, ◌∙◌, subst, arith, length-drop, length-append, append-nil, T}
+use Rattle.std.proofs.Common.{
+  ◌≡◌,
+  ℕ,
+  ◌==◌,
+  ◌-◌,
+  ◌<◌,
+  ◌≤◌,
+  ◌^◌,
+  true,
+  false,
+  List,
+  [],
+  ◌++◌,
+  Option,
+  Some,
+  None,
+  length,
+  take,
+  drop,
+  slice_range,
+  refl,
+  ap,
+  sym,
+  ◌∙◌,
+  subst,
+  arith,
+  length-drop,
+  length-append,
+  append-nil,
+  T,
+}
 use Rattle.std.specs.Prelude.{Result, Ok, Err, OnErr, if◌then◌else◌}
 use Rattle.std.proofs.lemmas.List.{drop-append-le, append_assoc, take_rest}
 use Rattle.httparse.proofs.GrammarLemmas.{request_unique}
 use Rattle.httparse.specs.Grammar.{RequestHead}
-use Rattle.doc_bodies.specs.declared.framing.Framing.{Framing}
-use Rattle.doc_bodies.specs.declared.reader.BodyReader.{BodyReader}
-use Rattle.doc_bodies.specs.declared.reader.Reading.{Reading}
-use Rattle.doc_bodies.specs.declared.reader.Reading.TheVariants.{More, Fault, Whole}
-use Rattle.doc_bodies.specs.Framings.{framing_of}
-use Rattle.doc_bodies.specs.Knowledge.{KnowsOf}
-use Rattle.doc_bodies.specs.Readings.{reading_of, IsWhole}
-use Rattle.doc_bodies.proofs.LawLemmas.{knows_more, takes_bytes}
+use Rattle.doc_http_bodies.specs.declared.framing.Framing.{Framing}
+use Rattle.doc_http_bodies.specs.declared.reader.BodyReader.{BodyReader}
+use Rattle.doc_http_bodies.specs.declared.reader.Reading.{Reading}
+use Rattle.doc_http_bodies.specs.declared.reader.Reading.TheVariants.{More, Fault, Whole}
+use Rattle.doc_http_bodies.specs.Framings.{framing_of}
+use Rattle.doc_http_bodies.specs.KnowledgeSteps.{KnowsOf}
+use Rattle.doc_http_bodies.specs.Readings.{reading_of, IsWhole}
+use Rattle.doc_http_bodies.proofs.LawLemmas.{knows_more, takes_bytes}
 use Rattle.doc_http.specs.declared.head.HeadSearch.{HeadSearch}
 use Rattle.doc_http.specs.declared.head.HeadSpan.{HeadSpan}
 use Rattle.doc_http.specs.declared.head.HeadSpan.TheVariants.{Unfinished, TooLong, At}
@@ -22,8 +52,20 @@ use Rattle.doc_http.specs.declared.request.Next.TheVariants as next
 use Rattle.doc_http.specs.BuildingSteps.{EndsWithin}
 use Rattle.doc_http.specs.Fields.{fields_of}
 use Rattle.doc_http.specs.Heads.{head_limit, head_span_of, IsHead, IsRead}
-use Rattle.doc_http.specs.Knowledge.{CameTo, IsAtBody, Holds, Knows}
-use Rattle.doc_http.specs.Requests.{is_bad, is_bare, request_with, next_read, next_with, next_behind, next_at, IsReadAt, IsNext, IsRequest, BeginsWithRequest}
+use Rattle.doc_http.specs.KnowledgeSteps.{CameTo, IsAtBody, Holds, Knows}
+use Rattle.doc_http.specs.Requests.{
+  is_bad,
+  is_bare,
+  request_with,
+  next_read,
+  next_with,
+  next_behind,
+  next_at,
+  IsReadAt,
+  IsNext,
+  IsRequest,
+  BeginsWithRequest,
+}
 use Rattle.doc_http.proofs.LawLemmas.{same_text}
 use Rattle.doc_http.proofs.ReadLemmas.{with_reading}
 use Rattle.doc_http.proofs.SpanLemmas.{StaysSettled, span_stays, places}
@@ -38,13 +80,16 @@ holds_now progress bytes knows = subst (λ b. Holds progress b) (append-nil byte
 -- it stays true when more bytes follow
 pub knows_more_bytes : (progress : Progress) (bytes more : List ℕ) → Knows progress bytes → Knows progress (bytes ++ more)
 unfolding Knows
-knows_more_bytes progress bytes more knows after = subst (λ b. Holds progress b) (sym (append_assoc bytes more after)) (knows (more ++ after))
+knows_more_bytes progress bytes more knows after = subst (λ b. Holds progress b) (sym (append_assoc bytes more after))
+    (knows (more ++ after))
 
-pub knows_head : (search : HeadSearch) (bytes : List ℕ) → ((more : List ℕ) → CameTo search (take head_limit (bytes ++ more))) → Knows (Head search) bytes
+pub knows_head : (search : HeadSearch) (bytes : List ℕ) → ((more : List ℕ) → CameTo search (take head_limit (bytes ++ more)))
+    → Knows (Head search) bytes
 unfolding Knows
 knows_head search bytes came = came
 
-pub knows_body : (start end : ℕ) (reader : BodyReader) (bytes : List ℕ) → IsAtBody start end reader bytes → Knows (Body start end reader) bytes
+pub knows_body : (start end : ℕ) (reader : BodyReader) (bytes : List ℕ) → IsAtBody start end reader bytes
+    → Knows (Body start end reader) bytes
 unfolding Knows
 knows_body start end reader bytes (head, lies, is_head, good, framed, knows) more =
     let inside = places bytes start end (sym lies) in
@@ -71,10 +116,12 @@ unfinished bytes lies = next_by_span bytes Unfinished (sym lies) None refl next.
 pub too_long : (bytes : List ℕ) → TooLong ≡ head_span_of bytes → IsNext bytes (next.Fault 431 false)
 too_long bytes lies = next_by_span bytes TooLong (sym lies) None refl (next.Fault 431 false) refl
 
-bad_behind : (text : List ℕ) (read : Option RequestHead) (end : ℕ) (rest : List ℕ) → is_bad text read ≡ true → next.Fault 400 false ≡ next_behind text read end rest
+bad_behind : (text : List ℕ) (read : Option RequestHead) (end : ℕ) (rest : List ℕ) → is_bad text read ≡ true
+    → next.Fault 400 false ≡ next_behind text read end rest
 unfolding next_behind
 bad_behind text None end rest bad = refl
-bad_behind text (Some head) end rest bad = sym (ap (λ t. if t then next.Fault 400 false else next_with head.method head.target head.minor (fields_of head) end rest) bad)
+bad_behind text (Some head) end rest bad = sym
+    (ap (λ t. if t then next.Fault 400 false else next_with head.method head.target head.minor (fields_of head) end rest) bad)
 
 module _ (bytes : List ℕ) (start end : ℕ) (lies : head_span_of bytes ≡ At start end) where
   pub bad_head : (read : Option RequestHead) → IsRead (slice_range bytes start end) read → is_bad (slice_range bytes start end) read ≡ true
@@ -86,18 +133,23 @@ module _ (bytes : List ℕ) (start end : ℕ) (lies : head_span_of bytes ≡ At 
       → found ≡ next_behind (slice_range bytes start end) (Some head) end (drop end bytes) → IsNext bytes found
   good_head head is found e = next_by_span bytes (At start end) lies (Some head) is found e
 
-  module _ (head : RequestHead) (is_head : IsHead (slice_range bytes start end) head) (good : is_bad (slice_range bytes start end) (Some head) ≡ false)
+  module _ (head : RequestHead) (is_head : IsHead (slice_range bytes start end) head)
+      (good : is_bad (slice_range bytes start end) (Some head) ≡ false)
       (framing : Framing) (framed : framing_of (head.minor == 0) (fields_of head) ≡ Ok framing) where
     abbrev read_so : Reading → Next
-    read_so reading = next_read (λ body. request_with head.method head.target head.minor (fields_of head) body) (is_bare head.method) end reading
+    read_so reading = next_read (λ body. request_with head.method head.target head.minor (fields_of head) body) (is_bare head.method) end
+        reading
 
     pub reading_found : (reading : Reading) → reading ≡ reading_of framing (drop end bytes) → (found : Next)
-        → found ≡ next_read (λ body. request_with head.method head.target head.minor (fields_of head) body) (is_bare head.method) end reading → IsNext bytes found
+        → found ≡ next_read (λ body. request_with head.method head.target head.minor (fields_of head) body) (is_bare head.method) end
+        reading → IsNext bytes found
     reading_found reading is found e =
-        good_head head is_head found (e ∙ with_reading (slice_range bytes start end) head end (drop end bytes) framing reading good framed is)
+        good_head head is_head found (e ∙ with_reading (slice_range bytes start end) head end (drop end bytes) framing reading good framed
+        is)
 
     pub reading_begins : (reading : Reading) → reading ≡ reading_of framing (drop end bytes)
-        → IsRequest (next_read (λ body. request_with head.method head.target head.minor (fields_of head) body) (is_bare head.method) end reading) → BeginsWithRequest bytes
+        → IsRequest (next_read (λ body. request_with head.method head.target head.minor (fields_of head) body) (is_bare head.method) end
+        reading) → BeginsWithRequest bytes
     reading_begins reading is request = (read_so reading, reading_found reading is (read_so reading) refl, request)
 
     whole_is_request : (reading : Reading) → IsWhole reading → IsRequest (read_so reading)
@@ -106,7 +158,8 @@ module _ (bytes : List ℕ) (start end : ℕ) (lies : head_span_of bytes ≡ At 
     whole_is_request (Whole used body) whole = tt
 
     pub whole_begins : IsWhole (reading_of framing (drop end bytes)) → BeginsWithRequest bytes
-    whole_begins whole = reading_begins (reading_of framing (drop end bytes)) refl (whole_is_request (reading_of framing (drop end bytes)) whole)
+    whole_begins whole = reading_begins (reading_of framing (drop end bytes)) refl
+        (whole_is_request (reading_of framing (drop end bytes)) whole)
 
 -- ---- the place behind the body
 
@@ -131,7 +184,8 @@ pub whole_rest : (bytes : List ℕ) (end : ℕ) (known framing : Framing) → kn
 whole_rest bytes end known framing same whole =
     subst IsWhole (at_rest bytes end known framing (reading_of known (take (length bytes - end) (drop end bytes))) same refl) whole
 
-pub knows_rest : (bytes : List ℕ) (end : ℕ) (reader : BodyReader) → KnowsOf reader (take (length bytes - end) (drop end bytes)) → KnowsOf reader (drop end bytes)
+pub knows_rest : (bytes : List ℕ) (end : ℕ) (reader : BodyReader) → KnowsOf reader (take (length bytes - end) (drop end bytes))
+    → KnowsOf reader (drop end bytes)
 knows_rest bytes end reader knows = subst (λ r. KnowsOf reader r) (take_rest bytes end) knows
 
 -- a good head is the one that is read
@@ -142,7 +196,8 @@ pub not_bad : (text : List ℕ) (head : RequestHead) → IsHead text head → is
     → (read : Option RequestHead) → IsRead text read → is_bad text read ≡ true → ⊥
 not_bad text head is_head good None is bad = is head is_head
 not_bad text head is_head good (Some other) is bad =
-    let same : is_bad text (Some other) ≡ is_bad text (Some head) = ap (λ h. is_bad text (Some h)) (read_again text other head is is_head) in
+    let same : is_bad text (Some other) ≡ is_bad text (Some head) = ap (λ h. is_bad text (Some h)) (read_again text other head is is_head)
+    in
     subst (λ b. T b) (sym bad ∙ same ∙ good) tt
 
 pub on_err : {X E P : Type 0} (result : Result X E) → P → OnErr result P
@@ -151,9 +206,11 @@ on_err (Err e) p = p
 
 -- ---- the unread bytes in their buffer
 
-pub pushed : (progress : Progress) (taken : ℕ) (old new more : List ℕ) → new ≡ old ++ more → taken ≤ length old → Knows progress (drop taken old)
+pub pushed : (progress : Progress) (taken : ℕ) (old new more : List ℕ) → new ≡ old ++ more → taken ≤ length old
+    → Knows progress (drop taken old)
     → (taken ≤ length new) × Knows progress (drop taken new)
 pushed progress taken old new more is within knows = (
   omega (arith, within, ap length is, length-append old more),
-  subst (λ b. Knows progress b) (sym (ap (drop taken) is ∙ drop-append-le taken old more within)) (knows_more_bytes progress (drop taken old) more knows),
+  subst (λ b. Knows progress b) (sym (ap (drop taken) is ∙ drop-append-le taken old more within))
+      (knows_more_bytes progress (drop taken old) more knows),
 )

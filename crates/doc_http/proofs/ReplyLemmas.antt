@@ -1,5 +1,29 @@
 -- How long the content of a reply is.
-use Rattle.std.proofs.Common.{◌≡◌, ◌≢◌, ℕ, ◌+◌, ◌/◌, ◌%◌, ◌<◌, ◌≤◌, ◌==◌, true, false, List, [], ◌∷◌, ◌++◌, length, codes, refl, ap, ◌∙◌, sym, arith, length-append}
+use Rattle.std.proofs.Common.{
+  ◌≡◌,
+  ◌≢◌,
+  ℕ,
+  ◌+◌,
+  ◌/◌,
+  ◌%◌,
+  ◌<◌,
+  ◌≤◌,
+  ◌==◌,
+  true,
+  false,
+  List,
+  [],
+  ◌∷◌,
+  ◌++◌,
+  length,
+  codes,
+  refl,
+  ap,
+  ◌∙◌,
+  sym,
+  arith,
+  length-append,
+}
 use Rattle.std.specs.Prelude.{decimal, if◌then◌else◌}
 use Rattle.std.proofs.lemmas.Bool.Decides.{nat_tests}
 use Rattle.std.proofs.lemmas.List.{append_assoc}
@@ -27,9 +51,16 @@ length_of_line : (code : ℕ) → is_reply_code code ≡ true → length (reason
 length_of_line code known =
     let range = in_range code known in
     let digits = three_digits code range.0 range.1 in
-    omega (arith, length-append (status_of code) (codes "\n"), length-append (decimal code ++ codes " ") (reason_of code), length-append (decimal code) (codes " "))
+    omega (
+      arith,
+      length-append (status_of code) (codes "\n"),
+      length-append (decimal code ++ codes " ") (reason_of code),
+      length-append
+          (decimal code) (codes " "),
+    )
 
-pub length_of_content : (reply : Reply) → is_reply_code reply.code ≡ true → reply.code ≢ 200 → length (reason_of reply.code) + 5 ≡ length (content_of reply)
+pub length_of_content : (reply : Reply) → is_reply_code reply.code ≡ true → reply.code ≢ 200
+    → length (reason_of reply.code) + 5 ≡ length (content_of reply)
 length_of_content reply known other =
     let test : (reply.code == 200) ≡ false = grind (arith, nat_tests) in
     length_of_line reply.code known ∙ ap (λ t. length (if t then reply.body else status_of reply.code ++ codes "\n")) (sym test)

@@ -1,5 +1,29 @@
 -- Where a head lies: inside the bytes, at the same place when more bytes come.
-use Rattle.std.proofs.Common.{◌≡◌, ℕ, suc, ◌+◌, ◌-◌, ◌≤◌, List, [], ◌∷◌, ◌++◌, Bool, true, false, cond, length, take, refl, ap, sym, ◌∙◌, subst, arith, nat_eq}
+use Rattle.std.proofs.Common.{
+  ◌≡◌,
+  ℕ,
+  suc,
+  ◌+◌,
+  ◌-◌,
+  ◌≤◌,
+  List,
+  [],
+  ◌∷◌,
+  ◌++◌,
+  Bool,
+  true,
+  false,
+  cond,
+  length,
+  take,
+  refl,
+  ap,
+  sym,
+  ◌∙◌,
+  subst,
+  arith,
+  nat_eq,
+}
 use Rattle.std.specs.Prelude.{Option, Some, None, nat_le, ⊤}
 use Rattle.std.specs.List.{starts_with}
 use Rattle.std.specs.Option.{option_map}
@@ -18,7 +42,8 @@ skipped [] = omega arith
 skipped (a ∷ []) = omega arith
 skipped (a ∷ b ∷ rest) = by_test (skipped rest) (starts_with nat_eq (a ∷ b ∷ rest) line_end)
   where
-    by_test : length (skip_empty_lines rest) ≤ length rest → (t : Bool) → length (cond t (skip_empty_lines rest) (a ∷ b ∷ rest)) ≤ length (a ∷ b ∷ rest)
+    by_test : length (skip_empty_lines rest) ≤ length rest → (t : Bool)
+        → length (cond t (skip_empty_lines rest) (a ∷ b ∷ rest)) ≤ length (a ∷ b ∷ rest)
     by_test h true = omega arith
     by_test h false = omega arith
 
@@ -41,7 +66,8 @@ head_within : (text : List ℕ) → IsLength (length text) (head_len text)
 head_within [] = tt
 head_within (b ∷ rest) = by_test (head_within rest) (starts_with nat_eq (b ∷ rest) head_end) refl
   where
-    by_test : IsLength (length rest) (head_len rest) → (t : Bool) → starts_with nat_eq (b ∷ rest) head_end ≡ t → IsLength (length (b ∷ rest)) (cond t (Some 4) (option_map (λ len. 1 + len) (head_len rest)))
+    by_test : IsLength (length rest) (head_len rest) → (t : Bool) → starts_with nat_eq (b ∷ rest) head_end ≡ t
+        → IsLength (length (b ∷ rest)) (cond t (Some 4) (option_map (λ len. 1 + len) (head_len rest)))
     by_test h true e = (omega arith, four_at b rest e)
     by_test h false e = longer (length rest) (head_len rest) h
 
@@ -58,7 +84,8 @@ inside_at full start n k (Some len) h le = (omega arith, omega arith)
 
 inside_in : (front : List ℕ) (full : Bool) → IsInside (length front) (head_span_in front full)
 inside_in front full =
-    inside_at full (length front - length (skip_empty_lines front)) (length (skip_empty_lines front)) (length front) (head_len (skip_empty_lines front)) (head_within (skip_empty_lines front)) (omega (arith, skipped front))
+    inside_at full (length front - length (skip_empty_lines front)) (length (skip_empty_lines front)) (length front)
+    (head_len (skip_empty_lines front)) (head_within (skip_empty_lines front)) (omega (arith, skipped front))
 
 inside_more : (k n : ℕ) (span : HeadSpan) → k ≤ n → IsInside k span → IsInside n span
 inside_more k n Unfinished le h = tt
@@ -68,13 +95,15 @@ inside_more k n (At start end) le h = (h.0, omega arith)
 pub span_inside : (bytes : List ℕ) → IsInside (length bytes) (head_span_of bytes)
 unfolding head_span_of
 span_inside bytes =
-    inside_more (length (take head_limit bytes)) (length bytes) (head_span_in (take head_limit bytes) (nat_le head_limit (length bytes))) (omega (arith, length-take head_limit bytes)) (inside_in (take head_limit bytes) (nat_le head_limit (length bytes)))
+    inside_more (length (take head_limit bytes)) (length bytes) (head_span_in (take head_limit bytes) (nat_le head_limit (length bytes)))
+    (omega (arith, length-take head_limit bytes)) (inside_in (take head_limit bytes) (nat_le head_limit (length bytes)))
 
 -- it lies in the bytes that it may take
 pub span_in_limit : (bytes : List ℕ) → IsInside head_limit (head_span_of bytes)
 unfolding head_span_of
 span_in_limit bytes =
-    inside_more (length (take head_limit bytes)) head_limit (head_span_in (take head_limit bytes) (nat_le head_limit (length bytes))) (omega (arith, length-take head_limit bytes)) (inside_in (take head_limit bytes) (nat_le head_limit (length bytes)))
+    inside_more (length (take head_limit bytes)) head_limit (head_span_in (take head_limit bytes) (nat_le head_limit (length bytes)))
+    (omega (arith, length-take head_limit bytes)) (inside_in (take head_limit bytes) (nat_le head_limit (length bytes)))
 
 -- the places of a head that was found
 pub places : (bytes : List ℕ) (start end : ℕ) → At start end ≡ head_span_of bytes → (start ≤ end) × (end ≤ length bytes)
@@ -118,7 +147,8 @@ front_extends n x y (more, e) = by_test (nat_le n (length x)) refl
         let split : n ≡ length x + (n - length x) = omega arith in
         (take (n - length x) more, rw (e, take_all n x le) (ap (λ k. take k (x ++ more)) split ∙ take-append-add x more (n - length x)))
 
-pub starts_alike : (needle x y : List ℕ) → length needle ≤ length x → Extends x y → starts_with nat_eq y needle ≡ starts_with nat_eq x needle
+pub starts_alike : (needle x y : List ℕ) → length needle ≤ length x → Extends x y
+    → starts_with nat_eq y needle ≡ starts_with nat_eq x needle
 starts_alike needle x y le extends = ap (λ z. pointwise nat_eq needle z) (same_front (length needle) x y le extends)
 
 -- what was found is found again
@@ -139,14 +169,18 @@ head_stays (b ∷ rest) more = by_test (head_stays rest more) (starts_with nat_e
     later : Option ℕ
     later = option_map (λ len. 1 + len) (head_len (rest ++ more))
 
-    by_found : (found : Option ℕ) → head_len rest ≡ found → starts_with nat_eq (b ∷ rest) head_end ≡ false → StaysFound found (head_len (rest ++ more)) → StaysFound (option_map (λ len. 1 + len) found) (head_len (b ∷ (rest ++ more)))
+    by_found : (found : Option ℕ) → head_len rest ≡ found → starts_with nat_eq (b ∷ rest) head_end ≡ false
+        → StaysFound found (head_len (rest ++ more)) → StaysFound (option_map (λ len. 1 + len) found) (head_len (b ∷ (rest ++ more)))
     by_found None is e h = tt
     by_found (Some n) is e h =
         let four : 4 ≤ length rest = four_in rest n is in
-        ap (λ t. cond t (Some 4) later) (starts_alike head_end (b ∷ rest) (b ∷ (rest ++ more)) (omega arith) (more, refl) ∙ e) ∙ ap (λ found. option_map (λ len. 1 + len) found) h
+        ap (λ t. cond t (Some 4) later) (starts_alike head_end (b ∷ rest) (b ∷ (rest ++ more)) (omega arith) (more, refl) ∙ e)
+        ∙ ap (λ found. option_map (λ len. 1 + len) found) h
 
-    by_test : StaysFound (head_len rest) (head_len (rest ++ more)) → (t : Bool) → starts_with nat_eq (b ∷ rest) head_end ≡ t → StaysFound (cond t (Some 4) (option_map (λ len. 1 + len) (head_len rest))) (head_len (b ∷ (rest ++ more)))
-    by_test h true e = ap (λ t. cond t (Some 4) later) (starts_alike head_end (b ∷ rest) (b ∷ (rest ++ more)) (four_at b rest e) (more, refl) ∙ e)
+    by_test : StaysFound (head_len rest) (head_len (rest ++ more)) → (t : Bool) → starts_with nat_eq (b ∷ rest) head_end ≡ t
+        → StaysFound (cond t (Some 4) (option_map (λ len. 1 + len) (head_len rest))) (head_len (b ∷ (rest ++ more)))
+    by_test h true e = ap (λ t. cond t (Some 4) later) (starts_alike head_end (b ∷ rest) (b ∷ (rest ++ more)) (four_at b rest e)
+        (more, refl) ∙ e)
     by_test h false e = by_found (head_len rest) refl e h
 
 pub skip_stays : (x more : List ℕ) → 2 ≤ length (skip_empty_lines x) → skip_empty_lines (x ++ more) ≡ skip_empty_lines x ++ more
@@ -154,7 +188,9 @@ skip_stays [] more le = absurd (omega arith)
 skip_stays (a ∷ []) more le = absurd (omega arith)
 skip_stays (a ∷ b ∷ rest) more le = by_test (skip_stays rest more) (starts_with nat_eq (a ∷ b ∷ rest) line_end) le
   where
-    by_test : (2 ≤ length (skip_empty_lines rest) → skip_empty_lines (rest ++ more) ≡ skip_empty_lines rest ++ more) → (t : Bool) → 2 ≤ length (cond t (skip_empty_lines rest) (a ∷ b ∷ rest)) → cond t (skip_empty_lines (rest ++ more)) (a ∷ b ∷ (rest ++ more)) ≡ cond t (skip_empty_lines rest) (a ∷ b ∷ rest) ++ more
+    by_test : (2 ≤ length (skip_empty_lines rest) → skip_empty_lines (rest ++ more) ≡ skip_empty_lines rest ++ more) → (t : Bool)
+        → 2 ≤ length (cond t (skip_empty_lines rest) (a ∷ b ∷ rest))
+        → cond t (skip_empty_lines (rest ++ more)) (a ∷ b ∷ (rest ++ more)) ≡ cond t (skip_empty_lines rest) (a ∷ b ∷ rest) ++ more
     by_test h true le = h le
     by_test h false le = refl
 
@@ -164,16 +200,26 @@ StaysSettled Unfinished later = ⊤
 StaysSettled TooLong later = later ≡ TooLong
 StaysSettled (At start end) later = later ≡ At start end
 
-found_stays : (x more : List ℕ) (full : Bool) (found : Option ℕ) → head_len (skip_empty_lines x) ≡ found → StaysSettled (head_span_at false (length x - length (skip_empty_lines x)) found) (head_span_in (x ++ more) full)
+found_stays : (x more : List ℕ) (full : Bool) (found : Option ℕ) → head_len (skip_empty_lines x) ≡ found
+    → StaysSettled (head_span_at false (length x - length (skip_empty_lines x)) found) (head_span_in (x ++ more) full)
 found_stays x more full None is = tt
 found_stays x more full (Some len) is =
     let four : 4 ≤ length (skip_empty_lines x) = four_in (skip_empty_lines x) len is in
     let two : 2 ≤ length (skip_empty_lines x) = omega arith in
     let same : skip_empty_lines (x ++ more) ≡ skip_empty_lines x ++ more = skip_stays x more two in
-    let start : length (x ++ more) - length (skip_empty_lines (x ++ more)) ≡ length x - length (skip_empty_lines x) = omega (arith, ap length same, length-append x more, length-append (skip_empty_lines x) more, skipped x) in
+    let start : length (x ++ more) - length (skip_empty_lines (x ++ more))
+    ≡ length x - length (skip_empty_lines x) = omega (
+      arith,
+      ap length same,
+      length-append x more,
+      length-append (skip_empty_lines x)
+          more,
+      skipped x,
+    ) in
     let P : Option ℕ → Type 0 = λ found. StaysFound found (head_len (skip_empty_lines x ++ more)) in
     let again : head_len (skip_empty_lines x ++ more) ≡ Some len = subst P is (head_stays (skip_empty_lines x) more) in
-    ap (λ s. head_span_at full s (head_len (skip_empty_lines (x ++ more)))) start ∙ ap (λ found. head_span_at full (length x - length (skip_empty_lines x)) found) (ap head_len same ∙ again)
+    ap (λ s. head_span_at full s (head_len (skip_empty_lines (x ++ more)))) start
+    ∙ ap (λ found. head_span_at full (length x - length (skip_empty_lines x)) found) (ap head_len same ∙ again)
 
 itself : (span : HeadSpan) → StaysSettled span span
 itself Unfinished = tt
@@ -184,11 +230,14 @@ pub span_stays : (bytes more : List ℕ) → StaysSettled (head_span_of bytes) (
 unfolding head_span_of
 span_stays bytes more = by_test (nat_le head_limit (length bytes)) refl
   where
-    by_test : (t : Bool) → nat_le head_limit (length bytes) ≡ t → StaysSettled (head_span_in (take head_limit bytes) t) (head_span_in (take head_limit (bytes ++ more)) (nat_le head_limit (length (bytes ++ more))))
+    by_test : (t : Bool) → nat_le head_limit (length bytes) ≡ t
+        → StaysSettled (head_span_in (take head_limit bytes) t)
+        (head_span_in (take head_limit (bytes ++ more)) (nat_le head_limit (length (bytes ++ more))))
     by_test true e =
         let le : head_limit ≤ length bytes = grind (arith) in
         let full : nat_le head_limit (length (bytes ++ more)) ≡ true = le-leb _ _ (omega (arith, length-append bytes more)) in
         rw (full, take-append-le head_limit bytes more le) (itself (head_span_in (take head_limit bytes) true))
     by_test false e =
         let grown = front_extends head_limit bytes (bytes ++ more) (more, refl) in
-        rw (grown.1) (found_stays (take head_limit bytes) grown.0 (nat_le head_limit (length (bytes ++ more))) (head_len (skip_empty_lines (take head_limit bytes))) refl)
+        rw (grown.1) (found_stays (take head_limit bytes) grown.0 (nat_le head_limit (length (bytes ++ more)))
+        (head_len (skip_empty_lines (take head_limit bytes))) refl)

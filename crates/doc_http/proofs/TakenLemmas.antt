@@ -1,5 +1,28 @@
 -- How many bytes a request takes: some, and no more than there are.
-use Rattle.std.proofs.Common.{◌≡◌, ℕ, ◌+◌, ◌≤◌, ◌==◌, List, [], ◌∷◌, Bool, true, false, cond, length, take, drop, slice_range, refl, sym, ◌∙◌, subst, arith, nat_eq}
+use Rattle.std.proofs.Common.{
+  ◌≡◌,
+  ℕ,
+  ◌+◌,
+  ◌≤◌,
+  ◌==◌,
+  List,
+  [],
+  ◌∷◌,
+  Bool,
+  true,
+  false,
+  cond,
+  length,
+  take,
+  drop,
+  slice_range,
+  refl,
+  sym,
+  ◌∙◌,
+  subst,
+  arith,
+  nat_eq,
+}
 use Rattle.std.specs.Prelude.{Option, Some, None, Result, Ok, Err, nat_le, ⊤, if◌then◌else◌}
 use Rattle.std.specs.List.{starts_with}
 use Rattle.std.specs.Option.{option_map}
@@ -7,12 +30,12 @@ use Rattle.httparse.specs.Grammar.{RequestHead}
 use Rattle.doc_http.specs.declared.head.HeadSpan.{HeadSpan}
 use Rattle.doc_http.specs.declared.head.HeadSpan.TheVariants.{Unfinished, TooLong, At}
 use Rattle.doc_http.specs.declared.request.Request.{Request}
-use Rattle.doc_bodies.specs.declared.fault.Fault.{Fault as BodyFault}
-use Rattle.doc_bodies.specs.declared.framing.Framing.{Framing}
-use Rattle.doc_bodies.specs.declared.reader.Reading.{Reading}
-use Rattle.doc_bodies.specs.declared.reader.Reading.TheVariants.{More, Fault, Whole}
-use Rattle.doc_bodies.specs.Framings.{framing_of}
-use Rattle.doc_bodies.specs.Readings.{reading_of}
+use Rattle.doc_http_bodies.specs.declared.fault.Fault.{Fault as BodyFault}
+use Rattle.doc_http_bodies.specs.declared.framing.Framing.{Framing}
+use Rattle.doc_http_bodies.specs.declared.reader.Reading.{Reading}
+use Rattle.doc_http_bodies.specs.declared.reader.Reading.TheVariants.{More, Fault, Whole}
+use Rattle.doc_http_bodies.specs.Framings.{framing_of}
+use Rattle.doc_http_bodies.specs.Readings.{reading_of}
 use Rattle.doc_http.specs.declared.request.Next.{Next}
 use Rattle.doc_http.specs.declared.request.Next.TheVariants as next
 use Rattle.doc_http.specs.Fields.{fields_of}
@@ -52,7 +75,8 @@ behind_at full start (Some len) h = omega arith
 span_behind : (bytes : List ℕ) → EndsBehind (head_span_of bytes)
 unfolding head_span_of
 span_behind bytes =
-    behind_at (nat_le head_limit (length bytes)) _ (head_len (skip_empty_lines (take head_limit bytes))) (some_head (skip_empty_lines (take head_limit bytes)))
+    behind_at (nat_le head_limit (length bytes)) _ (head_len (skip_empty_lines (take head_limit bytes)))
+    (some_head (skip_empty_lines (take head_limit bytes)))
 
 -- a request takes some bytes
 abbrev TakesSome : Next → Type 0
@@ -60,12 +84,14 @@ TakesSome next.More = ⊤
 TakesSome (next.Fault code bare) = ⊤
 TakesSome (next.Request used request) = 1 ≤ used
 
-reading_takes : (request : List ℕ → Request) (bare : Bool) (end : ℕ) (reading : Reading) → 1 ≤ end → TakesSome (next_read request bare end reading)
+reading_takes : (request : List ℕ → Request) (bare : Bool) (end : ℕ) (reading : Reading) → 1 ≤ end
+    → TakesSome (next_read request bare end reading)
 reading_takes request bare end More le = tt
 reading_takes request bare end (Fault fault) le = tt
 reading_takes request bare end (Whole used body) le = omega arith
 
-framed_takes : (request : List ℕ → Request) (bare : Bool) (end : ℕ) (rest : List ℕ) (framing : Result Framing BodyFault) → 1 ≤ end → TakesSome (next_framed request bare end rest framing)
+framed_takes : (request : List ℕ → Request) (bare : Bool) (end : ℕ) (rest : List ℕ) (framing : Result Framing BodyFault) → 1 ≤ end
+    → TakesSome (next_framed request bare end rest framing)
 framed_takes request bare end rest (Err fault) le = tt
 framed_takes request bare end rest (Ok framing) le = reading_takes request bare end (reading_of framing rest) le
 
@@ -74,9 +100,11 @@ unfolding next_behind
 behind_takes text None end rest le = tt
 behind_takes text (Some head) end rest le = by_test (is_bad text (Some head))
   where
-    by_test : (t : Bool) → TakesSome (if t then next.Fault 400 false else next_with head.method head.target head.minor (fields_of head) end rest)
+    by_test : (t : Bool) → TakesSome (if t then next.Fault 400 false else next_with head.method head.target head.minor (fields_of head) end
+        rest)
     by_test true = tt
-    by_test false = framed_takes (λ body. request_with head.method head.target head.minor (fields_of head) body) (is_bare head.method) end rest (framing_of (head.minor == 0) (fields_of head)) le
+    by_test false = framed_takes (λ body. request_with head.method head.target head.minor (fields_of head) body) (is_bare head.method) end
+        rest (framing_of (head.minor == 0) (fields_of head)) le
 
 at_takes : (bytes : List ℕ) (span : HeadSpan) (read : Option RequestHead) → EndsBehind span → TakesSome (next_at bytes span read)
 at_takes bytes Unfinished read h = tt

@@ -1,7 +1,7 @@
 -- What the building of a request asks for; words of proofs only.
 use Rattle.std.specs.Prelude.{◌<◌, ⊤, ℕ, ◌+◌, ◌^◌}
-use Rattle.doc_bodies.specs.declared.reader.Reading.{Reading}
-use Rattle.doc_bodies.specs.declared.reader.Reading.TheVariants.{More, Fault, Whole}
+use Rattle.doc_http_bodies.specs.declared.reader.Reading.{Reading}
+use Rattle.doc_http_bodies.specs.declared.reader.Reading.TheVariants.{More, Fault, Whole}
 
 -- the place behind the body is a number of the machine
 abbrev pub EndsWithin : ℕ → Reading → Type 0

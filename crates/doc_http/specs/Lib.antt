@@ -2,7 +2,7 @@ pub mod Bearers
 pub mod BuildingSteps
 pub mod Fields
 pub mod Heads
-pub mod Knowledge
+pub mod KnowledgeSteps
 pub mod Laws
 pub mod ProgressSteps
 pub mod Replies

@@ -1,10 +1,10 @@
 -- What a step of reading a request says; words of proofs only.
 use Rattle.std.specs.Prelude.{◌≡◌, ℕ, ◌==◌, List, Some, Ok, false, drop, slice_range}
 use Rattle.httparse.specs.Grammar.{RequestHead}
-use Rattle.doc_bodies.specs.declared.framing.Framing.{Framing}
-use Rattle.doc_bodies.specs.declared.reader.Reading.{Reading}
-use Rattle.doc_bodies.specs.Framings.{framing_of}
-use Rattle.doc_bodies.specs.Readings.{reading_of}
+use Rattle.doc_http_bodies.specs.declared.framing.Framing.{Framing}
+use Rattle.doc_http_bodies.specs.declared.reader.Reading.{Reading}
+use Rattle.doc_http_bodies.specs.Framings.{framing_of}
+use Rattle.doc_http_bodies.specs.Readings.{reading_of}
 use Rattle.doc_http.specs.declared.head.HeadSpan.TheVariants.{At}
 use Rattle.doc_http.specs.Fields.{fields_of}
 use Rattle.doc_http.specs.Heads.{head_span_of, IsHead}

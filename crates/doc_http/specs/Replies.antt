@@ -9,8 +9,10 @@ use Rattle.doc_http.specs.declared.reply.Allow.TheVariants.{Page, Read}
 unfoldable pub reason_of : ℕ → List ℕ
 reason_of code =
     if code == 200 then codes "OK" else (if code == 201 then codes "Created" else (if code == 204 then codes "No Content"
-    else (if code == 301 then codes "Moved Permanently" else (if code == 400 then codes "Bad Request" else (if code == 401 then codes "Unauthorized" else (if code == 403 then codes "Forbidden"
-    else (if code == 404 then codes "Not Found" else (if code == 405 then codes "Method Not Allowed" else (if code == 413 then codes "Content Too Large"
+    else (if code == 301 then codes "Moved Permanently" else
+    (if code == 400 then codes "Bad Request" else (if code == 401 then codes "Unauthorized" else (if code == 403 then codes "Forbidden"
+    else (if code == 404 then codes "Not Found" else (if code == 405 then codes "Method Not Allowed" else
+    (if code == 413 then codes "Content Too Large"
     else (if code == 431 then codes "Request Header Fields Too Large" else (if code == 501 then codes "Not Implemented"
     else (if code == 507 then codes "Insufficient Storage" else []))))))))))))
 
@@ -42,7 +44,8 @@ content_type html = if html then codes "text/html; charset=utf-8" else codes "te
 -- what says of the content its type and its length (RFC 9110, sections 8.3 and 8.6), which 204 has not
 abbrev pub content_lines : Reply → List ℕ
 content_lines reply = where_true (not (reply.code == 204))
-    (field_line (codes "Content-Type") (content_type reply.html) ++ field_line (codes "Content-Length") (decimal (length (content_of reply))))
+    (field_line (codes "Content-Type") (content_type reply.html) ++ field_line (codes "Content-Length")
+    (decimal (length (content_of reply))))
 
 -- where the resource is (RFC 9110, section 10.2.2)
 abbrev pub location_line : Option (List ℕ) → List ℕ

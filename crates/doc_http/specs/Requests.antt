@@ -1,13 +1,37 @@
 -- What the unread bytes of a connection begin with.
-use Rattle.std.specs.Prelude.{◌≡◌, ◌≤◌, ⊤, ℕ, ◌+◌, ◌==◌, ◌||◌, not, Bool, true, false, List, Option, Some, None, Result, Ok, Err, drop, slice_range, codes, bytes_eq, if◌then◌else◌}
+use Rattle.std.specs.Prelude.{
+  ◌≡◌,
+  ◌≤◌,
+  ⊤,
+  ℕ,
+  ◌+◌,
+  ◌==◌,
+  ◌||◌,
+  not,
+  Bool,
+  true,
+  false,
+  List,
+  Option,
+  Some,
+  None,
+  Result,
+  Ok,
+  Err,
+  drop,
+  slice_range,
+  codes,
+  bytes_eq,
+  if◌then◌else◌,
+}
 use Rattle.httparse.specs.Grammar.{RequestHead}
-use Rattle.doc_bodies.specs.declared.fault.Fault.{Fault as BodyFault}
-use Rattle.doc_bodies.specs.declared.framing.Framing.{Framing}
-use Rattle.doc_bodies.specs.declared.reader.Reading.{Reading}
-use Rattle.doc_bodies.specs.declared.reader.Reading.TheVariants.{More, Fault, Whole}
-use Rattle.doc_bodies.specs.Faults.{code_of}
-use Rattle.doc_bodies.specs.Framings.{framing_of}
-use Rattle.doc_bodies.specs.Readings.{reading_of}
+use Rattle.doc_http_bodies.specs.declared.fault.Fault.{Fault as BodyFault}
+use Rattle.doc_http_bodies.specs.declared.framing.Framing.{Framing}
+use Rattle.doc_http_bodies.specs.declared.reader.Reading.{Reading}
+use Rattle.doc_http_bodies.specs.declared.reader.Reading.TheVariants.{More, Fault, Whole}
+use Rattle.doc_http_bodies.specs.Faults.{code_of}
+use Rattle.doc_http_bodies.specs.Framings.{framing_of}
+use Rattle.doc_http_bodies.specs.Readings.{reading_of}
 use Rattle.doc_http.specs.declared.head.HeadSpan.{HeadSpan}
 use Rattle.doc_http.specs.declared.head.HeadSpan.TheVariants.{Unfinished, TooLong, At}
 use Rattle.doc_http.specs.declared.request.Request.{Request}
@@ -64,7 +88,8 @@ next_at bytes Unfinished read = next.More
 next_at bytes TooLong read = next.Fault 431 false
 next_at bytes (At start end) read = next_behind (slice_range bytes start end) read end (drop end bytes)
 
--- a whole request, a fault, or neither yet: by the bytes and the head that was read at their front (RFC 9112, section 2; RFC 6585, section 5)
+-- a whole request, a fault, or neither yet: by the bytes and the head that was read at their front (RFC 9112, section 2; RFC 6585, section
+-- 5)
 abbrev pub request_of : List ℕ → Option RequestHead → Next
 request_of bytes read = next_at bytes (head_span_of bytes) read
 

@@ -2,17 +2,17 @@
 
 ghost use Rattle.std.specs.Prelude.{◌≡◌, ◌<◌, ◌+◌, ◌^◌, ◌==◌, length, map, All, IfOk, OnErr, IsUtf8, codes, bytes_eq};
 ghost use Rattle.httparse.specs.Spans.{header_bytes, span_bytes, IsHeaderWithin, IsWithin};
-ghost use Rattle.doc_bodies.specs.Framings.{framing_of as framing_by};
+ghost use Rattle.doc_http_bodies.specs.Framings.{framing_of as framing_by};
 ghost use Rattle.doc_http.specs.Requests.{request_with, next_read as next_by, is_bare as bare_test, IsRequest};
 ghost use Rattle.doc_http.specs.BuildingSteps.{EndsWithin};
 
 use crate::fields::{asks_close, value_named};
 use crate::request::{Next, Request};
-use doc_bodies::fault::Fault;
-use doc_bodies::fields::FramingFields;
-use doc_bodies::framing::Framing;
-use doc_bodies::reader::Reading;
 use doc_heap::Heap;
+use doc_http_bodies::fault::Fault;
+use doc_http_bodies::fields::FramingFields;
+use doc_http_bodies::framing::Framing;
+use doc_http_bodies::reader::Reading;
 use doc_page::bytes::Bytes;
 use doc_page::failure::Memory;
 use doc_page::text::Text;

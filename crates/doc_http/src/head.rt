@@ -4,7 +4,7 @@ ghost use Rattle.std.specs.Prelude.{◌≡◌, ◌≤◌, ◌+◌, ◌-◌, ◌+
 ghost use Rattle.httparse.specs.Grammar.{RequestHead};
 ghost use Rattle.httparse.specs.Spans.{IsRequestAt, IsRequestWithin};
 ghost use Rattle.doc_http.specs.Heads.{head_len, head_limit, head_span_in, head_span_of, skip_empty_lines, IsHead, IsRead, has_bare_line_feed};
-ghost use Rattle.doc_http.specs.Knowledge.{IsSearched, CameTo};
+ghost use Rattle.doc_http.specs.KnowledgeSteps.{IsSearched, CameTo};
 ghost use Rattle.doc_http.specs.Requests.{is_bad};
 ghost use Rattle.doc_http.specs.declared.head.HeadSpan.TheVariants as spans;
 

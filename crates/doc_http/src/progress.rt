@@ -2,7 +2,7 @@
 
 ghost use Rattle.std.specs.Prelude.{◌≡◌, ℕ, List, take, false, IfOk, OnErr};
 ghost use Rattle.doc_http.specs.Heads.{head_limit, head_span_of};
-ghost use Rattle.doc_http.specs.Knowledge.{CameTo, IsAtBody, Knows};
+ghost use Rattle.doc_http.specs.KnowledgeSteps.{CameTo, IsAtBody, Knows};
 ghost use Rattle.doc_http.specs.ProgressSteps.{CameToReading};
 ghost use Rattle.doc_http.specs.Requests.{IsNext, BeginsWithRequest};
 ghost use Rattle.doc_http.specs.declared.head.HeadSpan.TheVariants as spans;
@@ -11,8 +11,8 @@ ghost use Rattle.doc_http.specs.declared.request.Next.TheVariants as nexts;
 use crate::building::{framing_of, is_bare, next_read};
 use crate::head::{HeadSearch, HeadSpan, find_head, good_head_spans};
 use crate::request::Next;
-use doc_bodies::reader::{BodyReader, Reading};
 use doc_heap::Heap;
+use doc_http_bodies::reader::{BodyReader, Reading};
 use doc_page::failure::Memory;
 use httparse::spans::EMPTY_HEADER_SPAN;
 

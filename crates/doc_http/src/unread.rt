@@ -26,7 +26,7 @@ pub struct Unread {
 
 impl Model for Unread {
     ghost use Rattle.std.specs.Prelude.{ℕ, List as Seq, ◌≤◌, drop, length};
-    ghost use Rattle.doc_http.specs.Knowledge.{Knows};
+    ghost use Rattle.doc_http.specs.KnowledgeSteps.{Knows};
 
     ghost Value = { Seq ℕ };
 

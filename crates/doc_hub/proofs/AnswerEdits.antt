@@ -8,12 +8,26 @@ use Rattle.doc_store.specs.Store.{StoreState}
 use Rattle.doc_store.specs.declared.groups.GroupsError.{GroupsError}
 use Rattle.doc_store.specs.declared.reader.Reader.{Reader}
 use Rattle.doc_http.specs.declared.request.Request.{Request}
-use Rattle.doc_targets.specs.Queries.{parameter}
-use Rattle.doc_targets.specs.Targets.{page_rest}
-use Rattle.doc_targets.specs.WrittenPaths.{path_written}
+use Rattle.doc_http_targets.specs.Queries.{parameter}
+use Rattle.doc_http_targets.specs.Targets.{page_rest}
+use Rattle.doc_http_targets.specs.WrittenPaths.{path_written}
 use Rattle.doc_hub.specs.declared.answer.Answer.{Answer}
 use Rattle.doc_hub.specs.Edits.{CanBeMade, puts_left}
-use Rattle.doc_hub.specs.Replies.{Renders, answer_of, response_to, on_route, by_method, method_of, put_by, put_at, put_page, has_room, delete_at, edited, refused}
+use Rattle.doc_hub.specs.Replies.{
+  Renders,
+  answer_of,
+  response_to,
+  on_route,
+  by_method,
+  method_of,
+  put_by,
+  put_at,
+  put_page,
+  has_room,
+  delete_at,
+  edited,
+  refused,
+}
 use Rattle.doc_hub.specs.declared.method.Method.{Method}
 use Rattle.doc_hub.specs.declared.method.Method.TheVariants.{Get, Head, Put, Delete, Other}
 use Rattle.doc_hub.specs.declared.response.Edit.TheVariants as edits
@@ -43,7 +57,8 @@ module _ (store : StoreState) (reader : Reader) where
   put_can (Some path) (Err e) text owns = tt
   put_can (Some path) (Ok groups) text owns = text_can path groups text _ owns refl
 
-  removal_can : (path text : List ℕ) (stands : Bool) → reader.owner ≡ true → is_some (page_at (view_of store.site (Some reader)).pages path) ≡ stands
+  removal_can : (path text : List ℕ) (stands : Bool) → reader.owner ≡ true
+      → is_some (page_at (view_of store.site (Some reader)).pages path) ≡ stands
       → Can text (if stands then edited 204 (edits.Remove path) else refused 404)
   removal_can path text true owns is = sym (owner_stands store.site reader path owns) ∙ is
   removal_can path text false owns is = tt
@@ -77,7 +92,8 @@ module _ (store : StoreState) (reader : Reader) where
   route_can render None request = tt
   route_can render (Some rest) request = method_can render rest request (method_of request.method)
 
-response_can : (render : Renders) (store : StoreState) (reader : Option Reader) (request : Request) → CanBeMade store request.body (response_to render (view_of store.site reader) reader (puts_left store) request).edit
+response_can : (render : Renders) (store : StoreState) (reader : Option Reader) (request : Request)
+    → CanBeMade store request.body (response_to render (view_of store.site reader) reader (puts_left store) request).edit
 response_can render store None request = tt
 response_can render store (Some reader) request = route_can store reader render (page_rest request.target) request
 
@@ -87,7 +103,10 @@ unfolding answer_of
 answer_can_be_made render store reader keep_alive request = response_can render store reader request
 
 -- the same of an answer and a text that are known by equations
-pub edit_can_be_made : (render : Renders) (store : StoreState) (reader : Option Reader) (keep_alive : Bool) (request : Request) (text : List ℕ) (answer : Answer)
-    → text ≡ request.body → answer ≡ answer_of render (view_of store.site reader) reader (puts_left store) keep_alive request → CanBeMade store text answer.edit
+pub edit_can_be_made : (render : Renders) (store : StoreState) (reader : Option Reader) (keep_alive : Bool) (request : Request)
+    (text : List ℕ) (answer : Answer)
+    → text ≡ request.body → answer ≡ answer_of render (view_of store.site reader) reader (puts_left store) keep_alive request
+    → CanBeMade store text answer.edit
 edit_can_be_made render store reader keep_alive request text answer same is =
-    subst (λ t. CanBeMade store t answer.edit) (sym same) (subst (λ (a : Answer). CanBeMade store request.body a.edit) (sym is) (answer_can_be_made render store reader keep_alive request))
+    subst (λ t. CanBeMade store t answer.edit) (sym same) (subst (λ (a : Answer). CanBeMade store request.body a.edit) (sym is)
+    (answer_can_be_made render store reader keep_alive request))

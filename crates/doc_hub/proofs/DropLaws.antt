@@ -18,6 +18,7 @@ pub dropped_is_gone : DroppedIsGone
 dropped_is_gone w id =
     let v = (disconnected w id).0 in
     record {
-      push = λ bytes. ap (λ (k : Option Connection). let r = pushed_at v.connections id bytes k in (record v { connections = r.0 }, r.1)) (gone w id);
+      push = λ bytes. ap (λ (k : Option Connection). let r = pushed_at v.connections id bytes k in (record v { connections = r.0 }, r.1))
+          (gone w id);
       step = λ render u said h. subst (λ (k : Option Connection). StepsAt render v id u said k) (gone w id) h;
     }

@@ -17,7 +17,21 @@ use Rattle.doc_hub.specs.Events.{Said}
 use Rattle.doc_hub.specs.Laws.{NumbersAreGivenOnce, connection}
 use Rattle.doc_hub.specs.Replies.{Renders}
 use Rattle.doc_hub.specs.Runs.{Happens, Happened, Runs, nothing, first}
-use Rattle.doc_hub.specs.Worlds.{World, connected, world_pushed, world_put, world_moved, world_reader_set, answer_in, world_after, stepped_by, Stays, Answers, StepsAt, last_id}
+use Rattle.doc_hub.specs.Worlds.{
+  World,
+  connected,
+  world_pushed,
+  world_put,
+  world_moved,
+  world_reader_set,
+  answer_in,
+  world_after,
+  stepped_by,
+  Stays,
+  Answers,
+  StepsAt,
+  last_id,
+}
 use Rattle.doc_hub.specs.declared.connection.Connection.{Connection}
 use Rattle.doc_hub.specs.declared.event.ConnId.{ConnId}
 use Rattle.doc_hub.specs.declared.event.Event.{Event}
@@ -37,7 +51,8 @@ module _ (id : ℕ) where
   abbrev Gone : World → Type 0
   Gone w = (id ≤ w.given) × (connection id w ≡ None)
 
-  by_gives : {X E : Type 0} (memory : E) (given : World × Result X E) (w v : World) (r : Result X E) → Gone w → Gone given.0 → Gives memory given w v r → Gone v
+  by_gives : {X E : Type 0} (memory : E) (given : World × Result X E) (w v : World) (r : Result X E) → Gone w → Gone given.0
+      → Gives memory given w v r → Gone v
   by_gives {X = X} {E = E} memory given w v (Ok x) before after gives = subst (λ (q : World × Result X E). Gone q.0) gives after
   by_gives memory given w v (Err e) before after gives = subst Gone (sym gives.1) before
 
@@ -45,12 +60,17 @@ module _ (id : ℕ) where
   by_equation {S = S} given v said after is = subst (λ (q : World × S). Gone q.0) is after
 
   -- another number's connection is set
-  set_other : (w : World) (n : ℕ) (k : Connection) (given : ℕ) → id ≤ given → connection id w ≡ None → (id == n) ≡ false → Gone (record w { given = given; connections = map.insert w.connections n k })
-  set_other w n k given fits none apart =
-      (fits, map.get-insert nat_cmp_total w.connections n k id ∙ ap (λ t. cond t (Some k) (connection id w)) (unsigned_tied id n ∙ apart) ∙ none)
+  set_other : (w : World) (n : ℕ) (k : Connection) (given : ℕ) → id ≤ given → connection id w ≡ None → (id == n) ≡ false
+      → Gone (record w { given = given; connections = map.insert w.connections n k })
+  set_other w n k given fits none apart = (
+    fits,
+    map.get-insert nat_cmp_total w.connections n k id ∙ ap (λ t. cond t (Some k) (connection id w)) (unsigned_tied id n ∙ apart)
+        ∙ none,
+  )
 
   -- a number with a connection is another one
-  apart_at : (w : World) (n : ℕ) (c : Connection) (t : Bool) → connection id w ≡ None → map.get w.connections n ≡ Some c → (id == n) ≡ t → (id == n) ≡ false
+  apart_at : (w : World) (n : ℕ) (c : Connection) (t : Bool) → connection id w ≡ None → map.get w.connections n ≡ Some c → (id == n) ≡ t
+      → (id == n) ≡ false
   apart_at w n c false none found is = is
   apart_at w n c true none found is =
       let same : id ≡ n = eqb_yes (subst T (sym is) tt) in
@@ -62,19 +82,26 @@ module _ (id : ℕ) where
   -- ---- each call
 
   abbrev connected_if : World → Bool → World × Result ConnId ConnectError
-  connected_if w t = if t then (record w { given = w.given + 1; connections = map.insert w.connections (w.given + 1) new_connection }, Ok (record { 0 = w.given + 1 })) else (w, Err connect_errors.NoIds)
+  connected_if w t = if t then (
+    record w { given = w.given + 1; connections = map.insert w.connections (w.given + 1) new_connection },
+    Ok
+        (record { 0 = w.given + 1 }),
+  ) else (w, Err connect_errors.NoIds)
 
   one_more : (w : World) (t : Bool) → Gone w → Gone (connected_if w t).0
   one_more w true (fits, none) = set_other w (w.given + 1) new_connection (w.given + 1) (omega arith) none (grind (arith, nat_tests))
   one_more w false gone = gone
 
-  with_pushed_gone : (w : World) (n : ℕ) (k : Connection) (r : Result (Unit {0}) PushError) → Gone w → (id == n) ≡ false → Gone (record w { connections = (with_pushed w.connections n k r).0 })
+  with_pushed_gone : (w : World) (n : ℕ) (k : Connection) (r : Result (Unit {0}) PushError) → Gone w → (id == n) ≡ false
+      → Gone (record w { connections = (with_pushed w.connections n k r).0 })
   with_pushed_gone w n k (Ok x) gone other = set_other w n k w.given gone.0 gone.1 other
   with_pushed_gone w n k (Err e) gone other = gone
 
-  pushed_gone : (w : World) (n : ℕ) (bytes : List ℕ) (k : Option Connection) → Gone w → map.get w.connections n ≡ k → Gone (record w { connections = (pushed_at w.connections n bytes k).0 })
+  pushed_gone : (w : World) (n : ℕ) (bytes : List ℕ) (k : Option Connection) → Gone w → map.get w.connections n ≡ k
+      → Gone (record w { connections = (pushed_at w.connections n bytes k).0 })
   pushed_gone w n bytes None gone found = gone
-  pushed_gone w n bytes (Some c) gone found = with_pushed_gone w n (pushed_onto c bytes).0 (pushed_onto c bytes).1 gone (apart w n c gone.1 found)
+  pushed_gone w n bytes (Some c) gone found = with_pushed_gone w n (pushed_onto c bytes).0 (pushed_onto c bytes).1 gone
+      (apart w n c gone.1 found)
 
   module _ (render : Renders) where
     front_gone : (w : World) (n : ℕ) (c : Connection) (next : Front) → Gone w → (id == n) ≡ false → Gone (stepped_by render w n c next).0
@@ -83,16 +110,21 @@ module _ (id : ℕ) where
     front_gone w n c (nexts.Request used request) gone other =
         let a = answer_in render w request in set_other (world_after w request a) n (finished c used a.closes) w.given gone.0 gone.1 other
 
-    answers_gone : (w v : World) (n : ℕ) (c : Connection) (r : Result Step StepError) → Gone w → (id == n) ≡ false → Answers render w n v r c → Gone v
-    answers_gone w v n c (Ok said) gone other (next, is, e) = by_equation (stepped_by render w n c next) v (Ok said) (front_gone w n c next gone other) e
-    answers_gone w v n c (Err step_errors.NoConnection) gone other (next, is, e) = by_equation (stepped_by render w n c next) v (Err step_errors.NoConnection) (front_gone w n c next gone other) e
+    answers_gone : (w v : World) (n : ℕ) (c : Connection) (r : Result Step StepError) → Gone w → (id == n) ≡ false
+        → Answers render w n v r c → Gone v
+    answers_gone w v n c (Ok said) gone other (next, is, e) = by_equation (stepped_by render w n c next) v (Ok said)
+        (front_gone w n c next gone other) e
+    answers_gone w v n c (Err step_errors.NoConnection) gone other (next, is, e) = by_equation (stepped_by render w n c next) v
+        (Err step_errors.NoConnection) (front_gone w n c next gone other) e
     answers_gone w v n c (Err step_errors.Memory) gone other (same, why) = subst Gone (sym same) gone
 
-    open_gone : (w v : World) (n : ℕ) (c : Connection) (r : Result Step StepError) (closed : Bool) → Gone w → (id == n) ≡ false → MatchBool closed (Stays w (Ok steps.Closed) v r) (Answers render w n v r c) → Gone v
+    open_gone : (w v : World) (n : ℕ) (c : Connection) (r : Result Step StepError) (closed : Bool) → Gone w → (id == n) ≡ false
+        → MatchBool closed (Stays w (Ok steps.Closed) v r) (Answers render w n v r c) → Gone v
     open_gone w v n c r true gone other h = subst Gone (sym h.0) gone
     open_gone w v n c r false gone other h = answers_gone w v n c r gone other h
 
-    step_gone : (w v : World) (n : ℕ) (k : Option Connection) (r : Result Step StepError) → Gone w → map.get w.connections n ≡ k → StepsAt render w n v r k → Gone v
+    step_gone : (w v : World) (n : ℕ) (k : Option Connection) (r : Result Step StepError) → Gone w → map.get w.connections n ≡ k
+        → StepsAt render w n v r k → Gone v
     step_gone w v n None r gone found h = subst Gone (sym h.0) gone
     step_gone w v n (Some c) r gone found h = open_gone w v n c r c.closed gone (apart w n c gone.1 found) h
 
@@ -105,14 +137,18 @@ module _ (id : ℕ) where
         none_twice false k is = is
 
     event_gone : (w v : World) (event : Event) (said : Said event) → Gone w → Happens render w event v said → Gone v
-    event_gone w v events.Connect said gone h = by_gives connect_errors.Memory (connected w) w v said gone (one_more w (nat_lt w.given last_id) gone) h
-    event_gone w v (events.Push n bytes) said gone h = by_gives push_errors.Memory (world_pushed w n.0 bytes) w v said gone (pushed_gone w n.0 bytes (map.get w.connections n.0) gone refl) h
+    event_gone w v events.Connect said gone h = by_gives connect_errors.Memory (connected w) w v said gone
+        (one_more w (nat_lt w.given last_id) gone) h
+    event_gone w v (events.Push n bytes) said gone h = by_gives push_errors.Memory (world_pushed w n.0 bytes) w v said gone
+        (pushed_gone w n.0 bytes (map.get w.connections n.0) gone refl) h
     event_gone w v (events.Step n) said gone h = step_gone w v n.0 (map.get w.connections n.0) said gone refl h
     event_gone w v (events.Disconnect n) said gone h = by_equation _ v said (dropped_gone w n.0 gone) h
-    event_gone w v (events.Put path groups text) said gone h = by_gives edit_errors.Memory (world_put w path groups text) w v said gone gone h
+    event_gone w v (events.Put path groups text) said gone h = by_gives edit_errors.Memory (world_put w path groups text) w v said gone
+        gone h
     event_gone w v (events.Remove path) said gone h = by_equation _ v said gone h
     event_gone w v (events.MovePage from to) said gone h = by_gives move_errors.Memory (world_moved w from to) w v said gone gone h
-    event_gone w v (events.SetReader token reader) said gone h = by_gives reader_errors.Memory (world_reader_set w token reader) w v said gone gone h
+    event_gone w v (events.SetReader token reader) said gone h = by_gives reader_errors.Memory (world_reader_set w token reader) w v said
+        gone gone h
     event_gone w v (events.RemoveReader token) said gone h = by_equation _ v said gone h
 
     run_gone : (w v : World) (run : List Happened) → Gone w → Runs render w run v → Gone v

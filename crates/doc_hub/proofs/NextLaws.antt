@@ -25,7 +25,20 @@ use Rattle.doc_hub.specs.declared.refusal.PushError.TheVariants as push_errors
 use Rattle.doc_hub.specs.declared.refusal.StepError.{StepError}
 use Rattle.doc_hub.specs.declared.refusal.StepError.TheVariants as step_errors
 use Rattle.doc_hub.specs.Replies.{Renders}
-use Rattle.doc_hub.specs.Worlds.{World, connected, world_pushed, disconnected, world_put, world_moved, world_reader_set, stepped_by, Stays, Answers, StepsAt, last_id}
+use Rattle.doc_hub.specs.Worlds.{
+  World,
+  connected,
+  world_pushed,
+  disconnected,
+  world_put,
+  world_moved,
+  world_reader_set,
+  stepped_by,
+  Stays,
+  Answers,
+  StepsAt,
+  last_id,
+}
 use Rattle.doc_hub.specs.Runs.{Leaves, IsOutOfMemory}
 
 -- the state is as before, where the call was refused
@@ -37,19 +50,22 @@ abbrev pub Kept : {W X E : Type 0} → W × Result X E → W → Type 0
 Kept given old = KeptBy given.0 given.1 old
 
 -- where memory sufficed, what a call gives is its definition's
-pub exactly : {W X E : Type 0} (memory : E) (w old new : W) (g r : Result X E) → Gives memory (w, g) old new r → ¬ (r ≡ Err memory) → KeptBy w g old → ◌≡◌ {A = W × Result X E} (w, g) (new, r)
+pub exactly : {W X E : Type 0} (memory : E) (w old new : W) (g r : Result X E) → Gives memory (w, g) old new r → ¬ (r ≡ Err memory)
+    → KeptBy w g old → ◌≡◌ {A = W × Result X E} (w, g) (new, r)
 exactly memory w old new g (Ok x) gives enough kept = gives
 exactly memory w old new (Ok x) (Err e) gives enough kept = absurd (enough (ap Err gives.0))
 exactly memory w old new (Err f) (Err e) gives enough kept = λ i. ((kept ∙ sym gives.1) i, Err (sym gives.0 i))
 
-connect_keeps : (w v : World) (id : ConnId) (t : Bool) → Kept {X = ConnId} {E = ConnectError} (if t then (v, Ok id) else (w, Err connect_errors.NoIds)) w
+connect_keeps : (w v : World) (id : ConnId) (t : Bool)
+    → Kept {X = ConnId} {E = ConnectError} (if t then (v, Ok id) else (w, Err connect_errors.NoIds)) w
 connect_keeps w v id true = tt
 connect_keeps w v id false = refl
 
 abbrev pushed_world : World → Connections × Result (Unit {0}) PushError → World × Result (Unit {0}) PushError
 pushed_world w r = (record w { connections = r.0 }, r.1)
 
-with_pushed_keeps : (w : World) (id : ℕ) (c : Connection) (r : Result (Unit {0}) PushError) → Kept (pushed_world w (with_pushed w.connections id c r)) w
+with_pushed_keeps : (w : World) (id : ℕ) (c : Connection) (r : Result (Unit {0}) PushError)
+    → Kept (pushed_world w (with_pushed w.connections id c r)) w
 with_pushed_keeps w id c (Ok x) = tt
 with_pushed_keeps w id c (Err e) = refl
 
@@ -81,45 +97,56 @@ Next render w edit v o = v.connections ≡ w.connections
 unchanged : (w v : World) (said r : Result Step StepError) → Stays w said v r → Is (w, stepping said) v (stepping r)
 unchanged w v said r h = λ i. (sym h.0 i, stepping (sym h.1 i))
 
-answers_next : (render : Renders) (w : World) (id : ℕ) (c : Connection) (v : World) (r : Result Step StepError) → ¬ (r ≡ Err step_errors.Memory) → Answers render w id v r c
+answers_next : (render : Renders) (w : World) (id : ℕ) (c : Connection) (v : World) (r : Result Step StepError)
+    → ¬ (r ≡ Err step_errors.Memory) → Answers render w id v r c
     → (next : Front) × IsNext c.unread next × Is (shown stepping (stepped_by render w id c next)) v (stepping r)
 answers_next render w id c v (Ok said) enough (next, is, e) = (next, is, ap (shown stepping) e)
 answers_next render w id c v (Err step_errors.NoConnection) enough (next, is, e) = (next, is, ap (shown stepping) e)
 answers_next render w id c v (Err step_errors.Memory) enough h = absurd (enough refl)
 
-open_next : (render : Renders) (w : World) (id : ℕ) (c : Connection) (v : World) (r : Result Step StepError) (t : Bool) → ¬ (r ≡ Err step_errors.Memory)
+open_next : (render : Renders) (w : World) (id : ℕ) (c : Connection) (v : World) (r : Result Step StepError) (t : Bool)
+    → ¬ (r ≡ Err step_errors.Memory)
     → MatchBool t (Stays w (Ok steps.Closed) v r) (Answers render w id v r c)
-    → MatchBool t (Is (w, stepping (Ok steps.Closed)) v (stepping r)) ((next : Front) × IsNext c.unread next × Is (shown stepping (stepped_by render w id c next)) v (stepping r))
+    → MatchBool t (Is (w, stepping (Ok steps.Closed)) v (stepping r)) ((next : Front) × IsNext c.unread next
+    × Is (shown stepping (stepped_by render w id c next)) v (stepping r))
 open_next render w id c v r true enough h = unchanged w v (Ok steps.Closed) r h
 open_next render w id c v r false enough h = answers_next render w id c v r enough h
 
-step_next : (render : Renders) (w : World) (id : ℕ) (k : Option Connection) (v : World) (r : Result Step StepError) → ¬ (r ≡ Err step_errors.Memory) → StepsAt render w id v r k → NextStep render w id k v (stepping r)
+step_next : (render : Renders) (w : World) (id : ℕ) (k : Option Connection) (v : World) (r : Result Step StepError)
+    → ¬ (r ≡ Err step_errors.Memory) → StepsAt render w id v r k → NextStep render w id k v (stepping r)
 step_next render w id None v r enough h = unchanged w v (Err step_errors.NoConnection) r h
 step_next render w id (Some c) v r enough h = open_next render w id c v r c.closed enough h
 
 -- what a call gives, as a run tells it
-told : {S : Type 0} (as_outcome : S → Outcome) (given : World × S) (v : World) (said : S) (o : Outcome) → given ≡ (v, said) → o ≡ as_outcome said → Is (shown as_outcome given) v o
+told : {S : Type 0} (as_outcome : S → Outcome) (given : World × S) (v : World) (said : S) (o : Outcome) → given ≡ (v, said)
+    → o ≡ as_outcome said → Is (shown as_outcome given) v o
 told as_outcome given v said o e is = ap (shown as_outcome) e ∙ ap (λ x. (v, x)) (sym is)
 
 -- an edit leaves the connections, refused or not
-edited : {X E : Type 0} (memory : E) (given : World × Result X E) (w v : World) (r : Result X E) → given.0.connections ≡ w.connections → Gives memory given w v r → v.connections ≡ w.connections
+edited : {X E : Type 0} (memory : E) (given : World × Result X E) (w v : World) (r : Result X E) → given.0.connections ≡ w.connections
+    → Gives memory given w v r → v.connections ≡ w.connections
 edited {X = X} {E = E} memory given w v (Ok x) same gives = sym (ap (λ (q : World × Result X E). q.0.connections) gives) ∙ same
 edited memory given w v (Err e) same gives = ap (λ (x : World). x.connections) gives.1
 
-pub next_of : (render : Renders) (w : World) (event : Event) (v : World) (outcome : Outcome) → ¬ (IsOutOfMemory outcome) → Leaves render w event v outcome → Next render w event v outcome
+pub next_of : (render : Renders) (w : World) (event : Event) (v : World) (outcome : Outcome) → ¬ (IsOutOfMemory outcome)
+    → Leaves render w event v outcome → Next render w event v outcome
 next_of render w events.Connect v o enough (said, h, is) =
     told connecting (connected w) v said o
-    (exactly connect_errors.Memory (connected w).0 w v (connected w).1 said h (λ m. enough (is ∙ ap connecting m)) (connect_keeps w _ _ (nat_lt w.given last_id))) is
+    (exactly connect_errors.Memory (connected w).0 w v (connected w).1 said h (λ m. enough (is ∙ ap connecting m))
+    (connect_keeps w _ _ (nat_lt w.given last_id))) is
 next_of render w (events.Push id bytes) v o enough (said, h, is) =
     let given = world_pushed w id.0 bytes in
     told pushing given v said o
-    (exactly push_errors.Memory given.0 w v given.1 said h (λ m. enough (is ∙ ap pushing m)) (push_keeps w id.0 bytes (map.get w.connections id.0))) is
+    (exactly push_errors.Memory given.0 w v given.1 said h (λ m. enough (is ∙ ap pushing m))
+    (push_keeps w id.0 bytes (map.get w.connections id.0))) is
 next_of render w (events.Step id) v o enough (said, h, is) =
     subst (λ x. NextStep render w id.0 (map.get w.connections id.0) v x) (sym is)
     (step_next render w id.0 (map.get w.connections id.0) v said (λ m. enough (is ∙ ap stepping m)) h)
 next_of render w (events.Disconnect id) v o enough (said, h, is) = told outcomes.Disconnected (disconnected w id.0) v said o h is
-next_of render w (events.Put path groups text) v o enough (said, h, is) = edited edit_errors.Memory (world_put w path groups text) w v said refl h
+next_of render w (events.Put path groups text) v o enough (said, h, is) = edited edit_errors.Memory (world_put w path groups text) w v said
+    refl h
 next_of render w (events.Remove path) v o enough (said, h, is) = sym (ap (λ (q : World × Bool). q.0.connections) h)
 next_of render w (events.MovePage from to) v o enough (said, h, is) = edited move_errors.Memory (world_moved w from to) w v said refl h
-next_of render w (events.SetReader token reader) v o enough (said, h, is) = edited reader_errors.Memory (world_reader_set w token reader) w v said refl h
+next_of render w (events.SetReader token reader) v o enough (said, h, is) = edited reader_errors.Memory (world_reader_set w token reader) w
+    v said refl h
 next_of render w (events.RemoveReader token) v o enough (said, h, is) = sym (ap (λ (q : World × Bool). q.0.connections) h)

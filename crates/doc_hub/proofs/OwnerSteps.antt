@@ -32,11 +32,13 @@ owner_sees_all site reader owns = map.same_map nat_list_cmp_total exact_bytes _ 
     ∙ what_stands (map.get site.pages path))
 
 -- the page of a path, and whether one stands there
-pub owner_page : (site : Site) (reader : Reader) (path : List ℕ) → reader.owner ≡ true → page_at (view_of site (Some reader)).pages path ≡ map.get site.pages path
+pub owner_page : (site : Site) (reader : Reader) (path : List ℕ) → reader.owner ≡ true
+    → page_at (view_of site (Some reader)).pages path ≡ map.get site.pages path
 owner_page site reader path owns =
     entry_at-entries (visible_to site (Some reader)).pages path ∙ ap (λ pages. map.get pages path) (owner_sees_all site reader owns)
 
-pub owner_stands : (site : Site) (reader : Reader) (path : List ℕ) → reader.owner ≡ true → is_some (page_at (view_of site (Some reader)).pages path) ≡ map.contains_key site.pages path
+pub owner_stands : (site : Site) (reader : Reader) (path : List ℕ) → reader.owner ≡ true
+    → is_some (page_at (view_of site (Some reader)).pages path) ≡ map.contains_key site.pages path
 owner_stands site reader path owns = ap is_some (owner_page site reader path owns)
 
 -- how many pages stand
@@ -54,7 +56,8 @@ within a b true is = grind (arith, nat_tests)
 within a b false is = grind (arith, nat_tests)
 
 -- by the four tests
-room_by : (long stands full out : Bool) → (not long && (stands || not full) && not out) ≡ is_ok {T = Unit {0}} {E = EditError} (if long then Err TooLong else (if (not stands && full) || out then Err StoreFull else Ok tt))
+room_by : (long stands full out : Bool) → (not long && (stands || not full) && not out)
+    ≡ is_ok {T = Unit {0}} {E = EditError} (if long then Err TooLong else (if (not stands && full) || out then Err StoreFull else Ok tt))
 room_by true stands full out = refl
 room_by false true full true = refl
 room_by false true full false = refl
@@ -63,15 +66,18 @@ room_by false false false true = refl
 room_by false false false false = refl
 
 room_fits : (pages : ℕ) (stands : Bool) (puts : ℕ) (text : List ℕ)
-    → (nat_le (length text) text_limit && (stands || nat_lt pages page_limit) && nat_lt puts put_limit) ≡ is_ok (fits pages stands puts text)
+    → (nat_le (length text) text_limit && (stands || nat_lt pages page_limit) && nat_lt puts put_limit)
+    ≡ is_ok (fits pages stands puts text)
 room_fits pages stands puts text =
     (λ i. within (length text) text_limit _ refl i && (stands || below pages page_limit _ refl i) && below puts put_limit _ refl i)
     ∙ room_by (nat_lt text_limit (length text)) stands (nat_le page_limit pages) (nat_le put_limit puts)
 
 -- an owner's view has room for a text where the store has
-pub owner_room : (store : StoreState) (reader : Reader) (path text : List ℕ) → reader.owner ≡ true → has_room (view_of store.site (Some reader)) (puts_left store) path text ≡ is_ok (fits_in store path text)
+pub owner_room : (store : StoreState) (reader : Reader) (path text : List ℕ) → reader.owner ≡ true
+    → has_room (view_of store.site (Some reader)) (puts_left store) path text ≡ is_ok (fits_in store path text)
 owner_room store reader path text owns =
-    (λ i. nat_le (length text) text_limit && (owner_stands store.site reader path owns i || nat_lt (owner_pages store.site reader owns i) page_limit) && puts_left store)
+    (λ i. nat_le (length text) text_limit && (owner_stands store.site reader path owns i || nat_lt (owner_pages store.site reader owns i)
+    page_limit) && puts_left store)
     ∙ room_fits (map.len store.site.pages) (map.contains_key store.site.pages path) store.puts text
 
 -- where a put fits, its answer is this one
@@ -82,5 +88,6 @@ fits_where_ok (Err e) is = absurd (no is)
     no : false ≡ true → ⊥
     no h = cc
 
-pub owner_fits : (store : StoreState) (reader : Reader) (path text : List ℕ) → reader.owner ≡ true → has_room (view_of store.site (Some reader)) (puts_left store) path text ≡ true → fits_in store path text ≡ Ok tt
+pub owner_fits : (store : StoreState) (reader : Reader) (path text : List ℕ) → reader.owner ≡ true
+    → has_room (view_of store.site (Some reader)) (puts_left store) path text ≡ true → fits_in store path text ≡ Ok tt
 owner_fits store reader path text owns room = fits_where_ok (fits_in store path text) (sym (owner_room store reader path text owns) ∙ room)

@@ -20,18 +20,23 @@ module _ (store : StoreState) (reader : Reader) (path : List ℕ) (owns : reader
   view = view_of store.site (Some reader)
 
   -- a put that the store takes
-  pub put_fits : (groups : List (List ℕ)) (text : List ℕ) (code : ℕ) → code ≡ cond (map.contains_key store.site.pages path) 204 201 → fits_in store path text ≡ Ok tt → edited code (edits.Put path groups) ≡ put_page view (puts_left store) path groups text
+  pub put_fits : (groups : List (List ℕ)) (text : List ℕ) (code : ℕ) → code ≡ cond (map.contains_key store.site.pages path) 204 201
+      → fits_in store path text ≡ Ok tt → edited code (edits.Put path groups) ≡ put_page view (puts_left store) path groups text
   put_fits groups text code is fine =
       ap (λ n. edited n (edits.Put path groups)) (is ∙ ap (λ b. cond b 204 201) (sym (owner_stands store.site reader path owns)))
-      ∙ sym (ap (λ b. cond b (edited (cond (is_some (page_at view.pages path)) 204 201) (edits.Put path groups)) (refused 507)) (owner_room store reader path text owns ∙ ap is_ok fine))
+      ∙ sym (ap (λ b. cond b (edited (cond (is_some (page_at view.pages path)) 204 201) (edits.Put path groups)) (refused 507))
+      (owner_room store reader path text owns ∙ ap is_ok fine))
 
   -- and one that it doesn't
-  pub put_is_full : (groups : List (List ℕ)) (text : List ℕ) (e : EditError) → fits_in store path text ≡ Err e → refused 507 ≡ put_page view (puts_left store) path groups text
+  pub put_is_full : (groups : List (List ℕ)) (text : List ℕ) (e : EditError) → fits_in store path text ≡ Err e
+      → refused 507 ≡ put_page view (puts_left store) path groups text
   put_is_full groups text e full =
-      sym (ap (λ b. cond b (edited (cond (is_some (page_at view.pages path)) 204 201) (edits.Put path groups)) (refused 507)) (owner_room store reader path text owns ∙ ap is_ok full))
+      sym (ap (λ b. cond b (edited (cond (is_some (page_at view.pages path)) 204 201) (edits.Put path groups)) (refused 507))
+      (owner_room store reader path text owns ∙ ap is_ok full))
 
   -- a removal, by whether a page stands
-  pub deleted : (stands : Bool) → stands ≡ map.contains_key store.site.pages path → cond stands (edited 204 (edits.Remove path)) (refused 404) ≡ delete_at view (Some path)
+  pub deleted : (stands : Bool) → stands ≡ map.contains_key store.site.pages path
+      → cond stands (edited 204 (edits.Remove path)) (refused 404) ≡ delete_at view (Some path)
   deleted stands is = ap (λ b. cond b (edited 204 (edits.Remove path)) (refused 404)) (is ∙ sym (owner_stands store.site reader path owns))
 
 -- what is told as an answer is one
@@ -50,14 +55,16 @@ is_utf8-no text true is bad = absurd (bad (IsUtf8-from_is_utf8 text is))
 is_utf8-no text false is bad = refl
 
 -- a put of what is no text
-pub put_is_no_text : (view : View) (left : Bool) (written : Option (List ℕ)) (path : List ℕ) (named : Result (List (List ℕ)) GroupsError) (groups : List (List ℕ)) (text : List ℕ)
+pub put_is_no_text : (view : View) (left : Bool) (written : Option (List ℕ)) (path : List ℕ) (named : Result (List (List ℕ)) GroupsError)
+    (groups : List (List ℕ)) (text : List ℕ)
     → written ≡ Some path → named ≡ Ok groups → (IsUtf8 text → ⊥) → refused 400 ≡ put_at view left written named text
 put_is_no_text view left written path named groups text at are bad =
     sym (ap (λ w. put_at view left w named text) at ∙ ap (λ g. put_at view left (Some path) g text) are
     ∙ ap (λ b. cond b (put_page view left path groups text) (refused 400)) (is_utf8-no text (is_utf8 text) refl bad))
 
 -- a put of a text
-pub put_is_text : (view : View) (left : Bool) (written : Option (List ℕ)) (path : List ℕ) (named : Result (List (List ℕ)) GroupsError) (groups : List (List ℕ)) (text : List ℕ)
+pub put_is_text : (view : View) (left : Bool) (written : Option (List ℕ)) (path : List ℕ) (named : Result (List (List ℕ)) GroupsError)
+    (groups : List (List ℕ)) (text : List ℕ)
     → written ≡ Some path → named ≡ Ok groups → IsUtf8 text → put_page view left path groups text ≡ put_at view left written named text
 put_is_text view left written path named groups text at are utf8 =
     sym (ap (λ w. put_at view left w named text) at ∙ ap (λ g. put_at view left (Some path) g text) are

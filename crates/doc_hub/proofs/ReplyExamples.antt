@@ -29,9 +29,9 @@ use Rattle.doc_resolve.specs.Resolution.{resolve}
 use Rattle.doc_resolve.specs.WrittenPaths.{path_written as target_path_written}
 use Rattle.doc_hub.specs.Connections.{pushed_onto, finished, backlog_limit}
 use Rattle.doc_hub.specs.Replies.{Renders, answer_of, fault_bytes}
-use Rattle.doc_targets.specs.Queries.{value_of}
-use Rattle.doc_targets.specs.Targets.{origin_form, page_rest}
-use Rattle.doc_targets.specs.WrittenPaths.{path_written}
+use Rattle.doc_http_targets.specs.Queries.{value_of}
+use Rattle.doc_http_targets.specs.Targets.{origin_form, page_rest}
+use Rattle.doc_http_targets.specs.WrittenPaths.{path_written}
 use Rattle.doc_hub.specs.declared.answer.Answer.{Answer}
 use Rattle.doc_hub.specs.declared.connection.Connection.{Connection}
 use Rattle.doc_hub.specs.declared.refusal.PushError.TheVariants.{Closed}
@@ -40,7 +40,10 @@ use Rattle.doc_hub.specs.declared.response.Edit.TheVariants as edits
 
 -- one name to unfold where an example computes
 unfoldable computing : Unit {0}
-unfolding digits chars is_utf8 encode percent_decode percent_encode_byte encoded encoded_path kind_on target_path_written put_all reference resolve without_dots escaped lines without_ending stripped filled is_path paragraphs plain_html reason_of field_line reply_head reply_bytes answer_of origin_form page_rest path_written value_of raw_pairs split utf8_lossy utf8_valid_len groups_of_names text_limit page_limit backlog_limit
+unfolding digits chars is_utf8 encode percent_decode percent_encode_byte encoded encoded_path kind_on target_path_written put_all reference
+    resolve without_dots escaped lines without_ending stripped filled is_path paragraphs plain_html reason_of field_line reply_head
+    reply_bytes answer_of origin_form page_rest path_written value_of raw_pairs split utf8_lossy utf8_valid_len groups_of_names text_limit
+    page_limit backlog_limit
 computing = tt
 
 -- the pages of the demonstration site
@@ -72,7 +75,8 @@ owner = Some (record { owner = true; groups = [] })
 abbrev asked : List ℕ → List ℕ → Request
 asked method target = record { method = method; target = target; authorization = None; close = false; body = [] }
 
-page_reply_bytes : (answer_of plain_page staff_view ann true true (asked (codes "GET") (codes "/page/a.md"))).bytes ≡ codes "HTTP/1.1 200 OK\r\nContent-Type: text/html; charset=utf-8\r\nContent-Length: 49\r\n\r\n<!DOCTYPE html>\n<title>a.md</title>\n<p>Hello</p>\n"
+page_reply_bytes : (answer_of plain_page staff_view ann true true (asked (codes "GET") (codes "/page/a.md"))).bytes
+    ≡ codes "HTTP/1.1 200 OK\r\nContent-Type: text/html; charset=utf-8\r\nContent-Length: 49\r\n\r\n<!DOCTYPE html>\n<title>a.md</title>\n<p>Hello</p>\n"
 unfolding computing
 page_reply_bytes = refl
 
@@ -81,7 +85,8 @@ page_reply_bytes = refl
 -- a renderer that knows the text of `b.md`, and shows any other text as it stands
 abbrev rendered_b : Rendered
 rendered_b = record {
-  pieces = Html (codes "<p>") ∷ Link (record { dest = codes "c.md"; title = None }) ∷ Html (codes "c</a> ") ∷ Link (record { dest = codes "d.md"; title = None }) ∷ Html (codes "d</a></p>\n") ∷ [];
+  pieces = Html (codes "<p>") ∷ Link (record { dest = codes "c.md"; title = None }) ∷ Html (codes "c</a> ") ∷ Link
+      (record { dest = codes "d.md"; title = None }) ∷ Html (codes "d</a></p>\n") ∷ [];
   headings = [];
   texts = [];
 }
@@ -92,11 +97,13 @@ by_table text =
     else record { pieces = Html text ∷ []; headings = []; texts = [] }
 
 -- the reader of staff sees no `c.md`: it is shown as `d.md` is, which nobody has
-links_for_staff : (answer_of by_table staff_view ann true true (asked (codes "GET") (codes "/page/b.md"))).bytes ≡ codes "HTTP/1.1 200 OK\r\nContent-Type: text/html; charset=utf-8\r\nContent-Length: 93\r\n\r\n<!DOCTYPE html>\n<title>b.md</title>\n<p><a class=\"missing\">c</a> <a class=\"missing\">d</a></p>\n"
+links_for_staff : (answer_of by_table staff_view ann true true (asked (codes "GET") (codes "/page/b.md"))).bytes
+    ≡ codes "HTTP/1.1 200 OK\r\nContent-Type: text/html; charset=utf-8\r\nContent-Length: 93\r\n\r\n<!DOCTYPE html>\n<title>b.md</title>\n<p><a class=\"missing\">c</a> <a class=\"missing\">d</a></p>\n"
 unfolding computing
 links_for_staff = refl
 
-links_for_an_owner : (answer_of by_table owner_view owner true true (asked (codes "GET") (codes "/page/b.md"))).bytes ≡ codes "HTTP/1.1 200 OK\r\nContent-Type: text/html; charset=utf-8\r\nContent-Length: 95\r\n\r\n<!DOCTYPE html>\n<title>b.md</title>\n<p><a href=\"/page/c.md\">c</a> <a class=\"missing\">d</a></p>\n"
+links_for_an_owner : (answer_of by_table owner_view owner true true (asked (codes "GET") (codes "/page/b.md"))).bytes
+    ≡ codes "HTTP/1.1 200 OK\r\nContent-Type: text/html; charset=utf-8\r\nContent-Length: 95\r\n\r\n<!DOCTYPE html>\n<title>b.md</title>\n<p><a href=\"/page/c.md\">c</a> <a class=\"missing\">d</a></p>\n"
 unfolding computing
 links_for_an_owner = refl
 
@@ -104,43 +111,53 @@ links_for_an_owner = refl
 abbrev moved_view : View
 moved_view = record { pages = page_a ∷ page_b ∷ (codes "e/c.md", page_c.1) ∷ []; aliases = (codes "c.md", codes "e/c.md") ∷ [] }
 
-links_after_a_move : (answer_of by_table moved_view owner true true (asked (codes "GET") (codes "/page/b.md"))).bytes ≡ codes "HTTP/1.1 200 OK\r\nContent-Type: text/html; charset=utf-8\r\nContent-Length: 97\r\n\r\n<!DOCTYPE html>\n<title>b.md</title>\n<p><a href=\"/page/e/c.md\">c</a> <a class=\"missing\">d</a></p>\n"
+links_after_a_move : (answer_of by_table moved_view owner true true (asked (codes "GET") (codes "/page/b.md"))).bytes
+    ≡ codes "HTTP/1.1 200 OK\r\nContent-Type: text/html; charset=utf-8\r\nContent-Length: 97\r\n\r\n<!DOCTYPE html>\n<title>b.md</title>\n<p><a href=\"/page/e/c.md\">c</a> <a class=\"missing\">d</a></p>\n"
 unfolding computing
 links_after_a_move = refl
 
-unknown_reader : (answer_of plain_page empty_view None true true (asked (codes "GET") (codes "/page/a.md"))).bytes ≡ codes "HTTP/1.1 401 Unauthorized\r\nContent-Type: text/plain; charset=utf-8\r\nContent-Length: 17\r\nWWW-Authenticate: Bearer realm=\"docs\"\r\n\r\n401 Unauthorized\n"
+unknown_reader : (answer_of plain_page empty_view None true true (asked (codes "GET") (codes "/page/a.md"))).bytes
+    ≡ codes "HTTP/1.1 401 Unauthorized\r\nContent-Type: text/plain; charset=utf-8\r\nContent-Length: 17\r\nWWW-Authenticate: Bearer realm=\"docs\"\r\n\r\n401 Unauthorized\n"
 unfolding computing
 unknown_reader = refl
 
-unknown_reader_and_route : (answer_of plain_page empty_view None true true (asked (codes "PUT") (codes "/x"))).bytes ≡ codes "HTTP/1.1 401 Unauthorized\r\nContent-Type: text/plain; charset=utf-8\r\nContent-Length: 17\r\nWWW-Authenticate: Bearer realm=\"docs\"\r\n\r\n401 Unauthorized\n"
+unknown_reader_and_route : (answer_of plain_page empty_view None true true (asked (codes "PUT") (codes "/x"))).bytes
+    ≡ codes "HTTP/1.1 401 Unauthorized\r\nContent-Type: text/plain; charset=utf-8\r\nContent-Length: 17\r\nWWW-Authenticate: Bearer realm=\"docs\"\r\n\r\n401 Unauthorized\n"
 unfolding computing
 unknown_reader_and_route = refl
 
-hidden_page : (answer_of plain_page staff_view ann true true (asked (codes "GET") (codes "/page/c.md"))).bytes ≡ codes "HTTP/1.1 404 Not Found\r\nContent-Type: text/plain; charset=utf-8\r\nContent-Length: 14\r\n\r\n404 Not Found\n"
+hidden_page : (answer_of plain_page staff_view ann true true (asked (codes "GET") (codes "/page/c.md"))).bytes
+    ≡ codes "HTTP/1.1 404 Not Found\r\nContent-Type: text/plain; charset=utf-8\r\nContent-Length: 14\r\n\r\n404 Not Found\n"
 unfolding computing
 hidden_page = refl
 
-absent_page : (answer_of plain_page staff_view ann true true (asked (codes "GET") (codes "/page/zz.md"))).bytes ≡ (answer_of plain_page staff_view ann true true (asked (codes "GET") (codes "/page/c.md"))).bytes
+absent_page : (answer_of plain_page staff_view ann true true (asked (codes "GET") (codes "/page/zz.md"))).bytes
+    ≡ (answer_of plain_page staff_view ann true true (asked (codes "GET") (codes "/page/c.md"))).bytes
 unfolding computing
 absent_page = refl
 
-dot_segments : (answer_of plain_page staff_view ann true true (asked (codes "GET") (codes "/page/%2e%2e"))).bytes ≡ (answer_of plain_page staff_view ann true true (asked (codes "GET") (codes "/page/c.md"))).bytes
+dot_segments : (answer_of plain_page staff_view ann true true (asked (codes "GET") (codes "/page/%2e%2e"))).bytes
+    ≡ (answer_of plain_page staff_view ann true true (asked (codes "GET") (codes "/page/c.md"))).bytes
 unfolding computing
 dot_segments = refl
 
-head_has_no_body : (answer_of plain_page staff_view ann true true (asked (codes "HEAD") (codes "/contents"))).bytes ≡ codes "HTTP/1.1 404 Not Found\r\nContent-Type: text/plain; charset=utf-8\r\nContent-Length: 14\r\n\r\n"
+head_has_no_body : (answer_of plain_page staff_view ann true true (asked (codes "HEAD") (codes "/contents"))).bytes
+    ≡ codes "HTTP/1.1 404 Not Found\r\nContent-Type: text/plain; charset=utf-8\r\nContent-Length: 14\r\n\r\n"
 unfolding computing
 head_has_no_body = refl
 
-without_keep_alive : (answer_of plain_page staff_view ann true false (asked (codes "GET") (codes "/page/zz.md"))).bytes ≡ codes "HTTP/1.1 404 Not Found\r\nContent-Type: text/plain; charset=utf-8\r\nContent-Length: 14\r\nConnection: close\r\n\r\n404 Not Found\n"
+without_keep_alive : (answer_of plain_page staff_view ann true false (asked (codes "GET") (codes "/page/zz.md"))).bytes
+    ≡ codes "HTTP/1.1 404 Not Found\r\nContent-Type: text/plain; charset=utf-8\r\nContent-Length: 14\r\nConnection: close\r\n\r\n404 Not Found\n"
 unfolding computing
 without_keep_alive = refl
 
-bare_fault : fault_bytes 501 true ≡ codes "HTTP/1.1 501 Not Implemented\r\nContent-Type: text/plain; charset=utf-8\r\nContent-Length: 20\r\nConnection: close\r\n\r\n"
+bare_fault : fault_bytes 501 true
+    ≡ codes "HTTP/1.1 501 Not Implemented\r\nContent-Type: text/plain; charset=utf-8\r\nContent-Length: 20\r\nConnection: close\r\n\r\n"
 unfolding computing
 bare_fault = refl
 
-bad_request : fault_bytes 400 false ≡ codes "HTTP/1.1 400 Bad Request\r\nContent-Type: text/plain; charset=utf-8\r\nContent-Length: 16\r\nConnection: close\r\n\r\n400 Bad Request\n"
+bad_request : fault_bytes 400 false
+    ≡ codes "HTTP/1.1 400 Bad Request\r\nContent-Type: text/plain; charset=utf-8\r\nContent-Length: 16\r\nConnection: close\r\n\r\n400 Bad Request\n"
 unfolding computing
 bad_request = refl
 
@@ -176,10 +193,12 @@ abbrev not_found : List ℕ
 not_found = codes "HTTP/1.1 404 Not Found\r\nContent-Type: text/plain; charset=utf-8\r\nContent-Length: 14\r\n\r\n404 Not Found\n"
 
 abbrev other_method : List ℕ
-other_method = codes "HTTP/1.1 405 Method Not Allowed\r\nContent-Type: text/plain; charset=utf-8\r\nContent-Length: 23\r\nAllow: GET, HEAD, PUT, DELETE\r\n\r\n405 Method Not Allowed\n"
+other_method = codes
+    "HTTP/1.1 405 Method Not Allowed\r\nContent-Type: text/plain; charset=utf-8\r\nContent-Length: 23\r\nAllow: GET, HEAD, PUT, DELETE\r\n\r\n405 Method Not Allowed\n"
 
 abbrev full : List ℕ
-full = codes "HTTP/1.1 507 Insufficient Storage\r\nContent-Type: text/plain; charset=utf-8\r\nContent-Length: 25\r\n\r\n507 Insufficient Storage\n"
+full = codes
+    "HTTP/1.1 507 Insufficient Storage\r\nContent-Type: text/plain; charset=utf-8\r\nContent-Length: 25\r\n\r\n507 Insufficient Storage\n"
 
 -- the methods of a page; methods have case
 patch : answered staff_view ann (asked (codes "PATCH") (codes "/page/a.md")) ≡ only other_method
@@ -195,26 +214,35 @@ patch_of_no_route : answered staff_view ann (asked (codes "PATCH") (codes "/x"))
 unfolding computing
 patch_of_no_route = refl
 
-unknown_reader_patches : (answered empty_view None (asked (codes "PATCH") (codes "/page/a.md"))).bytes ≡ (answered empty_view None (asked (codes "GET") (codes "/page/a.md"))).bytes
+unknown_reader_patches : (answered empty_view None (asked (codes "PATCH") (codes "/page/a.md"))).bytes
+    ≡ (answered empty_view None (asked (codes "GET") (codes "/page/a.md"))).bytes
 unfolding computing
 unknown_reader_patches = refl
 
 -- HEAD has the head that GET has, and nothing else
-head_of_a_page : answered staff_view ann (asked (codes "HEAD") (codes "/page/a.md")) ≡ only (codes "HTTP/1.1 200 OK\r\nContent-Type: text/html; charset=utf-8\r\nContent-Length: 49\r\n\r\n")
+head_of_a_page : answered staff_view ann (asked (codes "HEAD") (codes "/page/a.md"))
+    ≡ only (codes "HTTP/1.1 200 OK\r\nContent-Type: text/html; charset=utf-8\r\nContent-Length: 49\r\n\r\n")
 unfolding computing
 head_of_a_page = refl
 
 -- an alias leads to its page, where that is in the view; else it is nothing
-get_of_an_alias : answered moved_view owner (asked (codes "GET") (codes "/page/c.md?x")) ≡ only (codes "HTTP/1.1 301 Moved Permanently\r\nContent-Type: text/plain; charset=utf-8\r\nContent-Length: 22\r\nLocation: /page/e/c.md\r\n\r\n301 Moved Permanently\n")
+get_of_an_alias : answered moved_view owner (asked (codes "GET") (codes "/page/c.md?x"))
+    ≡ only (codes
+    "HTTP/1.1 301 Moved Permanently\r\nContent-Type: text/plain; charset=utf-8\r\nContent-Length: 22\r\nLocation: /page/e/c.md\r\n\r\n301 Moved Permanently\n")
 unfolding computing
 get_of_an_alias = refl
 
-head_of_an_alias : answered moved_view owner (asked (codes "HEAD") (codes "/page/c.md")) ≡ only (codes "HTTP/1.1 301 Moved Permanently\r\nContent-Type: text/plain; charset=utf-8\r\nContent-Length: 22\r\nLocation: /page/e/c.md\r\n\r\n")
+head_of_an_alias : answered moved_view owner (asked (codes "HEAD") (codes "/page/c.md"))
+    ≡ only (codes
+    "HTTP/1.1 301 Moved Permanently\r\nContent-Type: text/plain; charset=utf-8\r\nContent-Length: 22\r\nLocation: /page/e/c.md\r\n\r\n")
 unfolding computing
 head_of_an_alias = refl
 
 -- of a location all bytes are encoded but letters, digits and `-._~`
-encoded_location : answered (record { pages = (codes "c++.md", page_c.1) ∷ []; aliases = (codes "c.md", codes "c++.md") ∷ [] }) owner (asked (codes "GET") (codes "/page/c.md")) ≡ only (codes "HTTP/1.1 301 Moved Permanently\r\nContent-Type: text/plain; charset=utf-8\r\nContent-Length: 22\r\nLocation: /page/c%2B%2B.md\r\n\r\n301 Moved Permanently\n")
+encoded_location : answered (record { pages = (codes "c++.md", page_c.1) ∷ []; aliases = (codes "c.md", codes "c++.md") ∷ [] }) owner
+    (asked (codes "GET") (codes "/page/c.md"))
+    ≡ only (codes
+    "HTTP/1.1 301 Moved Permanently\r\nContent-Type: text/plain; charset=utf-8\r\nContent-Length: 22\r\nLocation: /page/c%2B%2B.md\r\n\r\n301 Moved Permanently\n")
 unfolding computing
 encoded_location = refl
 
@@ -223,29 +251,35 @@ unfolding computing
 alias_out_of_view = refl
 
 -- an owner's PUT
-put_of_a_new_page : answered owner_view owner (sent (codes "PUT") (codes "/page/n.md?groups=staff") (codes "hi")) ≡ with_edit created (edits.Put (codes "n.md") (codes "staff" ∷ []))
+put_of_a_new_page : answered owner_view owner (sent (codes "PUT") (codes "/page/n.md?groups=staff") (codes "hi"))
+    ≡ with_edit created (edits.Put (codes "n.md") (codes "staff" ∷ []))
 unfolding computing
 put_of_a_new_page = refl
 
 -- without groups the page has none, whatever it had
-put_of_an_old_page : answered owner_view owner (sent (codes "PUT") (codes "/page/a.md") (codes "hi")) ≡ with_edit no_content (edits.Put (codes "a.md") [])
+put_of_an_old_page : answered owner_view owner (sent (codes "PUT") (codes "/page/a.md") (codes "hi"))
+    ≡ with_edit no_content (edits.Put (codes "a.md") [])
 unfolding computing
 put_of_an_old_page = refl
 
-put_of_an_alias : answered moved_view owner (sent (codes "PUT") (codes "/page/c.md") (codes "hi")) ≡ with_edit created (edits.Put (codes "c.md") [])
+put_of_an_alias : answered moved_view owner (sent (codes "PUT") (codes "/page/c.md") (codes "hi"))
+    ≡ with_edit created (edits.Put (codes "c.md") [])
 unfolding computing
 put_of_an_alias = refl
 
-put_of_a_folder : answered owner_view owner (sent (codes "PUT") (codes "/page/guide/") (codes "hi")) ≡ with_edit created (edits.Put (codes "guide/index.md") [])
+put_of_a_folder : answered owner_view owner (sent (codes "PUT") (codes "/page/guide/") (codes "hi"))
+    ≡ with_edit created (edits.Put (codes "guide/index.md") [])
 unfolding computing
 put_of_a_folder = refl
 
-put_of_an_empty_text : answered owner_view owner (sent (codes "PUT") (codes "/page/a.md") []) ≡ with_edit no_content (edits.Put (codes "a.md") [])
+put_of_an_empty_text : answered owner_view owner (sent (codes "PUT") (codes "/page/a.md") [])
+    ≡ with_edit no_content (edits.Put (codes "a.md") [])
 unfolding computing
 put_of_an_empty_text = refl
 
 -- the first pair of the name counts; `%2C` is a comma
-first_groups : answered owner_view owner (sent (codes "PUT") (codes "/page/n.md?x=y&groups=staff%2Cops&groups=A") (codes "hi")) ≡ with_edit created (edits.Put (codes "n.md") (codes "ops" ∷ codes "staff" ∷ []))
+first_groups : answered owner_view owner (sent (codes "PUT") (codes "/page/n.md?x=y&groups=staff%2Cops&groups=A") (codes "hi"))
+    ≡ with_edit created (edits.Put (codes "n.md") (codes "ops" ∷ codes "staff" ∷ []))
 unfolding computing
 first_groups = refl
 
@@ -266,7 +300,13 @@ put_of_a_bad_path : answered owner_view owner (sent (codes "PUT") (codes "/page/
 unfolding computing
 put_of_a_bad_path = refl
 
-put_where_it_closes : answer_of plain_page owner_view owner true false (sent (codes "PUT") (codes "/page/a.md") (codes "hi")) ≡ record { bytes = codes "HTTP/1.1 204 No Content\r\nConnection: close\r\n\r\n"; closes = true; edit = Some (edits.Put (codes "a.md") []) }
+put_where_it_closes : answer_of plain_page owner_view owner true false (sent (codes "PUT") (codes "/page/a.md") (codes "hi"))
+    ≡ record {
+      bytes = codes "HTTP/1.1 204 No Content\r\nConnection: close\r\n\r\n";
+      closes = true;
+      edit = Some
+          (edits.Put (codes "a.md") []);
+    }
 unfolding computing
 put_where_it_closes = refl
 
@@ -279,7 +319,8 @@ old_put_of_none_left : answer_of plain_page owner_view owner false true (sent (c
 unfolding computing
 old_put_of_none_left = refl
 
-bad_put_of_none_left : answer_of plain_page owner_view owner false true (sent (codes "PUT") (codes "/page/n.md?groups=A") (codes "hi")) ≡ only bad
+bad_put_of_none_left : answer_of plain_page owner_view owner false true (sent (codes "PUT") (codes "/page/n.md?groups=A") (codes "hi"))
+    ≡ only bad
 unfolding computing
 bad_put_of_none_left = refl
 
@@ -291,11 +332,13 @@ put_into_a_full_site : answered (pages_in_number 10000) owner (sent (codes "PUT"
 unfolding computing
 put_into_a_full_site = refl
 
-old_put_into_a_full_site : answered (pages_in_number 10000) owner (sent (codes "PUT") (codes "/page/a.md") (codes "hi")) ≡ with_edit no_content (edits.Put (codes "a.md") [])
+old_put_into_a_full_site : answered (pages_in_number 10000) owner (sent (codes "PUT") (codes "/page/a.md") (codes "hi"))
+    ≡ with_edit no_content (edits.Put (codes "a.md") [])
 unfolding computing
 old_put_into_a_full_site = refl
 
-last_put : answered (pages_in_number 9999) owner (sent (codes "PUT") (codes "/page/n.md") (codes "hi")) ≡ with_edit created (edits.Put (codes "n.md") [])
+last_put : answered (pages_in_number 9999) owner (sent (codes "PUT") (codes "/page/n.md") (codes "hi"))
+    ≡ with_edit created (edits.Put (codes "n.md") [])
 unfolding computing
 last_put = refl
 
@@ -313,7 +356,8 @@ unfolding computing
 removal_by_another = refl
 
 -- an owner's DELETE; it takes no put
-removal : answer_of plain_page owner_view owner false true (asked (codes "DELETE") (codes "/page/a.md")) ≡ with_edit no_content (edits.Remove (codes "a.md"))
+removal : answer_of plain_page owner_view owner false true (asked (codes "DELETE") (codes "/page/a.md"))
+    ≡ with_edit no_content (edits.Remove (codes "a.md"))
 unfolding computing
 removal = refl
 

@@ -9,10 +9,26 @@ use Rattle.doc_store.specs.declared.reader.Reader.{Reader}
 use Rattle.doc_http.specs.Replies.{is_reply_code}
 use Rattle.doc_http.specs.declared.reply.Reply.{Reply}
 use Rattle.doc_http.specs.declared.request.Request.{Request}
-use Rattle.doc_targets.specs.Queries.{parameter}
-use Rattle.doc_targets.specs.Targets.{page_rest}
-use Rattle.doc_targets.specs.WrittenPaths.{path_written}
-use Rattle.doc_hub.specs.Replies.{Renders, at_path, by_method, delete_at, edited, goal_reply, has_room, method_of, on_route, page_or_goal, put_at, put_by, put_page, refused, response_to}
+use Rattle.doc_http_targets.specs.Queries.{parameter}
+use Rattle.doc_http_targets.specs.Targets.{page_rest}
+use Rattle.doc_http_targets.specs.WrittenPaths.{path_written}
+use Rattle.doc_hub.specs.Replies.{
+  Renders,
+  at_path,
+  by_method,
+  delete_at,
+  edited,
+  goal_reply,
+  has_room,
+  method_of,
+  on_route,
+  page_or_goal,
+  put_at,
+  put_by,
+  put_page,
+  refused,
+  response_to,
+}
 use Rattle.doc_hub.specs.declared.method.Method.{Method}
 use Rattle.doc_hub.specs.declared.method.Method.TheVariants.{Get, Head, Put, Delete, Other}
 use Rattle.doc_hub.specs.declared.response.Edit.TheVariants as edits
@@ -36,7 +52,8 @@ at_goal : (goal : Option (List ℕ)) → IsReply (goal_reply goal)
 at_goal None = record { known = refl; allowed = refl; located = refl; content = λ _. (refl, refl) }
 at_goal (Some goal) = record { known = refl; allowed = refl; located = refl; content = λ _. (refl, refl) }
 
-at_page : (render : Renders) (view : View) (path : List ℕ) (page : Option Page) (goal : Option (List ℕ)) → IsReply (page_or_goal render view path page goal)
+at_page : (render : Renders) (view : View) (path : List ℕ) (page : Option Page) (goal : Option (List ℕ))
+    → IsReply (page_or_goal render view path page goal)
 at_page render view path (Some page) goal = record { known = refl; allowed = refl; located = refl; content = λ other. absurd (other refl) }
 at_page render view path None goal = at_goal goal
 
@@ -57,7 +74,8 @@ good_put view left path groups text =
 bad_content : Good (refused 400)
 bad_content = record { known = refl; allowed = refl; located = refl; content = λ _. (refl, refl) }
 
-good_put_at : (view : View) (left : Bool) (path : Option (List ℕ)) (groups : Result (List (List ℕ)) GroupsError) (text : List ℕ) → Good (put_at view left path groups text)
+good_put_at : (view : View) (left : Bool) (path : Option (List ℕ)) (groups : Result (List (List ℕ)) GroupsError) (text : List ℕ)
+    → Good (put_at view left path groups text)
 good_put_at view left None groups text = bad_content
 good_put_at view left (Some path) (Err e) text = bad_content
 good_put_at view left (Some path) (Ok groups) text = on_either Good (is_utf8 text) _ _ (good_put view left path groups text) bad_content
@@ -69,23 +87,29 @@ good_delete view (Some path) =
     (record { known = refl; allowed = refl; located = refl; content = λ _. (refl, refl) })
     (record { known = refl; allowed = refl; located = refl; content = λ _. (refl, refl) })
 
-good_method : (render : Renders) (view : View) (owner left : Bool) (rest : List ℕ) (request : Request) (method : Method) → Good (by_method render view owner left rest request method)
+good_method : (render : Renders) (view : View) (owner left : Bool) (rest : List ℕ) (request : Request) (method : Method)
+    → Good (by_method render view owner left rest request method)
 good_method render view owner left rest request Get = written_at render view (path_written rest)
 good_method render view owner left rest request Head = written_at render view (path_written rest)
 good_method render view owner left rest request Put =
-    on_either Good owner _ _ (good_put_at view left (path_written rest) _ request.body) (record { known = refl; allowed = refl; located = refl; content = λ _. (refl, refl) })
+    on_either Good owner _ _ (good_put_at view left (path_written rest) _ request.body)
+    (record { known = refl; allowed = refl; located = refl; content = λ _. (refl, refl) })
 good_method render view owner left rest request Delete =
-    on_either Good owner _ _ (good_delete view (path_written rest)) (record { known = refl; allowed = refl; located = refl; content = λ _. (refl, refl) })
+    on_either Good owner _ _ (good_delete view (path_written rest))
+    (record { known = refl; allowed = refl; located = refl; content = λ _. (refl, refl) })
 good_method render view owner left rest request Other = record { known = refl; allowed = refl; located = refl; content = λ _. (refl, refl) }
 
-good_route : (render : Renders) (view : View) (owner left : Bool) (rest : Option (List ℕ)) (request : Request) → Good (on_route render view owner left rest request)
+good_route : (render : Renders) (view : View) (owner left : Bool) (rest : Option (List ℕ)) (request : Request)
+    → Good (on_route render view owner left rest request)
 good_route render view owner left None request = record { known = refl; allowed = refl; located = refl; content = λ _. (refl, refl) }
 good_route render view owner left (Some rest) request = good_method render view owner left rest request (method_of request.method)
 
 -- the reply to any request
-pub reply_is_good : (render : Renders) (view : View) (reader : Option Reader) (left : Bool) (request : Request) → IsReply (response_to render view reader left request).reply
+pub reply_is_good : (render : Renders) (view : View) (reader : Option Reader) (left : Bool) (request : Request)
+    → IsReply (response_to render view reader left request).reply
 reply_is_good render view None left request = record { known = refl; allowed = refl; located = refl; content = λ _. (refl, refl) }
 reply_is_good render view (Some reader) left request = good_route render view reader.owner left (page_rest request.target) request
 
-pub good_response : (response : Response) (render : Renders) (view : View) (reader : Option Reader) (left : Bool) (request : Request) → response ≡ response_to render view reader left request → IsReply response.reply
+pub good_response : (response : Response) (render : Renders) (view : View) (reader : Option Reader) (left : Bool) (request : Request)
+    → response ≡ response_to render view reader left request → IsReply response.reply
 good_response response render view reader left request is = subst Good (sym is) (reply_is_good render view reader left request)

@@ -32,7 +32,8 @@ use Rattle.doc_hub.proofs.StepLaws.{same_answer}
 use Rattle.doc_hub.proofs.NextLaws.{Is, shown, Next, NextStep, next_of}
 
 -- one connection changes
-put_at : (w : World) (id : ℕ) (k : Connection) (c : ℕ) (b : Bool) → (c == id) ≡ b → map.get (map.insert w.connections id k) c ≡ cond b (Some k) (connection c w)
+put_at : (w : World) (id : ℕ) (k : Connection) (c : ℕ) (b : Bool) → (c == id) ≡ b
+    → map.get (map.insert w.connections id k) c ≡ cond b (Some k) (connection c w)
 put_at w id k c b e =
     map.get-insert nat_cmp_total w.connections id k c ∙ ap (λ t. cond t (Some k) (connection c w)) (unsigned_tied c id ∙ e)
 
@@ -46,7 +47,11 @@ first_is x v o P is p = subst P (ap (λ (q : World × Outcome). q.0) is) p
 
 module _ (render : Renders) (c : ℕ) where
   abbrev connected_if : World → Bool → World × Result ConnId ConnectError
-  connected_if w t = if t then (record w { given = w.given + 1; connections = map.insert w.connections (w.given + 1) new_connection }, Ok (record { 0 = w.given + 1 })) else (w, Err connect_errors.NoIds)
+  connected_if w t = if t then (
+    record w { given = w.given + 1; connections = map.insert w.connections (w.given + 1) new_connection },
+    Ok
+        (record { 0 = w.given + 1 }),
+  ) else (w, Err connect_errors.NoIds)
 
   -- what is known of an outcome is known of an equal one
   on_given : (x : World × Outcome) (v : World) (e : Event) (o : Outcome) (t : Bool) → x ≡ (v, o) → is_on_by c e o ≡ t → is_on_by c e x.1 ≡ t
@@ -63,23 +68,29 @@ module _ (render : Renders) (c : ℕ) where
   front_elsewhere w id k (nexts.Request used request) off =
       let a = answer_in render w request in put_at (world_after w request a) id (finished k used a.closes) c false off
 
-  open_elsewhere : (w v : World) (o : Outcome) (id : ℕ) (k : Connection) (t : Bool) → (c == id) ≡ false → MatchBool t (Is (w, stepping (Ok steps.Closed)) v o) ((f : Front) × IsNext k.unread f × Is (shown stepping (stepped_by render w id k f)) v o) → Kept w v
+  open_elsewhere : (w v : World) (o : Outcome) (id : ℕ) (k : Connection) (t : Bool) → (c == id) ≡ false
+      → MatchBool t (Is (w, stepping (Ok steps.Closed)) v o) ((f : Front) × IsNext k.unread f
+      × Is (shown stepping (stepped_by render w id k f)) v o) → Kept w v
   open_elsewhere w v o id k true off h = first_is (w, stepping (Ok steps.Closed)) v o (Kept w) h refl
-  open_elsewhere w v o id k false off (f, is, h) = first_is (shown stepping (stepped_by render w id k f)) v o (Kept w) h (front_elsewhere w id k f off)
+  open_elsewhere w v o id k false off (f, is, h) = first_is (shown stepping (stepped_by render w id k f)) v o (Kept w) h
+      (front_elsewhere w id k f off)
 
   step_elsewhere : (w v : World) (o : Outcome) (id : ℕ) (k : Option Connection) → (c == id) ≡ false → NextStep render w id k v o → Kept w v
   step_elsewhere w v o id None off h = first_is (w, stepping (Err step_errors.NoConnection)) v o (Kept w) h refl
   step_elsewhere w v o id (Some k) off h = open_elsewhere w v o id k k.closed off h
 
-  connect_elsewhere : (w : World) (t : Bool) → is_on_by c events.Connect (connecting (connected_if w t).1) ≡ false → Kept w (connected_if w t).0
+  connect_elsewhere : (w : World) (t : Bool) → is_on_by c events.Connect (connecting (connected_if w t).1) ≡ false
+      → Kept w (connected_if w t).0
   connect_elsewhere w true off = put_at w (w.given + 1) new_connection c false off
   connect_elsewhere w false off = refl
 
-  with_pushed_elsewhere : (w : World) (id : ℕ) (k : Connection) (r : Result (Unit {0}) PushError) → (c == id) ≡ false → map.get (with_pushed w.connections id k r).0 c ≡ connection c w
+  with_pushed_elsewhere : (w : World) (id : ℕ) (k : Connection) (r : Result (Unit {0}) PushError) → (c == id) ≡ false
+      → map.get (with_pushed w.connections id k r).0 c ≡ connection c w
   with_pushed_elsewhere w id k (Ok x) off = put_at w id k c false off
   with_pushed_elsewhere w id k (Err e) off = refl
 
-  push_elsewhere : (w : World) (id : ℕ) (bytes : List ℕ) (k : Option Connection) → (c == id) ≡ false → map.get (pushed_at w.connections id bytes k).0 c ≡ connection c w
+  push_elsewhere : (w : World) (id : ℕ) (bytes : List ℕ) (k : Option Connection) → (c == id) ≡ false
+      → map.get (pushed_at w.connections id bytes k).0 c ≡ connection c w
   push_elsewhere w id bytes None off = refl
   push_elsewhere w id bytes (Some k) off = with_pushed_elsewhere w id _ _ off
 
@@ -100,7 +111,8 @@ module _ (render : Renders) (c : ℕ) where
 
   abbrev Chain : Option Connection → List Happened → Type 0
   Chain k [] = ⊤
-  Chain k (h ∷ hs) = (v : World) × (is_on c h ≡ true) × (connection c h.world ≡ k) × Next render h.world h.event v h.outcome × Chain (connection c v) hs
+  Chain k (h ∷ hs) = (v : World) × (is_on c h ≡ true) × (connection c h.world ≡ k) × Next render h.world h.event v h.outcome
+      × Chain (connection c v) hs
 
   abbrev Enough : Happened → Type 0
   Enough h = ¬ (IsOutOfMemory h.outcome)
@@ -108,10 +120,13 @@ module _ (render : Renders) (c : ℕ) where
   chain_of : (w : World) (run : List Happened) (u : World) → Runs render w run u → All Enough run → Chain (connection c w) (events_on c run)
   chain_of w run u (nothing x) enough = tt
   chain_of w run u (first x v y e o rest happens runs) enough =
-      let next : Next render x e v o = next_of render x e v o (All-head Enough (record { world = x; event = e; outcome = o }) rest enough) happens in
-      either next (chain_of v rest y runs (All-tail Enough (record { world = x; event = e; outcome = o }) rest enough)) (is_on_by c e o) refl
+      let next : Next render x e v o = next_of render x e v o (All-head Enough (record { world = x; event = e; outcome = o }) rest enough)
+      happens in
+      either next (chain_of v rest y runs (All-tail Enough (record { world = x; event = e; outcome = o }) rest enough)) (is_on_by c e o)
+      refl
     where
-      either : Next render x e v o → Chain (connection c v) (events_on c rest) → (t : Bool) → is_on_by c e o ≡ t → Chain (connection c x) (cond t (record { world = x; event = e; outcome = o } ∷ events_on c rest) (events_on c rest))
+      either : Next render x e v o → Chain (connection c v) (events_on c rest) → (t : Bool) → is_on_by c e o ≡ t
+          → Chain (connection c x) (cond t (record { world = x; event = e; outcome = o } ∷ events_on c rest) (events_on c rest))
       either next chain true on = (v, on, refl, next, chain)
       either next chain false off = subst (λ k. Chain k (events_on c rest)) (elsewhere x e v o off next) chain
 
@@ -136,18 +151,26 @@ module _ (render : Renders) (c : ℕ) where
   push_result bytes None = None
   push_result bytes (Some k) = let r = pushed_onto k bytes in pushed_by (Some k) r.0 r.1
 
-  with_pushed_here : (w : World) (k new : Connection) (r : Result (Unit {0}) PushError) → (c == c) ≡ true → connection c w ≡ Some k → map.get (with_pushed w.connections c new r).0 c ≡ pushed_by (Some k) new r
+  with_pushed_here : (w : World) (k new : Connection) (r : Result (Unit {0}) PushError) → (c == c) ≡ true → connection c w ≡ Some k
+      → map.get (with_pushed w.connections c new r).0 c ≡ pushed_by (Some k) new r
   with_pushed_here w k new (Ok x) on is = put_at w c new c true on
   with_pushed_here w k new (Err e) on is = is
 
-  pushed_here : (w : World) (bytes : List ℕ) (k : Option Connection) → (c == c) ≡ true → connection c w ≡ k → map.get (pushed_at w.connections c bytes k).0 c ≡ push_result bytes k
+  pushed_here : (w : World) (bytes : List ℕ) (k : Option Connection) → (c == c) ≡ true → connection c w ≡ k
+      → map.get (pushed_at w.connections c bytes k).0 c ≡ push_result bytes k
   pushed_here w bytes None on is = is
   pushed_here w bytes (Some k) on is = with_pushed_here w k _ _ on is
 
   -- the connection after an answer
-  front_same : (w v : World) (k : Connection) (f : Front) → (c == c) ≡ true → connection c w ≡ connection c v → AgreeOn w v f → Same (stepped_by render w c k f).0 (stepped_by render v c k f).0 (stepping (stepped_by render w c k f).1) (stepping (stepped_by render v c k f).1)
+  front_same : (w v : World) (k : Connection) (f : Front) → (c == c) ≡ true → connection c w ≡ connection c v → AgreeOn w v f
+      → Same (stepped_by render w c k f).0 (stepped_by render v c k f).0 (stepping (stepped_by render w c k f).1)
+      (stepping (stepped_by render v c k f).1)
   front_same w v k nexts.More on alike agree = (refl, alike)
-  front_same w v k (nexts.Fault code bare) on alike agree = (refl, put_at w c (finished k 0 true) c true on ∙ sym (put_at v c (finished k 0 true) c true on))
+  front_same w v k (nexts.Fault code bare) on alike agree = (
+    refl,
+    put_at w c (finished k 0 true) c true on
+        ∙ sym (put_at v c (finished k 0 true) c true on),
+  )
   front_same w v k (nexts.Request used request) on alike agree =
       let a = answer_in render w request in
       let b = answer_in render v request in
@@ -158,18 +181,24 @@ module _ (render : Renders) (c : ℕ) where
             ∙ sym (put_at (world_after v request b) c (finished k used b.closes) c true on),
       )
 
-  open_same : (w v w' v' : World) (o p : Outcome) (k : Connection) (t : Bool) → (c == c) ≡ true → connection c w ≡ connection c v → ((f : Front) → IsNext k.unread f → AgreeOn w v f)
-      → MatchBool t (Is (w, stepping (Ok steps.Closed)) w' o) ((f : Front) × IsNext k.unread f × Is (shown stepping (stepped_by render w c k f)) w' o)
-      → MatchBool t (Is (v, stepping (Ok steps.Closed)) v' p) ((f : Front) × IsNext k.unread f × Is (shown stepping (stepped_by render v c k f)) v' p)
+  open_same : (w v w' v' : World) (o p : Outcome) (k : Connection) (t : Bool) → (c == c) ≡ true → connection c w ≡ connection c v
+      → ((f : Front) → IsNext k.unread f → AgreeOn w v f)
+      → MatchBool t (Is (w, stepping (Ok steps.Closed)) w' o) ((f : Front) × IsNext k.unread f
+      × Is (shown stepping (stepped_by render w c k f)) w' o)
+      → MatchBool t (Is (v, stepping (Ok steps.Closed)) v' p) ((f : Front) × IsNext k.unread f
+      × Is (shown stepping (stepped_by render v c k f)) v' p)
       → Same w' v' o p
-  open_same w v w' v' o p k true on alike agree h g = same_by (w, stepping (Ok steps.Closed)) (v, stepping (Ok steps.Closed)) w' v' o p h g (refl, alike)
+  open_same w v w' v' o p k true on alike agree h g = same_by (w, stepping (Ok steps.Closed)) (v, stepping (Ok steps.Closed)) w' v' o p h g
+      (refl, alike)
   open_same w v w' v' o p k false on alike agree (f, is_f, h) (d, is_d, g) =
       let P : Front → Type 0 = λ x. Is (shown stepping (stepped_by render v c k x)) v' p in
       same_by (shown stepping (stepped_by render w c k f)) (shown stepping (stepped_by render v c k f)) w' v' o p
       h (subst P (read_in_one_way k.unread d f is_d is_f) g) (front_same w v k f on alike (agree f is_f))
 
-  step_same : (w v w' v' : World) (o p : Outcome) (k : Option Connection) → (c == c) ≡ true → connection c w ≡ k → connection c v ≡ k → AgreeAt c w v (events.Step (record { 0 = c })) → NextStep render w c k w' o → NextStep render v c k v' p → Same w' v' o p
-  step_same w v w' v' o p None on here there agree h g = same_by (w, stepping (Err step_errors.NoConnection)) (v, stepping (Err step_errors.NoConnection)) w' v' o p h g (refl, here ∙ sym there)
+  step_same : (w v w' v' : World) (o p : Outcome) (k : Option Connection) → (c == c) ≡ true → connection c w ≡ k → connection c v ≡ k
+      → AgreeAt c w v (events.Step (record { 0 = c })) → NextStep render w c k w' o → NextStep render v c k v' p → Same w' v' o p
+  step_same w v w' v' o p None on here there agree h g = same_by (w, stepping (Err step_errors.NoConnection))
+      (v, stepping (Err step_errors.NoConnection)) w' v' o p h g (refl, here ∙ sym there)
   step_same w v w' v' o p (Some k) on here there agree h g = open_same w v w' v' o p k k.closed on (here ∙ sym there) (agree k here) h g
 
   -- a push sends nothing
@@ -186,7 +215,8 @@ module _ (render : Renders) (c : ℕ) where
   abbrev Made : World × Outcome → Type 0
   Made x = (sent_by x.1 ≡ []) × (connection c x.0 ≡ Some new_connection)
 
-  connect_here : (w : World) (t : Bool) → is_on_by c events.Connect (connecting (connected_if w t).1) ≡ true → Made (shown connecting (connected_if w t))
+  connect_here : (w : World) (t : Bool) → is_on_by c events.Connect (connecting (connected_if w t).1) ≡ true
+      → Made (shown connecting (connected_if w t))
   connect_here w true on = (refl, put_at w (w.given + 1) new_connection c true on)
   connect_here w false on = absurd (subst T (sym on) tt)
 
@@ -198,20 +228,26 @@ module _ (render : Renders) (c : ℕ) where
   same_made : (w v w' v' : World) (o p : Outcome) → Made (w', o) → Made (v', p) → Same w' v' o p
   same_made w v w' v' o p (none, here) (nor, there) = (none ∙ sym nor, here ∙ sym there)
 
-  same_event : (w v w' v' : World) (e : Event) (o p : Outcome) → is_on_by c e o ≡ true → is_on_by c e p ≡ true → connection c w ≡ connection c v → AgreeAt c w v e → Next render w e w' o → Next render v e v' p → Same w' v' o p
+  same_event : (w v w' v' : World) (e : Event) (o p : Outcome) → is_on_by c e o ≡ true → is_on_by c e p ≡ true
+      → connection c w ≡ connection c v → AgreeAt c w v e → Next render w e w' o → Next render v e v' p → Same w' v' o p
   same_event w v w' v' events.Connect o p on on' alike agree h g = same_made w v w' v' o p (made w w' o on h) (made v v' p on' g)
   same_event w v w' v' (events.Push id bytes) o p on on' alike agree h g = at id.0 (eqb_yes (subst T (sym on) tt)) h g
     where
-      at : (n : ℕ) → c ≡ n → Is (shown pushing (world_pushed w n bytes)) w' o → Is (shown pushing (world_pushed v n bytes)) v' p → Same w' v' o p
-      at n is = subst (λ m. Is (shown pushing (world_pushed w m bytes)) w' o → Is (shown pushing (world_pushed v m bytes)) v' p → Same w' v' o p) is (λ h g.
+      at : (n : ℕ) → c ≡ n → Is (shown pushing (world_pushed w n bytes)) w' o → Is (shown pushing (world_pushed v n bytes)) v' p
+          → Same w' v' o p
+      at n is = subst (λ m. Is (shown pushing (world_pushed w m bytes)) w' o → Is (shown pushing (world_pushed v m bytes)) v' p
+          → Same w' v' o p) is (λ h g.
           same_by _ _ w' v' o p h g (
             pushed_silently (world_pushed w c bytes).1 (world_pushed v c bytes).1,
-            pushed_here w bytes (connection c w) itself refl ∙ ap (push_result bytes) alike ∙ sym (pushed_here v bytes (connection c v) itself refl),
+            pushed_here w bytes (connection c w) itself refl ∙ ap (push_result bytes) alike
+                ∙ sym (pushed_here v bytes (connection c v) itself refl),
           ))
   same_event w v w' v' (events.Step id) o p on on' alike agree h g = at id.0 (eqb_yes (subst T (sym on) tt)) h g
     where
-      at : (n : ℕ) → c ≡ n → NextStep render w n (map.get w.connections n) w' o → NextStep render v n (map.get v.connections n) v' p → Same w' v' o p
-      at n is = subst (λ m. NextStep render w m (map.get w.connections m) w' o → NextStep render v m (map.get v.connections m) v' p → Same w' v' o p) is (λ h g.
+      at : (n : ℕ) → c ≡ n → NextStep render w n (map.get w.connections n) w' o → NextStep render v n (map.get v.connections n) v' p
+          → Same w' v' o p
+      at n is = subst (λ m. NextStep render w m (map.get w.connections m) w' o → NextStep render v m (map.get v.connections m) v' p
+          → Same w' v' o p) is (λ h g.
           step_same w v w' v' o p (connection c w) itself refl (sym alike) agree h (subst (λ k. NextStep render v c k v' p) (sym alike) g))
   same_event w v w' v' (events.Disconnect id) o p on on' alike agree h g =
       same_by (shown outcomes.Disconnected (disconnected w id.0)) (shown outcomes.Disconnected (disconnected v id.0)) w' v' o p h g
@@ -222,15 +258,18 @@ module _ (render : Renders) (c : ℕ) where
   same_event w v w' v' (events.SetReader token reader) o p on on' alike agree h g = absurd (subst T (sym on) tt)
   same_event w v w' v' (events.RemoveReader token) o p on on' alike agree h g = absurd (subst T (sym on) tt)
 
-  same_sent : (hs gs : List Happened) (k j : Option Connection) → k ≡ j → Chain k hs → Chain j gs → Matched c hs gs → flat_map (λ h. sent_by h.outcome) hs ≡ flat_map (λ h. sent_by h.outcome) gs
+  same_sent : (hs gs : List Happened) (k j : Option Connection) → k ≡ j → Chain k hs → Chain j gs → Matched c hs gs
+      → flat_map (λ h. sent_by h.outcome) hs ≡ flat_map (λ h. sent_by h.outcome) gs
   same_sent [] [] k j alike a b m = refl
   same_sent (h ∷ hs) [] k j alike a b m = absurd m
   same_sent [] (g ∷ gs) k j alike a b m = absurd m
   same_sent (h ∷ hs) (g ∷ gs) k j alike (v, on, at, next, chain) (u, on', at', next', chain') (same, agree, m) =
       let here = subst (λ e. is_on_by c e g.outcome ≡ true) (sym same) on' in
-      let both = same_event h.world g.world v u h.event h.outcome g.outcome on here (at ∙ alike ∙ sym at') agree next (subst (λ e. Next render g.world e u g.outcome) (sym same) next') in
+      let both = same_event h.world g.world v u h.event h.outcome g.outcome on here (at ∙ alike
+      ∙ sym at') agree next (subst (λ e. Next render g.world e u g.outcome) (sym same) next') in
       λ i. both.0 i ++ same_sent hs gs (connection c v) (connection c u) both.1 chain chain' m i
 
 pub runs_alike : RunsAlike
 runs_alike render c w v w' v' run other alike runs runs' enough enough' m =
-    same_sent render c (events_on c run) (events_on c other) (connection c w) (connection c v) alike (chain_of render c w run w' runs enough) (chain_of render c v other v' runs' enough') m
+    same_sent render c (events_on c run) (events_on c other) (connection c w) (connection c v) alike
+    (chain_of render c w run w' runs enough) (chain_of render c v other v' runs' enough') m

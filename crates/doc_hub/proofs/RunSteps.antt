@@ -8,7 +8,8 @@ use Rattle.doc_hub.specs.declared.event.Event.{Event}
 use Rattle.doc_hub.specs.declared.outcome.Outcome.{Outcome}
 
 -- what the call of an event leaves and answers, the event leaves
-pub leaves_so : (render : Renders) (w : World) (event same : Event) (v : World) (outcome : Outcome) (said : Said same) → event ≡ same → Happens render w same v said → outcome ≡ outcome_of same said → Leaves render w event v outcome
+pub leaves_so : (render : Renders) (w : World) (event same : Event) (v : World) (outcome : Outcome) (said : Said same) → event ≡ same
+    → Happens render w same v said → outcome ≡ outcome_of same said → Leaves render w event v outcome
 leaves_so render w event same v outcome said is happens told = subst (λ e. Leaves render w e v outcome) (sym is) (said, happens, told)
 
 -- a run of no events
@@ -19,7 +20,8 @@ abbrev happened : World → Event → Outcome → Happened
 happened w event outcome = record { world = w; event = event; outcome = outcome }
 
 -- one event more at the end of a run
-runs_more : (render : Renders) (w u v : World) (run : List Happened) (event : Event) (outcome : Outcome) → Runs render w run u → Leaves render u event v outcome → Runs render w (run ++ happened u event outcome ∷ []) v
+runs_more : (render : Renders) (w u v : World) (run : List Happened) (event : Event) (outcome : Outcome) → Runs render w run u
+    → Leaves render u event v outcome → Runs render w (run ++ happened u event outcome ∷ []) v
 runs_more render w u v run event outcome (nothing x) leaves = first x v v event outcome [] leaves (nothing v)
 runs_more render w u v run event outcome (first x y z e o rest here runs) leaves =
     first x y v e o (rest ++ happened z event outcome ∷ []) here (runs_more render y z v rest event outcome runs leaves)
@@ -29,8 +31,10 @@ map-push f [] x = refl
 map-push f (y ∷ ys) x = ap (λ zs. f y ∷ zs) (map-push f ys x)
 
 -- the same for all the events so far and one more, as the loop has it
-pub one_more_event : (render here : Renders) (w u v : World) (events more : List Event) (outcomes told : List Outcome) (event : Event) (outcome : Outcome)
-    → here ≡ render → RunsAll render events w u outcomes → Leaves here u event v outcome → more ≡ events ++ event ∷ [] → told ≡ outcomes ++ outcome ∷ []
+pub one_more_event : (render here : Renders) (w u v : World) (events more : List Event) (outcomes told : List Outcome) (event : Event)
+    (outcome : Outcome)
+    → here ≡ render → RunsAll render events w u outcomes → Leaves here u event v outcome → more ≡ events ++ event ∷ []
+    → told ≡ outcomes ++ outcome ∷ []
     → RunsAll render more w v told
 one_more_event render here w u v events more outcomes told event outcome same so_far leaves taken added =
     let P : Renders → Type 0 = λ r. Leaves r u event v outcome in

@@ -4,7 +4,19 @@ use Rattle.std.specs.Prelude.{nat_lt, MatchBool, Option, Some, None, Result, Ok,
 use Rattle.std.specs.FinMap as map
 use Rattle.doc_page.specs.Refusals.{Gives}
 use Rattle.doc_store.specs.Pages.{Page}
-use Rattle.doc_store.specs.Store.{StoreState, Edit as SiteEdit, set_page, remove_page, move_page, effect_of, fits_in, put_by, without_page, may_move, moved_by}
+use Rattle.doc_store.specs.Store.{
+  StoreState,
+  Edit as SiteEdit,
+  set_page,
+  remove_page,
+  move_page,
+  effect_of,
+  fits_in,
+  put_by,
+  without_page,
+  may_move,
+  moved_by,
+}
 use Rattle.doc_store.specs.declared.moving.MoveError.{MoveError}
 use Rattle.doc_store.specs.declared.moving.MoveError.TheVariants as move_errors
 use Rattle.doc_store.specs.declared.readers.ReaderError.TheVariants as reader_errors
@@ -19,7 +31,21 @@ use Rattle.doc_hub.specs.Edits.{CanBeMade, store_after}
 use Rattle.doc_hub.specs.Events.{Said, moving, outcome_of, putting, stepping}
 use Rattle.doc_hub.specs.Replies.{Renders}
 use Rattle.doc_hub.specs.Runs.{Happens, Leaves, nothing, first}
-use Rattle.doc_hub.specs.Worlds.{World, Answers, Stays, StepsAt, answer_in, connected, last_id, reader_of, stepped_by, world_moved, world_pushed, world_put, world_reader_set}
+use Rattle.doc_hub.specs.Worlds.{
+  World,
+  Answers,
+  Stays,
+  StepsAt,
+  answer_in,
+  connected,
+  last_id,
+  reader_of,
+  stepped_by,
+  world_moved,
+  world_pushed,
+  world_put,
+  world_reader_set,
+}
 use Rattle.doc_hub.specs.declared.connection.Connection.{Connection}
 use Rattle.doc_hub.specs.declared.event.ConnId.{ConnId}
 use Rattle.doc_hub.specs.declared.event.Event.{Event}
@@ -45,24 +71,30 @@ ok_err x e is = cc
 -- ---- edits of the store
 
 removed_by : (store : StoreState) (path : List ℕ) (stands : Bool)
-    → (if stands then record { site = effect_of store.site (remove_page path); stamps = map.remove store.stamps path; puts = store.puts } else store).site ≡ site_after store.site (removed_if stands path)
+    → (if stands then record { site = effect_of store.site (remove_page path); stamps = map.remove store.stamps path; puts = store.puts }
+    else store).site ≡ site_after store.site (removed_if stands path)
 removed_by store path true = refl
 removed_by store path false = refl
 
-removed_site : (store : StoreState) (path : List ℕ) (stood : Bool) → map.contains_key store.site.pages path ≡ stood → (without_page store path).site ≡ site_after store.site (removed_if stood path)
-removed_site store path stood is = removed_by store path (map.contains_key store.site.pages path) ∙ ap (λ t. site_after store.site (removed_if t path)) is
+removed_site : (store : StoreState) (path : List ℕ) (stood : Bool) → map.contains_key store.site.pages path ≡ stood
+    → (without_page store path).site ≡ site_after store.site (removed_if stood path)
+removed_site store path stood is = removed_by store path (map.contains_key store.site.pages path)
+    ∙ ap (λ t. site_after store.site (removed_if t path)) is
 
 -- the edit of a request that can be made is that of the site
-made_site : (store : StoreState) (text : List ℕ) (edit : Option Edit) → CanBeMade store text edit → (store_after store text edit).site ≡ site_after store.site (site_edit text edit)
+made_site : (store : StoreState) (text : List ℕ) (edit : Option Edit) → CanBeMade store text edit
+    → (store_after store text edit).site ≡ site_after store.site (site_edit text edit)
 made_site store text None can = refl
 made_site store text (Some (edits.Put path groups)) can = refl
 made_site store text (Some (edits.Remove path)) can = removed_site store path true can
 
-put_site : (store : StoreState) (path : List ℕ) (page : Page) (stands : Bool) (r : Result (Unit {0}) EditError) (done : Put) → (put_by store path page stands r).1 ≡ Ok done → (put_by store path page stands r).0.site ≡ effect_of store.site (set_page path page)
+put_site : (store : StoreState) (path : List ℕ) (page : Page) (stands : Bool) (r : Result (Unit {0}) EditError) (done : Put)
+    → (put_by store path page stands r).1 ≡ Ok done → (put_by store path page stands r).0.site ≡ effect_of store.site (set_page path page)
 put_site store path page stands (Ok fine) done is = refl
 put_site store path page stands (Err e) done is = absurd (err_ok e done is)
 
-moved_site : (store : StoreState) (from to : List ℕ) (r : Result (Unit {0}) MoveError) → (moved_by store from to r).1 ≡ Ok tt → (moved_by store from to r).0.site ≡ effect_of store.site (move_page from to)
+moved_site : (store : StoreState) (from to : List ℕ) (r : Result (Unit {0}) MoveError) → (moved_by store from to r).1 ≡ Ok tt
+    → (moved_by store from to r).0.site ≡ effect_of store.site (move_page from to)
 moved_site store from to (Ok fine) is = refl
 moved_site store from to (Err e) is = absurd (err_ok e tt is)
 
@@ -70,36 +102,44 @@ moved_site store from to (Err e) is = absurd (err_ok e tt is)
 
 -- the event makes an edit, and leaves the site that the edit makes
 abbrev Edits : Renders → World → World → Event → Outcome → Type 0
-Edits render w v event outcome = (edit : Option SiteEdit) × Makes render w event outcome edit × (v.store.site ≡ site_after w.store.site edit)
+Edits render w v event outcome = (edit : Option SiteEdit) × Makes render w event outcome edit
+    × (v.store.site ≡ site_after w.store.site edit)
 
 abbrev SameSite : World → World → Type 0
 SameSite v w = v.store.site ≡ w.store.site
 
 -- the site is as before, where the call leaves it or is refused
-kept : {X E : Type 0} (memory : E) (given : World × Result X E) (w v : World) (r : Result X E) → SameSite given.0 w → Gives memory given w v r → SameSite v w
+kept : {X E : Type 0} (memory : E) (given : World × Result X E) (w v : World) (r : Result X E) → SameSite given.0 w
+    → Gives memory given w v r → SameSite v w
 kept {X = X} {E = E} memory given w v (Ok x) same gives = sym (ap (λ (q : World × Result X E). q.0.store.site) gives) ∙ same
 kept memory given w v (Err e) same gives = ap (λ (x : World). x.store.site) gives.1
 
-connect_keeps : (w v : World) (id : ConnId) (t : Bool) → SameSite v w → SameSite (let r : World × Result ConnId ConnectError = if t then (v, Ok id) else (w, Err connect_errors.NoIds) in r.0) w
+connect_keeps : (w v : World) (id : ConnId) (t : Bool) → SameSite v w
+    → SameSite (let r : World × Result ConnId ConnectError = if t then (v, Ok id) else (w, Err connect_errors.NoIds) in r.0) w
 connect_keeps w v id true same = same
 connect_keeps w v id false same = refl
 
 module _ (render : Renders) where
   -- ---- a step
 
-  next_site : (w : World) (n : ℕ) (c : Connection) (next : Next) → (stepped_by render w n c next).0.store.site ≡ site_after w.store.site (edit_by render w next)
+  next_site : (w : World) (n : ℕ) (c : Connection) (next : Next)
+      → (stepped_by render w n c next).0.store.site ≡ site_after w.store.site (edit_by render w next)
   next_site w n c nexts.More = refl
   next_site w n c (nexts.Fault code bare) = refl
   next_site w n c (nexts.Request used request) =
-      made_site w.store request.body (answer_in render w request).edit (answer_can_be_made render w.store (reader_of w request) w.keep_alive request)
+      made_site w.store request.body (answer_in render w request).edit
+      (answer_can_be_made render w.store (reader_of w request) w.keep_alive request)
 
-  open_edits : (w v : World) (n : ℕ) (c : Connection) (said : Step) (closed : Bool) → MatchBool closed (Stays w (Ok steps.Closed) v (Ok said)) (Answers render w n v (Ok said) c)
-      → (edit : Option SiteEdit) × MatchBool closed (edit ≡ None) ((next : Next) × IsNext c.unread next × (edit ≡ edit_by render w next)) × (v.store.site ≡ site_after w.store.site edit)
+  open_edits : (w v : World) (n : ℕ) (c : Connection) (said : Step) (closed : Bool)
+      → MatchBool closed (Stays w (Ok steps.Closed) v (Ok said)) (Answers render w n v (Ok said) c)
+      → (edit : Option SiteEdit) × MatchBool closed (edit ≡ None) ((next : Next) × IsNext c.unread next × (edit ≡ edit_by render w next))
+      × (v.store.site ≡ site_after w.store.site edit)
   open_edits w v n c said true h = (None, refl, ap (λ (x : World). x.store.site) h.0)
   open_edits w v n c said false (next, is, e) =
       (edit_by render w next, (next, is, refl), sym (ap (λ (q : World × Result Step StepError). q.0.store.site) e) ∙ next_site w n c next)
 
-  step_edits : (w v : World) (n : ℕ) (said : Step) (k : Option Connection) → StepsAt render w n v (Ok said) k → (edit : Option SiteEdit) × StepMakes render w k edit × (v.store.site ≡ site_after w.store.site edit)
+  step_edits : (w v : World) (n : ℕ) (said : Step) (k : Option Connection) → StepsAt render w n v (Ok said) k
+      → (edit : Option SiteEdit) × StepMakes render w k edit × (v.store.site ≡ site_after w.store.site edit)
   step_edits w v n said None h = (None, refl, ap (λ (x : World). x.store.site) h.0)
   step_edits w v n said (Some c) h = open_edits w v n c said c.closed h
 
@@ -114,7 +154,8 @@ module _ (render : Renders) where
   refused_answer w v n c step_errors.NoConnection (next, is, e) =
       absurd (never_refused w n c next step_errors.NoConnection (ap (λ (q : World × Result Step StepError). q.1) e))
 
-  refused_open : (w v : World) (n : ℕ) (c : Connection) (e : StepError) (closed : Bool) → MatchBool closed (Stays w (Ok steps.Closed) v (Err e)) (Answers render w n v (Err e) c) → SameSite v w
+  refused_open : (w v : World) (n : ℕ) (c : Connection) (e : StepError) (closed : Bool)
+      → MatchBool closed (Stays w (Ok steps.Closed) v (Err e)) (Answers render w n v (Err e) c) → SameSite v w
   refused_open w v n c e true h = ap (λ (x : World). x.store.site) h.0
   refused_open w v n c e false h = refused_answer w v n c e h
 
@@ -122,23 +163,27 @@ module _ (render : Renders) where
   refused_step w v n e None h = ap (λ (x : World). x.store.site) h.0
   refused_step w v n e (Some c) h = refused_open w v n c e c.closed h
 
-  stepping_edits : (w v : World) (id : ConnId) (r : Result Step StepError) → StepsAt render w id.0 v r (map.get w.connections id.0) → Edits render w v (events.Step id) (stepping r)
+  stepping_edits : (w v : World) (id : ConnId) (r : Result Step StepError) → StepsAt render w id.0 v r (map.get w.connections id.0)
+      → Edits render w v (events.Step id) (stepping r)
   stepping_edits w v id (Ok said) h = step_edits w v id.0 said (map.get w.connections id.0) h
   stepping_edits w v id (Err e) h = (None, refl, refused_step w v id.0 e (map.get w.connections id.0) h)
 
   -- ---- edits beside requests
 
-  put_edits : (w v : World) (path : List ℕ) (groups : List (List ℕ)) (text : List ℕ) (r : Result Put EditError) → Gives edit_errors.Memory (world_put w path groups text) w v r → Edits render w v (events.Put path groups text) (putting r)
+  put_edits : (w v : World) (path : List ℕ) (groups : List (List ℕ)) (text : List ℕ) (r : Result Put EditError)
+      → Gives edit_errors.Memory (world_put w path groups text) w v r → Edits render w v (events.Put path groups text) (putting r)
   put_edits w v path groups text (Ok done) gives =
       let page : Page = record { groups = groups; text = text } in (
         Some (set_page path page),
         refl,
         sym (ap (λ (q : World × Result Put EditError). q.0.store.site) gives)
-            ∙ put_site w.store path page (map.contains_key w.store.site.pages path) (fits_in w.store path text) done (ap (λ (q : World × Result Put EditError). q.1) gives),
+            ∙ put_site w.store path page (map.contains_key w.store.site.pages path) (fits_in w.store path text) done
+            (ap (λ (q : World × Result Put EditError). q.1) gives),
       )
   put_edits w v path groups text (Err e) gives = (None, refl, ap (λ (x : World). x.store.site) gives.1)
 
-  move_edits : (w v : World) (from to : List ℕ) (r : Result (Unit {0}) MoveError) → Gives move_errors.Memory (world_moved w from to) w v r → Edits render w v (events.MovePage from to) (moving r)
+  move_edits : (w v : World) (from to : List ℕ) (r : Result (Unit {0}) MoveError) → Gives move_errors.Memory (world_moved w from to) w v r
+      → Edits render w v (events.MovePage from to) (moving r)
   move_edits w v from to (Ok done) gives = (
     Some (move_page from to),
     refl,
@@ -149,17 +194,27 @@ module _ (render : Renders) where
 
   -- ---- each event
 
-  event_edits : (w v : World) (event : Event) (said : Said event) → Happens render w event v said → Edits render w v event (outcome_of event said)
+  event_edits : (w v : World) (event : Event) (said : Said event) → Happens render w event v said
+      → Edits render w v event (outcome_of event said)
   event_edits w v events.Connect said h =
       (None, refl, kept connect_errors.Memory (connected w) w v said (connect_keeps w _ _ (nat_lt w.given last_id) refl) h)
   event_edits w v (events.Push id bytes) said h = (None, refl, kept push_errors.Memory (world_pushed w id.0 bytes) w v said refl h)
   event_edits w v (events.Step id) said h = stepping_edits w v id said h
   event_edits w v (events.Disconnect id) said h = (None, refl, sym (ap (λ (q : World × Bool). q.0.store.site) h))
   event_edits w v (events.Put path groups text) said h = put_edits w v path groups text said h
-  event_edits w v (events.Remove path) said h =
-      (removed_if said path, refl, sym (ap (λ (q : World × Bool). q.0.store.site) h) ∙ removed_site w.store path said (ap (λ (q : World × Bool). q.1) h))
+  event_edits w v (events.Remove path) said h = (
+    removed_if said path,
+    refl,
+    sym (ap (λ (q : World × Bool). q.0.store.site) h)
+        ∙ removed_site w.store path said (ap (λ (q : World × Bool). q.1) h),
+  )
   event_edits w v (events.MovePage from to) said h = move_edits w v from to said h
-  event_edits w v (events.SetReader token reader) said h = (None, refl, kept reader_errors.Memory (world_reader_set w token reader) w v said refl h)
+  event_edits w v (events.SetReader token reader) said h = (
+    None,
+    refl,
+    kept reader_errors.Memory (world_reader_set w token reader) w v
+        said refl h,
+  )
   event_edits w v (events.RemoveReader token) said h = (None, refl, sym (ap (λ (q : World × Bool). q.0.store.site) h))
 
   leaves_edits : (w v : World) (event : Event) (outcome : Outcome) → Leaves render w event v outcome → Edits render w v event outcome

@@ -22,9 +22,11 @@ use Rattle.doc_hub.specs.Replies.{Renders, answer_of}
 use Rattle.doc_hub.specs.Worlds.{World, reader_of, answer_in, stepped_by, step_said}
 use Rattle.doc_hub.specs.Laws.{Agree, StepsAlike, site_seen, only_reader, open_with, fresh, fresh_for}
 
-pub same_answer : (render : Renders) (w v : World) (request : Request) → Agree w v request → answer_in render w request ≡ answer_in render v request
+pub same_answer : (render : Renders) (w v : World) (request : Request) → Agree w v request
+    → answer_in render w request ≡ answer_in render v request
 same_answer render w v request agree =
-    λ i. answer_of render (record { pages = map.entries (agree.sites i).pages; aliases = map.entries (agree.sites i).aliases }) (agree.reader i) (agree.puts i) (agree.keep_alive i) request
+    λ i. answer_of render (record { pages = map.entries (agree.sites i).pages; aliases = map.entries (agree.sites i).aliases })
+    (agree.reader i) (agree.puts i) (agree.keep_alive i) request
 
 pub steps_alike : StepsAlike
 steps_alike render w v c d one other nexts.More agree = refl
@@ -37,9 +39,12 @@ found_again : (token : List ℕ) (o : Option Reader) → o ≡ map.get (only_rea
 found_again token None = sym (map.get-empty (slice_cmp nat_cmp) token)
 found_again token (Some reader) =
     let empty : ReaderTable = map.empty in
-    sym (map.get-insert nat_list_cmp_total empty token reader token ∙ ap (λ b. cond b (Some reader) (map.get empty token)) ((eq_by_cmp_equiv nat_list_cmp_total).refl token))
+    sym (map.get-insert nat_list_cmp_total empty token reader token
+    ∙ ap (λ b. cond b (Some reader) (map.get empty token)) ((eq_by_cmp_equiv nat_list_cmp_total).refl token))
 
-reader_again : (readers : ReaderTable) (token : Option (List ℕ)) → option_and_then (map.get readers) token ≡ option_and_then (map.get (only_reader token (option_and_then (map.get readers) token))) token
+reader_again : (readers : ReaderTable) (token : Option (List ℕ))
+    → option_and_then (map.get readers) token ≡ option_and_then (map.get (only_reader token (option_and_then (map.get readers) token)))
+    token
 reader_again readers None = refl
 reader_again readers (Some token) = found_again token (map.get readers token)
 
@@ -49,7 +54,8 @@ unfolding put_limit
 none_made = refl
 
 -- a world in which puts are left and its fresh server are alike for the request
-pub fresh_agrees : (w : World) (request : Request) (unread : List ℕ) → puts_left w.store ≡ true → Agree w (fresh (site_seen w request) (bearer_of request) (reader_of w request) w.keep_alive unread) request
+pub fresh_agrees : (w : World) (request : Request) (unread : List ℕ) → puts_left w.store ≡ true
+    → Agree w (fresh (site_seen w request) (bearer_of request) (reader_of w request) w.keep_alive unread) request
 fresh_agrees w request unread left =
     let v : World = fresh (site_seen w request) (bearer_of request) (reader_of w request) w.keep_alive unread in
     let reader : reader_of w request ≡ reader_of v request = reader_again w.readers (bearer_of request) in
@@ -60,8 +66,10 @@ fresh_agrees w request unread left =
       puts = left ∙ sym none_made;
     }
 
-pub as_fresh : (render : Renders) (w : World) (c : ℕ) (one : Connection) (unread : List ℕ) (next : Next) → puts_left w.store ≡ true → (stepped_by render w c one next).1 ≡ (stepped_by render (fresh_for w unread next) 1 (open_with unread) next).1
+pub as_fresh : (render : Renders) (w : World) (c : ℕ) (one : Connection) (unread : List ℕ) (next : Next) → puts_left w.store ≡ true
+    → (stepped_by render w c one next).1 ≡ (stepped_by render (fresh_for w unread next) 1 (open_with unread) next).1
 as_fresh render w c one unread nexts.More left = refl
 as_fresh render w c one unread (nexts.Fault code bare) left = refl
 as_fresh render w c one unread (nexts.Request used request) left =
-    steps_alike render w (fresh_for w unread (nexts.Request used request)) c 1 one (open_with unread) (nexts.Request used request) (fresh_agrees w request unread left)
+    steps_alike render w (fresh_for w unread (nexts.Request used request)) c 1 one (open_with unread) (nexts.Request used request)
+    (fresh_agrees w request unread left)

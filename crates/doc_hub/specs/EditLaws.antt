@@ -39,7 +39,8 @@ removed_if false path = None
 
 -- the edit that an event makes in this world, where it has this outcome; what is refused makes none
 abbrev pub Makes : Renders → World → Event → Outcome → Option SiteEdit → Type 0
-Makes render w (events.Put path groups text) (outcomes.Edited put) edit = edit ≡ Some (set_page path (record { groups = groups; text = text }))
+Makes render w (events.Put path groups text) (outcomes.Edited put) edit = edit
+    ≡ Some (set_page path (record { groups = groups; text = text }))
 Makes render w (events.Remove path) (outcomes.Removed stood) edit = edit ≡ removed_if stood path
 Makes render w (events.MovePage from to) outcomes.Moved edit = edit ≡ Some (move_page from to)
 Makes render w (events.Step id) (outcomes.Stepped said) edit = StepMakes render w (map.get w.connections id.0) edit

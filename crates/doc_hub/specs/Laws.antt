@@ -59,7 +59,13 @@ open_with unread = record { unread = unread; closed = false }
 -- a server that never held more than this site and this reader, with one connection
 abbrev pub fresh : Site → Option (List ℕ) → Option Reader → Bool → List ℕ → World
 fresh site token reader keep_alive unread =
-    record { store = record { site = site; stamps = map.empty; puts = 0 }; readers = only_reader token reader; keep_alive = keep_alive; given = 1; connections = map.insert map.empty 1 (open_with unread) }
+    record {
+      store = record { site = site; stamps = map.empty; puts = 0 };
+      readers = only_reader token reader;
+      keep_alive = keep_alive;
+      given = 1;
+      connections = map.insert map.empty 1 (open_with unread);
+    }
 
 -- the fresh server for a request, of what its reader may see in this world; where there is no request, any will do
 abbrev pub fresh_for : World → List ℕ → Next → World
@@ -70,7 +76,8 @@ fresh_for w unread next = fresh empty_site None None w.keep_alive unread
 abbrev pub SendsAsFresh : Renders → Happened → Type 0
 SendsAsFresh render h =
     (c : ℕ) (unread : List ℕ) (next : Next) (said : Step)
-    → h.event ≡ events.Step (record { 0 = c }) → map.get h.world.connections c ≡ Some (open_with unread) → IsNext unread next → h.outcome ≡ outcomes.Stepped said
+    → h.event ≡ events.Step (record { 0 = c }) → map.get h.world.connections c ≡ Some (open_with unread) → IsNext unread next
+    → h.outcome ≡ outcomes.Stepped said
     → puts_left h.world.store ≡ true
     → (stepped_by render (fresh_for h.world unread next) 1 (open_with unread) next).1 ≡ Ok said
 
@@ -111,7 +118,8 @@ RunsAlike =
 -- In a world from which the connection was dropped, pushes and steps on its number answer that there is none.
 pub record IsGone (w : World) (id : ℕ) : Type 0 where
   pub push : (bytes : List ℕ) → ◌≡◌ {A = World × Result (Unit {0}) PushError} (world_pushed w id bytes) (w, Err push_errors.NoConnection)
-  pub step : (render : Renders) (v : World) (said : Result Step StepError) → Steps render w id v said → Stays w (Err step_errors.NoConnection) v said
+  pub step : (render : Renders) (v : World) (said : Result Step StepError) → Steps render w id v said
+      → Stays w (Err step_errors.NoConnection) v said
 
 abbrev pub DroppedIsGone : Type 0
 DroppedIsGone = (w : World) (id : ℕ) → IsGone (disconnected w id).0 id
@@ -119,4 +127,5 @@ DroppedIsGone = (w : World) (id : ℕ) → IsGone (disconnected w id).0 id
 -- No number is given again: one that was given and has no connection has none after any run.
 abbrev pub NumbersAreGivenOnce : Type 0
 NumbersAreGivenOnce =
-    (render : Renders) (w v : World) (run : List Happened) (id : ℕ) → id ≤ w.given → connection id w ≡ None → Runs render w run v → connection id v ≡ None
+    (render : Renders) (w v : World) (run : List Happened) (id : ℕ) → id ≤ w.given → connection id w ≡ None → Runs render w run v
+    → connection id v ≡ None

@@ -1,7 +1,31 @@
 -- The reply to a request. It is a function of the reader's view, the reader's entry, the request, the
 -- keep-alive setting and whether a put is left, and never of the whole site: that is what makes
 -- noninterference true.
-use Rattle.std.specs.Prelude.{ℕ, List, [], ◌∷◌, Bool, true, false, not, ◌||◌, ◌&&◌, bytes_eq, codes, is_some, length, nat_lt, nat_le, Option, Some, None, Result, Ok, Err, if◌then◌else◌}
+use Rattle.std.specs.Prelude.{
+  ℕ,
+  List,
+  [],
+  ◌∷◌,
+  Bool,
+  true,
+  false,
+  not,
+  ◌||◌,
+  ◌&&◌,
+  bytes_eq,
+  codes,
+  is_some,
+  length,
+  nat_lt,
+  nat_le,
+  Option,
+  Some,
+  None,
+  Result,
+  Ok,
+  Err,
+  if◌then◌else◌,
+}
 use Rattle.std.specs.Str.{is_utf8}
 use Rattle.doc_page.specs.Paths.{segments}
 use Rattle.doc_page.specs.Pages.{body_of}
@@ -18,9 +42,9 @@ use Rattle.doc_http.specs.declared.reply.Allow.TheVariants.{Page as page_methods
 use Rattle.doc_http.specs.declared.reply.Reply.{Reply}
 use Rattle.doc_http.specs.declared.request.Request.{Request}
 use Rattle.doc_http.specs.Replies.{reply_bytes}
-use Rattle.doc_targets.specs.Queries.{parameter}
-use Rattle.doc_targets.specs.Targets.{page_rest}
-use Rattle.doc_targets.specs.WrittenPaths.{path_written}
+use Rattle.doc_http_targets.specs.Queries.{parameter}
+use Rattle.doc_http_targets.specs.Targets.{page_rest}
+use Rattle.doc_http_targets.specs.WrittenPaths.{path_written}
 use Rattle.doc_hub.specs.declared.answer.Answer.{Answer}
 use Rattle.doc_hub.specs.declared.method.Method.{Method}
 use Rattle.doc_hub.specs.declared.method.Method.TheVariants.{Get, Head, Put, Delete, Other}

@@ -7,7 +7,18 @@ use Rattle.doc_store.specs.declared.readers.ReaderError.TheVariants as reader_er
 use Rattle.doc_store.specs.declared.store.EditError.TheVariants as edit_errors
 use Rattle.doc_hub.specs.Events.{Said, outcome_of}
 use Rattle.doc_hub.specs.Replies.{Renders}
-use Rattle.doc_hub.specs.Worlds.{World, connected, world_pushed, disconnected, world_put, world_removed, world_moved, world_reader_set, world_reader_removed, Steps}
+use Rattle.doc_hub.specs.Worlds.{
+  World,
+  connected,
+  world_pushed,
+  disconnected,
+  world_put,
+  world_removed,
+  world_moved,
+  world_reader_set,
+  world_reader_removed,
+  Steps,
+}
 use Rattle.doc_hub.specs.declared.event.Event.{Event}
 use Rattle.doc_hub.specs.declared.event.Event.TheVariants as events
 use Rattle.doc_hub.specs.declared.event.Step.{Step}
@@ -47,7 +58,8 @@ pub record Happened : Type 0 where
 -- a run: each event meets the world that the one before left
 pub data Runs (render : Renders) : World → List Happened → World → Type 0 where
   nothing : (w : World) → Runs render w [] w
-  first : (w v u : World) (event : Event) (outcome : Outcome) (run : List Happened) → Leaves render w event v outcome → Runs render v run u → Runs render w (record { world = w; event = event; outcome = outcome } ∷ run) u
+  first : (w v u : World) (event : Event) (outcome : Outcome) (run : List Happened) → Leaves render w event v outcome → Runs render v run u
+      → Runs render w (record { world = w; event = event; outcome = outcome } ∷ run) u
 
 -- the events of a run, and their outcomes
 abbrev pub events_in : List Happened → List Event

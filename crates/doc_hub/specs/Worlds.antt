@@ -1,5 +1,27 @@
 -- The world that a hub stands for, and one function of it for each call.
-use Rattle.std.specs.Prelude.{◌≡◌, ℕ, List, ◌+◌, ◌^◌, ◌-◌, Bool, true, nat_lt, nat_le, ◌&&◌, MatchBool, Option, Some, None, option_and_then, Result, Ok, Err, if◌then◌else◌, refl}
+use Rattle.std.specs.Prelude.{
+  ◌≡◌,
+  ℕ,
+  List,
+  ◌+◌,
+  ◌^◌,
+  ◌-◌,
+  Bool,
+  true,
+  nat_lt,
+  nat_le,
+  ◌&&◌,
+  MatchBool,
+  Option,
+  Some,
+  None,
+  option_and_then,
+  Result,
+  Ok,
+  Err,
+  if◌then◌else◌,
+  refl,
+}
 use Rattle.std.specs.Coded.{Coded, code_by, coded×, coded_ℕ, coded_bool}
 use Rattle.std.specs.FinMap as map
 use Rattle.doc_store.specs.declared.reader.Reader.{Reader}
@@ -51,7 +73,13 @@ world_code store readers one =
 
 -- a server without pages and connections
 abbrev pub new_world : ReaderTable → Bool → World
-new_world readers keep_alive = record { store = empty_store; readers = readers; keep_alive = keep_alive; given = 0; connections = map.empty }
+new_world readers keep_alive = record {
+  store = empty_store;
+  readers = readers;
+  keep_alive = keep_alive;
+  given = 0;
+  connections = map.empty;
+}
 
 -- the capacities that a cache may have; this project's choice
 abbrev pub is_capacity : ℕ → Bool
@@ -59,7 +87,8 @@ is_capacity n = nat_le 1 n && nat_le n 4096
 
 -- the renderer and the world of a new hub
 abbrev pub hub_made : {R : Type 0} → R → ReaderTable → Bool → ℕ → Result (R × World) HubError
-hub_made renderer readers keep_alive capacity = if is_capacity capacity then Ok (renderer, new_world readers keep_alive) else Err hub_errors.BadCapacity
+hub_made renderer readers keep_alive capacity = if is_capacity capacity then Ok (renderer, new_world readers keep_alive) else Err
+    hub_errors.BadCapacity
 
 unfoldable pub last_id : ℕ
 last_id = 2 ^ 64 - 1
@@ -68,7 +97,11 @@ last_id = 2 ^ 64 - 1
 abbrev pub connected : World → World × Result ConnId ConnectError
 connected w =
     if nat_lt w.given last_id
-    then (record w { given = w.given + 1; connections = map.insert w.connections (w.given + 1) new_connection }, Ok (record { 0 = w.given + 1 }))
+    then (
+      record w { given = w.given + 1; connections = map.insert w.connections (w.given + 1) new_connection },
+      Ok
+          (record { 0 = w.given + 1 }),
+    )
     else (w, Err connect_errors.NoIds)
 
 -- more unread bytes on a connection

@@ -16,13 +16,13 @@ use crate::statuses::{not_allowed, status_reply};
 use doc_heap::Heap;
 use doc_http::bearer::bearer;
 use doc_http::request::Request;
+use doc_http_targets::routes::Routes;
 use doc_page::bytes::Bytes;
 use doc_page::failure::Memory;
 use doc_page::renderer::Renderer;
 use doc_store::reader::Reader;
 use doc_store::readers::Readers;
 use doc_store::store::Store;
-use doc_targets::routes::Routes;
 
 /// A reply as it is sent.
 #[derive(Debug, Drop)]

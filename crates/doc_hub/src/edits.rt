@@ -9,19 +9,19 @@ ghost use Rattle.doc_store.specs.Sites.{view_of};
 ghost use Rattle.doc_store.specs.Store.{fits_in, with_page};
 ghost use Rattle.doc_hub.specs.Replies.{delete_at, put_by, put_page};
 ghost use Rattle.doc_hub.specs.Edits.{CanBeMade, puts_left, store_after};
-ghost use Rattle.doc_targets.specs.Queries.{parameter};
-ghost use Rattle.doc_targets.specs.WrittenPaths.{path_written};
+ghost use Rattle.doc_http_targets.specs.Queries.{parameter};
+ghost use Rattle.doc_http_targets.specs.WrittenPaths.{path_written};
 
 use crate::response::{Edit, Response};
 use doc_heap::Heap;
 use doc_http::request::Request;
+use doc_http_targets::query::parameter;
+use doc_http_targets::written_path::written_path;
 use doc_page::failure::Memory;
 use doc_page::path::Path;
 use doc_store::groups::{Groups, GroupsError};
 use doc_store::reader::Reader;
 use doc_store::store::{EditError, Store};
-use doc_targets::query::parameter;
-use doc_targets::written_path::written_path;
 use std::str::from_utf8;
 
 /// What an owner's PUT under the path that the rest of its target writes is answered, and the edit that

@@ -16,6 +16,7 @@ use crate::refusal::{ConnectError, HubError, PushError, StepError};
 use doc_heap::{Heap, Vec};
 use doc_http::request::Next;
 use doc_http::unread::Unread;
+use doc_http_targets::routes::Routes;
 use doc_page::failure::Memory;
 use doc_page::list::List;
 use doc_page::path::Path;
@@ -25,7 +26,6 @@ use doc_store::moving::MoveError;
 use doc_store::reader::Reader;
 use doc_store::readers::{ReaderError, Readers, Set};
 use doc_store::store::{EditError, Put, Store};
-use doc_targets::routes::Routes;
 use std::marker::Model;
 
 /// The pages, the readers and the connections of a server. Contracts see the renderer beside the

@@ -4,13 +4,14 @@ ghost use Rattle.std.specs.Prelude.{◌≡◌, IfOk, Some, option_map};
 ghost use Rattle.doc_page.specs.Pages.{body_of};
 ghost use Rattle.doc_resolve.specs.Hrefs.{shown};
 ghost use Rattle.doc_store.specs.Sites.{page_at, view_of};
-ghost use Rattle.doc_targets.specs.WrittenPaths.{path_written};
+ghost use Rattle.doc_http_targets.specs.WrittenPaths.{path_written};
 ghost use Rattle.doc_hub.specs.Replies.{at_path, goal_reply};
 
 use crate::body::body;
 use crate::statuses::{moved_reply, page_reply, status_reply};
 use doc_heap::Heap;
 use doc_http::reply::Reply;
+use doc_http_targets::written_path::written_path;
 use doc_page::bytes::Bytes;
 use doc_page::failure::Memory;
 use doc_page::path::Path;
@@ -21,7 +22,6 @@ use doc_resolve::SiteLinker;
 use doc_store::page::Page;
 use doc_store::reader::Reader;
 use doc_store::store::Store;
-use doc_targets::written_path::written_path;
 
 /// The reply to GET and HEAD of the page that the rest of a target writes: the page as the reader sees
 /// it, or where it stands now, where the path is an alias of a page that they see; what they don't see is

@@ -7,17 +7,19 @@ use Rattle.doc_rules.specs.Definitions.{Definition}
 use Rattle.doc_rules.specs.Inlines.{Inline}
 use Rattle.doc_rules.specs.Emphasis.{emphasis_of}
 use Rattle.doc_rules.specs.Reading.{read, inlines_of}
-use Rattle.doc_rules.proofs.ParserLaws.{IsRest, before_rest}
-use Rattle.doc_marks.specs.declared.mark.Mark.{Mark}
-use Rattle.doc_marks.specs.Slices.{AreSlices}
+use Rattle.doc_rules.specs.Rests.{IsRest}
+use Rattle.doc_rules.proofs.ParserLaws.{before_rest}
+use Rattle.doc_inlines_marks.specs.declared.mark.Mark.{Mark}
+use Rattle.doc_inlines_marks.specs.Slices.{AreSlices}
 use Rattle.doc_inlines.specs.declared.reader.Reader.{Reader}
 use Rattle.doc_inlines.specs.ReadingSteps.{reading}
-use Rattle.doc_inlines.specs.Drafts.{made_of}
-use Rattle.doc_inlines.specs.Readers.{state_made, made_before, outcome}
+use Rattle.doc_inlines.specs.DraftSteps.{made_of}
+use Rattle.doc_inlines.specs.ReaderSteps.{state_made, made_before, outcome}
 use Rattle.doc_inlines.proofs.ReaderLaws.{before_all, nothing_pending}
 use Rattle.doc_inlines.proofs.SliceLaws.{slices_both}
 
-reading_nothing : (table : Table) (refs : List Definition) (behind : Text) (made : List Inline) (rest : Text) → rest ≡ [] → reading table refs behind made rest ≡ made
+reading_nothing : (table : Table) (refs : List Definition) (behind : Text) (made : List Inline) (rest : Text) → rest ≡ []
+    → reading table refs behind made rest ≡ made
 unfolding read
 reading_nothing table refs behind made rest e = ap (reading table refs behind made) e
 
@@ -25,26 +27,33 @@ ends_at : (table : Table) (refs : List Definition) (r : Reader) → chars r.rest
 unfolding outcome
 ends_at table refs r e = reading_nothing table refs (before (chars r.rest.now) (chars r.text.now)) (state_made r) (chars r.rest.now) e
 
-begins_at : (table : Table) (refs : List Definition) (text : Text) (b : Reader) → chars b.text.now ≡ text → chars b.rest.now ≡ text → state_made b ≡ [] → outcome table refs b ≡ read table refs 10 [] 0 text
+begins_at : (table : Table) (refs : List Definition) (text : Text) (b : Reader) → chars b.text.now ≡ text → chars b.rest.now ≡ text
+    → state_made b ≡ [] → outcome table refs b ≡ read table refs 10 [] 0 text
 unfolding outcome last_or
 begins_at table refs text b e f g =
     ap₂ (λ t made. reading table refs (before (chars b.rest.now) t) made (chars b.rest.now)) e g
     ∙ (ap (λ t. reading table refs (before t text) [] t) f ∙ ap (λ behind. reading table refs behind [] text) (before_all text))
 
 -- the emphasis of what was made then is that of the rules
-pub read_whole : (table : Table) (refs : List Definition) (text : Text) (b r f : Reader) (shown : List Inline) → chars b.text.now ≡ text → chars b.rest.now ≡ text → state_made b ≡ [] →
-    chars r.rest.now ≡ [] → outcome table refs r ≡ outcome table refs b → chars f.plain.now ≡ chars f.rest.now → state_made f ≡ state_made r → shown ≡ emphasis_of (reverse (made_of f.draft)) →
+pub read_whole : (table : Table) (refs : List Definition) (text : Text) (b r f : Reader) (shown : List Inline) → chars b.text.now ≡ text
+    → chars b.rest.now ≡ text → state_made b ≡ [] →
+    chars r.rest.now ≡ [] → outcome table refs r ≡ outcome table refs b → chars f.plain.now ≡ chars f.rest.now
+    → state_made f ≡ state_made r → shown ≡ emphasis_of (reverse (made_of f.draft)) →
     shown ≡ inlines_of table refs text
 unfolding inlines_of
 read_whole table refs text b r f shown e g m n o p q s =
     let own : made_of f.draft ≡ read table refs 10 [] 0 text =
     sym (nothing_pending (made_of f.draft) (chars f.rest.now))
-    ∙ (ap (λ t. made_before (made_of f.draft) t (chars f.rest.now)) (sym p) ∙ (q ∙ (sym (ends_at table refs r n) ∙ (o ∙ begins_at table refs text b e g m)))) in
+    ∙ (ap (λ t. made_before (made_of f.draft) t (chars f.rest.now)) (sym p)
+    ∙ (q ∙ (sym (ends_at table refs r n) ∙ (o ∙ begins_at table refs text b e g m)))) in
     s ∙ ap (λ made. emphasis_of (reverse made)) own
 
 slices_in_front : (front rest : Text) (items : List Mark) → AreSlices front items → AreSlices (front ++ rest) items
-slices_in_front front rest items h = subst (λ those. AreSlices (front ++ rest) those) (append-nil items) (slices_both front rest items [] h tt)
+slices_in_front front rest items h = subst (λ those. AreSlices (front ++ rest) those) (append-nil items)
+    (slices_both front rest items [] h tt)
 
-pub whole_slices : (whole plain text : Text) (items : List Mark) → whole ≡ text → IsRest plain whole → AreSlices (before plain whole) items → AreSlices text items
+pub whole_slices : (whole plain text : Text) (items : List Mark) → whole ≡ text → IsRest plain whole → AreSlices (before plain whole) items
+    → AreSlices text items
 whole_slices whole plain text items e h s =
-    subst (λ t. AreSlices t items) e (subst (λ t. AreSlices t items) (sym (before_rest plain whole h)) (slices_in_front (before plain whole) plain items s))
+    subst (λ t. AreSlices t items) e (subst (λ t. AreSlices t items) (sym (before_rest plain whole h))
+    (slices_in_front (before plain whole) plain items s))

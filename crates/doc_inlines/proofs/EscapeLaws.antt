@@ -1,5 +1,33 @@
 -- Escapes, character references, and what takes no slice.
-use Rattle.std.proofs.Common.{◌≡◌, Bool, true, false, ◌||◌, ◌&&◌, ◌==◌, chars, ℕ, suc, ◌-◌, ◌≤◌, List, [], ◌∷◌, ◌++◌, length, take, refl, ap, ap₂, sym, ◌∙◌, arith, Some, None, append-nil}
+use Rattle.std.proofs.Common.{
+  ◌≡◌,
+  Bool,
+  true,
+  false,
+  ◌||◌,
+  ◌&&◌,
+  ◌==◌,
+  chars,
+  ℕ,
+  suc,
+  ◌-◌,
+  ◌≤◌,
+  List,
+  [],
+  ◌∷◌,
+  ◌++◌,
+  length,
+  take,
+  refl,
+  ap,
+  ap₂,
+  sym,
+  ◌∙◌,
+  arith,
+  Some,
+  None,
+  append-nil,
+}
 use denote.Ref.{Bor}
 use Rattle.std.specs.List.{list_all}
 use Rattle.std.specs.Char.{is_ascii_punctuation}
@@ -11,11 +39,12 @@ use Rattle.doc_rules.specs.Escapes.{character_reference}
 use Rattle.doc_rules.specs.Definitions.{Definition}
 use Rattle.doc_rules.specs.Inlines.{Inline, Literal, Reference, HardBreak, literals, onto}
 use Rattle.doc_rules.specs.Reading.{kinds, kind_in, item_of_kind, read_item, backslash, ampersand, Step}
-use Rattle.doc_rules.proofs.ParserLaws.{IsRest, before_rest, is_rest_again, rest_is_shorter}
-use Rattle.doc_marks.specs.declared.mark.Mark.TheVariants as mark
-use Rattle.doc_marks.specs.Slices.{slice_in, is_cut}
-use Rattle.doc_marks.specs.Views.{inlines_in}
-use Rattle.doc_inlines.specs.Readers.{is_uncut, MarkStands}
+use Rattle.doc_rules.specs.Rests.{IsRest}
+use Rattle.doc_rules.proofs.ParserLaws.{before_rest, is_rest_again, rest_is_shorter}
+use Rattle.doc_inlines_marks.specs.declared.mark.Mark.TheVariants as mark
+use Rattle.doc_inlines_marks.specs.Slices.{slice_in, is_cut}
+use Rattle.doc_inlines_marks.specs.Views.{inlines_in}
+use Rattle.doc_inlines.specs.ReaderSteps.{is_uncut, MarkStands}
 use Rattle.doc_inlines.proofs.ReadingLaws.{before_is}
 use Rattle.doc_inlines.proofs.ReaderLaws.{own_slice}
 use Rattle.doc_inlines.proofs.ItemLaws.{first_before, first_behind}
@@ -31,7 +60,8 @@ and_true false e = absurd cc
 pub first_uncut : (c : ℕ) (more rest : Text) → rest ≡ c ∷ more → is_uncut c ≡ true → list_all is_uncut (before more rest) ≡ true
 first_uncut c more rest e f = ap (list_all is_uncut) (first_before c more rest e) ∙ and_true (is_uncut c) f
 
-pub first_made : (c : ℕ) (more rest : Text) (made new : List Inline) → rest ≡ c ∷ more → new ≡ onto (literals (before more rest)) made → new ≡ Literal c ∷ made
+pub first_made : (c : ℕ) (more rest : Text) (made new : List Inline) → rest ≡ c ∷ more → new ≡ onto (literals (before more rest)) made
+    → new ≡ Literal c ∷ made
 first_made c more rest made new e f = f ∙ ap (λ t. onto (literals t) made) (first_before c more rest e)
 
 -- ---- a mark without a slice
@@ -49,7 +79,8 @@ hard_made made new e = e
 pub spaces_taken : (rest next : Text) → Some next ≡ many (λ d. 32 == d) rest → run_length 32 rest ≡ length rest - length next
 spaces_taken rest next e = taken_by 32 (run_length 32 rest) rest next (split_at_run 32 rest next e)
 
-pub ending_reads : (table : Table) (refs : List Definition) (last : ℕ) (made : List Inline) (d : ℕ) (more rest next : Text) → more ≡ d ∷ rest → d ≡ 10 → IsRest next rest → Some next ≡ many (λ d. 32 == d) rest →
+pub ending_reads : (table : Table) (refs : List Definition) (last : ℕ) (made : List Inline) (d : ℕ) (more rest next : Text)
+    → more ≡ d ∷ rest → d ≡ 10 → IsRest next rest → Some next ≡ many (λ d. 32 == d) rest →
     read_item table refs last made 92 more ≡ (HardBreak ∷ made, length more - length next)
 unfolding read_item kinds kind_in item_of_kind backslash
 ending_reads table refs last made d more rest next e f g h =
@@ -63,30 +94,40 @@ abbrev if_punctuation : List Inline → ℕ → Bool → Step
 if_punctuation made d b = elim b [ true ↦ (Literal d ∷ made, 1) | false ↦ (Literal 92 ∷ made, 0) ]
 
 abbrev if_ending : List Inline → ℕ → Text → Bool → Step
-if_ending made d rest b = elim b [ true ↦ (HardBreak ∷ made, suc (run_length 32 rest)) | false ↦ if_punctuation made d (is_ascii_punctuation d) ]
+if_ending made d rest b = elim b [
+  | true ↦ (HardBreak ∷ made, suc (run_length 32 rest))
+  | false ↦ if_punctuation made d
+      (is_ascii_punctuation d)
+]
 
-backslash_reads : (table : Table) (refs : List Definition) (last : ℕ) (made : List Inline) (d : ℕ) (rest : Text) → (d == 10) ≡ false → read_item table refs last made 92 (d ∷ rest) ≡ if_punctuation made d (is_ascii_punctuation d)
+backslash_reads : (table : Table) (refs : List Definition) (last : ℕ) (made : List Inline) (d : ℕ) (rest : Text) → (d == 10) ≡ false
+    → read_item table refs last made 92 (d ∷ rest) ≡ if_punctuation made d (is_ascii_punctuation d)
 unfolding read_item kinds kind_in item_of_kind backslash
 backslash_reads table refs last made d rest e = ap (if_ending made d rest) e
 
-pub escape_reads : (table : Table) (refs : List Definition) (last : ℕ) (made : List Inline) (d : ℕ) (more rest : Text) → more ≡ d ∷ rest → (d == 10) ≡ false → is_ascii_punctuation d ≡ true →
+pub escape_reads : (table : Table) (refs : List Definition) (last : ℕ) (made : List Inline) (d : ℕ) (more rest : Text) → more ≡ d ∷ rest
+    → (d == 10) ≡ false → is_ascii_punctuation d ≡ true →
     read_item table refs last made 92 more ≡ (Literal d ∷ made, length more - length rest)
 escape_reads table refs last made d more rest e f g =
     let m : length more ≡ length (d ∷ rest) = ap length e in
     let k : 1 ≡ length more - length rest = omega arith in
-    ap (λ text. read_item table refs last made 92 text) e ∙ (backslash_reads table refs last made d rest f ∙ (ap (if_punctuation made d) g ∙ ap (λ n. (Literal d ∷ made, n)) k))
+    ap (λ text. read_item table refs last made 92 text) e ∙ (backslash_reads table refs last made d rest f
+    ∙ (ap (if_punctuation made d) g ∙ ap (λ n. (Literal d ∷ made, n)) k))
 
-pub lone_reads : (table : Table) (refs : List Definition) (last : ℕ) (made : List Inline) (d : ℕ) (more rest : Text) → more ≡ d ∷ rest → (d == 10) ≡ false → is_ascii_punctuation d ≡ false →
+pub lone_reads : (table : Table) (refs : List Definition) (last : ℕ) (made : List Inline) (d : ℕ) (more rest : Text) → more ≡ d ∷ rest
+    → (d == 10) ≡ false → is_ascii_punctuation d ≡ false →
     read_item table refs last made 92 more ≡ (Literal 92 ∷ made, 0)
 lone_reads table refs last made d more rest e f g =
     ap (λ text. read_item table refs last made 92 text) e ∙ (backslash_reads table refs last made d rest f ∙ ap (if_punctuation made d) g)
 
-pub last_reads : (table : Table) (refs : List Definition) (last : ℕ) (made : List Inline) (more : Text) → more ≡ [] → read_item table refs last made 92 more ≡ (Literal 92 ∷ made, 0)
+pub last_reads : (table : Table) (refs : List Definition) (last : ℕ) (made : List Inline) (more : Text) → more ≡ []
+    → read_item table refs last made 92 more ≡ (Literal 92 ∷ made, 0)
 unfolding read_item kinds kind_in item_of_kind backslash
 last_reads table refs last made more e = ap (λ text. read_item table refs last made 92 text) e
 
 -- the character behind the '\' has a mark of its own
-pub escaped_stands : (c d : ℕ) (rest more next : Text) (text : Bor Text) → rest ≡ c ∷ more → more ≡ d ∷ next → chars text.now ≡ before next more → MarkStands (mark.Text text) rest next
+pub escaped_stands : (c d : ℕ) (rest more next : Text) (text : Bor Text) → rest ≡ c ∷ more → more ≡ d ∷ next
+    → chars text.now ≡ before next more → MarkStands (mark.Text text) rest next
 unfolding is_cut
 escaped_stands c d rest more next text e f g =
     let own : chars text.now ≡ d ∷ [] = g ∙ first_before d next more f in
@@ -99,19 +140,22 @@ escaped_stands c d rest more next text e f g =
       cut = ap (λ t. (length t == 1) || list_all is_uncut t) own;
     }
 
-pub escaped_made : (d : ℕ) (more next : Text) (text : Bor Text) (made new : List Inline) → more ≡ d ∷ next → chars text.now ≡ before next more → new ≡ onto (inlines_in (mark.Text text)) made → new ≡ Literal d ∷ made
+pub escaped_made : (d : ℕ) (more next : Text) (text : Bor Text) (made new : List Inline) → more ≡ d ∷ next
+    → chars text.now ≡ before next more → new ≡ onto (inlines_in (mark.Text text)) made → new ≡ Literal d ∷ made
 unfolding inlines_in
 escaped_made d more next text made new e f g = g ∙ ap (λ t. onto (literals t) made) (f ∙ first_before d next more e)
 
 -- ---- a '&'
 
-pub reference_reads : (table : Table) (refs : List Definition) (last : ℕ) (made : List Inline) (more next characters : Text) → character_reference table more ≡ Some (characters, length more - length next) →
+pub reference_reads : (table : Table) (refs : List Definition) (last : ℕ) (made : List Inline) (more next characters : Text)
+    → character_reference table more ≡ Some (characters, length more - length next) →
     read_item table refs last made 38 more ≡ (Reference (38 ∷ before next more) characters ∷ made, length more - length next)
 unfolding read_item kinds kind_in item_of_kind ampersand
 reference_reads table refs last made more next characters e =
     ap (λ found. elim found [ None ↦ (Literal 38 ∷ made, 0) | Some found ↦ (Reference (38 ∷ take found.1 more) found.0 ∷ made, found.1) ]) e
 
-pub no_reference_reads : (table : Table) (refs : List Definition) (last : ℕ) (made : List Inline) (more : Text) → character_reference table more ≡ None → read_item table refs last made 38 more ≡ (Literal 38 ∷ made, 0)
+pub no_reference_reads : (table : Table) (refs : List Definition) (last : ℕ) (made : List Inline) (more : Text)
+    → character_reference table more ≡ None → read_item table refs last made 38 more ≡ (Literal 38 ∷ made, 0)
 unfolding read_item kinds kind_in item_of_kind ampersand
 no_reference_reads table refs last made more e =
     ap (λ found. elim found [ None ↦ (Literal 38 ∷ made, 0) | Some found ↦ (Reference (38 ∷ take found.1 more) found.0 ∷ made, found.1) ]) e
@@ -121,7 +165,8 @@ pub before_behind : (c : ℕ) (rest more next : Text) → rest ≡ c ∷ more �
 before_behind c rest more next e g =
     ap (before next) (e ∙ ap (λ t. c ∷ t) (before_rest next more g)) ∙ before_is (c ∷ before next more) next
 
-pub reference_stands : (rest next : Text) (source : Bor Text) (text : Text) → IsRest next rest → chars source.now ≡ before next rest → MarkStands (mark.Reference source text) rest next
+pub reference_stands : (rest next : Text) (source : Bor Text) (text : Text) → IsRest next rest → chars source.now ≡ before next rest
+    → MarkStands (mark.Reference source text) rest next
 unfolding slice_in
 reference_stands rest next source text g e = record {
   behind = g;
@@ -129,7 +174,8 @@ reference_stands rest next source text g e = record {
   cut = tt;
 }
 
-pub reference_made : (rest more next characters : Text) (source : Bor Text) (text : Text) (made new : List Inline) → rest ≡ 38 ∷ more → IsRest next more → chars source.now ≡ before next rest → chars text ≡ characters →
+pub reference_made : (rest more next characters : Text) (source : Bor Text) (text : Text) (made new : List Inline) → rest ≡ 38 ∷ more
+    → IsRest next more → chars source.now ≡ before next rest → chars text ≡ characters →
     new ≡ onto (inlines_in (mark.Reference source text)) made → new ≡ Reference (38 ∷ before next more) characters ∷ made
 unfolding inlines_in
 reference_made rest more next characters source text made new e g f h k =

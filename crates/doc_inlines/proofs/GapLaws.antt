@@ -1,5 +1,33 @@
 -- Line breaks, and the spaces around them.
-use Rattle.std.proofs.Common.{◌≡◌, Bool, true, false, ◌==◌, ℕ, zero, suc, ◌+◌, ◌-◌, ◌≤◌, List, [], ◌∷◌, ◌++◌, length, replicate, refl, ap, ap₂, sym, ◌∙◌, subst, arith, Option, Some, None}
+use Rattle.std.proofs.Common.{
+  ◌≡◌,
+  Bool,
+  true,
+  false,
+  ◌==◌,
+  ℕ,
+  zero,
+  suc,
+  ◌+◌,
+  ◌-◌,
+  ◌≤◌,
+  List,
+  [],
+  ◌∷◌,
+  ◌++◌,
+  length,
+  replicate,
+  refl,
+  ap,
+  ap₂,
+  sym,
+  ◌∙◌,
+  subst,
+  arith,
+  Option,
+  Some,
+  None,
+}
 use Rattle.std.specs.Prelude.{nat_le, if◌then◌else◌}
 use Rattle.std.specs.List.{list_all}
 use Rattle.std.proofs.lemmas.Bool.{eqb-true, eq-eqb, ne_eqb, le-leb}
@@ -9,15 +37,16 @@ use Rattle.doc_rules.specs.Entities.{Table}
 use Rattle.doc_rules.specs.Definitions.{Definition}
 use Rattle.doc_rules.specs.Inlines.{Inline, SoftBreak, HardBreak, onto}
 use Rattle.doc_rules.specs.Reading.{read_item}
-use Rattle.doc_rules.proofs.ParserLaws.{IsRest, rest_is_shorter}
-use Rattle.doc_marks.specs.declared.mark.Mark.{Mark}
-use Rattle.doc_marks.specs.declared.mark.Mark.TheVariants as mark
-use Rattle.doc_marks.specs.Slices.{slice_in, StandIn, IsCut}
-use Rattle.doc_marks.specs.Views.{inlines_in}
+use Rattle.doc_rules.specs.Rests.{IsRest}
+use Rattle.doc_rules.proofs.ParserLaws.{rest_is_shorter}
+use Rattle.doc_inlines_marks.specs.declared.mark.Mark.{Mark}
+use Rattle.doc_inlines_marks.specs.declared.mark.Mark.TheVariants as mark
+use Rattle.doc_inlines_marks.specs.Slices.{slice_in, StandIn, IsCut}
+use Rattle.doc_inlines_marks.specs.Views.{inlines_in}
 use Rattle.doc_inlines.specs.ReadingSteps.{is_plain, breaks}
 use Rattle.doc_inlines.specs.PlainSteps.{IsPlainStop}
-use Rattle.doc_inlines.specs.Drafts.{IsRunOf}
-use Rattle.doc_inlines.specs.Readers.{MarkStands, IsPlainRun}
+use Rattle.doc_inlines.specs.DraftSteps.{IsRunOf}
+use Rattle.doc_inlines.specs.ReaderSteps.{MarkStands, IsPlainRun}
 use Rattle.doc_inlines.proofs.PlainLaws.{break_item, spaces_item, quiet_before}
 use Rattle.doc_inlines.proofs.PlainEndLaws.{run_goes_further}
 use Rattle.doc_inlines.proofs.RunLaws.{behind_first, split_at_run, taken_by, run_taken}
@@ -45,7 +74,8 @@ break_made m x made new e f = f ∙ ap (λ those. onto those made) e
 
 -- ---- a line ending
 
-pub soft_reads : (table : Table) (refs : List Definition) (last : ℕ) (made : List Inline) (more next : Text) → Some next ≡ many (λ d. 32 == d) more → read_item table refs last made 10 more ≡ (SoftBreak ∷ made, length more - length next)
+pub soft_reads : (table : Table) (refs : List Definition) (last : ℕ) (made : List Inline) (more next : Text)
+    → Some next ≡ many (λ d. 32 == d) more → read_item table refs last made 10 more ≡ (SoftBreak ∷ made, length more - length next)
 soft_reads table refs last made more next e =
     let a : run_length 32 more ≡ length more - length next = spaces_taken more next e in
     let n : 0 + run_length 32 more ≡ length more - length next = omega arith in
@@ -72,7 +102,8 @@ two_spaces c rest text b e f = at (c == 32) refl
     at true g =
         let same : (32 == c) ≡ true = eq-eqb 32 c (sym (eqb-true c 32 g)) in
         let l : 2 ≤ suc (suc (run_length 32 rest)) = omega arith in
-        f ∙ (g ∙ sym (ap (λ t. nat_le 2 (suc (run_length 32 t))) e ∙ (ap (λ d. nat_le 2 (suc (counted rest d))) same ∙ le-leb 2 (suc (suc (run_length 32 rest))) l)))
+        f ∙ (g ∙ sym (ap (λ t. nat_le 2 (suc (run_length 32 t))) e
+        ∙ (ap (λ d. nat_le 2 (suc (counted rest d))) same ∙ le-leb 2 (suc (suc (run_length 32 rest))) l)))
     at false g =
         let differ : (32 == c) ≡ false = ne_eqb 32 c (λ h. true_is_false (sym (eq-eqb c 32 (sym h)) ∙ g)) in
         f ∙ (g ∙ sym (ap (λ t. nat_le 2 (suc (run_length 32 t))) e ∙ ap (λ d. nat_le 2 (suc (counted rest d))) differ))
@@ -87,7 +118,8 @@ is_first c (d ∷ more) rest e = at (d == c) refl e
     at true f g = let same : rest ≡ more = cc in ap₂ (λ x xs. x ∷ xs) (eqb-true d c f) (sym same)
     at false f g = absurd cc
 
-pub spaces_reads : (table : Table) (refs : List Definition) (last : ℕ) (made : List Inline) (hard : Bool) (more rest after next : Text) → Some rest ≡ many (λ d. 32 == d) more → IsRest rest more → rest ≡ 10 ∷ after →
+pub spaces_reads : (table : Table) (refs : List Definition) (last : ℕ) (made : List Inline) (hard : Bool) (more rest after next : Text)
+    → Some rest ≡ many (λ d. 32 == d) more → IsRest rest more → rest ≡ 10 ∷ after →
     Some next ≡ many (λ d. 32 == d) after → IsRest next after → hard ≡ nat_le 2 (suc (run_length 32 more)) →
     read_item table refs last made 32 more ≡ ((if hard then HardBreak else SoftBreak) ∷ made, length more - length next)
 spaces_reads table refs last made hard more rest after next e r f g s h =
@@ -113,7 +145,8 @@ unfolding many
 many_stops class [] rest e = let same : rest ≡ [] = cc in subst (λ t. at_stop class t) (sym same) tt
 many_stops class (c ∷ text) rest e = at (λ f. many_stops class text rest f) (class c) refl e
   where
-    at : (Some rest ≡ many class text → at_stop class rest) → (b : Bool) → class c ≡ b → Some rest ≡ (elim b [ true ↦ many class text | false ↦ Some (c ∷ text) ]) → at_stop class rest
+    at : (Some rest ≡ many class text → at_stop class rest) → (b : Bool) → class c ≡ b
+        → Some rest ≡ (elim b [ true ↦ many class text | false ↦ Some (c ∷ text) ]) → at_stop class rest
     at go true f g = go g
     at go false f g = let same : rest ≡ c ∷ text = cc in subst (λ t. at_stop class t) (sym same) f
 
@@ -133,7 +166,8 @@ spaces_plain (suc n) = spaces_plain n
 pub no_break_there : (more rest : Text) → Some rest ≡ many (λ d. 32 == d) more → None ≡ is 10 rest → breaks rest ≡ false
 no_break_there more rest f g = no_break rest (many_stops (λ d. 32 == d) more rest f) g
 
-spaces_run : (whole more rest : Text) → whole ≡ 32 ∷ more → Some rest ≡ many (λ d. 32 == d) more → IsRest rest more → None ≡ is 10 rest → IsPlainRun whole rest
+spaces_run : (whole more rest : Text) → whole ≡ 32 ∷ more → Some rest ≡ many (λ d. 32 == d) more → IsRest rest more → None ≡ is 10 rest
+    → IsPlainRun whole rest
 spaces_run whole more rest e f r g =
     let run : IsRunOf (run_length 32 more) 32 (before rest whole) = run_taken 32 whole more rest (before rest whole) e f refl in
     let plain : list_all is_plain (before rest whole) ≡ true = ap (list_all is_plain) run.same ∙ spaces_plain (suc (run_length 32 more)) in
@@ -146,5 +180,7 @@ spaces_run whole more rest e f r g =
       shorter = omega arith;
     }
 
-pub spaces_and_words : (whole more rest end : Text) → whole ≡ 32 ∷ more → Some rest ≡ many (λ d. 32 == d) more → IsRest rest more → None ≡ is 10 rest → IsPlainStop rest end → IsPlainRun whole end
-spaces_and_words whole more rest end e f r g u = run_goes_further whole rest end (spaces_run whole more rest e f r g) (no_break_there more rest f g) u
+pub spaces_and_words : (whole more rest end : Text) → whole ≡ 32 ∷ more → Some rest ≡ many (λ d. 32 == d) more → IsRest rest more
+    → None ≡ is 10 rest → IsPlainStop rest end → IsPlainRun whole end
+spaces_and_words whole more rest end e f r g u = run_goes_further whole rest end (spaces_run whole more rest e f r g)
+    (no_break_there more rest f g) u

@@ -1,5 +1,31 @@
 -- One item is read.
-use Rattle.std.proofs.Common.{◌≡◌, Bool, true, false, not, ◌||◌, ◌&&◌, ◌==◌, chars, ℕ, ◌-◌, ◌≤◌, ◌<◌, List, [], ◌∷◌, ◌++◌, length, refl, ap, ap₂, sym, ◌∙◌, subst, arith}
+use Rattle.std.proofs.Common.{
+  ◌≡◌,
+  Bool,
+  true,
+  false,
+  not,
+  ◌||◌,
+  ◌&&◌,
+  ◌==◌,
+  chars,
+  ℕ,
+  ◌-◌,
+  ◌≤◌,
+  ◌<◌,
+  List,
+  [],
+  ◌∷◌,
+  ◌++◌,
+  length,
+  refl,
+  ap,
+  ap₂,
+  sym,
+  ◌∙◌,
+  subst,
+  arith,
+}
 use denote.Ref.{Bor}
 use Rattle.std.specs.List.{list_all}
 use Rattle.doc_rules.specs.Characters.{Text, last_or}
@@ -7,26 +33,30 @@ use Rattle.doc_rules.specs.Parsers.{before}
 use Rattle.doc_rules.specs.Entities.{Table}
 use Rattle.doc_rules.specs.Inlines.{Inline, Literal, literals, onto}
 use Rattle.doc_rules.specs.Reading.{Other, kinds, kind_in, read}
-use Rattle.doc_rules.proofs.ParserLaws.{IsRest, before_rest, is_rest_again, rest_is_shorter}
+use Rattle.doc_rules.specs.Rests.{IsRest}
+use Rattle.doc_rules.proofs.ParserLaws.{before_rest, is_rest_again, rest_is_shorter}
 use Rattle.doc_refs.specs.Targets.{Targets}
-use Rattle.doc_marks.specs.declared.mark.Mark.TheVariants as mark
-use Rattle.doc_marks.specs.Slices.{AreSlices, is_cut}
-use Rattle.doc_marks.specs.Views.{inlines_in}
+use Rattle.doc_inlines_marks.specs.declared.mark.Mark.TheVariants as mark
+use Rattle.doc_inlines_marks.specs.Slices.{AreSlices, is_cut}
+use Rattle.doc_inlines_marks.specs.Views.{inlines_in}
 use Rattle.doc_inlines.specs.declared.reader.Reader.{Reader}
 use Rattle.doc_inlines.specs.ReadingSteps.{reading, is_plain}
 use Rattle.doc_inlines.specs.PlainSteps.{IsPlainStop}
-use Rattle.doc_inlines.specs.Readers.{is_uncut, state_made, outcome, IsReader, GoesOn, ReadsOn, MarkStands, IsPlainRun, ReadsAs}
+use Rattle.doc_inlines.specs.ReaderSteps.{is_uncut, state_made, outcome, IsReader, GoesOn, ReadsOn, MarkStands, IsPlainRun, ReadsAs}
 use Rattle.doc_inlines.proofs.ReadingLaws.{before_is, item_taken}
 use Rattle.doc_inlines.proofs.PlainLaws.{plain_reads, other_item}
 use Rattle.doc_inlines.proofs.ReaderLaws.{before_both, own_slice}
 
 -- an item goes on where the new state has what it makes, and its rest
-pub goes_on : (table : Table) (targets : Targets) (old new : Reader) (c : ℕ) (more next : Text) (made : List Inline) → IsReader old → IsReader new → new.text ≡ old.text → chars new.rest.now ≡ next →
-    chars old.rest.now ≡ c ∷ more → IsRest next more → ReadsAs table targets old c more made (length more - length next) → state_made new ≡ made → GoesOn table targets old new
+pub goes_on : (table : Table) (targets : Targets) (old new : Reader) (c : ℕ) (more next : Text) (made : List Inline) → IsReader old
+    → IsReader new → new.text ≡ old.text → chars new.rest.now ≡ next →
+    chars old.rest.now ≡ c ∷ more → IsRest next more → ReadsAs table targets old c more made (length more - length next)
+    → state_made new ≡ made → GoesOn table targets old new
 unfolding outcome
 goes_on table targets old new c more next made o n t r e g reads m =
     let whole : Text = chars old.text.now in
-    let rest : IsRest (chars old.rest.now) (chars old.text.now) = is_rest_again (chars old.text.now) (chars old.plain.now) (chars old.rest.now) o.rest o.plain in
+    let rest : IsRest (chars old.rest.now) (chars old.text.now) = is_rest_again (chars old.text.now) (chars old.plain.now)
+    (chars old.rest.now) o.rest o.plain in
     let l : length next ≤ length more = rest_is_shorter next more g in
     let a : length (chars new.rest.now) ≡ length next = ap length r in
     let b : length (chars old.rest.now) ≡ length (c ∷ more) = ap length e in
@@ -36,7 +66,8 @@ goes_on table targets old new c more next made o n t r e g reads m =
       reads = λ definitions f.
           ap₂ (λ x y. reading table definitions (before (chars new.rest.now) (chars x.now)) y (chars new.rest.now)) t m
           ∙ (ap (λ x. reading table definitions (before x (chars old.text.now)) made x) r
-          ∙ sym (item_taken table definitions (chars old.text.now) (chars old.rest.now) more next (state_made old) made c rest e g (reads definitions f)));
+          ∙ sym (item_taken table definitions (chars old.text.now) (chars old.rest.now) more next (state_made old) made c rest e g
+          (reads definitions f)));
       shorter = omega arith;
     }
 
@@ -48,7 +79,8 @@ first_before c more rest e = ap (before more) e ∙ before_is (c ∷ []) more
 pub first_behind : (c : ℕ) (more rest : Text) → rest ≡ c ∷ more → IsRest more rest
 first_behind c more rest e = record { front = c ∷ []; split = e }
 
-pub alone_stands : (c : ℕ) (more rest : Text) (text : Bor Text) → rest ≡ c ∷ more → chars text.now ≡ before more rest → MarkStands (mark.Text text) rest more
+pub alone_stands : (c : ℕ) (more rest : Text) (text : Bor Text) → rest ≡ c ∷ more → chars text.now ≡ before more rest
+    → MarkStands (mark.Text text) rest more
 unfolding is_cut
 alone_stands c more rest text e f = record {
   behind = first_behind c more rest e;
@@ -56,7 +88,8 @@ alone_stands c more rest text e f = record {
   cut = ap (λ t. (length t == 1) || list_all is_uncut t) (f ∙ first_before c more rest e);
 }
 
-pub alone_made : (c : ℕ) (more rest : Text) (text : Bor Text) (made new : List Inline) → rest ≡ c ∷ more → chars text.now ≡ before more rest → new ≡ onto (inlines_in (mark.Text text)) made → new ≡ Literal c ∷ made
+pub alone_made : (c : ℕ) (more rest : Text) (text : Bor Text) (made new : List Inline) → rest ≡ c ∷ more
+    → chars text.now ≡ before more rest → new ≡ onto (inlines_in (mark.Text text)) made → new ≡ Literal c ∷ made
 unfolding inlines_in
 alone_made c more rest text made new e f g = g ∙ ap (λ t. onto (literals t) made) (f ∙ first_before c more rest e)
 
@@ -73,11 +106,13 @@ unfolding last_or
 last_of_append c [] ys = refl
 last_of_append c (x ∷ xs) ys = last_of_append x xs ys
 
-pub stop_reads_on : (table : Table) (targets : Targets) (old new : Reader) (next : Text) → IsReader old → IsReader new → new.text ≡ old.text → chars new.rest.now ≡ next → IsPlainStop (chars old.rest.now) next →
+pub stop_reads_on : (table : Table) (targets : Targets) (old new : Reader) (next : Text) → IsReader old → IsReader new
+    → new.text ≡ old.text → chars new.rest.now ≡ next → IsPlainStop (chars old.rest.now) next →
     state_made new ≡ onto (literals (before next (chars old.rest.now))) (state_made old) → ReadsOn table targets old new
 unfolding outcome
 stop_reads_on table targets old new next o n t r p m =
-    let rest : IsRest (chars old.rest.now) (chars old.text.now) = is_rest_again (chars old.text.now) (chars old.plain.now) (chars old.rest.now) o.rest o.plain in
+    let rest : IsRest (chars old.rest.now) (chars old.text.now) = is_rest_again (chars old.text.now) (chars old.plain.now)
+    (chars old.rest.now) o.rest o.plain in
     let b : Text = before (chars old.rest.now) (chars old.text.now) in
     let run : Text = before next (chars old.rest.now) in
     let made : List Inline = onto (literals (before next (chars old.rest.now))) (state_made old) in
@@ -89,7 +124,8 @@ stop_reads_on table targets old new next o n t r p m =
       reads = λ definitions f.
           ap₂ (λ x y. reading table definitions (before (chars new.rest.now) (chars x.now)) y (chars new.rest.now)) t m
           ∙ (ap (λ x. reading table definitions (before x (chars old.text.now)) made x) r
-          ∙ (ap (λ front. read table definitions (last_or 10 front) made 0 next) (before_both (chars old.text.now) (chars old.rest.now) next rest p.behind)
+          ∙ (ap (λ front. read table definitions (last_or 10 front) made 0 next)
+          (before_both (chars old.text.now) (chars old.rest.now) next rest p.behind)
           ∙ (ap (λ last. read table definitions last made 0 next) (last_of_append 10 b run)
           ∙ (sym (plain_reads table definitions (last_or 10 b) (state_made old) run next p.plain p.quiet)
           ∙ ap (λ x. read table definitions (last_or 10 b) (state_made old) 0 x) (sym (before_rest next (chars old.rest.now) p.behind))))));
@@ -99,7 +135,8 @@ stop_reads_on table targets old new next o n t r p m =
 pub no_longer_then_shorter : (a b c : ℕ) → a ≤ b → b < c → a < c
 no_longer_then_shorter a b c h g = omega arith
 
-pub run_goes_on : (table : Table) (targets : Targets) (old new : Reader) (next : Text) → IsReader old → IsReader new → new.text ≡ old.text → chars new.rest.now ≡ next → IsPlainRun (chars old.rest.now) next →
+pub run_goes_on : (table : Table) (targets : Targets) (old new : Reader) (next : Text) → IsReader old → IsReader new → new.text ≡ old.text
+    → chars new.rest.now ≡ next → IsPlainRun (chars old.rest.now) next →
     state_made new ≡ onto (literals (before next (chars old.rest.now))) (state_made old) → GoesOn table targets old new
 run_goes_on table targets old new next o n t r p m =
     let on = stop_reads_on table targets old new next o n t r (record { behind = p.behind; plain = p.plain; quiet = p.quiet }) m in
@@ -154,8 +191,10 @@ run_uncut (c ∷ run) h =
 
 -- ---- characters that begin nothing
 
-pub other_reads : (table : Table) (targets : Targets) (old : Reader) (c : ℕ) (more : Text) → kind_in kinds c ≡ Other → ReadsAs table targets old c more (Literal c ∷ state_made old) 0
-other_reads table targets old c more e = λ definitions f. other_item table definitions (last_or 10 (before (chars old.rest.now) (chars old.text.now))) (state_made old) c more e
+pub other_reads : (table : Table) (targets : Targets) (old : Reader) (c : ℕ) (more : Text) → kind_in kinds c ≡ Other
+    → ReadsAs table targets old c more (Literal c ∷ state_made old) 0
+other_reads table targets old c more e = λ definitions f. other_item table definitions
+    (last_or 10 (before (chars old.rest.now) (chars old.text.now))) (state_made old) c more e
 
 pub greater_is_other : kind_in kinds 62 ≡ Other
 unfolding kinds kind_in

@@ -1,16 +1,47 @@
 -- What was made of a text when a bracket closes, and when all is read.
-use Rattle.std.proofs.Common.{◌≡◌, ℕ, suc, ◌+◌, ◌-◌, ◌≤◌, Bool, true, false, ◌||◌, List, [], ◌∷◌, ◌++◌, length, take, drop, map, reverse, refl, ap, ap₂, sym, ◌∙◌, subst, Some, None, arith, append_assoc, append-nil}
+use Rattle.std.proofs.Common.{
+  ◌≡◌,
+  ℕ,
+  suc,
+  ◌+◌,
+  ◌-◌,
+  ◌≤◌,
+  Bool,
+  true,
+  false,
+  ◌||◌,
+  List,
+  [],
+  ◌∷◌,
+  ◌++◌,
+  length,
+  take,
+  drop,
+  map,
+  reverse,
+  refl,
+  ap,
+  ap₂,
+  sym,
+  ◌∙◌,
+  subst,
+  Some,
+  None,
+  arith,
+  append_assoc,
+  append-nil,
+}
 use Rattle.std.specs.Prelude.{nat_le}
 use Rattle.std.proofs.lemmas.List.{map-append, reverse-reverse, reverse-append, take-append-drop}
 use Rattle.std.proofs.lemmas.Bool.{lt-leb}
 use Rattle.doc_rules.specs.Inlines.{Inline, Delimiters, Open, Bracket, bracket_text, onto}
 use Rattle.doc_rules.specs.Links.{last_bracket, without_links}
 use Rattle.doc_rules.specs.Emphasis.{emphasis_of}
-use Rattle.doc_delimiters.specs.OnePass.{plain_brackets}
-use Rattle.doc_delimiters.specs.Marks.{Marks, Placed, stretch, seen, ArePlaced, IsFinal}
-use Rattle.doc_delimiters.proofs.BracketLaws.{brackets_are_text, plain_append, plain_final}
-use Rattle.doc_delimiters.proofs.Finals.{AreFinal, final_stretch}
-use Rattle.doc_inlines.specs.Made.{OpenBracket, bracket_shown, text_of_bracket, made_below, AreBrackets}
+use Rattle.doc_inlines_pass.specs.OnePass.{plain_brackets}
+use Rattle.doc_inlines_pass.specs.Marks.{Marks, Placed, stretch, seen, ArePlaced, IsFinal}
+use Rattle.doc_inlines_pass.proofs.BracketLaws.{brackets_are_text, plain_append, plain_final}
+use Rattle.doc_inlines_pass.proofs.Finals.{AreFinal, final_stretch}
+use Rattle.doc_inlines.specs.MadeSteps.{OpenBracket, bracket_shown, text_of_bracket, made_below, AreBrackets}
 use Rattle.doc_inlines.proofs.MadeLaws.{onto_both, placed_joined, seen_joined, seen_one, made_joined, brackets_joined, brackets_placed}
 
 -- ---- the nearest bracket
@@ -37,7 +68,8 @@ unfolding seen
 no_bracket_seen marks a b [] h = final_no_bracket (stretch marks a (b - a)) (final_stretch marks a (b - a) h)
 no_bracket_seen marks a b (p ∷ more) h =
     no_bracket_append (stretch marks a (p.first - a)) (Delimiters p.run ∷ seen marks (p.first + p.run.left) b more)
-    (final_no_bracket (stretch marks a (p.first - a)) (final_stretch marks a (p.first - a) h)) (no_bracket_seen marks (p.first + p.run.left) b more h)
+    (final_no_bracket (stretch marks a (p.first - a)) (final_stretch marks a (p.first - a) h))
+    (no_bracket_seen marks (p.first + p.run.left) b more h)
 
 onto_first : (x : Inline) (xs made : List Inline) → onto (x ∷ xs) made ≡ onto xs (x ∷ made)
 onto_first x xs made = onto_both (x ∷ []) xs made
@@ -58,11 +90,13 @@ pub last_is : (marks : Marks) (end dead : ℕ) (runs : List Placed) (bracket : O
 unfolding made_below last_bracket
 last_is marks end dead runs bracket more h =
     let s : List Inline = seen marks (suc bracket.mark) end (drop bracket.runs runs) in
-    let opened : List Inline = Open (bracket_shown dead (length more) bracket) ∷ made_below marks bracket.mark dead (take bracket.runs runs) more in
+    let opened : List Inline = Open (bracket_shown dead (length more) bracket) ∷ made_below marks bracket.mark dead
+    (take bracket.runs runs) more in
     searched_past [] s opened (no_bracket_seen marks (suc bracket.mark) end (drop bracket.runs runs) h)
     ∙ ap (λ since. last_bracket since opened) (append-nil s)
 
-pub last_is_none : (marks : Marks) (end dead : ℕ) (runs : List Placed) → AreFinal marks → last_bracket [] (made_below marks end dead runs []) ≡ None
+pub last_is_none : (marks : Marks) (end dead : ℕ) (runs : List Placed) → AreFinal marks
+    → last_bracket [] (made_below marks end dead runs []) ≡ None
 unfolding made_below last_bracket
 last_is_none marks end dead runs h =
     let s : List Inline = seen marks 0 end runs in
@@ -70,28 +104,36 @@ last_is_none marks end dead runs h =
 
 -- ---- without a link
 
-pub unlinked_is : (marks : Marks) (end dead : ℕ) (runs : List Placed) (bracket : OpenBracket) (more : List OpenBracket) → AreBrackets marks end runs (bracket ∷ more) →
+pub unlinked_is : (marks : Marks) (end dead : ℕ) (runs : List Placed) (bracket : OpenBracket) (more : List OpenBracket)
+    → AreBrackets marks end runs (bracket ∷ more) →
     made_below marks end dead runs more
-    ≡ onto (seen marks (suc bracket.mark) end (drop bracket.runs runs)) (onto (text_of_bracket bracket.image) (made_below marks bracket.mark dead (take bracket.runs runs) more))
+    ≡ onto (seen marks (suc bracket.mark) end (drop bracket.runs runs))
+    (onto (text_of_bracket bracket.image) (made_below marks bracket.mark dead (take bracket.runs runs) more))
 unlinked_is marks end dead runs bracket more h =
     let xs : List Placed = take bracket.runs runs in
     let ys : List Placed = drop bracket.runs runs in
-    let lower : AreBrackets marks (suc bracket.mark) (xs ++ []) more = brackets_joined marks bracket.mark (suc bracket.mark) xs [] more h.3 (omega arith) in
-    let own : made_below marks (suc bracket.mark) dead xs more ≡ onto (text_of_bracket bracket.image) (made_below marks bracket.mark dead xs more) =
+    let lower : AreBrackets marks (suc bracket.mark) (xs ++ []) more = brackets_joined marks bracket.mark (suc bracket.mark) xs [] more h.3
+    (omega arith) in
+    let own : made_below marks (suc bracket.mark) dead xs more ≡ onto (text_of_bracket bracket.image)
+    (made_below marks bracket.mark dead xs more) =
     ap (λ those. made_below marks (suc bracket.mark) dead those more) (sym (append-nil xs))
     ∙ (made_joined marks bracket.mark (suc bracket.mark) dead xs [] more h.3 (omega arith)
     ∙ ap (λ s. onto s (made_below marks bracket.mark dead xs more)) (seen_one marks bracket.mark ∙ h.1)) in
     ap (λ those. made_below marks end dead those more) (sym (take-append-drop bracket.runs runs))
-    ∙ (made_joined marks (suc bracket.mark) end dead xs ys more (subst (λ those. AreBrackets marks (suc bracket.mark) those more) (append-nil xs) lower) h.2
+    ∙ (made_joined marks (suc bracket.mark) end dead xs ys more
+    (subst (λ those. AreBrackets marks (suc bracket.mark) those more) (append-nil xs) lower) h.2
     ∙ ap (λ t. onto (seen marks (suc bracket.mark) end ys) t) own)
 
-pub brackets_popped : (marks : Marks) (end : ℕ) (runs : List Placed) (bracket : OpenBracket) (more : List OpenBracket) → AreBrackets marks end runs (bracket ∷ more) → AreBrackets marks end runs more
+pub brackets_popped : (marks : Marks) (end : ℕ) (runs : List Placed) (bracket : OpenBracket) (more : List OpenBracket)
+    → AreBrackets marks end runs (bracket ∷ more) → AreBrackets marks end runs more
 brackets_popped marks end runs bracket more h =
     let xs : List Placed = take bracket.runs runs in
     let ys : List Placed = drop bracket.runs runs in
-    let lower : AreBrackets marks (suc bracket.mark) (xs ++ []) more = brackets_joined marks bracket.mark (suc bracket.mark) xs [] more h.3 (omega arith) in
+    let lower : AreBrackets marks (suc bracket.mark) (xs ++ []) more = brackets_joined marks bracket.mark (suc bracket.mark) xs [] more h.3
+    (omega arith) in
     subst (λ those. AreBrackets marks end those more) (take-append-drop bracket.runs runs)
-    (brackets_joined marks (suc bracket.mark) end xs ys more (subst (λ those. AreBrackets marks (suc bracket.mark) those more) (append-nil xs) lower) h.2)
+    (brackets_joined marks (suc bracket.mark) end xs ys more
+    (subst (λ those. AreBrackets marks (suc bracket.mark) those more) (append-nil xs) lower) h.2)
 
 -- ---- brackets that are dead
 
@@ -109,28 +151,36 @@ map-reverse f (x ∷ xs) =
 
 without_links_onto : (xs made : List Inline) → NoBracket xs → map without_links (onto xs made) ≡ onto xs (map without_links made)
 without_links_onto xs made h =
-    map-append without_links (reverse xs) made ∙ ap (λ t. t ++ map without_links made) (map-reverse without_links xs ∙ ap reverse (without_no_links xs h))
+    map-append without_links (reverse xs) made ∙ ap (λ t. t ++ map without_links made) (map-reverse without_links xs
+    ∙ ap reverse (without_no_links xs h))
 
 or_nothing : (b : Bool) → (b || false) ≡ b
 or_nothing true = refl
 or_nothing false = refl
 
-pub made_dead : (marks : Marks) (end dead new : ℕ) (runs : List Placed) (brackets : List OpenBracket) → AreFinal marks → length brackets ≤ new →
+pub made_dead : (marks : Marks) (end dead new : ℕ) (runs : List Placed) (brackets : List OpenBracket) → AreFinal marks
+    → length brackets ≤ new →
     map without_links (made_below marks end dead runs brackets) ≡ made_below marks end new runs brackets
 unfolding made_below without_links
 made_dead marks end dead new runs [] h l =
-    map-reverse without_links (seen marks 0 end runs) ∙ ap reverse (without_no_links (seen marks 0 end runs) (no_bracket_seen marks 0 end runs h))
+    map-reverse without_links (seen marks 0 end runs)
+    ∙ ap reverse (without_no_links (seen marks 0 end runs) (no_bracket_seen marks 0 end runs h))
 made_dead marks end dead new runs (bracket ∷ more) h l =
     let xs : List Placed = take bracket.runs runs in
     let s : List Inline = seen marks (suc bracket.mark) end (drop bracket.runs runs) in
-    let live : (bracket.image || nat_le new (length more)) ≡ bracket.image = ap (λ b. bracket.image || b) (lt-leb new (length more) (omega arith)) ∙ or_nothing bracket.image in
-    without_links_onto s (Open (bracket_shown dead (length more) bracket) ∷ made_below marks bracket.mark dead xs more) (no_bracket_seen marks (suc bracket.mark) end (drop bracket.runs runs) h)
-    ∙ ap₂ (λ b t. onto s (Open (record { image = bracket.image; live = b; behind = bracket.behind }) ∷ t)) (sym live) (made_dead marks bracket.mark dead new xs more h (omega arith))
+    let live : (bracket.image || nat_le new (length more)) ≡ bracket.image = ap (λ b. bracket.image || b)
+    (lt-leb new (length more) (omega arith)) ∙ or_nothing bracket.image in
+    without_links_onto s (Open (bracket_shown dead (length more) bracket) ∷ made_below marks bracket.mark dead xs more)
+    (no_bracket_seen marks (suc bracket.mark) end (drop bracket.runs runs) h)
+    ∙ ap₂ (λ b t. onto s (Open (record { image = bracket.image; live = b; behind = bracket.behind }) ∷ t)) (sym live)
+    (made_dead marks bracket.mark dead new xs more h (omega arith))
 
 -- to the first brackets it is all one how many of those behind them are dead
-pub made_alive : (marks : Marks) (end dead new : ℕ) (runs : List Placed) (brackets : List OpenBracket) → AreFinal marks → length brackets ≤ dead → length brackets ≤ new →
+pub made_alive : (marks : Marks) (end dead new : ℕ) (runs : List Placed) (brackets : List OpenBracket) → AreFinal marks
+    → length brackets ≤ dead → length brackets ≤ new →
     made_below marks end dead runs brackets ≡ made_below marks end new runs brackets
-made_alive marks end dead new runs brackets h l g = sym (made_dead marks end dead dead runs brackets h l) ∙ made_dead marks end dead new runs brackets h g
+made_alive marks end dead new runs brackets h l g = sym (made_dead marks end dead dead runs brackets h l)
+    ∙ made_dead marks end dead new runs brackets h g
 
 -- ---- when all is read
 
@@ -158,17 +208,23 @@ plain_made marks end dead runs (bracket ∷ more) h =
     let whole : seen marks 0 end runs ≡ front ++ (text_of_bracket bracket.image ++ s) =
     ap (seen marks 0 end) (sym (take-append-drop bracket.runs runs))
     ∙ (seen_joined marks 0 bracket.mark end xs ys lower upper
-    ∙ ap (λ t. front ++ t) (seen_joined marks bracket.mark (suc bracket.mark) end [] ys (omega arith) h.2 ∙ ap (λ t. t ++ s) (seen_one marks bracket.mark ∙ h.1))) in
-    ap plain_brackets (reverse-append (reverse s) (Open opened ∷ below) ∙ ap₂ (λ t u. t ++ u) (reverse-append (Open opened ∷ []) below) (reverse-reverse s))
+    ∙ ap (λ t. front ++ t) (seen_joined marks bracket.mark (suc bracket.mark) end [] ys (omega arith) h.2
+    ∙ ap (λ t. t ++ s) (seen_one marks bracket.mark ∙ h.1))) in
+    ap plain_brackets (reverse-append (reverse s) (Open opened ∷ below)
+    ∙ ap₂ (λ t u. t ++ u) (reverse-append (Open opened ∷ []) below) (reverse-reverse s))
     ∙ (plain_append (reverse below ++ (Open opened ∷ [])) s
-    ∙ (ap (λ t. t ++ plain_brackets s) (plain_append (reverse below) (Open opened ∷ []) ∙ ap₂ (λ t u. t ++ u) (plain_made marks bracket.mark dead xs more h.3) (opened_text opened))
+    ∙ (ap (λ t. t ++ plain_brackets s) (plain_append (reverse below) (Open opened ∷ [])
+    ∙ ap₂ (λ t u. t ++ u) (plain_made marks bracket.mark dead xs more h.3) (opened_text opened))
     ∙ (append_assoc (plain_brackets front) (text_of_bracket bracket.image) (plain_brackets s)
-    ∙ (ap (λ t. plain_brackets front ++ (t ++ plain_brackets s)) (sym (plain_final (text_of_bracket bracket.image) (final_text bracket.image)))
+    ∙ (ap (λ t. plain_brackets front ++ (t ++ plain_brackets s))
+    (sym (plain_final (text_of_bracket bracket.image) (final_text bracket.image)))
     ∙ (ap (λ t. plain_brackets front ++ t) (sym (plain_append (text_of_bracket bracket.image) s))
     ∙ (sym (plain_append front (text_of_bracket bracket.image ++ s)) ∙ ap plain_brackets (sym whole)))))))
 
 -- its emphasis is that of what is seen
-pub emphasis_of_made : (marks : Marks) (end dead : ℕ) (runs : List Placed) (brackets : List OpenBracket) → AreBrackets marks end runs brackets →
+pub emphasis_of_made : (marks : Marks) (end dead : ℕ) (runs : List Placed) (brackets : List OpenBracket)
+    → AreBrackets marks end runs brackets →
     emphasis_of (reverse (made_below marks end dead runs brackets)) ≡ emphasis_of (seen marks 0 end runs)
 emphasis_of_made marks end dead runs brackets h =
-    sym (brackets_are_text (reverse (made_below marks end dead runs brackets))) ∙ (ap emphasis_of (plain_made marks end dead runs brackets h) ∙ brackets_are_text (seen marks 0 end runs))
+    sym (brackets_are_text (reverse (made_below marks end dead runs brackets)))
+    ∙ (ap emphasis_of (plain_made marks end dead runs brackets h) ∙ brackets_are_text (seen marks 0 end runs))

@@ -1,5 +1,31 @@
 -- Characters that begin nothing become literals, and line breaks take the spaces around them.
-use Rattle.std.proofs.Common.{◌≡◌, ℕ, zero, suc, ◌+◌, Bool, true, false, not, ◌==◌, ◌||◌, ◌&&◌, List, [], ◌∷◌, ◌++◌, drop, replicate, reverse, refl, ap, ap₂, sym, ◌∙◌, append_assoc}
+use Rattle.std.proofs.Common.{
+  ◌≡◌,
+  ℕ,
+  zero,
+  suc,
+  ◌+◌,
+  Bool,
+  true,
+  false,
+  not,
+  ◌==◌,
+  ◌||◌,
+  ◌&&◌,
+  List,
+  [],
+  ◌∷◌,
+  ◌++◌,
+  drop,
+  replicate,
+  reverse,
+  refl,
+  ap,
+  ap₂,
+  sym,
+  ◌∙◌,
+  append_assoc,
+}
 use Rattle.std.specs.Prelude.{nat_le, if◌then◌else◌}
 use Rattle.std.specs.List.{list_all}
 use Rattle.std.proofs.lemmas.List.{reverse-append}
@@ -53,24 +79,32 @@ plain_begins_nothing c h space =
 pub plain_is_no_ending : (c : ℕ) → is_plain c ≡ true → (c == 10) ≡ false
 plain_is_no_ending c h = (or_false (c == 10) _ (not_true _ h)).0
 
-pub other_item : (table : Table) (refs : List Definition) (last : ℕ) (made : List Inline) (c : ℕ) (rest : Text) → kind_in kinds c ≡ Other → read_item table refs last made c rest ≡ (Literal c ∷ made, 0)
+pub other_item : (table : Table) (refs : List Definition) (last : ℕ) (made : List Inline) (c : ℕ) (rest : Text) → kind_in kinds c ≡ Other
+    → read_item table refs last made c rest ≡ (Literal c ∷ made, 0)
 unfolding read_item item_of_kind
 other_item table refs last made c rest e = ap (λ kind. item_of_kind kind table refs last made c rest) e
 
 -- ---- spaces
 
 -- spaces that no line ending follows are text
-no_break : (text : Text) (n : ℕ) (made : List Inline) (c : ℕ) → breaks text ≡ false → break_behind n made c (drop (run_length 32 text) text) ≡ (Literal c ∷ made, 0)
+no_break : (text : Text) (n : ℕ) (made : List Inline) (c : ℕ) → breaks text ≡ false
+    → break_behind n made c (drop (run_length 32 text) text) ≡ (Literal c ∷ made, 0)
 unfolding break_behind run_length breaks
 no_break [] n made c e = refl
 no_break (d ∷ text) n made c e = at (λ f. no_break text n made c f) (32 == d) e
   where
-    at : (breaks text ≡ false → break_behind n made c (drop (run_length 32 text) text) ≡ (Literal c ∷ made, 0)) → (b : Bool) → (elim b [ true ↦ breaks text | false ↦ d == 10 ]) ≡ false →
+    at : (breaks text ≡ false → break_behind n made c (drop (run_length 32 text) text) ≡ (Literal c ∷ made, 0)) → (b : Bool)
+        → (elim b [ true ↦ breaks text | false ↦ d == 10 ]) ≡ false →
         break_behind n made c (drop (elim b [ true ↦ suc (run_length 32 text) | false ↦ 0 ]) (d ∷ text)) ≡ (Literal c ∷ made, 0)
     at go true f = go f
-    at go false f = ap (λ b. elim b [ true ↦ ((if nat_le 2 n then HardBreak else SoftBreak) ∷ made, n + run_length 32 text) | false ↦ as_literal c made ]) f
+    at go false f = ap (λ b. elim b [
+      | true ↦ ((if nat_le 2 n then HardBreak else SoftBreak) ∷ made, n + run_length 32 text)
+      | false ↦
+          as_literal c made
+    ]) f
 
-pub space_item : (table : Table) (refs : List Definition) (last : ℕ) (made : List Inline) (rest : Text) → breaks rest ≡ false → read_item table refs last made 32 rest ≡ (Literal 32 ∷ made, 0)
+pub space_item : (table : Table) (refs : List Definition) (last : ℕ) (made : List Inline) (rest : Text) → breaks rest ≡ false
+    → read_item table refs last made 32 rest ≡ (Literal 32 ∷ made, 0)
 unfolding read_item item_of_kind kinds kind_in gap run_length breaks
 space_item table refs last made rest e = no_break (32 ∷ rest) (suc (run_length 32 rest)) made 32 e
 
@@ -80,28 +114,33 @@ and_parts : (a b : Bool) → (a && b) ≡ true → (a ≡ true) × (b ≡ true)
 and_parts true b e = (refl, e)
 and_parts false b e = absurd cc
 
-plain_item : (table : Table) (refs : List Definition) (last : ℕ) (made : List Inline) (c : ℕ) (rest : Text) → is_plain c ≡ true → ((c == 32) ≡ true → breaks rest ≡ false) →
+plain_item : (table : Table) (refs : List Definition) (last : ℕ) (made : List Inline) (c : ℕ) (rest : Text) → is_plain c ≡ true
+    → ((c == 32) ≡ true → breaks rest ≡ false) →
     read_item table refs last made c rest ≡ (Literal c ∷ made, 0)
 plain_item table refs last made c rest h g = at (c == 32) refl
   where
     at : (b : Bool) → (c == 32) ≡ b → read_item table refs last made c rest ≡ (Literal c ∷ made, 0)
     at true e =
         let same : c ≡ 32 = eqb-true c 32 e in
-        ap (λ d. read_item table refs last made d rest) same ∙ (space_item table refs last made rest (g e) ∙ ap (λ d. (Literal d ∷ made, 0)) (sym same))
+        ap (λ d. read_item table refs last made d rest) same
+        ∙ (space_item table refs last made rest (g e) ∙ ap (λ d. (Literal d ∷ made, 0)) (sym same))
     at false e = other_item table refs last made c rest (plain_begins_nothing c h e)
 
 literal_onto : (c : ℕ) (run : Text) (made : List Inline) → onto (literals (c ∷ run)) made ≡ onto (literals run) (Literal c ∷ made)
-literal_onto c run made = ap (λ t. t ++ made) (reverse-append (Literal c ∷ []) (literals run)) ∙ append_assoc (reverse (literals run)) (Literal c ∷ []) made
+literal_onto c run made = ap (λ t. t ++ made) (reverse-append (Literal c ∷ []) (literals run))
+    ∙ append_assoc (reverse (literals run)) (Literal c ∷ []) made
 
 -- they become literals
-pub plain_reads : (table : Table) (refs : List Definition) (last : ℕ) (made : List Inline) (run rest : Text) → list_all is_plain run ≡ true → Quiet run rest →
+pub plain_reads : (table : Table) (refs : List Definition) (last : ℕ) (made : List Inline) (run rest : Text) → list_all is_plain run ≡ true
+    → Quiet run rest →
     read table refs last made 0 (run ++ rest) ≡ read table refs (last_or last run) (onto (literals run) made) 0 rest
 unfolding read last_or
 plain_reads table refs last made [] rest h q = refl
 plain_reads table refs last made (c ∷ run) rest h q =
     let p = and_parts (is_plain c) (list_all is_plain run) h in
     ap (λ step. read table refs c step.0 step.1 (run ++ rest)) (plain_item table refs last made c (run ++ rest) p.0 q.0)
-    ∙ (plain_reads table refs c (Literal c ∷ made) run rest p.1 q.1 ∙ ap (λ those. read table refs (last_or c run) those 0 rest) (sym (literal_onto c run made)))
+    ∙ (plain_reads table refs c (Literal c ∷ made) run rest p.1 q.1
+    ∙ ap (λ those. read table refs (last_or c run) those 0 rest) (sym (literal_onto c run made)))
 
 -- before a rest that begins with no line ending behind spaces
 pub plain_breaks : (run rest : Text) → list_all is_plain run ≡ true → breaks rest ≡ false → breaks (run ++ rest) ≡ false
@@ -120,14 +159,16 @@ quiet_before (c ∷ run) rest h e =
     (λ _. plain_breaks run rest more e, quiet_before run rest more e)
 
 -- before anything, where no space stands at their end
-no_space_breaks : (c : ℕ) (run rest : Text) → list_all is_plain (c ∷ run) ≡ true → (last_or c run == 32) ≡ false → breaks ((c ∷ run) ++ rest) ≡ false
+no_space_breaks : (c : ℕ) (run rest : Text) → list_all is_plain (c ∷ run) ≡ true → (last_or c run == 32) ≡ false
+    → breaks ((c ∷ run) ++ rest) ≡ false
 unfolding breaks last_or
 no_space_breaks c [] rest h e = at (32 == c) refl
   where
     at : (b : Bool) → (32 == c) ≡ b → (elim b [ true ↦ breaks rest | false ↦ c == 10 ]) ≡ false
     at true f = absurd (true_is_false (sym (eq-eqb c 32 (sym (eqb-true 32 c f))) ∙ e))
     at false f = plain_is_no_ending c (and_parts (is_plain c) true h).0
-no_space_breaks c (d ∷ run) rest h e = at (no_space_breaks d run rest (and_parts (is_plain c) (list_all is_plain (d ∷ run)) h).1 e) (32 == c)
+no_space_breaks c (d ∷ run) rest h e = at (no_space_breaks d run rest (and_parts (is_plain c) (list_all is_plain (d ∷ run)) h).1 e)
+    (32 == c)
   where
     at : breaks ((d ∷ run) ++ rest) ≡ false → (b : Bool) → (elim b [ true ↦ breaks ((d ∷ run) ++ rest) | false ↦ c == 10 ]) ≡ false
     at go true = go
@@ -143,7 +184,8 @@ quiet_without_space (c ∷ d ∷ run) rest h e =
 
 -- ---- line breaks
 
-pub break_item : (table : Table) (refs : List Definition) (last : ℕ) (made : List Inline) (rest : Text) → read_item table refs last made 10 rest ≡ (SoftBreak ∷ made, 0 + run_length 32 rest)
+pub break_item : (table : Table) (refs : List Definition) (last : ℕ) (made : List Inline) (rest : Text)
+    → read_item table refs last made 10 rest ≡ (SoftBreak ∷ made, 0 + run_length 32 rest)
 unfolding read_item item_of_kind kinds kind_in gap break_behind run_length
 break_item table refs last made rest = refl
 
@@ -157,7 +199,9 @@ behind_spaces zero rest = refl
 behind_spaces (suc n) rest = behind_spaces n rest
 
 pub spaces_item : (table : Table) (refs : List Definition) (last : ℕ) (made : List Inline) (n : ℕ) (rest : Text) →
-    read_item table refs last made 32 (replicate n 32 ++ (10 ∷ rest)) ≡ ((if nat_le 2 (suc n) then HardBreak else SoftBreak) ∷ made, suc n + run_length 32 rest)
+    read_item table refs last made 32 (replicate n 32 ++ (10 ∷ rest))
+    ≡ ((if nat_le 2 (suc n) then HardBreak else SoftBreak) ∷ made, suc n + run_length 32 rest)
 unfolding read_item item_of_kind kinds kind_in gap break_behind run_length
 spaces_item table refs last made n rest =
-    ap₂ (λ k text. break_behind (suc k) made 32 text) (spaces_before n rest) (ap (λ k. drop k (replicate n 32 ++ (10 ∷ rest))) (spaces_before n rest) ∙ behind_spaces n (10 ∷ rest))
+    ap₂ (λ k text. break_behind (suc k) made 32 text) (spaces_before n rest)
+    (ap (λ k. drop k (replicate n 32 ++ (10 ∷ rest))) (spaces_before n rest) ∙ behind_spaces n (10 ∷ rest))

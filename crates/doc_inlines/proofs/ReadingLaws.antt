@@ -7,12 +7,14 @@ use Rattle.doc_rules.specs.Entities.{Table}
 use Rattle.doc_rules.specs.Definitions.{Definition}
 use Rattle.doc_rules.specs.Inlines.{Inline}
 use Rattle.doc_rules.specs.Reading.{read, read_item}
-use Rattle.doc_rules.proofs.ParserLaws.{IsRest, before_rest}
+use Rattle.doc_rules.specs.Rests.{IsRest}
+use Rattle.doc_rules.proofs.ParserLaws.{before_rest}
 use Rattle.doc_inlines.specs.ReadingSteps.{reading}
 
 -- what stands before a rest
 pub before_is : (front rest : Text) → before rest (front ++ rest) ≡ front
-before_is front rest = append_cancel_right (before rest (front ++ rest)) front rest (sym (before_rest rest (front ++ rest) (record { front = front; split = refl })))
+before_is front rest = append_cancel_right (before rest (front ++ rest)) front rest
+    (sym (before_rest rest (front ++ rest) (record { front = front; split = refl })))
 
 last_of_both : (c : ℕ) (xs ys : Text) (d : ℕ) → last_or c (xs ++ (d ∷ ys)) ≡ last_or d ys
 unfolding last_or
@@ -20,21 +22,25 @@ last_of_both c [] ys d = refl
 last_of_both c (x ∷ xs) ys d = last_of_both x xs ys d
 
 -- characters that are read already are passed over
-skipped : (table : Table) (refs : List Definition) (last : ℕ) (made : List Inline) (taken rest : Text) → read table refs last made (length taken) (taken ++ rest) ≡ read table refs (last_or last taken) made 0 rest
+skipped : (table : Table) (refs : List Definition) (last : ℕ) (made : List Inline) (taken rest : Text)
+    → read table refs last made (length taken) (taken ++ rest) ≡ read table refs (last_or last taken) made 0 rest
 unfolding read last_or
 skipped table refs last made [] rest = refl
 skipped table refs last made (c ∷ taken) rest = skipped table refs c made taken rest
 
 -- an item takes its first character and those behind it up to the new rest
 item_reads : (table : Table) (refs : List Definition) (behind : Text) (made new : List Inline) (c : ℕ) (taken after : Text) →
-    read_item table refs (last_or 10 behind) made c (taken ++ after) ≡ (new, length taken) → reading table refs behind made (c ∷ (taken ++ after)) ≡ reading table refs (behind ++ (c ∷ taken)) new after
+    read_item table refs (last_or 10 behind) made c (taken ++ after) ≡ (new, length taken)
+    → reading table refs behind made (c ∷ (taken ++ after)) ≡ reading table refs (behind ++ (c ∷ taken)) new after
 unfolding read
 item_reads table refs behind made new c taken after e =
     ap (λ step. read table refs c step.0 step.1 (taken ++ after)) e
     ∙ (skipped table refs c new taken after ∙ ap (λ last. read table refs last new 0 after) (sym (last_of_both 10 behind taken c)))
 
-pub item_taken : (table : Table) (refs : List Definition) (whole rest more after : Text) (made new : List Inline) (c : ℕ) → IsRest rest whole → rest ≡ c ∷ more → IsRest after more →
-    read_item table refs (last_or 10 (before rest whole)) made c more ≡ (new, length more - length after) → reading table refs (before rest whole) made rest ≡ reading table refs (before after whole) new after
+pub item_taken : (table : Table) (refs : List Definition) (whole rest more after : Text) (made new : List Inline) (c : ℕ)
+    → IsRest rest whole → rest ≡ c ∷ more → IsRest after more →
+    read_item table refs (last_or 10 (before rest whole)) made c more ≡ (new, length more - length after)
+    → reading table refs (before rest whole) made rest ≡ reading table refs (before after whole) new after
 item_taken table refs whole rest more after made new c h e g f =
     let cut : length more ≡ length (g.front ++ after) = ap length g.split in
     let joined : length (g.front ++ after) ≡ length g.front + length after = length-append g.front after in
@@ -43,5 +49,6 @@ item_taken table refs whole rest more after made new c h e g f =
     let whole_is : whole ≡ (b ++ (c ∷ g.front)) ++ after =
     before_rest rest whole h ∙ (ap (λ r. b ++ r) (e ∙ ap (λ r. c ∷ r) g.split) ∙ sym (append_assoc b (c ∷ g.front) after)) in
     ap (reading table refs b made) (e ∙ ap (λ r. c ∷ r) g.split)
-    ∙ (item_reads table refs b made new c g.front after (ap (read_item table refs (last_or 10 b) made c) (sym g.split) ∙ (f ∙ ap (λ k. (new, k)) n))
+    ∙ (item_reads table refs b made new c g.front after (ap (read_item table refs (last_or 10 b) made c) (sym g.split)
+    ∙ (f ∙ ap (λ k. (new, k)) n))
     ∙ ap (λ front. reading table refs front new after) (sym (ap (before after) whole_is ∙ before_is (b ++ (c ∷ g.front)) after)))

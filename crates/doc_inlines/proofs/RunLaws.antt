@@ -1,5 +1,34 @@
 -- Runs of delimiters: what they take of a text, and what a reader makes of them.
-use Rattle.std.proofs.Common.{◌≡◌, Bool, true, false, ◌||◌, ◌==◌, ℕ, suc, ◌+◌, ◌-◌, List, [], ◌∷◌, ◌++◌, replicate, length, drop, map, refl, ap, ap₂, sym, ◌∙◌, subst, Some, arith, eqb-true, length-append}
+use Rattle.std.proofs.Common.{
+  ◌≡◌,
+  Bool,
+  true,
+  false,
+  ◌||◌,
+  ◌==◌,
+  ℕ,
+  suc,
+  ◌+◌,
+  ◌-◌,
+  List,
+  [],
+  ◌∷◌,
+  ◌++◌,
+  replicate,
+  length,
+  drop,
+  map,
+  refl,
+  ap,
+  ap₂,
+  sym,
+  ◌∙◌,
+  subst,
+  Some,
+  arith,
+  eqb-true,
+  length-append,
+}
 use Rattle.std.proofs.lemmas.List.{length-replicate}
 use Rattle.doc_rules.specs.Characters.{Text, first_or, last_or}
 use Rattle.doc_rules.specs.Parsers.{many, before, run_length}
@@ -8,13 +37,14 @@ use Rattle.doc_rules.specs.Definitions.{Definition}
 use Rattle.doc_rules.specs.Inlines.{Inline, Run, Delimiters}
 use Rattle.doc_rules.specs.Emphasis.{run_between}
 use Rattle.doc_rules.specs.Reading.{Step, delimiters, kinds, kind_in, item_of_kind, read_item}
-use Rattle.doc_rules.proofs.ParserLaws.{IsRest, is_rest_again}
-use Rattle.doc_marks.specs.declared.mark.Mark.{Mark}
-use Rattle.doc_marks.specs.Slices.{StandIn, AreSlices, AreCut}
-use Rattle.doc_emphasis.specs.Texts.{IsRunText, AddsEach}
-use Rattle.doc_emphasis.proofs.MarkLaws.{each_slices, each_cut}
-use Rattle.doc_inlines.specs.Drafts.{IsRunOf}
-use Rattle.doc_inlines.specs.Readers.{made_before}
+use Rattle.doc_rules.specs.Rests.{IsRest}
+use Rattle.doc_rules.proofs.ParserLaws.{is_rest_again}
+use Rattle.doc_inlines_marks.specs.declared.mark.Mark.{Mark}
+use Rattle.doc_inlines_marks.specs.Slices.{StandIn, AreSlices, AreCut}
+use Rattle.doc_inlines_emphasis.specs.Texts.{IsRunText, AddsEach}
+use Rattle.doc_inlines_emphasis.proofs.MarkLaws.{each_slices, each_cut}
+use Rattle.doc_inlines.specs.DraftSteps.{IsRunOf}
+use Rattle.doc_inlines.specs.ReaderSteps.{made_before}
 use Rattle.doc_inlines.proofs.ReadingLaws.{before_is}
 use Rattle.doc_inlines.proofs.ReaderLaws.{before_both, nothing_pending}
 use Rattle.doc_inlines.proofs.SliceLaws.{slices_both, cut_both}
@@ -45,7 +75,8 @@ unfolding many run_length counted
 many_run c [] = refl
 many_run c (d ∷ rest) = at (many_run c rest) (c == d)
   where
-    at : many (λ e. c == e) rest ≡ Some (drop (run_length c rest) rest) → (b : Bool) → (elim b [ true ↦ many (λ e. c == e) rest | false ↦ Some (d ∷ rest) ]) ≡ Some (drop (counted c rest b) (d ∷ rest))
+    at : many (λ e. c == e) rest ≡ Some (drop (run_length c rest) rest) → (b : Bool)
+        → (elim b [ true ↦ many (λ e. c == e) rest | false ↦ Some (d ∷ rest) ]) ≡ Some (drop (counted c rest b) (d ∷ rest))
     at again true = again
     at again false = refl
 
@@ -54,7 +85,8 @@ unfolding run_length counted
 run_split c [] = refl
 run_split c (d ∷ rest) = at (run_split c rest) (c == d) refl
   where
-    at : rest ≡ replicate (run_length c rest) c ++ drop (run_length c rest) rest → (b : Bool) → (c == d) ≡ b → (d ∷ rest) ≡ replicate (counted c rest b) c ++ drop (counted c rest b) (d ∷ rest)
+    at : rest ≡ replicate (run_length c rest) c ++ drop (run_length c rest) rest → (b : Bool) → (c == d) ≡ b
+        → (d ∷ rest) ≡ replicate (counted c rest b) c ++ drop (counted c rest b) (d ∷ rest)
     at again true e = ap (λ x. x ∷ rest) (sym (eqb-true c d e)) ∙ ap (λ more. c ∷ more) again
     at again false e = refl
 
@@ -67,7 +99,8 @@ split_at_run c text rest e = run_split c text ∙ ap (λ more. replicate (run_le
 pub behind_first : (c : ℕ) (more rest next : Text) → rest ≡ c ∷ more → IsRest next more → IsRest next rest
 behind_first c more rest next e g = is_rest_again rest more next g (first_behind c more rest e)
 
-pub run_taken : (c : ℕ) (rest more next run : Text) → rest ≡ c ∷ more → Some next ≡ many (λ d. c == d) more → run ≡ before next rest → IsRunOf (run_length c more) c run
+pub run_taken : (c : ℕ) (rest more next run : Text) → rest ≡ c ∷ more → Some next ≡ many (λ d. c == d) more → run ≡ before next rest
+    → IsRunOf (run_length c more) c run
 run_taken c rest more next run e f g =
     let n : ℕ = run_length c more in
     let split : rest ≡ replicate (suc n) c ++ next = e ∙ ap (λ those. c ∷ those) (split_at_run c more next f) in
@@ -82,7 +115,8 @@ run_text n c run e r = at (c == 42) refl e
 
 -- ---- what the rules make of a run
 
-delimiter_reads : (table : Table) (refs : List Definition) (c last : ℕ) (made : List Inline) (more : Text) → ((c == 42) || (c == 95)) ≡ true → read_item table refs last made c more ≡ delimiters last made c more
+delimiter_reads : (table : Table) (refs : List Definition) (c last : ℕ) (made : List Inline) (more : Text)
+    → ((c == 42) || (c == 95)) ≡ true → read_item table refs last made c more ≡ delimiters last made c more
 unfolding read_item kind_in kinds item_of_kind
 delimiter_reads table refs c last made more e = at (c == 42) refl e
   where
@@ -96,7 +130,8 @@ own_run c n opens closes = record { char = c; left = n; length = n; opens = open
 abbrev run_step : List Inline → Run → ℕ → Step
 run_step made run n = (Delimiters run ∷ made, n)
 
-run_is : (c n last next : ℕ) (opens closes : Bool) → opens ≡ (run_between c n last next).opens → closes ≡ (run_between c n last next).closes →
+run_is : (c n last next : ℕ) (opens closes : Bool) → opens ≡ (run_between c n last next).opens
+    → closes ≡ (run_between c n last next).closes →
     run_between c n last next ≡ own_run c n opens closes
 unfolding run_between
 run_is c n last next opens closes e f = ap₂ (own_run c n) (sym e) (sym f)
@@ -108,9 +143,21 @@ taken_by c n text rest e =
     let k : length (replicate n c) ≡ n = length-replicate n c in
     omega arith
 
-pub run_reads : (table : Table) (refs : List Definition) (c last first : ℕ) (opens closes : Bool) (front more next : Text) (made : List Inline) → ((c == 42) || (c == 95)) ≡ true →
-    Some next ≡ many (λ d. c == d) more → last ≡ last_or 10 front → first ≡ first_or 10 next → ((n : ℕ) → opens ≡ (run_between c n last first).opens) → ((n : ℕ) → closes ≡ (run_between c n last first).closes) →
-    read_item table refs (last_or 10 front) made c more ≡ (Delimiters (record { char = c; left = suc (run_length c more); length = suc (run_length c more); opens = opens; closes = closes }) ∷ made, length more - length next)
+pub run_reads : (table : Table) (refs : List Definition) (c last first : ℕ) (opens closes : Bool) (front more next : Text)
+    (made : List Inline) → ((c == 42) || (c == 95)) ≡ true →
+    Some next ≡ many (λ d. c == d) more → last ≡ last_or 10 front → first ≡ first_or 10 next
+    → ((n : ℕ) → opens ≡ (run_between c n last first).opens) → ((n : ℕ) → closes ≡ (run_between c n last first).closes) →
+    read_item table refs (last_or 10 front) made c more
+    ≡ (
+      Delimiters (record {
+        char = c;
+        left = suc (run_length c more);
+        length = suc (run_length c more);
+        opens = opens;
+        closes = closes;
+      }) ∷ made,
+      length more - length next,
+    )
 unfolding delimiters
 run_reads table refs c last first opens closes front more next made e f g h o k =
     let n : ℕ = run_length c more in
@@ -121,21 +168,25 @@ run_reads table refs c last first opens closes front more next made e f g h o k 
 
 -- ---- a run between two rests
 
-pub run_put : (made new before_it : List Inline) (x : Inline) (plain rest next : Text) → plain ≡ rest → new ≡ x ∷ made → made_before made plain rest ≡ before_it → made_before new next next ≡ x ∷ before_it
+pub run_put : (made new before_it : List Inline) (x : Inline) (plain rest next : Text) → plain ≡ rest → new ≡ x ∷ made
+    → made_before made plain rest ≡ before_it → made_before new next next ≡ x ∷ before_it
 run_put made new before_it x plain rest next e f g =
-    nothing_pending new next ∙ (f ∙ ap (λ those. x ∷ those) (sym (nothing_pending made rest) ∙ (ap (λ t. made_before made t rest) (sym e) ∙ g)))
+    nothing_pending new next ∙ (f ∙ ap (λ those. x ∷ those) (sym (nothing_pending made rest)
+    ∙ (ap (λ t. made_before made t rest) (sym e) ∙ g)))
 
 stand_each : (text : Text) → StandIn text (map (λ c. c ∷ []) text)
 stand_each [] = tt
 stand_each (c ∷ rest) = ([], rest, (refl, stand_each rest))
 
-pub run_slices : (whole plain rest next run : Text) (items those : List Mark) → IsRest plain whole → plain ≡ rest → IsRest next rest → run ≡ before next rest → AddsEach items those run → AreSlices (before plain whole) items →
+pub run_slices : (whole plain rest next run : Text) (items those : List Mark) → IsRest plain whole → plain ≡ rest → IsRest next rest
+    → run ≡ before next rest → AddsEach items those run → AreSlices (before plain whole) items →
     AreSlices (before next whole) those
 run_slices whole plain rest next run items those h e g f a s =
     let own : AreSlices run a.added = subst (λ slices. StandIn run slices) (sym (each_slices a.added run a.each)) (stand_each run) in
     subst (λ x. AreSlices (before next whole) x) (sym a.behind)
     (subst (λ t. AreSlices t (items ++ a.added)) (sym (before_both whole rest next (subst (λ t. IsRest t whole) e h) g))
-    (slices_both (before rest whole) (before next rest) items a.added (subst (λ t. AreSlices (before t whole) items) e s) (subst (λ t. AreSlices t a.added) f own)))
+    (slices_both (before rest whole) (before next rest) items a.added (subst (λ t. AreSlices (before t whole) items) e s)
+    (subst (λ t. AreSlices t a.added) f own)))
 
 pub run_cut : (run : Text) (items those : List Mark) → AddsEach items those run → AreCut items → AreCut those
 run_cut run items those a h = subst AreCut (sym a.behind) (cut_both items a.added h (each_cut a.added run a.each))

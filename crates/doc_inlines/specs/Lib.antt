@@ -1,8 +1,8 @@
 pub mod ReadingSteps
-pub mod Made
-pub mod Drafts
-pub mod Readers
-pub mod Pieces
-pub mod Closing
+pub mod MadeSteps
+pub mod DraftSteps
+pub mod ReaderSteps
+pub mod PieceSteps
+pub mod ClosingSteps
 pub mod PlainSteps
 pub mod ClassSteps

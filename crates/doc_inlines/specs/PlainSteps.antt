@@ -3,7 +3,7 @@ use Rattle.std.specs.Prelude.{◌≡◌, ◌==◌, ◌++◌, true, false}
 use Rattle.std.specs.List.{list_all}
 use Rattle.doc_rules.specs.Characters.{Text, last_or}
 use Rattle.doc_rules.specs.Parsers.{before}
-use Rattle.doc_rules.proofs.ParserLaws.{IsRest}
+use Rattle.doc_rules.specs.Rests.{IsRest}
 use Rattle.doc_inlines.specs.ReadingSteps.{is_plain, Quiet}
 
 -- plain characters stand before this end, and no space is the last of them

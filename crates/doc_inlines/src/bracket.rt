@@ -1,6 +1,6 @@
 //! Brackets that are open.
 
-use doc_emphasis::Place;
+use doc_inlines_emphasis::Place;
 
 /// A `[` or `![` that no `]` closed yet (CommonMark 0.31.2, sections 6.3 and 6.4). It has a mark of its own.
 #[derive(Clone, Copy, Drop)]

@@ -5,23 +5,23 @@ ghost use Rattle.doc_rules.specs.Definitions.{Definition};
 ghost use Rattle.doc_rules.specs.Parsers.{before};
 ghost use Rattle.doc_rules.specs.Inlines.{Open};
 ghost use Rattle.doc_rules.specs.Links.{linked};
-ghost use Rattle.doc_rules.proofs.ParserLaws.{IsRest};
+ghost use Rattle.doc_rules.specs.Rests.{IsRest};
 ghost use Rattle.doc_refs.specs.Targets.{Targets, target_shown, targets_of};
-ghost use Rattle.doc_tails.specs.TailSteps.{tail_shown};
-ghost use Rattle.doc_emphasis.specs.Views.{items_of, runs_in};
-ghost use Rattle.doc_inlines.specs.Drafts.{AreOpen, codes_of_bracket, last_of};
-ghost use Rattle.doc_inlines.specs.Readers.{IsReader, GoesOn, state_made};
-ghost use Rattle.doc_inlines.specs.Closing.{tail_where, IsTaken, HasNoBracket};
+ghost use Rattle.doc_inlines_tails.specs.TailSteps.{tail_shown};
+ghost use Rattle.doc_inlines_emphasis.specs.Views.{items_of, runs_in};
+ghost use Rattle.doc_inlines.specs.DraftSteps.{AreOpen, codes_of_bracket, last_of};
+ghost use Rattle.doc_inlines.specs.ReaderSteps.{IsReader, GoesOn, state_made};
+ghost use Rattle.doc_inlines.specs.ClosingSteps.{tail_where, IsTaken, HasNoBracket};
 
 use crate::bracket::Bracket;
 use crate::reader::Reader;
 use doc_heap::Heap;
+use doc_inlines_tails::link_tail;
 use doc_lines::entities::Entities;
 use doc_lines::scan::character::is;
 use doc_lines::scan::front::front;
 use doc_page::failure::Memory;
 use doc_refs::{RefMap, Target};
-use doc_tails::link_tail;
 
 impl<'t> Reader<'t> {
     /// A `[` opens a bracket.

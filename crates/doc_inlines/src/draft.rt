@@ -6,17 +6,17 @@ ghost use Rattle.doc_rules.specs.Characters as rules;
 ghost use Rattle.doc_rules.specs.Links.{linked};
 ghost use Rattle.doc_rules.specs.Emphasis.{emphasis_of};
 ghost use Rattle.doc_refs.specs.Targets.{target_shown};
-ghost use Rattle.doc_marks.specs.Slices.{AreSlices, AreCut};
-ghost use Rattle.doc_marks.specs.Views.{inlines_in, inlines_shown, span_shown};
-ghost use Rattle.doc_marks.specs.declared.mark.Mark.TheVariants.{Text};
-ghost use Rattle.doc_emphasis.specs.Views.{items_of, runs_in};
-ghost use Rattle.doc_emphasis.specs.Texts.{IsRunText, AddsEach};
-ghost use Rattle.doc_inlines.specs.Drafts.{IsDraft, made_of, AreOpen, IsRunOf, codes_of_bracket, AddsBracket, IsPopped, last_of};
+ghost use Rattle.doc_inlines_marks.specs.Slices.{AreSlices, AreCut};
+ghost use Rattle.doc_inlines_marks.specs.Views.{inlines_in, inlines_shown, span_shown};
+ghost use Rattle.doc_inlines_marks.specs.declared.mark.Mark.TheVariants.{Text};
+ghost use Rattle.doc_inlines_emphasis.specs.Views.{items_of, runs_in};
+ghost use Rattle.doc_inlines_emphasis.specs.Texts.{IsRunText, AddsEach};
+ghost use Rattle.doc_inlines.specs.DraftSteps.{IsDraft, made_of, AreOpen, IsRunOf, codes_of_bracket, AddsBracket, IsPopped, last_of};
 
 use crate::bracket::Bracket;
-use doc_emphasis::{Marks, Place};
 use doc_heap::{Heap, Vec};
-use doc_marks::mark::{Mark, Span};
+use doc_inlines_emphasis::{Marks, Place};
+use doc_inlines_marks::mark::{Mark, Span};
 use doc_page::failure::Memory;
 use doc_refs::Target;
 
@@ -156,7 +156,7 @@ impl<'t> Draft<'t> {
 }
 
 /// A link, or an image.
-#[tactic(auto, unfolding(doc_marks::specs::Views::span_shown))]
+#[tactic(auto, unfolding(doc_inlines_marks::specs::Views::span_shown))]
 fn span(image: bool, target: Target) -> Span
     ensures { span_shown result ≡ (if image then images.Image (target_shown target) else images.Link (target_shown target)) }
 {

@@ -5,27 +5,27 @@ ghost use Rattle.doc_rules.specs.Inlines.{literals, onto};
 ghost use Rattle.doc_rules.specs.Reading.{autolink};
 ghost use Rattle.doc_rules.specs.Reading as rules;
 ghost use Rattle.doc_rules.specs.Parsers.{many};
-ghost use Rattle.doc_rules.proofs.ParserLaws.{IsRest};
+ghost use Rattle.doc_rules.specs.Rests.{IsRest};
 ghost use Rattle.doc_refs.specs.Targets.{Targets};
-ghost use Rattle.doc_marks.specs.Views.{span_shown};
-ghost use Rattle.doc_emphasis.specs.Views.{items_of};
-ghost use Rattle.doc_enclosed.specs.Slices.{StandsBefore};
-ghost use Rattle.doc_enclosed.specs.Found.{slice_of, enclosing_of};
-ghost use Rattle.doc_enclosed.specs.Reads.{enclosed_read};
-ghost use Rattle.doc_inlines.specs.Drafts.{IsDraft, made_of};
-ghost use Rattle.doc_inlines.specs.Readers.{IsReader, GoesOn, state_made};
-ghost use Rattle.doc_inlines.specs.Readers as readers;
-ghost use Rattle.doc_inlines.specs.Pieces.{AddsText, IsPiece};
+ghost use Rattle.doc_inlines_marks.specs.Views.{span_shown};
+ghost use Rattle.doc_inlines_emphasis.specs.Views.{items_of};
+ghost use Rattle.doc_inlines_enclosed.specs.Slices.{StandsBefore};
+ghost use Rattle.doc_inlines_enclosed.specs.FoundSteps.{slice_of, enclosing_of};
+ghost use Rattle.doc_inlines_enclosed.specs.Reads.{enclosed_read};
+ghost use Rattle.doc_inlines.specs.DraftSteps.{IsDraft, made_of};
+ghost use Rattle.doc_inlines.specs.ReaderSteps.{IsReader, GoesOn, state_made};
+ghost use Rattle.doc_inlines.specs.ReaderSteps as readers;
+ghost use Rattle.doc_inlines.specs.PieceSteps.{AddsText, IsPiece};
 
 use crate::draft::Draft;
 use crate::reader::Reader;
-use doc_enclosed::Enclosed;
 use doc_heap::{Heap, String};
+use doc_inlines_enclosed::Enclosed;
+use doc_inlines_marks::mark::{Mark, Span};
 use doc_lines::pushing::push_text;
 use doc_lines::scan::character::next_char;
 use doc_lines::scan::front::front;
 use doc_lines::scan::run::many;
-use doc_marks::mark::{Mark, Span};
 use doc_page::failure::Memory;
 use doc_page::text::Text;
 use doc_refs::Target;
@@ -169,7 +169,7 @@ fn is_uncut(c: char) -> bool
 }
 
 /// A link to this scheme with this address behind it.
-#[tactic(auto, unfolding(doc_marks::specs::Views::span_shown))]
+#[tactic(auto, unfolding(doc_inlines_marks::specs::Views::span_shown))]
 fn autolink_span(heap: Heap, scheme: &str, address: &str) -> Result<Span, Memory>
     ensures { IfOk result (λ span. span_shown span ≡ rules.autolink_span (chars scheme.now ++ chars address.now)) }
 {

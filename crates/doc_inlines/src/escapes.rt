@@ -3,17 +3,17 @@ ghost use Rattle.std.specs.Prelude.{◌≡◌, ◌∷◌, chars, IfOk, OnOk};
 ghost use Rattle.doc_rules.specs.Entities.{Table};
 ghost use Rattle.doc_refs.specs.Targets.{Targets};
 ghost use Rattle.doc_lines.specs.Entities.{characters};
-ghost use Rattle.doc_inlines.specs.Readers.{IsReader, GoesOn};
+ghost use Rattle.doc_inlines.specs.ReaderSteps.{IsReader, GoesOn};
 
 use crate::reader::Reader;
 use crate::runs::behind_run;
 use doc_heap::{Heap, String};
+use doc_inlines_marks::mark::Mark;
 use doc_lines::character_reference;
 use doc_lines::entities::Entities;
 use doc_lines::pushing::push_characters;
 use doc_lines::scan::character::next_char;
 use doc_lines::scan::front::front;
-use doc_marks::mark::Mark;
 use doc_page::failure::Memory;
 use doc_page::text::Text;
 

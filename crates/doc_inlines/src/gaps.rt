@@ -4,15 +4,15 @@ ghost use Rattle.doc_rules.specs.Parsers.{run_length};
 ghost use Rattle.doc_rules.specs.Entities.{Table};
 ghost use Rattle.doc_rules.specs.Inlines.{SoftBreak, HardBreak};
 ghost use Rattle.doc_refs.specs.Targets.{Targets};
-ghost use Rattle.doc_marks.specs.Slices.{slice_in, IsCut};
-ghost use Rattle.doc_marks.specs.Views.{inlines_in};
-ghost use Rattle.doc_inlines.specs.Readers.{IsReader, GoesOn};
+ghost use Rattle.doc_inlines_marks.specs.Slices.{slice_in, IsCut};
+ghost use Rattle.doc_inlines_marks.specs.Views.{inlines_in};
+ghost use Rattle.doc_inlines.specs.ReaderSteps.{IsReader, GoesOn};
 
 use crate::plain::behind_plain;
 use crate::reader::Reader;
 use crate::runs::behind_run;
+use doc_inlines_marks::mark::Mark;
 use doc_lines::scan::character::{is, next_char};
-use doc_marks::mark::Mark;
 use doc_page::failure::Memory;
 
 impl<'t> Reader<'t> {
@@ -55,7 +55,7 @@ fn begins_with_space(text: &str) -> bool
 }
 
 /// A line break.
-#[tactic(auto, unfolding(doc_marks::specs::Views::inlines_in, doc_marks::specs::Slices::slice_in))]
+#[tactic(auto, unfolding(doc_inlines_marks::specs::Views::inlines_in, doc_inlines_marks::specs::Slices::slice_in))]
 fn break_mark<'t>(hard: bool) -> Mark<'t>
     ensures shown { inlines_in result ≡ (if hard then HardBreak else SoftBreak) ∷ [] }
     ensures slice { slice_in result ≡ [] }

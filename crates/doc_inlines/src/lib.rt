@@ -7,8 +7,8 @@ ghost use Rattle.std.specs.Prelude.{◌≡◌, List, chars, IfOk};
 ghost use Rattle.doc_rules.specs.Definitions.{Definition};
 ghost use Rattle.doc_rules.specs.Reading.{inlines_of};
 ghost use Rattle.doc_refs.specs.Targets.{targets_of};
-ghost use Rattle.doc_marks.specs.Slices.{AreSlices, AreCut};
-ghost use Rattle.doc_marks.specs.Views.{inlines_shown};
+ghost use Rattle.doc_inlines_marks.specs.Slices.{AreSlices, AreCut};
+ghost use Rattle.doc_inlines_marks.specs.Views.{inlines_shown};
 
 mod bracket;
 mod brackets;
@@ -22,8 +22,8 @@ mod reader;
 mod runs;
 
 use doc_heap::{Heap, Vec};
+pub use doc_inlines_marks::mark::{Mark, Span};
 use doc_lines::entities::Entities;
-pub use doc_marks::mark::{Mark, Span};
 use doc_page::failure::Memory;
 use doc_refs::RefMap;
 pub use reader::Reader;

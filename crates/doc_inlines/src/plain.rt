@@ -8,13 +8,13 @@ ghost use Rattle.doc_refs.specs.Targets.{Targets};
 ghost use Rattle.doc_lines.specs.RestSteps.{IsCutBefore};
 ghost use Rattle.doc_inlines.specs.ReadingSteps.{is_plain, begins_something};
 ghost use Rattle.doc_inlines.specs.PlainSteps.{IsPlainEnd, IsPlainStop, IsWithoutSpaces, StandsInFront};
-ghost use Rattle.doc_inlines.specs.Readers.{IsReader, GoesOn, IsPlainRun, ReadsAs, is_uncut, state_made};
+ghost use Rattle.doc_inlines.specs.ReaderSteps.{IsReader, GoesOn, IsPlainRun, ReadsAs, is_uncut, state_made};
 
 use crate::reader::Reader;
+use doc_inlines_marks::mark::Mark;
 use doc_lines::scan::character::{is, last_char};
 use doc_lines::scan::front::front;
 use doc_lines::scan::until::until;
-use doc_marks::mark::Mark;
 use doc_page::failure::Memory;
 
 impl<'t> Reader<'t> {

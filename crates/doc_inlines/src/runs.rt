@@ -6,11 +6,11 @@ ghost use Rattle.doc_rules.specs.Emphasis.{run_between};
 ghost use Rattle.doc_rules.specs.Emphasis as rules;
 ghost use Rattle.doc_rules.specs.Entities.{Table};
 ghost use Rattle.doc_rules.specs.Inlines.{Delimiters};
-ghost use Rattle.doc_rules.proofs.ParserLaws.{IsRest};
+ghost use Rattle.doc_rules.specs.Rests.{IsRest};
 ghost use Rattle.doc_refs.specs.Targets.{Targets};
-ghost use Rattle.doc_emphasis.specs.Texts.{IsRunText};
-ghost use Rattle.doc_inlines.specs.Drafts.{IsRunOf};
-ghost use Rattle.doc_inlines.specs.Readers.{IsReader, GoesOn, state_made};
+ghost use Rattle.doc_inlines_emphasis.specs.Texts.{IsRunText};
+ghost use Rattle.doc_inlines.specs.DraftSteps.{IsRunOf};
+ghost use Rattle.doc_inlines.specs.ReaderSteps.{IsReader, GoesOn, state_made};
 
 use crate::classes::{is_punctuation, is_white};
 use crate::reader::Reader;

@@ -33,8 +33,10 @@ found_is None those e = absurd cc
 found_is (Some these) those e = ap Some ((bytes_eq-Decides these those).0 e)
 
 covered_choice : (b : Bool) (e : Entity) (more U : Table) (name those : Text) → b ≡ bytes_eq e.0 name → find_entity U e.0 ≡ Some e.1
-    → (find_entity more name ≡ Some those → find_entity U name ≡ Some those) → choice b e.1 (find_entity more name) ≡ Some those → find_entity U name ≡ Some those
-covered_choice true e more U name those is here next found = ap (find_entity U) (sym ((bytes_eq-Decides e.0 name).0 (sym is))) ∙ here ∙ found
+    → (find_entity more name ≡ Some those → find_entity U name ≡ Some those) → choice b e.1 (find_entity more name) ≡ Some those
+    → find_entity U name ≡ Some those
+covered_choice true e more U name those is here next found = ap (find_entity U) (sym ((bytes_eq-Decides e.0 name).0 (sym is))) ∙ here
+    ∙ found
 covered_choice false e more U name those is here next found = next found
 
 covered : (T U : Table) → covers T U ≡ true → (name those : Text) → find_entity T name ≡ Some those → find_entity U name ≡ Some those
@@ -42,15 +44,18 @@ unfolding covers
 covered [] U all name those found = let none = sym (find_none name) ∙ found in absurd cc
 covered (e ∷ more) U all name those found =
     let parts = and_parts (is_found (find_entity U e.0) e.1) (covers more U) all in
-    covered_choice (bytes_eq e.0 name) e more U name those refl (found_is (find_entity U e.0) e.1 parts.0) (covered more U parts.1 name those) (sym (find_cons e more name) ∙ found)
+    covered_choice (bytes_eq e.0 name) e more U name those refl (found_is (find_entity U e.0) e.1 parts.0)
+    (covered more U parts.1 name those) (sym (find_cons e more name) ∙ found)
 
-same_of : (o p : Option Text) → ((those : Text) → o ≡ Some those → p ≡ Some those) → ((those : Text) → p ≡ Some those → o ≡ Some those) → o ≡ p
+same_of : (o p : Option Text) → ((those : Text) → o ≡ Some those → p ≡ Some those) → ((those : Text) → p ≡ Some those → o ≡ Some those)
+    → o ≡ p
 same_of None None to from = refl
 same_of None (Some those) to from = from those refl
 same_of (Some those) p to from = sym (to those refl)
 
 same_names : (T U : Table) → covers T U ≡ true → covers U T ≡ true → (name : Text) → find_entity T name ≡ find_entity U name
-same_names T U to from name = same_of (find_entity T name) (find_entity U name) (λ those. covered T U to name those) (λ those. covered U T from name those)
+same_names T U to from name = same_of (find_entity T name) (find_entity U name) (λ those. covered T U to name those)
+    (λ those. covered U T from name those)
 
 -- ---- the rows
 
@@ -81,7 +86,8 @@ unfolding built_in
 built_in_ascii = refl
 
 pub ascii_append : (T U : Table) → has_ascii_names T ≡ true → has_ascii_names U ≡ true → has_ascii_names (T ++ U) ≡ true
-ascii_append T U t u = list_all-append (λ (entity : Entity). list_all (λ b. nat_lt b 128) entity.0) T U ∙ ap (λ (b : Bool). b && has_ascii_names U) t ∙ u
+ascii_append T U t u = list_all-append (λ (entity : Entity). list_all (λ b. nat_lt b 128) entity.0) T U
+    ∙ ap (λ (b : Bool). b && has_ascii_names U) t ∙ u
 
 from_all : (xs : Text) → list_all (λ b. nat_lt b 128) xs ≡ true → IsAscii xs
 from_all [] h = IsAscii-nil
@@ -93,8 +99,10 @@ from_all (b ∷ xs) h =
 -- such a name is the characters of a text where it is its bytes
 same_test : (xs bs : Text) → IsAscii xs → IsUtf8 bs → bytes_eq xs (chars bs) ≡ bytes_eq xs bs
 same_test xs bs ascii utf8 =
-    let to : bytes_eq xs (chars bs) ≡ true → xs ≡ bs = λ e. sym (encodes-IsAscii xs ascii) ∙ ap encode_utf8_all ((bytes_eq-Decides xs (chars bs)).0 e) ∙ encodes-chars bs utf8 in
-    let from : xs ≡ bs → bytes_eq xs (chars bs) ≡ true = λ e. (bytes_eq-Decides xs (chars bs)).1 (sym (chars-IsAscii xs ascii) ∙ ap chars e) in
+    let to : bytes_eq xs (chars bs) ≡ true → xs ≡ bs = λ e. sym (encodes-IsAscii xs ascii)
+    ∙ ap encode_utf8_all ((bytes_eq-Decides xs (chars bs)).0 e) ∙ encodes-chars bs utf8 in
+    let from : xs ≡ bs → bytes_eq xs (chars bs) ≡ true = λ e. (bytes_eq-Decides xs (chars bs)).1 (sym (chars-IsAscii xs ascii)
+    ∙ ap chars e) in
     one_answer {P = xs ≡ bs} (bytes_eq xs (chars bs)) (bytes_eq xs bs) (to, from) (bytes_eq-Decides xs bs)
 
 pub find_chars : (T : Table) (bs : Text) → has_ascii_names T ≡ true → IsUtf8 bs → find_entity T (chars bs) ≡ find_entity T bs
@@ -107,5 +115,7 @@ find_chars (e ∷ more) bs ascii utf8 =
     ∙ sym (find_cons e more bs)
 
 -- a look-up by bytes in the built-in entities and added ones is one by characters in the table that they are
-pub find_is : (added table : Table) (bs : Text) → built_in ++ added ≡ table → has_ascii_names added ≡ true → IsUtf8 bs → find_entity (built_in ++ added) bs ≡ find_entity table (chars bs)
-find_is added table bs view ascii utf8 = sym (find_chars (built_in ++ added) bs (ascii_append built_in added built_in_ascii ascii) utf8) ∙ ap (λ t. find_entity t (chars bs)) view
+pub find_is : (added table : Table) (bs : Text) → built_in ++ added ≡ table → has_ascii_names added ≡ true → IsUtf8 bs
+    → find_entity (built_in ++ added) bs ≡ find_entity table (chars bs)
+find_is added table bs view ascii utf8 = sym (find_chars (built_in ++ added) bs (ascii_append built_in added built_in_ascii ascii) utf8)
+    ∙ ap (λ t. find_entity t (chars bs)) view

@@ -1,5 +1,35 @@
 -- A search over the bytes of a text for ASCII characters is one over its characters.
-use Rattle.std.proofs.Common.{◌≡◌, ℕ, zero, suc, ◌+◌, ◌<◌, ◌≤◌, not, ◌&&◌, Bool, true, false, List, [], ◌∷◌, ◌++◌, length, get_or, take, drop, Some, chars, refl, sym, ap, ◌∙◌, subst, arith, append-nil}
+use Rattle.std.proofs.Common.{
+  ◌≡◌,
+  ℕ,
+  zero,
+  suc,
+  ◌+◌,
+  ◌<◌,
+  ◌≤◌,
+  not,
+  ◌&&◌,
+  Bool,
+  true,
+  false,
+  List,
+  [],
+  ◌∷◌,
+  ◌++◌,
+  length,
+  get_or,
+  take,
+  drop,
+  Some,
+  chars,
+  refl,
+  sym,
+  ap,
+  ◌∙◌,
+  subst,
+  arith,
+  append-nil,
+}
 use Rattle.std.specs.List.{list_all}
 use Rattle.std.specs.Str.{IsUtf8, IsCharBoundary, IsAscii, encode_utf8_all}
 use Rattle.std.proofs.lemmas.Bool.{both_ways}
@@ -7,9 +37,20 @@ use Rattle.std.proofs.lemmas.List.{get_or-take, length-take, take-append-drop, d
 use Rattle.std.proofs.lemmas.Grind.{get_or_default_zero}
 use Rattle.std.proofs.lemmas.List.Folds.{list_all-append, list_all_at}
 use Rattle.std.proofs.lemmas.List.Sums.{list_all-from_AllPass}
-use Rattle.std.proofs.lemmas.Str.{encode_ascii, encodes-append, encodes-IsAscii, encodes-chars, chars-append, chars-nil, chars_past_char, IsUtf8-take, IsUtf8-drop, IsCharBoundary-before_ascii}
+use Rattle.std.proofs.lemmas.Str.{
+  encode_ascii,
+  encodes-append,
+  encodes-IsAscii,
+  encodes-chars,
+  chars-append,
+  chars-nil,
+  chars_past_char,
+  IsUtf8-take,
+  IsUtf8-drop,
+  IsCharBoundary-before_ascii,
+}
 use Rattle.doc_rules.specs.Characters.{Text}
-use Rattle.doc_rules.proofs.ParserLaws.{IsRest}
+use Rattle.doc_rules.specs.Rests.{IsRest}
 use Rattle.doc_lines.specs.RestSteps.{IsAsciiClass, IsCutBefore, begins_in}
 
 both_hold : (a b : Bool) → (a && b) ≡ true → (a ≡ true) × (b ≡ true)
@@ -21,7 +62,8 @@ one_is_ascii c h zero = h
 one_is_ascii c h (suc i) = omega arith
 
 -- a character whose bytes are all outside a class of ASCII characters is outside it
-one_outside : (class : ℕ → Bool) → IsAsciiClass class → (c : ℕ) → list_all (λ b. not (class b)) (encode_utf8_all (c ∷ [])) ≡ true → not (class c) ≡ true
+one_outside : (class : ℕ → Bool) → IsAsciiClass class → (c : ℕ) → list_all (λ b. not (class b)) (encode_utf8_all (c ∷ [])) ≡ true
+    → not (class c) ≡ true
 one_outside class only c all =
     elim (class c) as (λ b. class c ≡ b → not b ≡ true) [
       | true ↦ λ e.
@@ -32,11 +74,13 @@ one_outside class only c all =
     ] refl
 
 -- characters whose bytes are all outside a class of ASCII characters are outside it
-pub outside : (class : ℕ → Bool) → IsAsciiClass class → (cs : Text) → list_all (λ b. not (class b)) (encode_utf8_all cs) ≡ true → list_all (λ c. not (class c)) cs ≡ true
+pub outside : (class : ℕ → Bool) → IsAsciiClass class → (cs : Text) → list_all (λ b. not (class b)) (encode_utf8_all cs) ≡ true
+    → list_all (λ c. not (class c)) cs ≡ true
 outside class only [] all = refl
 outside class only (c ∷ cs) all =
     let test : ℕ → Bool = λ b. not (class b) in
-    let parts = both_hold _ _ (sym (list_all-append test (encode_utf8_all (c ∷ [])) (encode_utf8_all cs)) ∙ ap (list_all test) (sym (encodes-append (c ∷ []) cs)) ∙ all) in
+    let parts = both_hold _ _ (sym (list_all-append test (encode_utf8_all (c ∷ [])) (encode_utf8_all cs))
+    ∙ ap (list_all test) (sym (encodes-append (c ∷ []) cs)) ∙ all) in
     rw (one_outside class only c parts.0) (outside class only cs parts.1)
 
 -- ---- a cut before a byte of the class
@@ -45,7 +89,8 @@ outside class only (c ∷ cs) all =
 abbrev pub IsMissedBefore : (ℕ → Bool) → List ℕ → ℕ → Type 0
 IsMissedBefore class bs n = (k : ℕ) → k < n → class (get_or bs k 0) ≡ false
 
-front_outside : (class : ℕ → Bool) (bs : List ℕ) (n : ℕ) → n ≤ length bs → IsMissedBefore class bs n → list_all (λ b. not (class b)) (take n bs) ≡ true
+front_outside : (class : ℕ → Bool) (bs : List ℕ) (n : ℕ) → n ≤ length bs → IsMissedBefore class bs n
+    → list_all (λ b. not (class b)) (take n bs) ≡ true
 front_outside class bs n within missed =
     list_all-from_AllPass (λ b. not (class b)) (take n bs) (λ k d less.
     let fits : k < n = omega (arith, length-take n bs) in
@@ -55,20 +100,24 @@ front_outside class bs n within missed =
 chars_cut : (bs : List ℕ) (n : ℕ) → IsUtf8 bs → IsCharBoundary bs n → chars bs ≡ chars (take n bs) ++ chars (drop n bs)
 chars_cut bs n utf8 at = ap chars (sym (take-append-drop n bs)) ∙ chars-append (take n bs) (drop n bs) (IsUtf8-take bs n utf8 at)
 
-chars_outside : (class : ℕ → Bool) → IsAsciiClass class → (bs : List ℕ) (n : ℕ) → IsUtf8 bs → IsCharBoundary bs n → n ≤ length bs → IsMissedBefore class bs n →
+chars_outside : (class : ℕ → Bool) → IsAsciiClass class → (bs : List ℕ) (n : ℕ) → IsUtf8 bs → IsCharBoundary bs n → n ≤ length bs
+    → IsMissedBefore class bs n →
     list_all (λ c. not (class c)) (chars (take n bs)) ≡ true
 chars_outside class only bs n utf8 at within missed =
-    outside class only (chars (take n bs)) (ap (list_all (λ b. not (class b))) (encodes-chars (take n bs) (IsUtf8-take bs n utf8 at)) ∙ front_outside class bs n within missed)
+    outside class only (chars (take n bs)) (ap (list_all (λ b. not (class b))) (encodes-chars (take n bs) (IsUtf8-take bs n utf8 at))
+    ∙ front_outside class bs n within missed)
 
 -- the search stopped at a byte of the class
-pub stops_at : (class : ℕ → Bool) → IsAsciiClass class → (bs rest : List ℕ) (n : ℕ) → IsUtf8 bs → n < length bs → IsMissedBefore class bs n → class (get_or bs n 0) ≡ true → rest ≡ drop n bs →
+pub stops_at : (class : ℕ → Bool) → IsAsciiClass class → (bs rest : List ℕ) (n : ℕ) → IsUtf8 bs → n < length bs → IsMissedBefore class bs n
+    → class (get_or bs n 0) ≡ true → rest ≡ drop n bs →
     IsCutBefore class (chars bs) (chars rest)
 stops_at class only bs rest n utf8 within missed here e =
     let at : IsCharBoundary bs n = IsCharBoundary-before_ascii bs n within (only _ here) in
     let b : ℕ = get_or bs n 0 in
     let bytes : rest ≡ b ∷ drop (n + 1) bs = e ∙ drop_more bs n 0 within in
     let utf8_rest : IsUtf8 rest = subst IsUtf8 (sym e) (IsUtf8-drop bs n utf8 at) in
-    let spelt : chars rest ≡ b ∷ chars (drop (n + 1) bs) = chars_past_char rest (drop (n + 1) bs) b utf8_rest (bytes ∙ ap (λ f. f ++ drop (n + 1) bs) (sym (encode_ascii b (only b here)))) in
+    let spelt : chars rest ≡ b ∷ chars (drop (n + 1) bs) = chars_past_char rest (drop (n + 1) bs) b utf8_rest (bytes
+    ∙ ap (λ f. f ++ drop (n + 1) bs) (sym (encode_ascii b (only b here)))) in
     record {
       front = chars (take n bs);
       split = chars_cut bs n utf8 at ∙ ap (λ (r : List ℕ). chars (take n bs) ++ chars r) (sym e);
@@ -77,10 +126,12 @@ stops_at class only bs rest n utf8 within missed here e =
     }
 
 -- the search met no byte of the class
-pub stops_nowhere : (class : ℕ → Bool) → IsAsciiClass class → (bs : List ℕ) (n : ℕ) → IsUtf8 bs → length bs ≤ n → IsMissedBefore class bs n → IsCutBefore class (chars bs) (chars [])
+pub stops_nowhere : (class : ℕ → Bool) → IsAsciiClass class → (bs : List ℕ) (n : ℕ) → IsUtf8 bs → length bs ≤ n → IsMissedBefore class bs n
+    → IsCutBefore class (chars bs) (chars [])
 stops_nowhere class only bs n utf8 within missed =
     let test : ℕ → Bool = λ b. not (class b) in
-    let bytes : list_all test bs ≡ true = ap (list_all test) (sym (take_all (length bs) bs (omega arith))) ∙ front_outside class bs (length bs) (omega arith) (λ k less. missed k (omega arith)) in
+    let bytes : list_all test bs ≡ true = ap (list_all test) (sym (take_all (length bs) bs (omega arith)))
+    ∙ front_outside class bs (length bs) (omega arith) (λ k less. missed k (omega arith)) in
     record {
       front = chars bs;
       split = sym (append-nil (chars bs)) ∙ ap (λ r. chars bs ++ r) (sym chars-nil);
@@ -88,6 +139,11 @@ stops_nowhere class only bs n utf8 within missed =
       stop = ap (begins_in class) chars-nil;
     }
 
-pub rest_at : (bs rest : List ℕ) (n : ℕ) → IsUtf8 bs → n < length bs → get_or bs n 0 < 128 → rest ≡ drop n bs → IsRest (chars rest) (chars bs)
+pub rest_at : (bs rest : List ℕ) (n : ℕ) → IsUtf8 bs → n < length bs → get_or bs n 0 < 128 → rest ≡ drop n bs
+    → IsRest (chars rest) (chars bs)
 rest_at bs rest n utf8 within ascii e =
-    record { front = chars (take n bs); split = chars_cut bs n utf8 (IsCharBoundary-before_ascii bs n within ascii) ∙ ap (λ r. chars (take n bs) ++ chars r) (sym e) }
+    record {
+      front = chars (take n bs);
+      split = chars_cut bs n utf8 (IsCharBoundary-before_ascii bs n within ascii)
+          ∙ ap (λ r. chars (take n bs) ++ chars r) (sym e);
+    }

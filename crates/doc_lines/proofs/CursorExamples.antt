@@ -23,7 +23,8 @@ rest_of_a_tab : first (skipped 1 (after_next (start (codes ">\t\tfoo")))).rest �
 unfolding skipped_in
 rest_of_a_tab = refl
 
-behind_the_rest : after_next (skipped 1 (after_next (start (codes ">\t\tfoo")))) ≡ record { place = 2; column = 4; in_tab = false; rest = codes "\tfoo" }
+behind_the_rest : after_next (skipped 1 (after_next (start (codes ">\t\tfoo"))))
+    ≡ record { place = 2; column = 4; in_tab = false; rest = codes "\tfoo" }
 unfolding skipped_in
 behind_the_rest = refl
 

@@ -1,5 +1,41 @@
 -- What stands between the marks of a number's reference is digits, and the number that they write is small.
-use Rattle.std.proofs.Common.{◌≡◌, ℕ, zero, suc, ◌+◌, ◌*◌, ◌-◌, ◌^◌, ◌<◌, ◌≤◌, Bool, true, false, ◌==◌, List, [], ◌∷◌, ◌++◌, take, drop, length, refl, ap, sym, ◌∙◌, subst, Option, Some, None, arith, append_assoc, length-append, chars, cond, ne_eqb}
+use Rattle.std.proofs.Common.{
+  ◌≡◌,
+  ℕ,
+  zero,
+  suc,
+  ◌+◌,
+  ◌*◌,
+  ◌-◌,
+  ◌^◌,
+  ◌<◌,
+  ◌≤◌,
+  Bool,
+  true,
+  false,
+  ◌==◌,
+  List,
+  [],
+  ◌∷◌,
+  ◌++◌,
+  take,
+  drop,
+  length,
+  refl,
+  ap,
+  sym,
+  ◌∙◌,
+  subst,
+  Option,
+  Some,
+  None,
+  arith,
+  append_assoc,
+  length-append,
+  chars,
+  cond,
+  ne_eqb,
+}
 use Rattle.std.specs.Prelude.{codes, ◌&&◌, Result, Ok, Err, fold}
 use Rattle.std.specs.List.{list_all}
 use Rattle.std.specs.Char.{digit_value, is_ascii_digit, is_ascii_hexdigit}
@@ -13,7 +49,7 @@ use Rattle.std.proofs.lemmas.Str.{encodes-chars, encodes-IsAscii}
 use Rattle.doc_rules.specs.Characters.{Text, one_of}
 use Rattle.doc_rules.specs.Parsers.{one, is, ◌then◌, at_most, before, inside}
 use Rattle.doc_rules.specs.Escapes.{number, decimal_reference, hexadecimal_reference}
-use Rattle.doc_rules.proofs.ParserLaws.{IsRest}
+use Rattle.doc_rules.specs.Rests.{IsRest}
 use Rattle.doc_lines.specs.MeaningSteps.{IsDigits}
 use Rattle.doc_lines.proofs.Slices.{front_is_before}
 use Rattle.doc_lines.proofs.Steps.{then_is}
@@ -55,7 +91,8 @@ pub record Run (class : ℕ → Bool) (most : ℕ) (text rest : Text) : Type 0 w
 no_run : (class : ℕ → Bool) (most : ℕ) (text rest : Text) → Some rest ≡ Some text → Run class most text rest
 no_run class most text rest e = let same : text ≡ rest = cc in record { run = []; split = same; good = refl; few = omega arith }
 
-longer_run : (class : ℕ → Bool) (most c : ℕ) (text rest : Text) → class c ≡ true → Run class most text rest → Run class (suc most) (c ∷ text) rest
+longer_run : (class : ℕ → Bool) (most c : ℕ) (text rest : Text) → class c ≡ true → Run class most text rest
+    → Run class (suc most) (c ∷ text) rest
 longer_run class most c text rest e r = record {
   run = c ∷ r.run;
   split = ap (λ more. c ∷ more) r.split;
@@ -72,7 +109,8 @@ at_most_gives zero class text rest e = no_run class zero text rest e
 at_most_gives (suc n) class [] rest e = no_run class (suc n) [] rest e
 at_most_gives (suc n) class (c ∷ text) rest e = at (at_most_gives n class text rest) (class c) refl e
   where
-    at : (Some rest ≡ at_most n (one class) text → Run class n text rest) → (b : Bool) → class c ≡ b → Some rest ≡ next class n (c ∷ text) (tested b text) → Run class (suc n) (c ∷ text) rest
+    at : (Some rest ≡ at_most n (one class) text → Run class n text rest) → (b : Bool) → class c ≡ b
+        → Some rest ≡ next class n (c ∷ text) (tested b text) → Run class (suc n) (c ∷ text) rest
     at go true f g = longer_run class n c text rest f (go g)
     at go false f g = no_run class (suc n) (c ∷ text) rest g
 
@@ -82,9 +120,11 @@ pub digits_before : (class : ℕ → Bool) (more most : ℕ) (text second end fr
 digits_before class more most text second end front l e f g =
     let t : Taken class text second = one_gives class text second e in
     let r : Run class more second end = at_most_gives more class second end f in
-    let same : front ≡ t.char ∷ r.run = append_cancel_right front (t.char ∷ r.run) end (sym g ∙ (t.split ∙ ap (λ rest. t.char ∷ rest) r.split)) in
+    let same : front ≡ t.char ∷ r.run = append_cancel_right front (t.char ∷ r.run) end (sym g
+    ∙ (t.split ∙ ap (λ rest. t.char ∷ rest) r.split)) in
     let longest : length r.run ≤ more = r.few in
-    subst (IsDigits class most) (sym same) (record { some = omega arith; few = omega arith; all = ap (λ b. b && list_all class r.run) t.good ∙ r.good })
+    subst (IsDigits class most) (sym same)
+    (record { some = omega arith; few = omega arith; all = ap (λ b. b && list_all class r.run) t.good ∙ r.good })
 
 -- what stands between a first and a last character
 pub inside_is : (a b : ℕ) (digits rest text : Text) → text ≡ a ∷ (digits ++ b ∷ rest) → digits ≡ inside (before rest text)
@@ -116,9 +156,14 @@ digits_are_ascii class h [] e i = omega arith
 digits_are_ascii class h (c ∷ more) e zero = (h c (both (class c) (list_all class more) e).0).1
 digits_are_ascii class h (c ∷ more) e (suc i) = digits_are_ascii class h more (both (class c) (list_all class more) e).1 i
 
-all_digits : (class : ℕ → Bool) (radix : ℕ) → ((c : ℕ) → class c ≡ true → digit_value c < radix) → (digits : Text) → list_all class digits ≡ true → AllDigits radix digits
+all_digits : (class : ℕ → Bool) (radix : ℕ) → ((c : ℕ) → class c ≡ true → digit_value c < radix) → (digits : Text)
+    → list_all class digits ≡ true → AllDigits radix digits
 all_digits class radix h [] e = tt
-all_digits class radix h (c ∷ more) e = (h c (both (class c) (list_all class more) e).0, all_digits class radix h more (both (class c) (list_all class more) e).1)
+all_digits class radix h (c ∷ more) e = (
+  h c (both (class c) (list_all class more) e).0,
+  all_digits class radix h more
+      (both (class c) (list_all class more) e).1,
+)
 
 no_plus : (class : ℕ → Bool) → IsAsciiClass class → (digits : Text) → list_all class digits ≡ true → without_leading_plus digits ≡ digits
 no_plus class h [] e = refl
@@ -140,43 +185,54 @@ largest_is_larger (suc k) n m h = largest_is_larger k n (m * 16 + 15) (omega ari
 decimal_step : (n m d : ℕ) → n ≤ m → d < 10 → n * 10 + d ≤ m * 16 + 15
 decimal_step n m d h l = omega arith
 
-decimal_is_small : (digits : Text) (k n m : ℕ) → AllDigits 10 digits → length digits ≤ k → n ≤ m → digits_value_after 10 n digits ≤ largest k m
+decimal_is_small : (digits : Text) (k n m : ℕ) → AllDigits 10 digits → length digits ≤ k → n ≤ m
+    → digits_value_after 10 n digits ≤ largest k m
 decimal_is_small [] k n m a l h = largest_is_larger k n m h
 decimal_is_small (c ∷ more) zero n m a l h = absurd (omega arith)
-decimal_is_small (c ∷ more) (suc k) n m a l h = decimal_is_small more k (n * 10 + digit_value c) (m * 16 + 15) a.1 (omega arith) (decimal_step n m (digit_value c) h a.0)
+decimal_is_small (c ∷ more) (suc k) n m a l h = decimal_is_small more k (n * 10 + digit_value c) (m * 16 + 15) a.1 (omega arith)
+    (decimal_step n m (digit_value c) h a.0)
 
 hexadecimal_step : (n m d : ℕ) → n ≤ m → d < 16 → n * 16 + d ≤ m * 16 + 15
 hexadecimal_step n m d h l = omega arith
 
-hexadecimal_is_small : (digits : Text) (k n m : ℕ) → AllDigits 16 digits → length digits ≤ k → n ≤ m → digits_value_after 16 n digits ≤ largest k m
+hexadecimal_is_small : (digits : Text) (k n m : ℕ) → AllDigits 16 digits → length digits ≤ k → n ≤ m
+    → digits_value_after 16 n digits ≤ largest k m
 hexadecimal_is_small [] k n m a l h = largest_is_larger k n m h
 hexadecimal_is_small (c ∷ more) zero n m a l h = absurd (omega arith)
-hexadecimal_is_small (c ∷ more) (suc k) n m a l h = hexadecimal_is_small more k (n * 16 + digit_value c) (m * 16 + 15) a.1 (omega arith) (hexadecimal_step n m (digit_value c) h a.0)
+hexadecimal_is_small (c ∷ more) (suc k) n m a l h = hexadecimal_is_small more k (n * 16 + digit_value c) (m * 16 + 15) a.1 (omega arith)
+    (hexadecimal_step n m (digit_value c) h a.0)
 
 same_number : (radix n : ℕ) (digits : Text) → digits_value_after radix n digits ≡ fold (λ m c. m * radix + digit_value c) n digits
 same_number radix n [] = refl
 same_number radix n (c ∷ more) = same_number radix (n * radix + digit_value c) more
 
-read_digits : {E : Type 0} (radix : ℕ) (digits : Text) (r : Result ℕ E) → without_leading_plus digits ≡ digits → IsNumeral radix digits → digits_value radix digits < 2 ^ 32 →
+read_digits : {E : Type 0} (radix : ℕ) (digits : Text) (r : Result ℕ E) → without_leading_plus digits ≡ digits → IsNumeral radix digits
+    → digits_value radix digits < 2 ^ 32 →
     ParsesUnsigned 32 radix digits r → r ≡ Ok (number radix digits)
 unfolding number
 read_digits radix digits (Ok n) e a l p = ap Ok (p.1 ∙ (ap (digits_value radix) e ∙ same_number radix 0 digits))
-read_digits radix digits (Err x) e a l p = absurd (p (subst (IsNumeral radix) (sym e) a, subst (λ (ds : Text). digits_value radix ds < 2 ^ 32) (sym e) l))
+read_digits radix digits (Err x) e a l p = absurd
+    (p (subst (IsNumeral radix) (sym e) a, subst (λ (ds : Text). digits_value radix ds < 2 ^ 32) (sym e) l))
 
-abbrev bytes_are_digits : (class : ℕ → Bool) → IsAsciiClass class → (bytes : List ℕ) → IsUtf8 bytes → list_all class (chars bytes) ≡ true → bytes ≡ chars bytes
+abbrev bytes_are_digits : (class : ℕ → Bool) → IsAsciiClass class → (bytes : List ℕ) → IsUtf8 bytes → list_all class (chars bytes) ≡ true
+    → bytes ≡ chars bytes
 bytes_are_digits class h bytes u e = sym (encodes-chars bytes u) ∙ encodes-IsAscii (chars bytes) (digits_are_ascii class h (chars bytes) e)
 
-pub reads_decimal : {E : Type 0} (bytes : List ℕ) (r : Result ℕ E) → IsUtf8 bytes → IsDigits is_ascii_digit 7 (chars bytes) → ParsesUnsigned 32 10 bytes r → r ≡ Ok (number 10 (chars bytes))
+pub reads_decimal : {E : Type 0} (bytes : List ℕ) (r : Result ℕ E) → IsUtf8 bytes → IsDigits is_ascii_digit 7 (chars bytes)
+    → ParsesUnsigned 32 10 bytes r → r ≡ Ok (number 10 (chars bytes))
 reads_decimal {E} bytes r u d p =
-    let small : IsAsciiClass is_ascii_digit = λ c e. let s : (47 < c) × (c < 58) × (digit_value c < 10) = digit_is_small c e in (s.0, omega arith) in
+    let small : IsAsciiClass is_ascii_digit = λ c e. let s : (47 < c) × (c < 58)
+    × (digit_value c < 10) = digit_is_small c e in (s.0, omega arith) in
     let digits : AllDigits 10 (chars bytes) = all_digits is_ascii_digit 10 (λ c e. (digit_is_small c e).2) (chars bytes) d.all in
     let most : digits_value 10 (chars bytes) ≤ largest 7 0 = decimal_is_small (chars bytes) 7 0 0 digits d.few (omega arith) in
     read_digits 10 (chars bytes) r (no_plus is_ascii_digit small (chars bytes) d.all) (d.some, digits) (omega arith)
     (subst (λ (bs : List ℕ). ParsesUnsigned {E = E} 32 10 bs r) (bytes_are_digits is_ascii_digit small bytes u d.all) p)
 
-pub reads_hexadecimal : {E : Type 0} (bytes : List ℕ) (r : Result ℕ E) → IsUtf8 bytes → IsDigits is_ascii_hexdigit 6 (chars bytes) → ParsesUnsigned 32 16 bytes r → r ≡ Ok (number 16 (chars bytes))
+pub reads_hexadecimal : {E : Type 0} (bytes : List ℕ) (r : Result ℕ E) → IsUtf8 bytes → IsDigits is_ascii_hexdigit 6 (chars bytes)
+    → ParsesUnsigned 32 16 bytes r → r ≡ Ok (number 16 (chars bytes))
 reads_hexadecimal {E} bytes r u d p =
-    let small : IsAsciiClass is_ascii_hexdigit = λ c e. let s : (47 < c) × (c < 128) × (digit_value c < 16) = hexdigit_is_small c e in (s.0, s.1) in
+    let small : IsAsciiClass is_ascii_hexdigit = λ c e. let s : (47 < c) × (c < 128)
+    × (digit_value c < 16) = hexdigit_is_small c e in (s.0, s.1) in
     let digits : AllDigits 16 (chars bytes) = all_digits is_ascii_hexdigit 16 (λ c e. (hexdigit_is_small c e).2) (chars bytes) d.all in
     let most : digits_value 16 (chars bytes) ≤ largest 6 0 = hexadecimal_is_small (chars bytes) 6 0 0 digits d.few (omega arith) in
     read_digits 16 (chars bytes) r (no_plus is_ascii_hexdigit small (chars bytes) d.all) (d.some, digits) (omega arith)
@@ -184,37 +240,46 @@ reads_hexadecimal {E} bytes r u d p =
 
 -- ---- the texts that stand round the digits
 
-pub decimal_is : (text digits second end : Text) (out : Option Text) → Some digits ≡ is 35 text → Some second ≡ one is_ascii_digit digits → Some end ≡ at_most 6 (one is_ascii_digit) second →
+pub decimal_is : (text digits second end : Text) (out : Option Text) → Some digits ≡ is 35 text → Some second ≡ one is_ascii_digit digits
+    → Some end ≡ at_most 6 (one is_ascii_digit) second →
     out ≡ is 59 end → out ≡ decimal_reference text
 unfolding decimal_reference
 decimal_is text digits second end out e f g h =
     then_is (is 35 then one is_ascii_digit then at_most 6 (one is_ascii_digit)) (is 59) text end out
-    (then_is (is 35 then one is_ascii_digit) (at_most 6 (one is_ascii_digit)) text second (Some end) (then_is (is 35) (one is_ascii_digit) text digits (Some second) e f) g) h
+    (then_is (is 35 then one is_ascii_digit) (at_most 6 (one is_ascii_digit)) text second (Some end)
+    (then_is (is 35) (one is_ascii_digit) text digits (Some second) e f) g) h
 
-pub hexadecimal_is : (text mark digits second end : Text) (out : Option Text) → Some mark ≡ is 35 text → Some digits ≡ one (one_of (codes "xX")) mark → Some second ≡ one is_ascii_hexdigit digits →
+pub hexadecimal_is : (text mark digits second end : Text) (out : Option Text) → Some mark ≡ is 35 text
+    → Some digits ≡ one (one_of (codes "xX")) mark → Some second ≡ one is_ascii_hexdigit digits →
     Some end ≡ at_most 5 (one is_ascii_hexdigit) second → out ≡ is 59 end → out ≡ hexadecimal_reference text
 unfolding hexadecimal_reference
 hexadecimal_is text mark digits second end out d e f g h =
     then_is (is 35 then one (one_of (codes "xX")) then one is_ascii_hexdigit then at_most 5 (one is_ascii_hexdigit)) (is 59) text end out
     (then_is (is 35 then one (one_of (codes "xX")) then one is_ascii_hexdigit) (at_most 5 (one is_ascii_hexdigit)) text second (Some end)
-    (then_is (is 35 then one (one_of (codes "xX"))) (one is_ascii_hexdigit) text digits (Some second) (then_is (is 35) (one (one_of (codes "xX"))) text mark (Some digits) d e) f) g) h
+    (then_is (is 35 then one (one_of (codes "xX"))) (one is_ascii_hexdigit) text digits (Some second)
+    (then_is (is 35) (one (one_of (codes "xX"))) text mark (Some digits) d e) f) g) h
 
-pub number_is_inside : (a b : ℕ) (text digits end rest front : Text) → Some digits ≡ is a text → Some rest ≡ is b end → digits ≡ front ++ end → front ≡ inside (before rest text)
+pub number_is_inside : (a b : ℕ) (text digits end rest front : Text) → Some digits ≡ is a text → Some rest ≡ is b end
+    → digits ≡ front ++ end → front ≡ inside (before rest text)
 number_is_inside a b text digits end rest front e f g =
-    inside_is a b front rest text (is_gives a text digits e ∙ ap (λ more. a ∷ more) (g ∙ ap (λ more. front ++ more) (is_gives b end rest f)))
+    inside_is a b front rest text (is_gives a text digits e
+    ∙ ap (λ more. a ∷ more) (g ∙ ap (λ more. front ++ more) (is_gives b end rest f)))
 
-pub number_is_inside_mark : (a b : ℕ) (class : ℕ → Bool) (text mark digits end rest front : Text) → Some mark ≡ is a text → Some digits ≡ one class mark → Some rest ≡ is b end → digits ≡ front ++ end →
+pub number_is_inside_mark : (a b : ℕ) (class : ℕ → Bool) (text mark digits end rest front : Text) → Some mark ≡ is a text
+    → Some digits ≡ one class mark → Some rest ≡ is b end → digits ≡ front ++ end →
     front ≡ drop 1 (inside (before rest text))
 number_is_inside_mark a b class text mark digits end rest front e h f g =
     let t : Taken class mark digits = one_gives class mark digits h in
     ap (drop 1) (inside_is a b (t.char ∷ front) rest text
-    (is_gives a text mark e ∙ ap (λ more. a ∷ more) (t.split ∙ ap (λ more. t.char ∷ more) (g ∙ ap (λ more. front ++ more) (is_gives b end rest f)))))
+    (is_gives a text mark e ∙ ap (λ more. a ∷ more) (t.split
+    ∙ ap (λ more. t.char ∷ more) (g ∙ ap (λ more. front ++ more) (is_gives b end rest f)))))
 
 pub rest_behind : (c : ℕ) (text rest : Text) → Some rest ≡ is c text → IsRest rest text
 rest_behind c text rest e = record { front = c ∷ []; split = is_gives c text rest e }
 
 -- a name stands before its ';'
-pub name_is_taken : (text end rest front : Text) → text ≡ front ++ end → Some rest ≡ is 59 end → front ≡ take (length text - length rest - 1) text
+pub name_is_taken : (text end rest front : Text) → text ≡ front ++ end → Some rest ≡ is 59 end
+    → front ≡ take (length text - length rest - 1) text
 name_is_taken text end rest front e f =
     let all : text ≡ front ++ (59 ∷ rest) = e ∙ ap (λ more. front ++ more) (is_gives 59 end rest f) in
     let n : length text ≡ length (front ++ (59 ∷ rest)) = ap length all in

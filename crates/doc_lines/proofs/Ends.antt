@@ -9,10 +9,12 @@ use Rattle.doc_rules.specs.Parsers.{is_nothing}
 
 -- ---- the last character
 
-pub chars_before_last : (text front : List ℕ) (c : ℕ) → IsUtf8 text → IsUtf8 front → text ≡ front ++ encode_utf8 c → chars text ≡ chars front ++ (c ∷ [])
+pub chars_before_last : (text front : List ℕ) (c : ℕ) → IsUtf8 text → IsUtf8 front → text ≡ front ++ encode_utf8 c
+    → chars text ≡ chars front ++ (c ∷ [])
 chars_before_last text front c u v e =
     let whole : encode_utf8_all (chars front ++ (c ∷ [])) ≡ front ++ encode_utf8 c =
-    encodes-append (chars front) (c ∷ []) ∙ (ap (λ xs. xs ++ encode_utf8_all (c ∷ [])) (encodes-chars front v) ∙ ap (λ xs. front ++ xs) (append-nil (encode_utf8 c))) in
+    encodes-append (chars front) (c ∷ []) ∙ (ap (λ xs. xs ++ encode_utf8_all (c ∷ [])) (encodes-chars front v)
+    ∙ ap (λ xs. front ++ xs) (append-nil (encode_utf8 c))) in
     encodes_same (chars text) (chars front ++ (c ∷ [])) (encodes-chars text u ∙ (e ∙ sym whole))
 
 pub last_or_end : (d : ℕ) (front : Text) (c : ℕ) → last_or d (front ++ (c ∷ [])) ≡ c

@@ -4,11 +4,69 @@ use Rattle.std.proofs.Common.{◌≡◌, ℕ, Some, sym}
 use Rattle.std.specs.Prelude.{codes, not, ◌||◌}
 use Rattle.std.specs.Char.{is_ascii_alphabetic, is_ascii_control}
 use Rattle.doc_rules.specs.Characters.{Text, one_of}
-use Rattle.doc_rules.specs.Parsers.{one, is, many, some, at_most, repeated, word, word_in_any_case, through, ◌then◌, line_ending, spacing, some_spacing}
-use Rattle.doc_rules.specs.Tags.{tag_name, attribute_name, quoted_by, attribute_value, attribute, open_tag, closing_tag, html_tag, comment, instruction, declaration, cdata, raw_html}
+use Rattle.doc_rules.specs.Parsers.{
+  one,
+  is,
+  many,
+  some,
+  at_most,
+  repeated,
+  word,
+  word_in_any_case,
+  through,
+  ◌then◌,
+  line_ending,
+  spacing,
+  some_spacing,
+}
+use Rattle.doc_rules.specs.Tags.{
+  tag_name,
+  attribute_name,
+  quoted_by,
+  attribute_value,
+  attribute,
+  open_tag,
+  closing_tag,
+  html_tag,
+  comment,
+  instruction,
+  declaration,
+  cdata,
+  raw_html,
+}
 use Rattle.doc_rules.specs.Autolinks.{is_scheme_char, scheme, uri, is_local_char, domain_part, mail}
-use Rattle.doc_rules.proofs.ParserLaws.{Leaves, IsRest, one_leaves, many_leaves, some_leaves, at_most_leaves, repeated_leaves, word_leaves, word_in_any_case_leaves, through_leaves, then_leaves, line_ending_leaves, spacing_leaves, some_spacing_leaves}
-use Rattle.doc_rules.proofs.GrammarLaws.{is_leaves, tag_name_leaves, attribute_name_leaves, quoted_by_leaves, attribute_value_leaves, attribute_leaves, open_tag_leaves, closing_tag_leaves, html_tag_leaves, comment_leaves, instruction_leaves, declaration_leaves, cdata_leaves, raw_html_leaves}
+use Rattle.doc_rules.specs.Rests.{IsRest}
+use Rattle.doc_rules.proofs.ParserLaws.{
+  Leaves,
+  one_leaves,
+  many_leaves,
+  some_leaves,
+  at_most_leaves,
+  repeated_leaves,
+  word_leaves,
+  word_in_any_case_leaves,
+  through_leaves,
+  then_leaves,
+  line_ending_leaves,
+  spacing_leaves,
+  some_spacing_leaves,
+}
+use Rattle.doc_rules.proofs.GrammarLaws.{
+  is_leaves,
+  tag_name_leaves,
+  attribute_name_leaves,
+  quoted_by_leaves,
+  attribute_value_leaves,
+  attribute_leaves,
+  open_tag_leaves,
+  closing_tag_leaves,
+  html_tag_leaves,
+  comment_leaves,
+  instruction_leaves,
+  declaration_leaves,
+  cdata_leaves,
+  raw_html_leaves,
+}
 use Rattle.doc_lines.proofs.Takes.{domain_part_leaves}
 
 -- ---- autolinks
@@ -17,7 +75,8 @@ scheme_leaves : Leaves scheme
 unfolding scheme
 scheme_leaves =
     then_leaves (one is_ascii_alphabetic then one is_scheme_char) (at_most 30 (one is_scheme_char))
-    (then_leaves (one is_ascii_alphabetic) (one is_scheme_char) (one_leaves is_ascii_alphabetic) (one_leaves is_scheme_char)) (at_most_leaves 30 (one is_scheme_char) (one_leaves is_scheme_char))
+    (then_leaves (one is_ascii_alphabetic) (one is_scheme_char) (one_leaves is_ascii_alphabetic) (one_leaves is_scheme_char))
+    (at_most_leaves 30 (one is_scheme_char) (one_leaves is_scheme_char))
 
 uri_leaves : Leaves uri
 unfolding uri
@@ -29,7 +88,8 @@ mail_leaves : Leaves mail
 unfolding mail
 mail_leaves =
     then_leaves (some is_local_char then is 64 then domain_part) (repeated (is 46 then domain_part))
-    (then_leaves (some is_local_char then is 64) domain_part (then_leaves (some is_local_char) (is 64) (some_leaves is_local_char) (is_leaves 64)) domain_part_leaves)
+    (then_leaves (some is_local_char then is 64) domain_part
+    (then_leaves (some is_local_char) (is 64) (some_leaves is_local_char) (is_leaves 64)) domain_part_leaves)
     (repeated_leaves (is 46 then domain_part) (then_leaves (is 46) domain_part (is_leaves 46) domain_part_leaves))
 
 -- ---- as contracts say it
@@ -109,4 +169,30 @@ domain_part_rest text rest e = domain_part_leaves text rest (sym e)
 pub mail_rest : (text rest : Text) → Some rest ≡ mail text → IsRest rest text
 mail_rest text rest e = mail_leaves text rest (sym e)
 
-pub ruleset rests = (is_rest, word_rest, word_in_any_case_rest, through_rest, quoted_by_rest, attributes_rest, line_ending_rest, spacing_rest, some_spacing_rest, tag_name_rest, attribute_name_rest, attribute_value_rest, attribute_rest, open_tag_rest, closing_tag_rest, html_tag_rest, comment_rest, instruction_rest, declaration_rest, cdata_rest, raw_html_rest, scheme_rest, uri_rest, domain_part_rest, mail_rest)
+pub ruleset rests = (
+  is_rest,
+  word_rest,
+  word_in_any_case_rest,
+  through_rest,
+  quoted_by_rest,
+  attributes_rest,
+  line_ending_rest,
+  spacing_rest,
+  some_spacing_rest,
+  tag_name_rest,
+  attribute_name_rest,
+  attribute_value_rest,
+  attribute_rest,
+  open_tag_rest,
+  closing_tag_rest,
+  html_tag_rest,
+  comment_rest,
+  instruction_rest,
+  declaration_rest,
+  cdata_rest,
+  raw_html_rest,
+  scheme_rest,
+  uri_rest,
+  domain_part_rest,
+  mail_rest,
+)

@@ -1,5 +1,32 @@
 -- Numbers of lines and of hexadecimal digits; names are of ASCII characters.
-use Rattle.std.proofs.Common.{◌≡◌, ℕ, suc, ◌+◌, ◌*◌, ◌^◌, ◌<◌, ◌≤◌, Bool, true, false, List, [], ◌∷◌, length, take, get_or, refl, ap, sym, ◌∙◌, arith, add-one, Option, Some, None}
+use Rattle.std.proofs.Common.{
+  ◌≡◌,
+  ℕ,
+  suc,
+  ◌+◌,
+  ◌*◌,
+  ◌^◌,
+  ◌<◌,
+  ◌≤◌,
+  Bool,
+  true,
+  false,
+  List,
+  [],
+  ◌∷◌,
+  length,
+  take,
+  get_or,
+  refl,
+  ap,
+  sym,
+  ◌∙◌,
+  arith,
+  add-one,
+  Option,
+  Some,
+  None,
+}
 use Rattle.std.specs.Prelude.{if◌then◌else◌, nat_lt, nat_le, ◌&&◌, option_map}
 use Rattle.std.specs.Char.{digit_value, is_ascii_alphabetic, is_ascii_alphanumeric}
 use Rattle.std.specs.List.{onto_first, list_all}
@@ -14,9 +41,11 @@ use Rattle.doc_lines.specs.Tables.{is_name, at_space, fields_entity, fields_char
 use Rattle.doc_lines.proofs.TableLaws.{and_parts}
 
 -- one more digit
-pub number_more : (digits : List ℕ) (i n v : ℕ) → i < length digits → n ≡ number 16 (take i digits) → v ≡ digit_value (get_or digits i 0) → n * 16 + v ≡ number 16 (take (i + 1) digits)
+pub number_more : (digits : List ℕ) (i n v : ℕ) → i < length digits → n ≡ number 16 (take i digits) → v ≡ digit_value (get_or digits i 0)
+    → n * 16 + v ≡ number 16 (take (i + 1) digits)
 unfolding number
-number_more digits i n v h e d = ap (λ k. k * 16 + v) e ∙ ap (λ k. number 16 (take i digits) * 16 + k) d ∙ sym (fold_more (λ k c. k * 16 + digit_value c) 0 digits i 0 h)
+number_more digits i n v h e d = ap (λ k. k * 16 + v) e ∙ ap (λ k. number 16 (take i digits) * 16 + k) d
+    ∙ sym (fold_more (λ k c. k * 16 + digit_value c) 0 digits i 0 h)
 
 pub number_less : (i n v : ℕ) → n < 16 ^ i → v < 16 → n * 16 + v < 16 ^ (i + 1)
 number_less i n v h d =
@@ -60,14 +89,16 @@ name_ascii (b ∷ rest) h =
     let here : nat_lt b 128 ≡ true = grind (arith, nat_tests) in
     ap (λ (t : Bool). t && list_all (λ c. nat_lt c 128) rest) here ∙ ascii_rest rest letters.1
 
-named : (t : Bool) (name : Text) (those : Option Text) (entity : Entity) → t ≡ is_name name → (if t then option_map (λ text. (name, text)) those else None) ≡ Some entity → list_all (λ b. nat_lt b 128) entity.0 ≡ true
+named : (t : Bool) (name : Text) (those : Option Text) (entity : Entity) → t ≡ is_name name
+    → (if t then option_map (λ text. (name, text)) those else None) ≡ Some entity → list_all (λ b. nat_lt b 128) entity.0 ≡ true
 named true name None entity is e = absurd cc
 named true name (Some text) entity is e =
     let same : (name, text) ≡ entity = cc in
     ap (λ (x : Entity). list_all (λ b. nat_lt b 128) x.0) (sym same) ∙ name_ascii name (sym is)
 named false name those entity is e = absurd cc
 
-fields_ascii : (o : Option (List ℕ × List ℕ)) (entity : Entity) → fields_entity o ≡ Some entity → list_all (λ b. nat_lt b 128) entity.0 ≡ true
+fields_ascii : (o : Option (List ℕ × List ℕ)) (entity : Entity) → fields_entity o ≡ Some entity
+    → list_all (λ b. nat_lt b 128) entity.0 ≡ true
 fields_ascii None entity e = absurd cc
 fields_ascii (Some fields) entity e = named (is_name fields.0) fields.0 (fields_characters (at_space fields.1) fields.1) entity refl e
 

@@ -1,5 +1,30 @@
 -- A binary search in a table whose names rise.
-use Rattle.std.proofs.Common.{◌≡◌, ℕ, ◌+◌, ◌<◌, Bool, true, false, List, [], ◌∷◌, ◌++◌, length, take, drop, get_or, map, refl, ap, sym, ◌∙◌, subst, arith, Some, None}
+use Rattle.std.proofs.Common.{
+  ◌≡◌,
+  ℕ,
+  ◌+◌,
+  ◌<◌,
+  Bool,
+  true,
+  false,
+  List,
+  [],
+  ◌∷◌,
+  ◌++◌,
+  length,
+  take,
+  drop,
+  get_or,
+  map,
+  refl,
+  ap,
+  sym,
+  ◌∙◌,
+  subst,
+  arith,
+  Some,
+  None,
+}
 use Rattle.std.specs.Prelude.{◌&&◌, bytes_eq}
 use Rattle.std.specs.List.{list_all}
 use Rattle.std.specs.Cmp.Lexicographic.{slice_cmp}
@@ -67,15 +92,18 @@ comes_before e (x ∷ xs) f ys h = comes_on e.0 x.0 f.0 h.0 (comes_before x xs f
 miss : (e : Entity) (more : Table) (name : Text) → bytes_eq e.0 name ≡ false → find_entity (e ∷ more) name ≡ find_entity more name
 miss e more name h = find_cons e more name ∙ ap (λ (b : Bool). choice b e.1 (find_entity more name)) h
 
-find_behind : (xs : Table) (f : Entity) (ys : Table) (name : Text) → Rises (xs ++ f ∷ ys) → Comes f.0 name → find_entity (xs ++ f ∷ ys) name ≡ find_entity ys name
+find_behind : (xs : Table) (f : Entity) (ys : Table) (name : Text) → Rises (xs ++ f ∷ ys) → Comes f.0 name
+    → find_entity (xs ++ f ∷ ys) name ≡ find_entity ys name
 find_behind [] f ys name h less = miss f ys name (other_before f.0 name less)
 find_behind (x ∷ xs) f ys name h less =
     miss x (xs ++ f ∷ ys) name (other_before x.0 name (comes_on x.0 f.0 name (comes_before x xs f ys h) less))
     ∙ find_behind xs f ys name (rises_tail x (xs ++ f ∷ ys) h) less
 
-find_at : (xs : Table) (f : Entity) (ys : Table) (name : Text) → Rises (xs ++ f ∷ ys) → f.0 ≡ name → find_entity (xs ++ f ∷ ys) name ≡ Some f.1
+find_at : (xs : Table) (f : Entity) (ys : Table) (name : Text) → Rises (xs ++ f ∷ ys) → f.0 ≡ name
+    → find_entity (xs ++ f ∷ ys) name ≡ Some f.1
 find_at [] f ys name h same =
-    let here : bytes_eq f.0 name ≡ true = sym (is_eq-slice_cmp f.0 name) ∙ ap is_eq (ap (λ n. slice_cmp nat_cmp n name) same ∙ compare_itself name) in
+    let here : bytes_eq f.0 name ≡ true = sym (is_eq-slice_cmp f.0 name)
+    ∙ ap is_eq (ap (λ n. slice_cmp nat_cmp n name) same ∙ compare_itself name) in
     find_cons f ys name ∙ ap (λ (b : Bool). choice b f.1 (find_entity ys name)) here
 find_at (x ∷ xs) f ys name h same =
     miss x (xs ++ f ∷ ys) name (other_before x.0 name (ap (slice_cmp nat_cmp x.0) (sym same) ∙ comes_before x xs f ys h))
@@ -87,7 +115,8 @@ none_behind f (y ∷ ys) name h less =
     let there : Comes name y.0 = comes_on name f.0 y.0 less h.0 in
     miss y ys name (other_behind y.0 name there) ∙ none_behind y ys name h.1 there
 
-find_before : (xs : Table) (f : Entity) (ys : Table) (name : Text) → Rises (xs ++ f ∷ ys) → Comes name f.0 → find_entity (xs ++ f ∷ ys) name ≡ find_entity xs name
+find_before : (xs : Table) (f : Entity) (ys : Table) (name : Text) → Rises (xs ++ f ∷ ys) → Comes name f.0
+    → find_entity (xs ++ f ∷ ys) name ≡ find_entity xs name
 find_before [] f ys name h less = miss f ys name (other_behind f.0 name less) ∙ none_behind f ys name h less ∙ sym (find_none name)
 find_before (x ∷ xs) f ys name h less =
     find_cons x (xs ++ f ∷ ys) name
@@ -105,53 +134,71 @@ map_append f (x ∷ xs) ys = ap (λ t. f x ∷ t) (map_append f xs ys)
 
 -- the entities of rows, cut at one of them
 table_split : (names : List ℕ) (rows : List Row) (m : ℕ) (d : Row) → m < length rows →
-    map (row_entity names) rows ≡ map (row_entity names) (take m rows) ++ row_entity names (get_or rows m d) ∷ map (row_entity names) (drop (m + 1) rows)
-table_split names rows m d h = ap (map (row_entity names)) (rows_split rows m d h) ∙ map_append (row_entity names) (take m rows) (get_or rows m d ∷ drop (m + 1) rows)
+    map (row_entity names) rows ≡ map (row_entity names) (take m rows)
+    ++ row_entity names (get_or rows m d) ∷ map (row_entity names) (drop (m + 1) rows)
+table_split names rows m d h = ap (map (row_entity names)) (rows_split rows m d h)
+    ∙ map_append (row_entity names) (take m rows) (get_or rows m d ∷ drop (m + 1) rows)
 
 -- the parts of rows are in order where they are
-pub front_rises : (names : List ℕ) (rows : List Row) (m : ℕ) (d : Row) → m < length rows → Rises (map (row_entity names) rows) → Rises (map (row_entity names) (take m rows))
+pub front_rises : (names : List ℕ) (rows : List Row) (m : ℕ) (d : Row) → m < length rows → Rises (map (row_entity names) rows)
+    → Rises (map (row_entity names) (take m rows))
 front_rises names rows m d h rises = rises_front (map (row_entity names) (take m rows)) _ (subst Rises (table_split names rows m d h) rises)
 
-pub back_rises : (names : List ℕ) (rows : List Row) (m : ℕ) (d : Row) → m < length rows → Rises (map (row_entity names) rows) → Rises (map (row_entity names) (drop (m + 1) rows))
+pub back_rises : (names : List ℕ) (rows : List Row) (m : ℕ) (d : Row) → m < length rows → Rises (map (row_entity names) rows)
+    → Rises (map (row_entity names) (drop (m + 1) rows))
 back_rises names rows m d h rises =
     rises_tail (row_entity names (get_or rows m d)) (map (row_entity names) (drop (m + 1) rows))
-    (rises_back (map (row_entity names) (take m rows)) (row_entity names (get_or rows m d)) (map (row_entity names) (drop (m + 1) rows)) (subst Rises (table_split names rows m d h) rises))
+    (rises_back (map (row_entity names) (take m rows)) (row_entity names (get_or rows m d)) (map (row_entity names) (drop (m + 1) rows))
+    (subst Rises (table_split names rows m d h) rises))
 
 within_split : (names : List ℕ) (rows : List Row) (m : ℕ) (d : Row) → m < length rows → list_all (is_within names) rows ≡ true →
-    (list_all (is_within names) (take m rows) ≡ true) × (is_within names (get_or rows m d) ≡ true) × (list_all (is_within names) (drop (m + 1) rows) ≡ true)
+    (list_all (is_within names) (take m rows) ≡ true) × (is_within names (get_or rows m d) ≡ true)
+    × (list_all (is_within names) (drop (m + 1) rows) ≡ true)
 within_split names rows m d h all =
-    let parts = and_parts (list_all (is_within names) (take m rows)) _ (sym (list_all-append (is_within names) (take m rows) (get_or rows m d ∷ drop (m + 1) rows)) ∙ sym (ap (list_all (is_within names)) (rows_split rows m d h)) ∙ all) in
+    let parts = and_parts (list_all (is_within names) (take m rows)) _
+    (sym (list_all-append (is_within names) (take m rows) (get_or rows m d ∷ drop (m + 1) rows))
+    ∙ sym (ap (list_all (is_within names)) (rows_split rows m d h)) ∙ all) in
     let behind = and_parts (is_within names (get_or rows m d)) (list_all (is_within names) (drop (m + 1) rows)) parts.1 in
     (parts.0, behind.0, behind.1)
 
-pub front_within : (names : List ℕ) (rows : List Row) (m : ℕ) (d : Row) → m < length rows → list_all (is_within names) rows ≡ true → list_all (is_within names) (take m rows) ≡ true
+pub front_within : (names : List ℕ) (rows : List Row) (m : ℕ) (d : Row) → m < length rows → list_all (is_within names) rows ≡ true
+    → list_all (is_within names) (take m rows) ≡ true
 front_within names rows m d h all = (within_split names rows m d h all).0
 
-pub row_within : (names : List ℕ) (rows : List Row) (m : ℕ) (d : Row) → m < length rows → list_all (is_within names) rows ≡ true → is_within names (get_or rows m d) ≡ true
+pub row_within : (names : List ℕ) (rows : List Row) (m : ℕ) (d : Row) → m < length rows → list_all (is_within names) rows ≡ true
+    → is_within names (get_or rows m d) ≡ true
 row_within names rows m d h all = (within_split names rows m d h all).1
 
-pub back_within : (names : List ℕ) (rows : List Row) (m : ℕ) (d : Row) → m < length rows → list_all (is_within names) rows ≡ true → list_all (is_within names) (drop (m + 1) rows) ≡ true
+pub back_within : (names : List ℕ) (rows : List Row) (m : ℕ) (d : Row) → m < length rows → list_all (is_within names) rows ≡ true
+    → list_all (is_within names) (drop (m + 1) rows) ≡ true
 back_within names rows m d h all = (within_split names rows m d h all).2
 
-pub found_behind : (names : List ℕ) (rows : List Row) (m : ℕ) (d : Row) (name : Text) → m < length rows → Rises (map (row_entity names) rows) → slice_cmp nat_cmp (row_entity names (get_or rows m d)).0 name ≡ Less →
+pub found_behind : (names : List ℕ) (rows : List Row) (m : ℕ) (d : Row) (name : Text) → m < length rows
+    → Rises (map (row_entity names) rows) → slice_cmp nat_cmp (row_entity names (get_or rows m d)).0 name ≡ Less →
     find_entity (map (row_entity names) (drop (m + 1) rows)) name ≡ find_entity (map (row_entity names) rows) name
 found_behind names rows m d name h rises less =
     sym (ap (λ (t : Table). find_entity t name) (table_split names rows m d h)
-    ∙ find_behind (map (row_entity names) (take m rows)) (row_entity names (get_or rows m d)) (map (row_entity names) (drop (m + 1) rows)) name (subst Rises (table_split names rows m d h) rises) less)
+    ∙ find_behind (map (row_entity names) (take m rows)) (row_entity names (get_or rows m d)) (map (row_entity names) (drop (m + 1) rows))
+    name (subst Rises (table_split names rows m d h) rises) less)
 
-pub found_at : (names : List ℕ) (rows : List Row) (m : ℕ) (d : Row) (name : Text) → m < length rows → Rises (map (row_entity names) rows) → slice_cmp nat_cmp (row_entity names (get_or rows m d)).0 name ≡ Equal →
+pub found_at : (names : List ℕ) (rows : List Row) (m : ℕ) (d : Row) (name : Text) → m < length rows → Rises (map (row_entity names) rows)
+    → slice_cmp nat_cmp (row_entity names (get_or rows m d)).0 name ≡ Equal →
     Some (characters (get_or rows m d).2) ≡ find_entity (map (row_entity names) rows) name
 found_at names rows m d name h rises same =
     sym (ap (λ (t : Table). find_entity t name) (table_split names rows m d h)
-    ∙ find_at (map (row_entity names) (take m rows)) (row_entity names (get_or rows m d)) (map (row_entity names) (drop (m + 1) rows)) name (subst Rises (table_split names rows m d h) rises) (exact_bytes _ name same))
+    ∙ find_at (map (row_entity names) (take m rows)) (row_entity names (get_or rows m d)) (map (row_entity names) (drop (m + 1) rows)) name
+    (subst Rises (table_split names rows m d h) rises) (exact_bytes _ name same))
 
-pub found_before : (names : List ℕ) (rows : List Row) (m : ℕ) (d : Row) (name : Text) → m < length rows → Rises (map (row_entity names) rows) → slice_cmp nat_cmp (row_entity names (get_or rows m d)).0 name ≡ Greater →
+pub found_before : (names : List ℕ) (rows : List Row) (m : ℕ) (d : Row) (name : Text) → m < length rows
+    → Rises (map (row_entity names) rows) → slice_cmp nat_cmp (row_entity names (get_or rows m d)).0 name ≡ Greater →
     find_entity (map (row_entity names) (take m rows)) name ≡ find_entity (map (row_entity names) rows) name
 found_before names rows m d name h rises more =
     sym (ap (λ (t : Table). find_entity t name) (table_split names rows m d h)
-    ∙ find_before (map (row_entity names) (take m rows)) (row_entity names (get_or rows m d)) (map (row_entity names) (drop (m + 1) rows)) name (subst Rises (table_split names rows m d h) rises) (greater_comes _ name more))
+    ∙ find_before (map (row_entity names) (take m rows)) (row_entity names (get_or rows m d)) (map (row_entity names) (drop (m + 1) rows))
+    name (subst Rises (table_split names rows m d h) rises) (greater_comes _ name more))
 
-pub found_nowhere : (names : List ℕ) (rows : List Row) (name : Text) → length rows ≡ 0 → None ≡ find_entity (map (row_entity names) rows) name
+pub found_nowhere : (names : List ℕ) (rows : List Row) (name : Text) → length rows ≡ 0
+    → None ≡ find_entity (map (row_entity names) rows) name
 found_nowhere names [] name h = sym (find_none name)
 found_nowhere names (row ∷ rows) name h = absurd (omega arith)
 

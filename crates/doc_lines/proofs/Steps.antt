@@ -1,9 +1,33 @@
 -- What one step of a scanner's loop does.
-use Rattle.std.proofs.Common.{◌≡◌, ℕ, zero, suc, ◌-◌, ◌<◌, Bool, true, false, not, ◌==◌, [], ◌∷◌, ◌++◌, refl, ap, sym, ◌∙◌, Option, Some, None, arith}
+use Rattle.std.proofs.Common.{
+  ◌≡◌,
+  ℕ,
+  zero,
+  suc,
+  ◌-◌,
+  ◌<◌,
+  Bool,
+  true,
+  false,
+  not,
+  ◌==◌,
+  [],
+  ◌∷◌,
+  ◌++◌,
+  refl,
+  ap,
+  sym,
+  ◌∙◌,
+  Option,
+  Some,
+  None,
+  arith,
+}
 use Rattle.std.specs.Prelude.{option_and_then}
 use Rattle.doc_rules.specs.Characters.{Text}
 use Rattle.doc_rules.specs.Parsers.{Parser, is, many, ◌then◌, at_most, repeated, through}
-use Rattle.doc_rules.proofs.ParserLaws.{Takes, IsRest, is_rest_again, repeated_step}
+use Rattle.doc_rules.specs.Rests.{IsRest}
+use Rattle.doc_rules.proofs.ParserLaws.{Takes, is_rest_again, repeated_step}
 
 -- ---- one character further
 
@@ -17,7 +41,8 @@ after_test : (ℕ → Bool) → ℕ → Text → Bool → Option Text
 unfolding many
 after_test class c rest b = elim b [ true ↦ many class rest | false ↦ Some (c ∷ rest) ]
 
-pub many_goes_on : (class : ℕ → Bool) (c : ℕ) (behind rest : Text) → rest ≡ c ∷ behind → class c ≡ true → many class rest ≡ many class behind
+pub many_goes_on : (class : ℕ → Bool) (c : ℕ) (behind rest : Text) → rest ≡ c ∷ behind → class c ≡ true
+    → many class rest ≡ many class behind
 unfolding many after_test
 many_goes_on class c behind rest e h = ap (many class) e ∙ ap (after_test class c behind) h
 
@@ -32,14 +57,17 @@ unfolding at_most after_one
 at_most_ends zero read text e = refl
 at_most_ends (suc n) read text e = ap (after_one n read text) e
 
-pub at_most_goes_on : (n : ℕ) (read : Parser) (text rest : Text) → 0 < n → Some rest ≡ read text → at_most n read text ≡ at_most (n - 1) read rest
+pub at_most_goes_on : (n : ℕ) (read : Parser) (text rest : Text) → 0 < n → Some rest ≡ read text
+    → at_most n read text ≡ at_most (n - 1) read rest
 unfolding at_most after_one
 at_most_goes_on zero read text rest l e = absurd (omega arith)
-at_most_goes_on (suc n) read text rest l e = let same : n ≡ suc n - 1 = omega arith in sym (ap (after_one n read text) e) ∙ ap (λ m. at_most m read rest) same
+at_most_goes_on (suc n) read text rest l e = let same : n ≡ suc n - 1 = omega arith in sym (ap (after_one n read text) e)
+    ∙ ap (λ m. at_most m read rest) same
 
 -- ---- one after the other
 
-pub then_is : (first second : Parser) (text mid : Text) (out : Option Text) → Some mid ≡ first text → out ≡ second mid → out ≡ (first then second) text
+pub then_is : (first second : Parser) (text mid : Text) (out : Option Text) → Some mid ≡ first text → out ≡ second mid
+    → out ≡ (first then second) text
 then_is first second text mid out e f = f ∙ ap (option_and_then second) e
 
 -- ---- again and again
@@ -95,6 +123,7 @@ through_is c [] = refl
 through_is c (d ∷ rest) = at (through_is c rest) (d == c) refl
   where
     at : through (is c) rest ≡ (many (λ e. not (e == c)) then is c) rest → (b : Bool) → (d == c) ≡ b →
-        (elim (here b rest) [ Some after ↦ Some after | None ↦ through (is c) rest ]) ≡ option_and_then (is c) (elim (not b) [ true ↦ many (λ e. not (e == c)) rest | false ↦ Some (d ∷ rest) ])
+        (elim (here b rest) [ Some after ↦ Some after | None ↦ through (is c) rest ])
+        ≡ option_and_then (is c) (elim (not b) [ true ↦ many (λ e. not (e == c)) rest | false ↦ Some (d ∷ rest) ])
     at again true e = sym (ap (λ b. here b rest) e)
     at again false e = again

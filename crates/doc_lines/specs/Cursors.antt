@@ -1,5 +1,29 @@
 -- A cursor on a line (CommonMark 0.31.2, section 2.2, "Tabs"). Its form is this project's choice.
-use Rattle.std.specs.Prelude.{◌≡◌, ℕ, ◌+◌, ◌-◌, ◌*◌, ◌^◌, ◌<◌, ◌≤◌, nat_lt, nat_le, Bool, true, false, ◌&&◌, List, [], ◌∷◌, ◌++◌, length, chars, Option, Some, None}
+use Rattle.std.specs.Prelude.{
+  ◌≡◌,
+  ℕ,
+  ◌+◌,
+  ◌-◌,
+  ◌*◌,
+  ◌^◌,
+  ◌<◌,
+  ◌≤◌,
+  nat_lt,
+  nat_le,
+  Bool,
+  true,
+  false,
+  ◌&&◌,
+  List,
+  [],
+  ◌∷◌,
+  ◌++◌,
+  length,
+  chars,
+  Option,
+  Some,
+  None,
+}
 use Rattle.std.specs.Char.{len_utf8}
 use Rattle.doc_rules.specs.Characters.{Text, is_space_or_tab}
 use Rattle.doc_rules.specs.Columns.{Line, width_at, cells_from, spaces}
@@ -67,7 +91,13 @@ IsWithin line_length rest = (length rest ≤ line_length) × (line_length < 2 ^ 
 
 -- the place before these bytes of a line of this length
 abbrev pub position_at : ℕ → List ℕ → ℕ → Bool → Position
-position_at line_length rest column in_tab = record { place = line_length - length rest; column = column; in_tab = in_tab; rest = chars rest }
+position_at line_length rest column in_tab = record {
+  place = line_length - length rest;
+  column = column;
+  in_tab = in_tab;
+  rest = chars
+      rest;
+}
 
 -- a place inside a tab stands before a tab, and no byte has more than 4 columns
 abbrev pub IsSoundAt : Bool → ℕ → ℕ → Text → Type 0

@@ -1,6 +1,35 @@
 -- Tables of character references: a line `name HEX [HEX]` for each name, with one space between its fields. Blank lines don't count.
 -- This form is this project's choice.
-use Rattle.std.specs.Prelude.{◌≡◌, ℕ, ◌+◌, nat_lt, nat_le, Bool, true, false, not, ◌&&◌, ◌||◌, ◌==◌, bytes_eq, List, [], ◌∷◌, ◌++◌, length, Option, Some, None, is_some, option_map, option_and_then, Result, Ok, Err, if◌then◌else◌}
+use Rattle.std.specs.Prelude.{
+  ◌≡◌,
+  ℕ,
+  ◌+◌,
+  nat_lt,
+  nat_le,
+  Bool,
+  true,
+  false,
+  not,
+  ◌&&◌,
+  ◌||◌,
+  ◌==◌,
+  bytes_eq,
+  List,
+  [],
+  ◌∷◌,
+  ◌++◌,
+  length,
+  Option,
+  Some,
+  None,
+  is_some,
+  option_map,
+  option_and_then,
+  Result,
+  Ok,
+  Err,
+  if◌then◌else◌,
+}
 use Rattle.std.specs.BTreeMap.{insert_entry}
 use Rattle.std.specs.Char.{is_ascii_alphabetic, is_ascii_alphanumeric, is_ascii_hexdigit}
 use Rattle.std.specs.Cmp.Lexicographic.{slice_cmp}
@@ -37,7 +66,8 @@ is_space b = b == 32
 
 -- what stands before the first space and what behind it
 abbrev pub at_space : List ℕ → Option (List ℕ × List ℕ)
-at_space text = if nat_lt (position_or_len is_space text) (length text) then Some (before_first is_space text, after_first is_space text) else None
+at_space text = if nat_lt (position_or_len is_space text) (length text) then Some (before_first is_space text, after_first is_space text)
+    else None
 
 -- the characters of one field or two
 abbrev pub fields_characters : Option (List ℕ × List ℕ) → List ℕ → Option Text
@@ -47,7 +77,8 @@ fields_characters (Some fields) text = option_and_then (λ c. option_map (λ d. 
 -- the entity of a name and the fields behind it
 abbrev pub fields_entity : Option (List ℕ × List ℕ) → Option Entity
 fields_entity None = None
-fields_entity (Some fields) = if is_name fields.0 then option_map (λ those. (fields.0, those)) (fields_characters (at_space fields.1) fields.1) else None
+fields_entity (Some fields) = if is_name fields.0 then option_map (λ those. (fields.0, those))
+    (fields_characters (at_space fields.1) fields.1) else None
 
 -- the entity that a line gives
 unfoldable pub entity_of : List ℕ → Option Entity
@@ -81,13 +112,15 @@ line_contradicts table (Some entity) = contradicts table entity
 -- the number of the first line whose name has other characters in the table or in a line before; the first of these lines has the number n
 unfoldable pub twice_line : Table → ℕ → List (List ℕ) → Option ℕ
 twice_line table n [] = None
-twice_line table n (line ∷ more) = elim (line_contradicts table (entity_of line)) [ true ↦ Some n | false ↦ twice_line (table ++ entities_in (line ∷ [])) (n + 1) more ]
+twice_line table n (line ∷ more) = elim (line_contradicts table (entity_of line))
+    [ true ↦ Some n | false ↦ twice_line (table ++ entities_in (line ∷ [])) (n + 1) more ]
 
 -- ---- the table
 
 -- the added entities with one more, in the order of their names, where its name is new
 abbrev pub with_entity : Table → Entity → Table
-with_entity added entity = elim (find_entity (built_in ++ added) entity.0) [ None ↦ insert_entry (slice_cmp nat_cmp) added entity.0 entity.1 | Some _ ↦ added ]
+with_entity added entity = elim (find_entity (built_in ++ added) entity.0)
+    [ None ↦ insert_entry (slice_cmp nat_cmp) added entity.0 entity.1 | Some _ ↦ added ]
 
 -- the added entities with more
 unfoldable pub with_entities : Table → Table → Table

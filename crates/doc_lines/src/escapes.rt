@@ -1,6 +1,6 @@
 //! Texts with their backslash escapes and character references read (CommonMark 0.31.2, sections 2.4 and 2.5).
 ghost use Rattle.std.specs.Prelude.{◌≡◌, chars, IfOk, IfSome};
-ghost use Rattle.doc_rules.proofs.ParserLaws.{IsRest};
+ghost use Rattle.doc_rules.specs.Rests.{IsRest};
 ghost use Rattle.doc_rules.specs.Escapes.{escape_or_reference, backslash_escape, unescape};
 ghost use Rattle.doc_lines.specs.MeaningSteps.{meaning_of};
 

@@ -35,10 +35,13 @@ slice_range_more bs s i le h =
     ∙ ap (λ b. slice_range bs s i ++ b ∷ []) (get_or-drop s bs (i - s) 0 ∙ ap (λ n. get_or bs n 0) place)
 
 -- a byte that is written as it is waits in the run
-pub run_grows : (start out text bytes : List ℕ) (s i : ℕ) → bytes ≡ text → s ≤ i → i < length bytes → get_or bytes i 0 ∷ [] ≡ escaped_byte (get_or bytes i 0) → out ++ slice_range text s i ≡ start ++ escaped (take i text) → out ++ slice_range text s (i + 1) ≡ start ++ escaped (take (i + 1) text)
+pub run_grows : (start out text bytes : List ℕ) (s i : ℕ) → bytes ≡ text → s ≤ i → i < length bytes
+    → get_or bytes i 0 ∷ [] ≡ escaped_byte (get_or bytes i 0) → out ++ slice_range text s i ≡ start ++ escaped (take i text)
+    → out ++ slice_range text s (i + 1) ≡ start ++ escaped (take (i + 1) text)
 run_grows start out text bytes s i same le h plain so_far =
     let fits : i < length text = omega (arith, ap length same) in
-    let here : get_or text i 0 ∷ [] ≡ escaped_byte (get_or text i 0) = ap (λ (bs : List ℕ). get_or bs i 0 ∷ []) (sym same) ∙ plain ∙ ap (λ (bs : List ℕ). escaped_byte (get_or bs i 0)) same in
+    let here : get_or text i 0 ∷ [] ≡ escaped_byte (get_or text i 0) = ap (λ (bs : List ℕ). get_or bs i 0 ∷ []) (sym same) ∙ plain
+    ∙ ap (λ (bs : List ℕ). escaped_byte (get_or bs i 0)) same in
     ap (λ r. out ++ r) (slice_range_more text s i le fits)
     ∙ sym (append_assoc out (slice_range text s i) (get_or text i 0 ∷ []))
     ∙ ap (λ r. r ++ get_or text i 0 ∷ []) so_far
@@ -47,7 +50,10 @@ run_grows start out text bytes s i same le h plain so_far =
     ∙ ap (λ r. start ++ r) (sym (escaped-take text i fits))
 
 -- a byte that is written as a reference ends the run, and the next run begins after it
-pub run_ends : (start out after new text bytes run reference : List ℕ) (s i : ℕ) → bytes ≡ text → i < length bytes → reference ≡ escaped_byte (get_or bytes i 0) → run ≡ slice_range text s i → after ≡ out ++ run → new ≡ after ++ reference → out ++ slice_range text s i ≡ start ++ escaped (take i text) → new ++ slice_range text (i + 1) (i + 1) ≡ start ++ escaped (take (i + 1) text)
+pub run_ends : (start out after new text bytes run reference : List ℕ) (s i : ℕ) → bytes ≡ text → i < length bytes
+    → reference ≡ escaped_byte (get_or bytes i 0) → run ≡ slice_range text s i → after ≡ out ++ run → new ≡ after ++ reference
+    → out ++ slice_range text s i ≡ start ++ escaped (take i text)
+    → new ++ slice_range text (i + 1) (i + 1) ≡ start ++ escaped (take (i + 1) text)
 run_ends start out after new text bytes run reference s i same h written cut first second so_far =
     let fits : i < length text = omega (arith, ap length same) in
     let none : i + 1 - (i + 1) ≡ 0 = omega arith in
@@ -59,6 +65,7 @@ run_ends start out after new text bytes run reference s i same h written cut fir
     ∙ ap (λ r. start ++ r) (sym (escaped-take text i fits))
 
 -- a text may be cut after an ASCII byte
-pub cut_after : (text bytes : List ℕ) (i : ℕ) → IsUtf8 text → bytes ≡ text → i < length bytes → get_or bytes i 0 < 128 → IsCharBoundary text (i + 1)
+pub cut_after : (text bytes : List ℕ) (i : ℕ) → IsUtf8 text → bytes ≡ text → i < length bytes → get_or bytes i 0 < 128
+    → IsCharBoundary text (i + 1)
 cut_after text bytes i utf8 same h ascii =
     IsCharBoundary-after_ascii text i utf8 (omega (arith, ap length same)) (omega (arith, ap (λ (bs : List ℕ). get_or bs i 0) same))

@@ -165,12 +165,14 @@ pub missing_tag : opening_tag (Some (codes "t")) Missing ≡ codes "<a class=\"m
 missing_tag = refl
 
 -- a page's title, and its body
-pub first_title : title_of (codes "a.md") (record { level = 1; anchor = codes "section"; text = [] } ∷ record { level = 2; anchor = codes "b"; text = codes "B" } ∷ []) ≡ codes "B"
+pub first_title : title_of (codes "a.md") (record { level = 1; anchor = codes "section"; text = [] } ∷
+    record { level = 2; anchor = codes "b"; text = codes "B" } ∷ []) ≡ codes "B"
 first_title = refl
 
 pub title_from_path : title_of (codes "a.md") (record { level = 1; anchor = codes "section"; text = [] } ∷ []) ≡ codes "a.md"
 title_from_path = refl
 
-pub body : body_of (codes "a&b.md") (λ dest. Missing) (plain_page (codes "Hello\n")) ≡ codes "<!DOCTYPE html>\n<title>a&amp;b.md</title>\n<p>Hello</p>\n"
+pub body : body_of (codes "a&b.md") (λ dest. Missing) (plain_page (codes "Hello\n"))
+    ≡ codes "<!DOCTYPE html>\n<title>a&amp;b.md</title>\n<p>Hello</p>\n"
 unfolding lines without_ending stripped paragraphs plain_html escaped filled
 body = refl

@@ -18,14 +18,17 @@ module _ {K X : Type 0} {R : K → K → Ordering} (total : IsTotalOrder R) (exa
   looked_up es q = sym (get-from_entries total es q ∙ found es q)
 
   -- entries that differ at one key make maps that differ there
-  pub inserted : (es fs : List (K × X)) (k : K) (v : X) → ((q : K) → lookup (is_at (R q)) fs ≡ cond (is_at (R k) q) (Some v) (lookup (is_at (R q)) es)) → from_entries {R = R} fs ≡ insert (from_entries es) k v
+  pub inserted : (es fs : List (K × X)) (k : K) (v : X)
+      → ((q : K) → lookup (is_at (R q)) fs ≡ cond (is_at (R k) q) (Some v) (lookup (is_at (R q)) es))
+      → from_entries {R = R} fs ≡ insert (from_entries es) k v
   inserted es fs k v h = same_map total exact _ _ (λ q.
       sym (looked_up fs q) ∙ h q
       ∙ ap (cond (is_at (R k) q) (Some v)) (looked_up es q)
       ∙ ap (λ b. cond b (Some v) (get (from_entries {R = R} es) q)) ((eq_by_cmp_equiv total).symm k q)
       ∙ sym (get-insert total (from_entries {R = R} es) k v q))
 
-  pub removed : (es fs : List (K × X)) (k : K) → ((q : K) → lookup (is_at (R q)) fs ≡ cond (is_at (R k) q) None (lookup (is_at (R q)) es)) → from_entries {R = R} fs ≡ remove (from_entries es) k
+  pub removed : (es fs : List (K × X)) (k : K) → ((q : K) → lookup (is_at (R q)) fs ≡ cond (is_at (R k) q) None (lookup (is_at (R q)) es))
+      → from_entries {R = R} fs ≡ remove (from_entries es) k
   removed es fs k h = same_map total exact _ _ (λ q.
       sym (looked_up fs q) ∙ h q
       ∙ ap (cond (is_at (R k) q) None) (looked_up es q)

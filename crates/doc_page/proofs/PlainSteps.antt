@@ -1,5 +1,27 @@
 -- The paragraphs of a plain text, line by line.
-use Rattle.std.proofs.Common.{◌≡◌, ℕ, List, [], ◌∷◌, ◌++◌, length, map, Bool, true, false, not, refl, ap, sym, ◌∙◌, arith, All, eqb, suc, Bor}
+use Rattle.std.proofs.Common.{
+  ◌≡◌,
+  ℕ,
+  List,
+  [],
+  ◌∷◌,
+  ◌++◌,
+  length,
+  map,
+  Bool,
+  true,
+  false,
+  not,
+  refl,
+  ap,
+  sym,
+  ◌∙◌,
+  arith,
+  All,
+  eqb,
+  suc,
+  Bor,
+}
 use Rattle.std.specs.Prelude.{filter, Result, Ok, Err, OnOk}
 use Rattle.std.specs.List.{slice_split, join_with_byte, flat_map}
 use Rattle.std.proofs.lemmas.Bool.Decides.{nat_tests}
@@ -19,25 +41,31 @@ length_now : (run : List (Bor (List ℕ))) (n : ℕ) → n ≡ length run → n 
 length_now run n e = e ∙ sym (length-map run (λ l. l.now))
 
 -- the paragraphs of one run, of no line, and of a run that an empty line ends
-pub one_paragraph : (run : List (List ℕ)) {n : ℕ} → length run ≡ suc n → All (λ l. is_empty l ≡ false) run → paragraphs run ≡ join_with_byte 10 run ∷ []
+pub one_paragraph : (run : List (List ℕ)) {n : ℕ} → length run ≡ suc n → All (λ l. is_empty l ≡ false) run
+    → paragraphs run ≡ join_with_byte 10 run ∷ []
 unfolding paragraphs
 one_paragraph [] {n} h full = absurd (omega arith)
-one_paragraph (x ∷ xs) {n} h full = ap (λ parts. map (join_with_byte 10) (filter (λ run. not (is_empty run)) parts)) (slice_split_none is_empty (x ∷ xs) full)
+one_paragraph (x ∷ xs) {n} h full = ap (λ parts. map (join_with_byte 10) (filter (λ run. not (is_empty run)) parts))
+    (slice_split_none is_empty (x ∷ xs) full)
 
 pub no_paragraph : paragraphs [] ≡ []
 unfolding paragraphs
 no_paragraph = refl
 
-keeps_run : (run : List (List ℕ)) (parts : List (List (List ℕ))) → map (join_with_byte 10) (filter (λ r. not (is_empty r)) (run ∷ parts)) ≡ map (join_with_byte 10) (filter (λ r. not (is_empty r)) (run ∷ [])) ++ map (join_with_byte 10) (filter (λ r. not (is_empty r)) parts)
+keeps_run : (run : List (List ℕ)) (parts : List (List (List ℕ)))
+    → map (join_with_byte 10) (filter (λ r. not (is_empty r)) (run ∷ parts))
+    ≡ map (join_with_byte 10) (filter (λ r. not (is_empty r)) (run ∷ [])) ++ map (join_with_byte 10) (filter (λ r. not (is_empty r)) parts)
 keeps_run [] parts = refl
 keeps_run (x ∷ xs) parts = refl
 
-pub paragraphs-end : (run rest : List (List ℕ)) (line : List ℕ) → All (λ l. is_empty l ≡ false) run → is_empty line ≡ true → paragraphs (run ++ line ∷ rest) ≡ paragraphs run ++ paragraphs rest
+pub paragraphs-end : (run rest : List (List ℕ)) (line : List ℕ) → All (λ l. is_empty l ≡ false) run → is_empty line ≡ true
+    → paragraphs (run ++ line ∷ rest) ≡ paragraphs run ++ paragraphs rest
 unfolding paragraphs
 paragraphs-end run rest line full ends =
     ap (λ parts. map (join_with_byte 10) (filter (λ r. not (is_empty r)) parts)) (slice_split_at is_empty run line rest full ends)
     ∙ keeps_run run (slice_split is_empty rest)
-    ∙ ap (λ parts. map (join_with_byte 10) (filter (λ r. not (is_empty r)) parts) ++ map (join_with_byte 10) (filter (λ r. not (is_empty r)) (slice_split is_empty rest))) (sym (slice_split_none is_empty run full))
+    ∙ ap (λ parts. map (join_with_byte 10) (filter (λ r. not (is_empty r)) parts)
+    ++ map (join_with_byte 10) (filter (λ r. not (is_empty r)) (slice_split is_empty rest))) (sym (slice_split_none is_empty run full))
 
 -- joining is the first line, and each other line after a LF
 pub joined_is : (x : List ℕ) (xs : List (List ℕ)) → join_with_byte 10 (x ∷ xs) ≡ x ++ lines_after xs
@@ -50,17 +78,24 @@ unfolding lines_after
 lines_more xs x = flat_map-append (λ line. 10 ∷ line) xs (x ∷ []) ∙ ap (λ r. flat_map (λ line. 10 ∷ line) xs ++ 10 ∷ r) (append-nil x)
 
 -- the paragraph of a run
-pub paragraph_some : (run : List (Bor (List ℕ))) (first : Bor (List ℕ)) (others : List (Bor (List ℕ))) (out : List ℕ) → run ≡ first ∷ others → All (λ l. is_empty l ≡ false) (map (λ l. l.now) run) → out ≡ first.now ++ lines_after (map (λ l. l.now) others) → paragraphs (map (λ l. l.now) run) ≡ out ∷ []
+pub paragraph_some : (run : List (Bor (List ℕ))) (first : Bor (List ℕ)) (others : List (Bor (List ℕ))) (out : List ℕ)
+    → run ≡ first ∷ others → All (λ l. is_empty l ≡ false) (map (λ l. l.now) run)
+    → out ≡ first.now ++ lines_after (map (λ l. l.now) others) → paragraphs (map (λ l. l.now) run) ≡ out ∷ []
 paragraph_some run first others out e full added =
-    one_paragraph (map (λ l. l.now) run) (ap (λ r. length (map (λ (l : Bor (List ℕ)). l.now) r)) e) full ∙ ap (λ r. r ∷ []) (rw e (joined_is first.now (map (λ l. l.now) others)) ∙ sym added)
+    one_paragraph (map (λ l. l.now) run) (ap (λ r. length (map (λ (l : Bor (List ℕ)). l.now) r)) e) full
+    ∙ ap (λ r. r ∷ []) (rw e (joined_is first.now (map (λ l. l.now) others)) ∙ sym added)
 
 pub paragraph_none : (run : List (Bor (List ℕ))) → length run ≡ 0 → paragraphs (map (λ l. l.now) run) ≡ []
 paragraph_none [] e = no_paragraph
 paragraph_none (x ∷ run) e = absurd (omega arith)
 
 -- a line that ends the run
-pub ends_run : {Y : Type 0} (r : Result Y Memory) (texts new : List (List ℕ)) (run : List (List ℕ)) (after : List (Bor (List ℕ))) (line : List ℕ) (t : Bool) → All (λ l. is_empty l ≡ false) run → t ≡ eqb (length line) 0 → t ≡ true → OnOk r (after ≡ []) → OnOk r (new ≡ texts ++ paragraphs run) → OnOk r ((rest : List (List ℕ)) → new ++ paragraphs (map (λ l. l.now) after ++ rest) ≡ texts ++ paragraphs (run ++ line ∷ rest))
+pub ends_run : {Y : Type 0} (r : Result Y Memory) (texts new : List (List ℕ)) (run : List (List ℕ)) (after : List (Bor (List ℕ)))
+    (line : List ℕ) (t : Bool) → All (λ l. is_empty l ≡ false) run → t ≡ eqb (length line) 0 → t ≡ true → OnOk r (after ≡ [])
+    → OnOk r (new ≡ texts ++ paragraphs run) → OnOk r ((rest : List (List ℕ))
+    → new ++ paragraphs (map (λ l. l.now) after ++ rest) ≡ texts ++ paragraphs (run ++ line ∷ rest))
 ends_run (Err e) texts new run after line t full was holds cleared told = tt
 ends_run (Ok x) texts new run after line t full was holds cleared told =
     let ends : is_empty line ≡ true = sym (is_empty_by_length line t was) ∙ holds in
-    λ rest. rw (told, cleared) (append_assoc texts (paragraphs run) (paragraphs rest) ∙ ap (λ r. texts ++ r) (sym (paragraphs-end run rest line full ends)))
+    λ rest. rw (told, cleared) (append_assoc texts (paragraphs run) (paragraphs rest)
+    ∙ ap (λ r. texts ++ r) (sym (paragraphs-end run rest line full ends)))

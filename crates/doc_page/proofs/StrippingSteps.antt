@@ -1,5 +1,26 @@
 -- Texts without certain bytes at their ends.
-use Rattle.std.proofs.Common.{◌≡◌, ℕ, ◌+◌, ◌-◌, ◌<◌, ◌≤◌, List, length, get_or, take, drop, Bool, true, ap, sym, ◌∙◌, arith, inl, inr, subst}
+use Rattle.std.proofs.Common.{
+  ◌≡◌,
+  ℕ,
+  ◌+◌,
+  ◌-◌,
+  ◌<◌,
+  ◌≤◌,
+  List,
+  length,
+  get_or,
+  take,
+  drop,
+  Bool,
+  true,
+  ap,
+  sym,
+  ◌∙◌,
+  arith,
+  inl,
+  inr,
+  subst,
+}
 use Rattle.std.specs.Prelude.{reverse, slice_range}
 use Rattle.std.specs.List.{prefix_len, suffix_len}
 use Rattle.std.specs.Str.{IsUtf8, IsCharBoundary}
@@ -44,7 +65,8 @@ cut_end {test = test} only bs n e =
           let last : test (get_or (reverse bs) (n - 1) 0) ≡ true = prefix_len_passes test (reverse bs) (n - 1) 0 (omega arith) in
           let same : get_or (reverse bs) (n - 1) 0 ≡ get_or bs (length bs - 1 - (n - 1)) 0 = get_or-reverse bs (n - 1) 0 (omega arith) in
           let place : length bs - 1 - (n - 1) ≡ length bs - n = omega arith in
-          IsCharBoundary-before_ascii bs (length bs - n) (omega arith) (only.ascii _ (ap (λ k. test (get_or bs k 0)) (sym place) ∙ ap test (sym same) ∙ last))
+          IsCharBoundary-before_ascii bs (length bs - n) (omega arith)
+          (only.ascii _ (ap (λ k. test (get_or bs k 0)) (sym place) ∙ ap test (sym same) ∙ last))
       | inr none ↦
           let place : length bs ≡ length bs - n = omega arith in
           let P : ℕ → Type 0 = λ m. IsCharBoundary bs m in
@@ -56,11 +78,13 @@ front_is bs out m n e range =
     let whole : (length bs - n) - 0 ≡ length bs - m = omega arith in
     range ∙ ap (λ k. take k bs) whole
 
-pub without_ending_is : (line out : List ℕ) (n : ℕ) → n ≡ suffix_len is_ending line → out ≡ slice_range line 0 (length line - n) → out ≡ without_ending line
+pub without_ending_is : (line out : List ℕ) (n : ℕ) → n ≡ suffix_len is_ending line → out ≡ slice_range line 0 (length line - n)
+    → out ≡ without_ending line
 unfolding without_ending
 without_ending_is line out n e range = front_is line out _ n e range
 
-pub stripped_is : (text rest out : List ℕ) (m n : ℕ) → m ≡ prefix_len is_space_or_tab text → rest ≡ drop m text → n ≡ suffix_len is_space_or_tab rest → out ≡ slice_range rest 0 (length rest - n) → out ≡ stripped text
+pub stripped_is : (text rest out : List ℕ) (m n : ℕ) → m ≡ prefix_len is_space_or_tab text → rest ≡ drop m text
+    → n ≡ suffix_len is_space_or_tab rest → out ≡ slice_range rest 0 (length rest - n) → out ≡ stripped text
 unfolding stripped
 stripped_is text rest out m n start cut e range =
     front_is rest out _ n e range

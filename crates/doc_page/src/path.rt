@@ -46,8 +46,8 @@ impl From<Memory> for PathError {
 /// The path of a page, as `guide/start.md`: 1 to 16 segments joined by `/`, at most 200 bytes in
 /// all. No segment is empty, `.` or `..`, and none holds a control character (U+0000 to U+001F,
 /// U+007F to U+009F), `\`, `%`, `?` or `#`. Contracts see its bytes; it is equal and ordered by
-/// them.
-#[derive(Debug, PartialEq, Eq, PartialOrd, Ord, Drop)]
+/// them, and hashed as they are.
+#[derive(Debug, PartialEq, Eq, PartialOrd, Ord, Hash, Drop)]
 pub struct Path {
     text: Text,
 }

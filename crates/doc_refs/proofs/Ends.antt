@@ -1,5 +1,32 @@
 -- The two ends of a text in UTF-8.
-use Rattle.std.proofs.Common.{◌≡◌, ℕ, ◌+◌, ◌-◌, ◌<◌, Bool, true, false, ◌==◌, nat_lt, List, [], ◌∷◌, ◌++◌, length, take, chars, refl, ap, sym, ◌∙◌, Option, Some, None, arith, length-append}
+use Rattle.std.proofs.Common.{
+  ◌≡◌,
+  ℕ,
+  ◌+◌,
+  ◌-◌,
+  ◌<◌,
+  Bool,
+  true,
+  false,
+  ◌==◌,
+  nat_lt,
+  List,
+  [],
+  ◌∷◌,
+  ◌++◌,
+  length,
+  take,
+  chars,
+  refl,
+  ap,
+  sym,
+  ◌∙◌,
+  Option,
+  Some,
+  None,
+  arith,
+  length-append,
+}
 use Rattle.std.proofs.Math.Seq.{take-append_seam}
 use Rattle.std.specs.Str.{IsUtf8, encode_utf8_all}
 use Rattle.std.proofs.lemmas.Str.{encodes-chars}
@@ -47,7 +74,8 @@ line_goes_on text u h = at (chars text) (encodes-chars text u)
 ends_there : Option Text → Bool
 ends_there found = elim found [ None ↦ false | Some rest ↦ is_nothing rest ]
 
-pub takes_all : (read : Parser) (text : Text) (rest : List ℕ) → IsUtf8 rest → Some (chars rest) ≡ read text → (length rest == 0) ≡ begins_before is_nothing read text
+pub takes_all : (read : Parser) (text : Text) (rest : List ℕ) → IsUtf8 rest → Some (chars rest) ≡ read text
+    → (length rest == 0) ≡ begins_before is_nothing read text
 unfolding ends_there
 takes_all read text rest u e = empty_is_nothing rest u ∙ ap ends_there e
 
@@ -61,7 +89,8 @@ unfolding tested
 if_fits test text found = elim found [ None ↦ None | Some rest ↦ elim (test (before rest text)) [ true ↦ Some rest | false ↦ None ] ]
 
 -- something was
-pub something_taken : (read : Parser) (text rest : Text) (front : List ℕ) → Some rest ≡ read text → IsUtf8 front → chars front ≡ before rest text → 0 < length front →
+pub something_taken : (read : Parser) (text rest : Text) (front : List ℕ) → Some rest ≡ read text → IsUtf8 front
+    → chars front ≡ before rest text → 0 < length front →
     Some rest ≡ passing (λ taken. nat_lt 0 (length taken)) read text
 unfolding tested if_fits
 something_taken read text rest front e u f h =
@@ -69,7 +98,8 @@ something_taken read text rest front e u f h =
     sym (ap (tested rest) full) ∙ ap (if_fits (λ taken. nat_lt 0 (length taken)) text) e
 
 -- nothing was
-pub nothing_taken : (read : Parser) (text rest : Text) (front : List ℕ) → Some rest ≡ read text → chars front ≡ before rest text → length front ≡ 0 →
+pub nothing_taken : (read : Parser) (text rest : Text) (front : List ℕ) → Some rest ≡ read text → chars front ≡ before rest text
+    → length front ≡ 0 →
     None ≡ passing (λ taken. nat_lt 0 (length taken)) read text
 unfolding tested if_fits
 nothing_taken read text rest front e f h =

@@ -14,6 +14,7 @@ pub run_ends : (class : ℕ → Bool) (text : Text) → None ≡ (escaped or one
 unfolding many_or_escaped
 run_ends class text e = repeated_ends (escaped or one class) text (escaped_or_one_takes class) e
 
-pub run_goes_on : (class : ℕ → Bool) (text rest : Text) → Some rest ≡ (escaped or one class) text → many_or_escaped class text ≡ many_or_escaped class rest
+pub run_goes_on : (class : ℕ → Bool) (text rest : Text) → Some rest ≡ (escaped or one class) text
+    → many_or_escaped class text ≡ many_or_escaped class rest
 unfolding many_or_escaped
 run_goes_on class text rest e = repeated_goes_on (escaped or one class) text rest (escaped_or_one_takes class) e

@@ -26,7 +26,8 @@ abbrev leads_to : String → Option Target
 leads_to dest = Some (record { dest = codes dest; title = None })
 
 -- a label names what its definition leads to, and another label names nothing
-one_definition : names (targets_of (in_text "[foo]: /url \"title\"\n")) "foo" ≡ Some (record { dest = codes "/url"; title = Some (codes "title") })
+one_definition : names (targets_of (in_text "[foo]: /url \"title\"\n")) "foo"
+    ≡ Some (record { dest = codes "/url"; title = Some (codes "title") })
 unfolding reference_words
 one_definition = finds_the_reference (in_text "[foo]: /url \"title\"\n") (codes "foo") ∙ refl
 

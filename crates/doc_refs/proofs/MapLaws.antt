@@ -36,7 +36,8 @@ abbrev pub first_of : Option Target → Option Target → Option Target
 first_of None other = other
 first_of (Some target) other = Some target
 
-first_of-choice : (b : Bool) (target : Target) (first second : Option Target) → first_of (cond b (Some target) first) second ≡ cond b (Some target) (first_of first second)
+first_of-choice : (b : Bool) (target : Target) (first second : Option Target)
+    → first_of (cond b (Some target) first) second ≡ cond b (Some target) (first_of first second)
 first_of-choice true target first second = refl
 first_of-choice false target first second = refl
 
@@ -57,33 +58,40 @@ get-joined first second name =
     ∙ ap (λ o. first_of o (named (entries second) name)) (sym (get-entries first name))
     ∙ ap (first_of (get first name)) (sym (get-entries second name))
 
-pub get-single : (name : Text) (target : Target) (other : Text) → get (single name target) other ≡ cond (is_name other name) (Some target) None
+pub get-single : (name : Text) (target : Target) (other : Text)
+    → get (single name target) other ≡ cond (is_name other name) (Some target) None
 get-single name target other = get-from_entries nat_list_cmp_total ((name, target) ∷ []) other
 
 pub joined-empty : (targets : Targets) → joined targets empty ≡ targets
 joined-empty targets = same_targets (joined targets empty) targets (λ name.
-    get-joined targets empty name ∙ ap (first_of (get targets name)) (get-empty (slice_cmp nat_cmp) name) ∙ first_of-none (get targets name))
+    get-joined targets empty name ∙ ap (first_of (get targets name)) (get-empty (slice_cmp nat_cmp) name)
+    ∙ first_of-none (get targets name))
 
 -- ---- what definitions name
 
 abbrev pairs_of : List Definition → List (Text × Target)
 pairs_of definitions = map (λ d. (normal_label d.label, d.target)) definitions
 
-chosen : (a b : Bool) (target : Target) (o p : Option Target) → a ≡ b → o ≡ p → cond a (Some target) o ≡ elim b [ true ↦ Some target | false ↦ p ]
+chosen : (a b : Bool) (target : Target) (o p : Option Target) → a ≡ b → o ≡ p
+    → cond a (Some target) o ≡ elim b [ true ↦ Some target | false ↦ p ]
 chosen true true target o p e h = refl
 chosen true false target o p e h = absurd cc
 chosen false true target o p e h = absurd cc
 chosen false false target o p e h = h
 
-named-reference : (definitions : List Definition) (name : Text) → named (pairs_of definitions) (normal_label name) ≡ find_reference definitions name
+named-reference : (definitions : List Definition) (name : Text)
+    → named (pairs_of definitions) (normal_label name) ≡ find_reference definitions name
 unfolding find_reference
 named-reference [] name = refl
 named-reference (d ∷ more) name =
-    chosen (is_name (normal_label name) (normal_label d.label)) (bytes_eq (normal_label d.label) (normal_label name)) d.target (named (pairs_of more) (normal_label name)) (find_reference more name)
-    (is_eq-slice_cmp (normal_label name) (normal_label d.label) ∙ nat_list_eq_equiv.symm (normal_label name) (normal_label d.label)) (named-reference more name)
+    chosen (is_name (normal_label name) (normal_label d.label)) (bytes_eq (normal_label d.label) (normal_label name)) d.target
+    (named (pairs_of more) (normal_label name)) (find_reference more name)
+    (is_eq-slice_cmp (normal_label name) (normal_label d.label) ∙ nat_list_eq_equiv.symm (normal_label name) (normal_label d.label))
+    (named-reference more name)
 
 pub finds_the_reference : FindsTheReference
-finds_the_reference definitions name = get-from_entries nat_list_cmp_total (pairs_of definitions) (normal_label name) ∙ named-reference definitions name
+finds_the_reference definitions name = get-from_entries nat_list_cmp_total (pairs_of definitions) (normal_label name)
+    ∙ named-reference definitions name
 
 pairs-both : (first later : List Definition) → pairs_of (first ++ later) ≡ pairs_of first ++ pairs_of later
 pairs-both [] later = refl

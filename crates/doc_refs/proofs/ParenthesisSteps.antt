@@ -1,5 +1,29 @@
 -- One step further in a destination without '<' and '>'.
-use Rattle.std.proofs.Common.{◌≡◌, ℕ, zero, suc, ◌+◌, ◌-◌, ◌<◌, ◌≤◌, Bool, true, false, ◌==◌, [], ◌∷◌, refl, ap, sym, ◌∙◌, subst, Option, Some, None, arith}
+use Rattle.std.proofs.Common.{
+  ◌≡◌,
+  ℕ,
+  zero,
+  suc,
+  ◌+◌,
+  ◌-◌,
+  ◌<◌,
+  ◌≤◌,
+  Bool,
+  true,
+  false,
+  ◌==◌,
+  [],
+  ◌∷◌,
+  refl,
+  ap,
+  sym,
+  ◌∙◌,
+  subst,
+  Option,
+  Some,
+  None,
+  arith,
+}
 use Rattle.std.specs.Prelude.{option_and_then}
 use Rattle.std.proofs.lemmas.Bool.{eqb-true}
 use Rattle.doc_rules.specs.Characters.{Text}
@@ -33,7 +57,8 @@ run_over (suc n) text rest e = repeated_goes_on (item n) text rest (item_takes n
 run_stops : (n : ℕ) (text : Text) → None ≡ (escaped or one is_bare) text → None ≡ is 40 text → Some text ≡ balanced n text
 unfolding balanced item or_opened
 run_stops zero text e f = run_ends is_bare text e
-run_stops (suc n) text e f = repeated_ends (item n) text (item_takes n) (ap (λ found. option_and_then (is 41) (option_and_then (balanced n) found)) f ∙ ap (or_opened n text) e)
+run_stops (suc n) text e f = repeated_ends (item n) text (item_takes n)
+    (ap (λ found. option_and_then (is 41) (option_and_then (balanced n) found)) f ∙ ap (or_opened n text) e)
 
 at_parenthesis : Option Text → Text → ℕ → Option Text
 unfolding balanced
@@ -49,29 +74,37 @@ after_close : ℕ → ℕ → Text → Option Text → Option Text
 unfolding finish
 after_close levels n outermost found = elim found [ None ↦ Some outermost | Some behind ↦ finish levels (suc n) outermost behind ]
 
-pub goes_over : (levels n : ℕ) (outermost text rest : Text) → Some rest ≡ (escaped or one is_bare) text → finish levels n outermost rest ≡ finish levels n outermost text
+pub goes_over : (levels n : ℕ) (outermost text rest : Text) → Some rest ≡ (escaped or one is_bare) text
+    → finish levels n outermost rest ≡ finish levels n outermost text
 unfolding finish after_close
 goes_over zero n outermost text rest e = sym (run_over n text rest e)
-goes_over (suc levels) n outermost text rest e = sym (ap (λ found. after_close levels n outermost (option_and_then (is 41) found)) (run_over n text rest e))
+goes_over (suc levels) n outermost text rest e = sym (ap (λ found. after_close levels n outermost (option_and_then (is 41) found))
+    (run_over n text rest e))
 
-goes_in : (levels n : ℕ) (outermost behind : Text) → finish levels (suc n) outermost (40 ∷ behind) ≡ finish (suc levels) n (ends_at levels outermost (40 ∷ behind)) behind
+goes_in : (levels n : ℕ) (outermost behind : Text) → finish levels (suc n) outermost (40 ∷ behind)
+    ≡ finish (suc levels) n (ends_at levels outermost (40 ∷ behind)) behind
 unfolding finish after_close at_parenthesis
 goes_in zero n outermost behind = run_opens n behind
 goes_in (suc levels) n outermost behind =
-    ap (λ found. after_close levels (suc n) outermost (option_and_then (is 41) found)) (run_opens n behind) ∙ at ((balanced n then is 41) behind)
+    ap (λ found. after_close levels (suc n) outermost (option_and_then (is 41) found)) (run_opens n behind)
+    ∙ at ((balanced n then is 41) behind)
   where
-    at : (found : Option Text) → after_close levels (suc n) outermost (option_and_then (is 41) (at_parenthesis found (40 ∷ behind) n)) ≡ after_close (suc levels) n outermost found
+    at : (found : Option Text) → after_close levels (suc n) outermost (option_and_then (is 41) (at_parenthesis found (40 ∷ behind) n))
+        ≡ after_close (suc levels) n outermost found
     at None = refl
     at (Some rest) = refl
 
 goes_out : (levels n : ℕ) (outermost behind : Text) → finish (suc levels) n outermost (41 ∷ behind) ≡ finish levels (suc n) outermost behind
 unfolding finish after_close
-goes_out levels n outermost behind = sym (ap (λ found. after_close levels n outermost (option_and_then (is 41) found)) (run_stops n (41 ∷ behind) refl refl))
+goes_out levels n outermost behind = sym (ap (λ found. after_close levels n outermost (option_and_then (is 41) found))
+    (run_stops n (41 ∷ behind) refl refl))
 
-goes_no_further : (levels n : ℕ) (outermost text : Text) → Some text ≡ balanced n text → None ≡ is 41 text → Some (ends_at levels outermost text) ≡ finish levels n outermost text
+goes_no_further : (levels n : ℕ) (outermost text : Text) → Some text ≡ balanced n text → None ≡ is 41 text
+    → Some (ends_at levels outermost text) ≡ finish levels n outermost text
 unfolding finish after_close
 goes_no_further zero n outermost text e f = e
-goes_no_further (suc levels) n outermost text e f = ap (after_close levels n outermost) f ∙ ap (λ found. after_close levels n outermost (option_and_then (is 41) found)) e
+goes_no_further (suc levels) n outermost text e f = ap (after_close levels n outermost) f
+    ∙ ap (λ found. after_close levels n outermost (option_and_then (is 41) found)) e
 
 -- ---- as a scanner finds it
 
@@ -84,7 +117,8 @@ begins_with c (d ∷ rest) behind e = at (d == c) refl e
     at false f k = absurd cc
 
 -- an opening parenthesis, and a level is left
-pub opens : (levels : ℕ) (start outermost text behind : Text) → levels < 32 → Some behind ≡ is 40 text → start ≡ ends_at levels outermost text →
+pub opens : (levels : ℕ) (start outermost text behind : Text) → levels < 32 → Some behind ≡ is 40 text
+    → start ≡ ends_at levels outermost text →
     finish (levels + 1) (32 - (levels + 1)) start behind ≡ finish levels (32 - levels) outermost text
 opens levels start outermost text behind h e f =
     let more : 32 - levels ≡ suc (32 - (levels + 1)) = omega arith in
@@ -97,12 +131,14 @@ opens levels start outermost text behind h e f =
     ∙ ap (λ (t : Text). finish (levels + 1) (32 - (levels + 1)) (ends_at levels outermost t) behind) (sym same)))))
 
 -- one, and none is left
-pub ends_at_opening : (levels : ℕ) (outermost text behind : Text) → 32 ≤ levels → Some behind ≡ is 40 text → Some (ends_at levels outermost text) ≡ finish levels (32 - levels) outermost text
+pub ends_at_opening : (levels : ℕ) (outermost text behind : Text) → 32 ≤ levels → Some behind ≡ is 40 text
+    → Some (ends_at levels outermost text) ≡ finish levels (32 - levels) outermost text
 unfolding balanced
 ends_at_opening levels outermost text behind h e =
     let none : 0 ≡ 32 - levels = omega arith in
     subst (λ (t : Text). Some (ends_at levels outermost t) ≡ finish levels (32 - levels) outermost t) (sym (begins_with 40 text behind e))
-    (goes_no_further levels 0 outermost (40 ∷ behind) (run_ends is_bare (40 ∷ behind) refl) refl ∙ ap (λ n. finish levels n outermost (40 ∷ behind)) none)
+    (goes_no_further levels 0 outermost (40 ∷ behind) (run_ends is_bare (40 ∷ behind) refl) refl
+    ∙ ap (λ n. finish levels n outermost (40 ∷ behind)) none)
 
 -- a closing one, and one is open
 pub closes : (levels : ℕ) (outermost text behind : Text) → levels ≤ 32 → 0 < levels → Some behind ≡ is 41 text →
@@ -111,16 +147,21 @@ closes levels outermost text behind h e f =
     let more : ℕ = levels - 1 in
     let left : suc (32 - levels) ≡ 32 - more = omega arith in
     let deeper : levels ≡ suc more = omega arith in
-    sym (ap (finish levels (32 - levels) outermost) (begins_with 41 text behind f) ∙ (ap (λ d. finish d (32 - levels) outermost (41 ∷ behind)) deeper
+    sym (ap (finish levels (32 - levels) outermost) (begins_with 41 text behind f)
+    ∙ (ap (λ d. finish d (32 - levels) outermost (41 ∷ behind)) deeper
     ∙ (goes_out more (32 - levels) outermost behind ∙ ap (λ n. finish more n outermost behind) left)))
 
 -- one, and none is open
-outside : (n : ℕ) (outermost text behind : Text) → Some behind ≡ is 41 text → Some (ends_at zero outermost text) ≡ finish zero n outermost text
+outside : (n : ℕ) (outermost text behind : Text) → Some behind ≡ is 41 text
+    → Some (ends_at zero outermost text) ≡ finish zero n outermost text
 unfolding finish
-outside n outermost text behind e = subst (λ (t : Text). Some t ≡ balanced n t) (sym (begins_with 41 text behind e)) (run_stops n (41 ∷ behind) refl refl)
+outside n outermost text behind e = subst (λ (t : Text). Some t ≡ balanced n t) (sym (begins_with 41 text behind e))
+    (run_stops n (41 ∷ behind) refl refl)
 
-pub ends_at_closing : (levels n : ℕ) (outermost text behind : Text) → levels ≡ 0 → Some behind ≡ is 41 text → Some (ends_at levels outermost text) ≡ finish levels n outermost text
-ends_at_closing levels n outermost text behind e f = subst (λ (l : ℕ). Some (ends_at l outermost text) ≡ finish l n outermost text) (sym e) (outside n outermost text behind f)
+pub ends_at_closing : (levels n : ℕ) (outermost text behind : Text) → levels ≡ 0 → Some behind ≡ is 41 text
+    → Some (ends_at levels outermost text) ≡ finish levels n outermost text
+ends_at_closing levels n outermost text behind e f = subst (λ (l : ℕ). Some (ends_at l outermost text) ≡ finish l n outermost text) (sym e)
+    (outside n outermost text behind f)
 
 -- none of all these
 pub ends_here : (levels n : ℕ) (outermost text : Text) → None ≡ (escaped or one is_bare) text → None ≡ is 40 text → None ≡ is 41 text →

@@ -4,7 +4,8 @@ use Rattle.doc_rules.specs.Characters.{Text}
 use Rattle.doc_rules.specs.Parsers.{◌or◌}
 use Rattle.doc_rules.specs.Destinations.{destination, title_in, title}
 use Rattle.doc_rules.specs.Labels.{label}
-use Rattle.doc_rules.proofs.ParserLaws.{IsRest, or_leaves}
+use Rattle.doc_rules.specs.Rests.{IsRest}
+use Rattle.doc_rules.proofs.ParserLaws.{or_leaves}
 use Rattle.doc_rules.proofs.GrammarLaws.{destination_leaves, title_in_leaves, title_leaves, label_leaves}
 
 pub destination_rest : (text rest : Text) → Some rest ≡ destination text → IsRest rest text

@@ -1,5 +1,30 @@
 -- What collapsing keeps of a word, the white space behind it and the rest.
-use Rattle.std.proofs.Common.{◌≡◌, ℕ, ◌<◌, ◌≤◌, Bool, true, false, not, List, [], ◌∷◌, ◌++◌, length, refl, ap, sym, ◌∙◌, Option, Some, arith, append_assoc, append-nil, chars, IsUtf8}
+use Rattle.std.proofs.Common.{
+  ◌≡◌,
+  ℕ,
+  ◌<◌,
+  ◌≤◌,
+  Bool,
+  true,
+  false,
+  not,
+  List,
+  [],
+  ◌∷◌,
+  ◌++◌,
+  length,
+  refl,
+  ap,
+  sym,
+  ◌∙◌,
+  Option,
+  Some,
+  arith,
+  append_assoc,
+  append-nil,
+  chars,
+  IsUtf8,
+}
 use Rattle.std.specs.Prelude.{◌&&◌, ◌==◌}
 use Rattle.std.specs.List.{list_all}
 use Rattle.std.specs.Str.{encode_utf8_all}
@@ -45,7 +70,8 @@ many_nil test = refl
 abbrev collapse_choice : Bool → Bool → ℕ → Text → Text
 collapse_choice a b c rest = elim a [ true ↦ elim b [ true ↦ collapse rest | false ↦ 32 ∷ collapse rest ] | false ↦ c ∷ collapse rest ]
 
-collapse_cons : (c : ℕ) (rest : Text) → collapse (c ∷ rest) ≡ collapse_choice (is_space_tab_or_ending c) (is_space_tab_or_ending (first_or 0 rest)) c rest
+collapse_cons : (c : ℕ) (rest : Text) → collapse (c ∷ rest) ≡ collapse_choice (is_space_tab_or_ending c)
+    (is_space_tab_or_ending (first_or 0 rest)) c rest
 unfolding collapse
 collapse_cons c rest = refl
 
@@ -56,13 +82,17 @@ collapse_nil = refl
 collapse_char : (c : ℕ) (rest : Text) → is_space_tab_or_ending c ≡ false → collapse (c ∷ rest) ≡ c ∷ collapse rest
 collapse_char c rest e = collapse_cons c rest ∙ ap (λ (a : Bool). collapse_choice a (is_space_tab_or_ending (first_or 0 rest)) c rest) e
 
-collapse_space : (c : ℕ) (rest : Text) → is_space_tab_or_ending c ≡ true → is_space_tab_or_ending (first_or 0 rest) ≡ true → collapse (c ∷ rest) ≡ collapse rest
+collapse_space : (c : ℕ) (rest : Text) → is_space_tab_or_ending c ≡ true → is_space_tab_or_ending (first_or 0 rest) ≡ true
+    → collapse (c ∷ rest) ≡ collapse rest
 collapse_space c rest e f =
-    collapse_cons c rest ∙ ap (λ (a : Bool). collapse_choice a (is_space_tab_or_ending (first_or 0 rest)) c rest) e ∙ ap (λ (b : Bool). collapse_choice true b c rest) f
+    collapse_cons c rest ∙ ap (λ (a : Bool). collapse_choice a (is_space_tab_or_ending (first_or 0 rest)) c rest) e
+    ∙ ap (λ (b : Bool). collapse_choice true b c rest) f
 
-collapse_last : (c : ℕ) (rest : Text) → is_space_tab_or_ending c ≡ true → is_space_tab_or_ending (first_or 0 rest) ≡ false → collapse (c ∷ rest) ≡ 32 ∷ collapse rest
+collapse_last : (c : ℕ) (rest : Text) → is_space_tab_or_ending c ≡ true → is_space_tab_or_ending (first_or 0 rest) ≡ false
+    → collapse (c ∷ rest) ≡ 32 ∷ collapse rest
 collapse_last c rest e f =
-    collapse_cons c rest ∙ ap (λ (a : Bool). collapse_choice a (is_space_tab_or_ending (first_or 0 rest)) c rest) e ∙ ap (λ (b : Bool). collapse_choice true b c rest) f
+    collapse_cons c rest ∙ ap (λ (a : Bool). collapse_choice a (is_space_tab_or_ending (first_or 0 rest)) c rest) e
+    ∙ ap (λ (b : Bool). collapse_choice true b c rest) f
 
 abbrev end_choice : (ℕ → Bool) → ℕ → Text → Bool → Text
 end_choice test c rest b = elim b [ true ↦ [] | false ↦ c ∷ strip_end test rest ]
@@ -104,7 +134,8 @@ run_is_stripped test (c ∷ rest) = many_cons test c rest ∙ at (run_is_strippe
     at more true = more
     at more false = refl
 
-pub front_is_stripped : (text rest : Text) → Some rest ≡ many is_space_tab_or_ending text → collapse (strip_end is_space_tab_or_ending rest) ≡ collapse (strip is_space_tab_or_ending text)
+pub front_is_stripped : (text rest : Text) → Some rest ≡ many is_space_tab_or_ending text
+    → collapse (strip_end is_space_tab_or_ending rest) ≡ collapse (strip is_space_tab_or_ending text)
 front_is_stripped text rest e =
     let same : rest ≡ strip_front is_space_tab_or_ending text = cc (run_is_stripped is_space_tab_or_ending text) in
     ap (λ (r : Text). collapse (strip_end is_space_tab_or_ending r)) same
@@ -113,7 +144,8 @@ front_is_stripped text rest e =
 
 -- a word stays as it is
 abbrev Word : Text → Text → Type 0
-Word text gap = (front : Text) × (text ≡ front ++ gap) × (collapse (strip_end is_space_tab_or_ending text) ≡ front ++ collapse (strip_end is_space_tab_or_ending gap))
+Word text gap = (front : Text) × (text ≡ front ++ gap)
+    × (collapse (strip_end is_space_tab_or_ending text) ≡ front ++ collapse (strip_end is_space_tab_or_ending gap))
 
 no_word : (text gap : Text) → text ≡ gap → Word text gap
 no_word text gap e = ([], e, ap (λ (t : Text). collapse (strip_end is_space_tab_or_ending t)) e)
@@ -131,7 +163,8 @@ word_stays [] gap e = let same : [] ≡ gap = cc (many_nil is_word_char) in no_w
 word_stays (c ∷ text) gap e = at (λ k. word_stays text gap k) (is_word_char c) refl
   where
     at : (many is_word_char text ≡ Some gap → Word text gap) → (b : Bool) → is_word_char c ≡ b → Word (c ∷ text) gap
-    at go true f = longer_word c text gap (not_true (is_space_tab_or_ending c) f) (go (sym (many_cons is_word_char c text ∙ ap (many_choice is_word_char c text) f) ∙ e))
+    at go true f = longer_word c text gap (not_true (is_space_tab_or_ending c) f)
+        (go (sym (many_cons is_word_char c text ∙ ap (many_choice is_word_char c text) f) ∙ e))
     at go false f =
         let left : Some (c ∷ text) ≡ Some gap = sym (many_cons is_word_char c text ∙ ap (many_choice is_word_char c text) f) ∙ e in
         let same : c ∷ text ≡ gap = cc in
@@ -149,7 +182,8 @@ gap_begins text [] e = tt
 gap_begins [] (d ∷ more) e = absurd (cc (many_nil is_word_char))
 gap_begins (c ∷ text) (d ∷ more) e = at (λ k. gap_begins text (d ∷ more) k) (is_word_char c) refl
   where
-    at : (many is_word_char text ≡ Some (d ∷ more) → is_space_tab_or_ending d ≡ true) → (b : Bool) → is_word_char c ≡ b → is_space_tab_or_ending d ≡ true
+    at : (many is_word_char text ≡ Some (d ∷ more) → is_space_tab_or_ending d ≡ true) → (b : Bool) → is_word_char c ≡ b
+        → is_space_tab_or_ending d ≡ true
     at go true f = go (sym (many_cons is_word_char c text ∙ ap (many_choice is_word_char c text) f) ∙ e)
     at go false f =
         let left : Some (c ∷ text) ≡ Some (d ∷ more) = sym (many_cons is_word_char c text ∙ ap (many_choice is_word_char c text) f) ∙ e in
@@ -160,42 +194,51 @@ all_white : (text : Text) → many is_space_tab_or_ending text ≡ Some [] → l
 all_white [] e = refl
 all_white (c ∷ text) e = at (λ k. all_white text k) (is_space_tab_or_ending c) refl
   where
-    at : (many is_space_tab_or_ending text ≡ Some [] → list_all is_space_tab_or_ending text ≡ true) → (b : Bool) → is_space_tab_or_ending c ≡ b → list_all is_space_tab_or_ending (c ∷ text) ≡ true
+    at : (many is_space_tab_or_ending text ≡ Some [] → list_all is_space_tab_or_ending text ≡ true) → (b : Bool)
+        → is_space_tab_or_ending c ≡ b → list_all is_space_tab_or_ending (c ∷ text) ≡ true
     at go true f =
         both (is_space_tab_or_ending c) (list_all is_space_tab_or_ending text) f
         ∙ go (sym (many_cons is_space_tab_or_ending c text ∙ ap (many_choice is_space_tab_or_ending c text) f) ∙ e)
     at go false f =
-        let left : Some (c ∷ text) ≡ Some [] = sym (many_cons is_space_tab_or_ending c text ∙ ap (many_choice is_space_tab_or_ending c text) f) ∙ e in
+        let left : Some (c ∷ text) ≡ Some [] = sym (many_cons is_space_tab_or_ending c text
+        ∙ ap (many_choice is_space_tab_or_ending c text) f) ∙ e in
         absurd (cc)
 
-not_all_white : (text : Text) (d : ℕ) (more : Text) → many is_space_tab_or_ending text ≡ Some (d ∷ more) → list_all is_space_tab_or_ending text ≡ false
+not_all_white : (text : Text) (d : ℕ) (more : Text) → many is_space_tab_or_ending text ≡ Some (d ∷ more)
+    → list_all is_space_tab_or_ending text ≡ false
 not_all_white [] d more e = absurd (cc (many_nil is_space_tab_or_ending))
 not_all_white (c ∷ text) d more e = at (λ k. not_all_white text d more k) (is_space_tab_or_ending c) refl
   where
-    at : (many is_space_tab_or_ending text ≡ Some (d ∷ more) → list_all is_space_tab_or_ending text ≡ false) → (b : Bool) → is_space_tab_or_ending c ≡ b → list_all is_space_tab_or_ending (c ∷ text) ≡ false
+    at : (many is_space_tab_or_ending text ≡ Some (d ∷ more) → list_all is_space_tab_or_ending text ≡ false) → (b : Bool)
+        → is_space_tab_or_ending c ≡ b → list_all is_space_tab_or_ending (c ∷ text) ≡ false
     at go true f =
         both (is_space_tab_or_ending c) (list_all is_space_tab_or_ending text) f
         ∙ go (sym (many_cons is_space_tab_or_ending c text ∙ ap (many_choice is_space_tab_or_ending c text) f) ∙ e)
     at go false f = neither (is_space_tab_or_ending c) (list_all is_space_tab_or_ending text) f
 
 -- white space before another word is one space
-gap_is_one_space : (c : ℕ) (text : Text) (d : ℕ) (more : Text) → is_space_tab_or_ending c ≡ true → many is_space_tab_or_ending text ≡ Some (d ∷ more) →
+gap_is_one_space : (c : ℕ) (text : Text) (d : ℕ) (more : Text) → is_space_tab_or_ending c ≡ true
+    → many is_space_tab_or_ending text ≡ Some (d ∷ more) →
     collapse (strip_end is_space_tab_or_ending (c ∷ text)) ≡ 32 ∷ collapse (strip_end is_space_tab_or_ending (d ∷ more))
 gap_is_one_space c [] d more h e = absurd (cc (many_nil is_space_tab_or_ending))
 gap_is_one_space c (b ∷ text) d more h e =
-    ap collapse (end_keeps is_space_tab_or_ending c (b ∷ text) (both (is_space_tab_or_ending c) (list_all is_space_tab_or_ending (b ∷ text)) h ∙ not_all_white (b ∷ text) d more e))
+    ap collapse (end_keeps is_space_tab_or_ending c (b ∷ text)
+    (both (is_space_tab_or_ending c) (list_all is_space_tab_or_ending (b ∷ text)) h ∙ not_all_white (b ∷ text) d more e))
     ∙ at (λ f k. gap_is_one_space b text d more f k) (is_space_tab_or_ending b) refl
   where
     kept : strip_end is_space_tab_or_ending (b ∷ text) ≡ b ∷ strip_end is_space_tab_or_ending text
     kept = end_keeps is_space_tab_or_ending b text (not_all_white (b ∷ text) d more e)
 
-    at : (is_space_tab_or_ending b ≡ true → many is_space_tab_or_ending text ≡ Some (d ∷ more) → collapse (strip_end is_space_tab_or_ending (b ∷ text)) ≡ 32 ∷ collapse (strip_end is_space_tab_or_ending (d ∷ more))) →
-        (t : Bool) → is_space_tab_or_ending b ≡ t → collapse (c ∷ strip_end is_space_tab_or_ending (b ∷ text)) ≡ 32 ∷ collapse (strip_end is_space_tab_or_ending (d ∷ more))
+    at : (is_space_tab_or_ending b ≡ true → many is_space_tab_or_ending text ≡ Some (d ∷ more)
+        → collapse (strip_end is_space_tab_or_ending (b ∷ text)) ≡ 32 ∷ collapse (strip_end is_space_tab_or_ending (d ∷ more))) →
+        (t : Bool) → is_space_tab_or_ending b ≡ t → collapse (c ∷ strip_end is_space_tab_or_ending (b ∷ text))
+        ≡ 32 ∷ collapse (strip_end is_space_tab_or_ending (d ∷ more))
     at go true f =
         collapse_space c (strip_end is_space_tab_or_ending (b ∷ text)) h (ap (λ (t : Text). is_space_tab_or_ending (first_or 0 t)) kept ∙ f)
         ∙ go f (sym (many_cons is_space_tab_or_ending b text ∙ ap (many_choice is_space_tab_or_ending b text) f) ∙ e)
     at go false f =
-        let left : Some (b ∷ text) ≡ Some (d ∷ more) = sym (many_cons is_space_tab_or_ending b text ∙ ap (many_choice is_space_tab_or_ending b text) f) ∙ e in
+        let left : Some (b ∷ text) ≡ Some (d ∷ more) = sym (many_cons is_space_tab_or_ending b text
+        ∙ ap (many_choice is_space_tab_or_ending b text) f) ∙ e in
         let same : b ∷ text ≡ d ∷ more = cc in
         collapse_last c (strip_end is_space_tab_or_ending (b ∷ text)) h (ap (λ (t : Text). is_space_tab_or_ending (first_or 0 t)) kept ∙ f)
         ∙ ap (λ (t : Text). 32 ∷ collapse (strip_end is_space_tab_or_ending t)) same
@@ -204,7 +247,8 @@ gap_is_one_space c (b ∷ text) d more h e =
 gap_before : (gap : Text) (d : ℕ) (more : Text) → BeginsGap gap → many is_space_tab_or_ending gap ≡ Some (d ∷ more) →
     collapse (strip_end is_space_tab_or_ending gap) ≡ 32 ∷ collapse (strip_end is_space_tab_or_ending (d ∷ more))
 gap_before [] d more h e = absurd (cc (many_nil is_space_tab_or_ending))
-gap_before (c ∷ text) d more h e = gap_is_one_space c text d more h (sym (many_cons is_space_tab_or_ending c text ∙ ap (many_choice is_space_tab_or_ending c text) h) ∙ e)
+gap_before (c ∷ text) d more h e = gap_is_one_space c text d more h
+    (sym (many_cons is_space_tab_or_ending c text ∙ ap (many_choice is_space_tab_or_ending c text) h) ∙ e)
 
 -- ---- a word, and what follows it
 
@@ -216,7 +260,8 @@ front_of_word text gap front e f =
     w.2 ∙ ap (λ (t : Text). t ++ collapse (strip_end is_space_tab_or_ending gap)) same
 
 -- the last word
-pub last_word : (text gap rest front old new : Text) → Some gap ≡ many is_word_char text → Some rest ≡ many is_space_tab_or_ending gap → text ≡ front ++ gap → new ≡ old ++ front → rest ≡ [] →
+pub last_word : (text gap rest front old new : Text) → Some gap ≡ many is_word_char text → Some rest ≡ many is_space_tab_or_ending gap
+    → text ≡ front ++ gap → new ≡ old ++ front → rest ≡ [] →
     new ++ collapse (strip_end is_space_tab_or_ending rest) ≡ old ++ collapse (strip_end is_space_tab_or_ending text)
 last_word text gap rest front old new e f g h n =
     let none : collapse (strip_end is_space_tab_or_ending gap) ≡ []
@@ -227,14 +272,18 @@ last_word text gap rest front old new e f g h n =
     ∙ ap (λ (t : Text). old ++ t) (sym (front_of_word text gap front (sym e) g ∙ ap (λ (t : Text). front ++ t) none ∙ append-nil front))
 
 -- a word that another follows
-pub word_and_space : (text gap rest front old mid new : Text) → Some gap ≡ many is_word_char text → Some rest ≡ many is_space_tab_or_ending gap → text ≡ front ++ gap → mid ≡ old ++ front → new ≡ mid ++ 32 ∷ [] → 0 < length rest →
+pub word_and_space : (text gap rest front old mid new : Text) → Some gap ≡ many is_word_char text
+    → Some rest ≡ many is_space_tab_or_ending gap → text ≡ front ++ gap → mid ≡ old ++ front → new ≡ mid ++ 32 ∷ [] → 0 < length rest →
     new ++ collapse (strip_end is_space_tab_or_ending rest) ≡ old ++ collapse (strip_end is_space_tab_or_ending text)
 word_and_space text gap [] front old mid new e f g h k n = absurd (omega arith)
 word_and_space text gap (d ∷ more) front old mid new e f g h k n =
     let tail : Text = collapse (strip_end is_space_tab_or_ending (d ∷ more)) in
-    let spaced : collapse (strip_end is_space_tab_or_ending gap) ≡ 32 ∷ tail = gap_before gap d more (gap_begins text gap (sym e)) (sym f) in
-    let whole : collapse (strip_end is_space_tab_or_ending text) ≡ front ++ 32 ∷ tail = front_of_word text gap front (sym e) g ∙ ap (λ (t : Text). front ++ t) spaced in
-    ap (λ (t : Text). t ++ tail) k ∙ append_assoc mid (32 ∷ []) tail ∙ ap (λ (t : Text). t ++ 32 ∷ tail) h ∙ append_assoc old front (32 ∷ tail) ∙ ap (λ (t : Text). old ++ t) (sym whole)
+    let spaced : collapse (strip_end is_space_tab_or_ending gap) ≡ 32 ∷ tail = gap_before gap d more (gap_begins text gap (sym e)) (sym f)
+    in
+    let whole : collapse (strip_end is_space_tab_or_ending text) ≡ front ++ 32 ∷ tail = front_of_word text gap front (sym e) g
+    ∙ ap (λ (t : Text). front ++ t) spaced in
+    ap (λ (t : Text). t ++ tail) k ∙ append_assoc mid (32 ∷ []) tail ∙ ap (λ (t : Text). t ++ 32 ∷ tail) h
+    ∙ append_assoc old front (32 ∷ tail) ∙ ap (λ (t : Text). old ++ t) (sym whole)
 
 -- ---- how much is left
 
@@ -242,20 +291,23 @@ run_is_no_longer : (test : ℕ → Bool) (text rest : Text) → many test text �
 run_is_no_longer test text rest e = rest_is_shorter rest text (many_leaves test text rest e)
 
 -- a word and the white space behind it are a character at least
-pub word_takes : (text gap rest : Text) → Some gap ≡ many is_word_char text → Some rest ≡ many is_space_tab_or_ending gap → 0 < length text → length rest < length text
+pub word_takes : (text gap rest : Text) → Some gap ≡ many is_word_char text → Some rest ≡ many is_space_tab_or_ending gap → 0 < length text
+    → length rest < length text
 word_takes [] gap rest e f n = absurd (omega arith)
 word_takes (c ∷ text) gap rest e f n = at (is_word_char c) refl
   where
     at : (b : Bool) → is_word_char c ≡ b → length rest < length (c ∷ text)
     at true g =
-        let a : length gap ≤ length text = run_is_no_longer is_word_char text gap (sym (many_cons is_word_char c text ∙ ap (many_choice is_word_char c text) g) ∙ sym e) in
+        let a : length gap ≤ length text = run_is_no_longer is_word_char text gap
+        (sym (many_cons is_word_char c text ∙ ap (many_choice is_word_char c text) g) ∙ sym e) in
         let b : length rest ≤ length gap = run_is_no_longer is_space_tab_or_ending gap rest (sym f) in
         omega arith
     at false g =
         let left : Some (c ∷ text) ≡ Some gap = sym (many_cons is_word_char c text ∙ ap (many_choice is_word_char c text) g) ∙ sym e in
         let same : c ∷ text ≡ gap = cc in
         let white : is_space_tab_or_ending c ≡ true = not_false (is_space_tab_or_ending c) g in
-        let on : many is_space_tab_or_ending text ≡ Some rest = sym (many_cons is_space_tab_or_ending c text ∙ ap (many_choice is_space_tab_or_ending c text) white) ∙ ap (many is_space_tab_or_ending) same ∙ sym f in
+        let on : many is_space_tab_or_ending text ≡ Some rest = sym (many_cons is_space_tab_or_ending c text
+        ∙ ap (many_choice is_space_tab_or_ending c text) white) ∙ ap (many is_space_tab_or_ending) same ∙ sym f in
         let a : length rest ≤ length text = run_is_no_longer is_space_tab_or_ending text rest on in
         omega arith
 

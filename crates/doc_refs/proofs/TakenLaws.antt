@@ -17,7 +17,8 @@ use Rattle.doc_refs.proofs.MapLaws.{same_targets, first_of, get-joined, joined-e
 pub joined_to_none : (refs targets : Targets) → refs ≡ empty → joined refs targets ≡ targets
 joined_to_none refs targets e =
     same_targets (joined refs targets) targets (λ name.
-    get-joined refs targets name ∙ ap (λ o. first_of o (get targets name)) (ap (λ (m : Targets). get m name) e ∙ get-empty (slice_cmp nat_cmp) name))
+    get-joined refs targets name ∙ ap (λ o. first_of o (get targets name)) (ap (λ (m : Targets). get m name) e
+    ∙ get-empty (slice_cmp nat_cmp) name))
 
 first_of_three : (a b c : Option rules.Target) → first_of (first_of a b) c ≡ first_of a (first_of b c)
 first_of_three None b c = refl
@@ -32,8 +33,10 @@ joined_three first second third =
     ∙ ap (first_of (get first name)) (sym (get-joined second third name))
     ∙ sym (get-joined first (joined second third) name))
 
-joined_with_one : (refs : Targets) (d : Definition) (more : List Definition) → joined (joined refs (single (normal_label d.label) d.target)) (targets_of more) ≡ joined refs (targets_of (d ∷ more))
-joined_with_one refs d more = joined_three refs (single (normal_label d.label) d.target) (targets_of more) ∙ ap (joined refs) (joins_definitions (d ∷ []) more)
+joined_with_one : (refs : Targets) (d : Definition) (more : List Definition)
+    → joined (joined refs (single (normal_label d.label) d.target)) (targets_of more) ≡ joined refs (targets_of (d ∷ more))
+joined_with_one refs d more = joined_three refs (single (normal_label d.label) d.target) (targets_of more)
+    ∙ ap (joined refs) (joins_definitions (d ∷ []) more)
 
 -- ---- definitions one after another
 
@@ -52,13 +55,15 @@ pub one_more : (table : Table) (text : Text) (source : DefinitionSource) → Som
 one_more table text source e = definitions_step table text ∙ ap (first_and_more table text) (sym e)
 
 -- the targets so far, where no further definition stands
-pub taken_all : (table : Table) (rest : Text) (refs whole : Targets) → None ≡ definition_source rest → joined refs (targets_of (definitions_of table rest).0) ≡ whole → refs ≡ whole
+pub taken_all : (table : Table) (rest : Text) (refs whole : Targets) → None ≡ definition_source rest
+    → joined refs (targets_of (definitions_of table rest).0) ≡ whole → refs ≡ whole
 taken_all table rest refs whole e h =
     sym (joined-empty refs) ∙ ap (λ (ds : List Definition × Text). joined refs (targets_of ds.0)) (sym (none_more table rest e)) ∙ h
 
 -- the targets so far with one definition more
 pub taken_more : (table : Table) (rest name : Text) (target : rules.Target) (source : DefinitionSource) (refs new whole : Targets) →
-    Some source ≡ definition_source rest → name ≡ normal_label source.label → target ≡ rules.target_of table source.dest source.title → new ≡ joined refs (single name target) →
+    Some source ≡ definition_source rest → name ≡ normal_label source.label → target ≡ rules.target_of table source.dest source.title
+    → new ≡ joined refs (single name target) →
     joined refs (targets_of (definitions_of table rest).0) ≡ whole → joined new (targets_of (definitions_of table source.rest).0) ≡ whole
 taken_more table rest name target source refs new whole e n t s h =
     let those : Targets = targets_of (definitions_of table source.rest).0 in

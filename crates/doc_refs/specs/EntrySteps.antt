@@ -23,7 +23,8 @@ earlier n entries = filter (λ entry. nat_lt entry.1.before n) entries
 
 -- with an entry for a label, where there is none yet
 abbrev pub with_entry : {A : Type 0} → List (String A × Entry) → String A → Target → List (String A × Entry)
-with_entry entries label target = if is_some (lookup (is_at (string_cmp label)) entries) then entries else insert_entry string_cmp entries label (record { before = length entries; target = target })
+with_entry entries label target = if is_some (lookup (is_at (string_cmp label)) entries) then entries else insert_entry string_cmp entries
+    label (record { before = length entries; target = target })
 
 -- entries came to the old ones, which are those that came when there were fewer
 abbrev pub AreGrown : {A : Type 0} → List (String A × Entry) → List (String A × Entry) → Type 0

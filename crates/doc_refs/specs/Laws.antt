@@ -8,7 +8,8 @@ use Rattle.doc_refs.specs.Targets.{targets_of, joined}
 
 -- a normal label names the target of the first definition whose label matches
 abbrev pub FindsTheReference : Type 0
-FindsTheReference = (definitions : List Definition) (name : Text) → finite.get (targets_of definitions) (normal_label name) ≡ find_reference definitions name
+FindsTheReference = (definitions : List Definition) (name : Text)
+    → finite.get (targets_of definitions) (normal_label name) ≡ find_reference definitions name
 
 -- the targets of definitions and of later ones are those of all
 abbrev pub JoinsDefinitions : Type 0

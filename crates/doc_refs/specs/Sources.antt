@@ -12,4 +12,9 @@ text_shown (Some text) = Some (chars text.now)
 
 abbrev pub source_of : Option DefinitionSource → Option rules.DefinitionSource
 source_of None = None
-source_of (Some s) = Some (record { label = chars s.label.now; dest = chars s.dest.now; title = text_shown s.title; rest = chars s.rest.now })
+source_of (Some s) = Some (record {
+  label = chars s.label.now;
+  dest = chars s.dest.now;
+  title = text_shown s.title;
+  rest = chars s.rest.now;
+})

@@ -17,7 +17,8 @@ Targets = finite.FinMap {K = Text} (slice_cmp nat_cmp) rules.Target
 
 -- what tells targets apart, and what tells maps of targets apart
 abbrev pub target_code : Coded rules.Target
-target_code = code_by (Text × Option Text) (coded× (coded_list coded_ℕ) (coded_option (coded_list coded_ℕ))) (λ t. (t.dest, t.title)) (λ p. record { dest = p.0; title = p.1 }) (λ _. refl)
+target_code = code_by (Text × Option Text) (coded× (coded_list coded_ℕ) (coded_option (coded_list coded_ℕ))) (λ t. (t.dest, t.title))
+    (λ p. record { dest = p.0; title = p.1 }) (λ _. refl)
 
 abbrev pub targets_code : Coded Targets
 targets_code = finite.code (coded_list coded_ℕ) target_code

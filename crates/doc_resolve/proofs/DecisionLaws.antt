@@ -12,12 +12,15 @@ use Rattle.doc_resolve.specs.declared.link_kind.LinkKind.{LinkKind}
 use Rattle.doc_resolve.specs.declared.link_kind.LinkKind.TheVariants.{External, Page, Nowhere}
 
 -- a link is shown by the page that it leads to
-same_shown : (one other : List ℕ → Option (List ℕ)) (dest : List ℕ) (kind : LinkKind) → goal_of one kind ≡ goal_of other kind → shown_by one dest kind ≡ shown_by other dest kind
+same_shown : (one other : List ℕ → Option (List ℕ)) (dest : List ℕ) (kind : LinkKind) → goal_of one kind ≡ goal_of other kind
+    → shown_by one dest kind ≡ shown_by other dest kind
 same_shown one other dest External same = refl
 same_shown one other dest (Page path anchor) same = ap (λ goal. shown_page goal anchor) same
 same_shown one other dest Nowhere same = refl
 
-same_filled : (one other : List ℕ → Option (List ℕ)) (page : List ℕ) (pieces : List Piece) → flat_map (decisions_in one (base_of page)) pieces ≡ flat_map (decisions_in other (base_of page)) pieces → flat_map (filled_piece (shown one page)) pieces ≡ flat_map (filled_piece (shown other page)) pieces
+same_filled : (one other : List ℕ → Option (List ℕ)) (page : List ℕ) (pieces : List Piece)
+    → flat_map (decisions_in one (base_of page)) pieces ≡ flat_map (decisions_in other (base_of page)) pieces
+    → flat_map (filled_piece (shown one page)) pieces ≡ flat_map (filled_piece (shown other page)) pieces
 same_filled one other page [] same = refl
 same_filled one other page (Html text ∷ pieces) same = ap (λ rest. text ++ rest) (same_filled one other page pieces same)
 same_filled one other page (Link spot ∷ pieces) same =

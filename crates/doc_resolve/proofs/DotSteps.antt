@@ -1,5 +1,32 @@
 -- Steps of the proofs on the segments of paths.
-use Rattle.std.proofs.Common.{◌≡◌, ℕ, ◌+◌, ◌<◌, ◌==◌, ◌&&◌, true, false, cond, get_or, take, List, [], ◌∷◌, ◌++◌, length, map, Option, Some, None, refl, sym, ap, ◌∙◌, arith, Bor}
+use Rattle.std.proofs.Common.{
+  ◌≡◌,
+  ℕ,
+  ◌+◌,
+  ◌<◌,
+  ◌==◌,
+  ◌&&◌,
+  true,
+  false,
+  cond,
+  get_or,
+  take,
+  List,
+  [],
+  ◌∷◌,
+  ◌++◌,
+  length,
+  map,
+  Option,
+  Some,
+  None,
+  refl,
+  sym,
+  ap,
+  ◌∙◌,
+  arith,
+  Bor,
+}
 use Rattle.std.specs.Prelude.{is_some, IsSome, ◌↔◌}
 use Rattle.std.specs.List.{onto_first}
 use Rattle.std.specs.Option.{option_to_list}
@@ -22,7 +49,8 @@ but_last-push (y ∷ []) x = refl
 but_last-push (y ∷ z ∷ xs) x = ap (λ rest. y ∷ rest) (but_last-push (z ∷ xs) x)
 
 -- the last slice is taken away
-pub popped : (xs ys : List (Bor (List ℕ))) (r : Option (Bor (List ℕ))) (n : ℕ) → n ≡ length xs → xs ≡ ys ++ option_to_list r → IsSome r ↔ (0 < n) → texts ys ≡ but_last (texts xs)
+pub popped : (xs ys : List (Bor (List ℕ))) (r : Option (Bor (List ℕ))) (n : ℕ) → n ≡ length xs → xs ≡ ys ++ option_to_list r
+    → IsSome r ↔ (0 < n) → texts ys ≡ but_last (texts xs)
 popped [] ys None n len is some = sym (ap texts (is ∙ append-nil ys))
 popped (x ∷ xs) ys None n len is some = let none : IsSome {T = Bor (List ℕ)} None = some.1 (omega arith) in absurd (cc)
 popped xs ys (Some y) n len is some =
@@ -34,7 +62,8 @@ back-is (x ∷ []) many = absurd (many refl)
 back-is (x ∷ y ∷ xs) many = refl
 
 -- taken back from the output, where that isn't its only segment
-pub popped_back : (xs ys : List (Bor (List ℕ))) (r : Option (Bor (List ℕ))) (n : ℕ) → n ≡ length xs → (n ≡ 1 → ⊥) → xs ≡ ys ++ option_to_list r → IsSome r ↔ (0 < n) → texts ys ≡ back (texts xs)
+pub popped_back : (xs ys : List (Bor (List ℕ))) (r : Option (Bor (List ℕ))) (n : ℕ) → n ≡ length xs → (n ≡ 1 → ⊥)
+    → xs ≡ ys ++ option_to_list r → IsSome r ↔ (0 < n) → texts ys ≡ back (texts xs)
 popped_back xs ys r n len many is some =
     popped xs ys r n len is some
     ∙ sym (back-is (texts xs) (λ e. many (len ∙ sym (length_texts xs) ∙ e)))
@@ -88,20 +117,24 @@ no_path-is ((b ∷ s) ∷ []) e = absurd (cc)
 no_path-is (s ∷ t ∷ xs) e = absurd (cc)
 
 -- the base's path without its last segment
-pub folder-left : (authority : Option (List ℕ)) (base left : List (List ℕ)) → (is_some authority && is_no_path base) ≡ false → left ≡ but_last base → left ≡ folder authority base
+pub folder-left : (authority : Option (List ℕ)) (base left : List (List ℕ)) → (is_some authority && is_no_path base) ≡ false
+    → left ≡ but_last base → left ≡ folder authority base
 folder-left authority base left goes is =
     is ∙ sym (cond-false (is_some authority && is_no_path base) ([] ∷ []) (but_last base) goes)
 
 -- the segments of a path are put out one by one
-pub put_out-turn : (path : List (Bor (List ℕ))) (i : ℕ) (out new : List (List ℕ)) (d : Bor (List ℕ)) → i < length path → out ≡ put_all [] (texts (take i path)) → new ≡ put_out out (get_or path i d).now → new ≡ put_all [] (texts (take (i + 1) path))
+pub put_out-turn : (path : List (Bor (List ℕ))) (i : ℕ) (out new : List (List ℕ)) (d : Bor (List ℕ)) → i < length path
+    → out ≡ put_all [] (texts (take i path)) → new ≡ put_out out (get_or path i d).now → new ≡ put_all [] (texts (take (i + 1) path))
 put_out-turn path i out new d within known is =
     let segment = get_or path i d in
     is
     ∙ ap (λ o. put_out o segment.now) known
-    ∙ sym (ap (λ p. put_all [] (texts p)) (take_more path i d within) ∙ ap (put_all []) (map-append (λ s. s.now) (take i path) (segment ∷ [])) ∙ put_all-more [] (texts (take i path)) segment.now)
+    ∙ sym (ap (λ p. put_all [] (texts p)) (take_more path i d within)
+    ∙ ap (put_all []) (map-append (λ s. s.now) (take i path) (segment ∷ [])) ∙ put_all-more [] (texts (take i path)) segment.now)
 
 -- what a slice points to, by its place
-pub text_at : (slices : List (Bor (List ℕ))) (i : ℕ) (d : Bor (List ℕ)) → i < length slices → (i < length (texts slices)) × ((get_or slices i d).now ≡ get_or (texts slices) i (get_or slices i d).now)
+pub text_at : (slices : List (Bor (List ℕ))) (i : ℕ) (d : Bor (List ℕ)) → i < length slices
+    → (i < length (texts slices)) × ((get_or slices i d).now ≡ get_or (texts slices) i (get_or slices i d).now)
 text_at slices i d within =
     let len = length-map slices (λ (s : Bor (List ℕ)). s.now) in
     (omega arith, sym (get_or-map (λ s. s.now) slices i d _ within))

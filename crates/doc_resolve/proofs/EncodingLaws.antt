@@ -1,5 +1,31 @@
 -- Percent-encoding a path, segment by segment and as a whole.
-use Rattle.std.proofs.Common.{◌≡◌, ℕ, suc, ◌<◌, lit<, ◌==◌, not, ◌||◌, Bool, false, cond, List, [], ◌∷◌, ◌++◌, length, get_or, map, refl, sym, ap, ◌∙◌, arith, inl, inr}
+use Rattle.std.proofs.Common.{
+  ◌≡◌,
+  ℕ,
+  suc,
+  ◌<◌,
+  lit<,
+  ◌==◌,
+  not,
+  ◌||◌,
+  Bool,
+  false,
+  cond,
+  List,
+  [],
+  ◌∷◌,
+  ◌++◌,
+  length,
+  get_or,
+  map,
+  refl,
+  sym,
+  ap,
+  ◌∙◌,
+  arith,
+  inl,
+  inr,
+}
 use Rattle.std.specs.List.{onto_first, join_with_byte, flat_map}
 use Rattle.std.proofs.lemmas.Bool.{agree_below_at, cases_Bool, cond_both}
 use Rattle.std.proofs.lemmas.Bool.Decides.{nat_tests}
@@ -7,7 +33,13 @@ use Rattle.std.proofs.lemmas.List.Splits.{slice_split-cons_yes, slice_split-cons
 use Rattle.percent_encoding.specs.declared.ascii_set.AsciiSet.{AsciiSet}
 use Rattle.percent_encoding.specs.AsciiSet.{should_percent_encode}
 use Rattle.percent_encoding.specs.Percent.{percent_encode, percent_encode_byte}
-use Rattle.percent_encoding.proofs.PercentLemmas.{percent_encode-nil, percent_encode_escaped, percent_encode_kept, All-percent_encode_byte, IsEscapeByte}
+use Rattle.percent_encoding.proofs.PercentLemmas.{
+  percent_encode-nil,
+  percent_encode_escaped,
+  percent_encode_kept,
+  All-percent_encode_byte,
+  IsEscapeByte,
+}
 use Rattle.doc_page.specs.Paths.{segments}
 use Rattle.doc_resolve.specs.Encoding.{is_unreserved, encoded, encoded_path}
 use Rattle.doc_resolve.specs.Hrefs.{is_kept, destination}
@@ -49,7 +81,8 @@ encoded-nil = refl
 abbrev encoded_but : (ℕ → Bool) → List ℕ → List ℕ
 encoded_but kept text = flat_map (λ b. cond (kept b) (b ∷ []) (percent_encode_byte b)) text
 
-by_set : (set : AsciiSet) (kept : ℕ → Bool) → ((b : ℕ) → b < 256 → should_percent_encode set b ≡ not (kept b)) → (text : List ℕ) → IsBytes text → percent_encode set text ≡ encoded_but kept text
+by_set : (set : AsciiSet) (kept : ℕ → Bool) → ((b : ℕ) → b < 256 → should_percent_encode set b ≡ not (kept b)) → (text : List ℕ)
+    → IsBytes text → percent_encode set text ≡ encoded_but kept text
 by_set set kept law [] small = percent_encode-nil set
 by_set set kept law (b ∷ text) small =
     let here = law b (small 0 (omega arith)) in
@@ -109,7 +142,8 @@ onto_all-cons : (bytes part : List ℕ) (parts : List (List ℕ)) → onto_all b
 onto_all-cons [] part parts = refl
 onto_all-cons (b ∷ bytes) part parts = ap (onto_first b) (onto_all-cons bytes part parts)
 
-encoded-onto : (b : ℕ) (parts : List (List ℕ)) → 0 < length parts → map encoded (onto_first b parts) ≡ onto_all (in_uri b) (map encoded parts)
+encoded-onto : (b : ℕ) (parts : List (List ℕ)) → 0 < length parts
+    → map encoded (onto_first b parts) ≡ onto_all (in_uri b) (map encoded parts)
 encoded-onto b [] some = absurd (omega arith)
 encoded-onto b (part ∷ parts) some =
     ap (λ p. p ∷ map encoded parts) (encoded-first b part) ∙ sym (onto_all-cons (in_uri b) (encoded part) (map encoded parts))

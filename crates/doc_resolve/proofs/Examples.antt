@@ -190,102 +190,124 @@ abnormal_19 = refl
 -- destinations in the page `guide/x.md`
 -- dot segments above the root go
 link_above_the_root : classify (codes "guide/x.md") (codes "../../../y.md") ≡ Page (codes "y.md") None
-unfolding chars encode encoded encoded_path is_path is_utf8 kind_on path_written percent_decode percent_encode_byte put_all reference resolve without_dots
+unfolding chars encode encoded encoded_path is_path is_utf8 kind_on path_written percent_decode percent_encode_byte put_all reference
+    resolve without_dots
 link_above_the_root = refl
 
 -- a folder is its `index.md`
 link_folder : classify (codes "guide/x.md") (codes "./") ≡ Page (codes "guide/index.md") None
-unfolding chars encode encoded encoded_path is_path is_utf8 kind_on path_written percent_decode percent_encode_byte put_all reference resolve without_dots
+unfolding chars encode encoded encoded_path is_path is_utf8 kind_on path_written percent_decode percent_encode_byte put_all reference
+    resolve without_dots
 link_folder = refl
 
 link_one_anchor : classify (codes "guide/x.md") (codes "#s") ≡ Page (codes "guide/x.md") (Some (codes "s"))
-unfolding chars encode encoded encoded_path is_path is_utf8 kind_on path_written percent_decode percent_encode_byte put_all reference resolve without_dots
+unfolding chars encode encoded encoded_path is_path is_utf8 kind_on path_written percent_decode percent_encode_byte put_all reference
+    resolve without_dots
 link_one_anchor = refl
 
 -- the query is dropped
 link_query_alone : classify (codes "guide/x.md") (codes "?q") ≡ Page (codes "guide/x.md") None
-unfolding chars encode encoded encoded_path is_path is_utf8 kind_on path_written percent_decode percent_encode_byte put_all reference resolve without_dots
+unfolding chars encode encoded encoded_path is_path is_utf8 kind_on path_written percent_decode percent_encode_byte put_all reference
+    resolve without_dots
 link_query_alone = refl
 
 -- the empty reference is one to the page itself (RFC 3986, section 4.4)
 link_same_document : classify (codes "guide/x.md") [] ≡ Page (codes "guide/x.md") None
-unfolding chars encode encoded encoded_path is_path is_utf8 kind_on path_written percent_decode percent_encode_byte put_all reference resolve without_dots
+unfolding chars encode encoded encoded_path is_path is_utf8 kind_on path_written percent_decode percent_encode_byte put_all reference
+    resolve without_dots
 link_same_document = refl
 
 -- an authority leaves the site (section 4.2)
 link_network_path : classify (codes "guide/x.md") (codes "//h/z") ≡ External
-unfolding chars encode encoded encoded_path is_path is_utf8 kind_on path_written percent_decode percent_encode_byte put_all reference resolve without_dots
+unfolding chars encode encoded encoded_path is_path is_utf8 kind_on path_written percent_decode percent_encode_byte put_all reference
+    resolve without_dots
 link_network_path = refl
 
 -- encoded dots are no dot segment, and no segment of a page's path
 link_encoded_dots : classify (codes "guide/x.md") (codes "%2e%2e/y.md") ≡ Nowhere
-unfolding chars encode encoded encoded_path is_path is_utf8 kind_on path_written percent_decode percent_encode_byte put_all reference resolve without_dots
+unfolding chars encode encoded encoded_path is_path is_utf8 kind_on path_written percent_decode percent_encode_byte put_all reference
+    resolve without_dots
 link_encoded_dots = refl
 
 link_rooted : classify (codes "guide/x.md") (codes "/y.md") ≡ Page (codes "y.md") None
-unfolding chars encode encoded encoded_path is_path is_utf8 kind_on path_written percent_decode percent_encode_byte put_all reference resolve without_dots
+unfolding chars encode encoded encoded_path is_path is_utf8 kind_on path_written percent_decode percent_encode_byte put_all reference
+    resolve without_dots
 link_rooted = refl
 
 link_root : classify (codes "guide/x.md") (codes "/") ≡ Page (codes "index.md") None
-unfolding chars encode encoded encoded_path is_path is_utf8 kind_on path_written percent_decode percent_encode_byte put_all reference resolve without_dots
+unfolding chars encode encoded encoded_path is_path is_utf8 kind_on path_written percent_decode percent_encode_byte put_all reference
+    resolve without_dots
 link_root = refl
 
 -- paths and anchors are decoded, once
 link_sibling : classify (codes "guide/x.md") (codes "a%20b.md#c%20d") ≡ Page (codes "guide/a b.md") (Some (codes "c d"))
-unfolding chars encode encoded encoded_path is_path is_utf8 kind_on path_written percent_decode percent_encode_byte put_all reference resolve without_dots
+unfolding chars encode encoded encoded_path is_path is_utf8 kind_on path_written percent_decode percent_encode_byte put_all reference
+    resolve without_dots
 link_sibling = refl
 
 -- `%20` holds a `%`, so it is no path
 link_decoded_once : classify (codes "guide/x.md") (codes "a%2520b.md") ≡ Nowhere
-unfolding chars encode encoded encoded_path is_path is_utf8 kind_on path_written percent_decode percent_encode_byte put_all reference resolve without_dots
+unfolding chars encode encoded encoded_path is_path is_utf8 kind_on path_written percent_decode percent_encode_byte put_all reference
+    resolve without_dots
 link_decoded_once = refl
 
 link_encoded_slash : classify (codes "guide/x.md") (codes "a%2Fb.md") ≡ Nowhere
-unfolding chars encode encoded encoded_path is_path is_utf8 kind_on path_written percent_decode percent_encode_byte put_all reference resolve without_dots
+unfolding chars encode encoded encoded_path is_path is_utf8 kind_on path_written percent_decode percent_encode_byte put_all reference
+    resolve without_dots
 link_encoded_slash = refl
 
 link_absolute : classify (codes "guide/x.md") (codes "https://h/a.md") ≡ External
-unfolding chars encode encoded encoded_path is_path is_utf8 kind_on path_written percent_decode percent_encode_byte put_all reference resolve without_dots
+unfolding chars encode encoded encoded_path is_path is_utf8 kind_on path_written percent_decode percent_encode_byte put_all reference
+    resolve without_dots
 link_absolute = refl
 
 -- what stands before a `:` is a scheme by appendix B, whatever its characters
 link_any_scheme : classify (codes "guide/x.md") (codes "1:2") ≡ External
-unfolding chars encode encoded encoded_path is_path is_utf8 kind_on path_written percent_decode percent_encode_byte put_all reference resolve without_dots
+unfolding chars encode encoded encoded_path is_path is_utf8 kind_on path_written percent_decode percent_encode_byte put_all reference
+    resolve without_dots
 link_any_scheme = refl
 
 link_no_scheme : classify (codes "guide/x.md") (codes ":y") ≡ Page (codes "guide/:y") None
-unfolding chars encode encoded encoded_path is_path is_utf8 kind_on path_written percent_decode percent_encode_byte put_all reference resolve without_dots
+unfolding chars encode encoded encoded_path is_path is_utf8 kind_on path_written percent_decode percent_encode_byte put_all reference
+    resolve without_dots
 link_no_scheme = refl
 
 link_mail : classify (codes "guide/x.md") (codes "mailto:a@b") ≡ External
-unfolding chars encode encoded encoded_path is_path is_utf8 kind_on path_written percent_decode percent_encode_byte put_all reference resolve without_dots
+unfolding chars encode encoded encoded_path is_path is_utf8 kind_on path_written percent_decode percent_encode_byte put_all reference
+    resolve without_dots
 link_mail = refl
 
 -- an empty fragment is no anchor
 link_no_anchor : classify (codes "guide/x.md") (codes "y.md#") ≡ Page (codes "guide/y.md") None
-unfolding chars encode encoded encoded_path is_path is_utf8 kind_on path_written percent_decode percent_encode_byte put_all reference resolve without_dots
+unfolding chars encode encoded encoded_path is_path is_utf8 kind_on path_written percent_decode percent_encode_byte put_all reference
+    resolve without_dots
 link_no_anchor = refl
 
 -- a fragment that stands for no UTF-8 is the anchor as it is
 link_bad_anchor : classify (codes "guide/x.md") (codes "#%ff") ≡ Page (codes "guide/x.md") (Some (codes "%ff"))
-unfolding chars encode encoded encoded_path is_path is_utf8 kind_on path_written percent_decode percent_encode_byte put_all reference resolve without_dots
+unfolding chars encode encoded encoded_path is_path is_utf8 kind_on path_written percent_decode percent_encode_byte put_all reference
+    resolve without_dots
 link_bad_anchor = refl
 
 link_anchor_slash : classify (codes "guide/x.md") (codes "#a/b?c") ≡ Page (codes "guide/x.md") (Some (codes "a/b?c"))
-unfolding chars encode encoded encoded_path is_path is_utf8 kind_on path_written percent_decode percent_encode_byte put_all reference resolve without_dots
+unfolding chars encode encoded encoded_path is_path is_utf8 kind_on path_written percent_decode percent_encode_byte put_all reference
+    resolve without_dots
 link_anchor_slash = refl
 
 link_empty_segment : classify (codes "guide/x.md") (codes "a//b.md") ≡ Nowhere
-unfolding chars encode encoded encoded_path is_path is_utf8 kind_on path_written percent_decode percent_encode_byte put_all reference resolve without_dots
+unfolding chars encode encoded encoded_path is_path is_utf8 kind_on path_written percent_decode percent_encode_byte put_all reference
+    resolve without_dots
 link_empty_segment = refl
 
 link_bad_bytes : classify (codes "guide/x.md") (codes "%ff.md") ≡ Nowhere
-unfolding chars encode encoded encoded_path is_path is_utf8 kind_on path_written percent_decode percent_encode_byte put_all reference resolve without_dots
+unfolding chars encode encoded encoded_path is_path is_utf8 kind_on path_written percent_decode percent_encode_byte put_all reference
+    resolve without_dots
 link_bad_bytes = refl
 
 -- the page's own path is encoded before anything is resolved on it
 link_in_a_space : classify (codes "a b/x#y.md") (codes "z.md") ≡ Page (codes "a b/z.md") None
-unfolding chars encode encoded encoded_path is_path is_utf8 kind_on path_written percent_decode percent_encode_byte put_all reference resolve without_dots
+unfolding chars encode encoded encoded_path is_path is_utf8 kind_on path_written percent_decode percent_encode_byte put_all reference
+    resolve without_dots
 link_in_a_space = refl
 
 -- encoding

@@ -13,7 +13,9 @@ pub joined-none : (path : List (Bor (List ℕ))) (out : List ℕ) → length pat
 joined-none [] out none = sym (append-nil out)
 joined-none (s ∷ path) out none = absurd (omega arith)
 
-pub joined-some : (path : List (Bor (List ℕ))) (first : Bor (List ℕ)) (others : List (Bor (List ℕ))) (out with_first new : List ℕ) → path ≡ first ∷ others → with_first ≡ out ++ first.now → new ≡ with_first ++ flat_map (λ s. 47 ∷ s) (texts others) → new ≡ out ++ join_with_byte 47 (texts path)
+pub joined-some : (path : List (Bor (List ℕ))) (first : Bor (List ℕ)) (others : List (Bor (List ℕ))) (out with_first new : List ℕ)
+    → path ≡ first ∷ others → with_first ≡ out ++ first.now → new ≡ with_first ++ flat_map (λ s. 47 ∷ s) (texts others)
+    → new ≡ out ++ join_with_byte 47 (texts path)
 joined-some path first others out with_first new is front rest =
     let more = flat_map (λ s. 47 ∷ s) (texts others) in
     rest

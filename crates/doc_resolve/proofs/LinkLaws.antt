@@ -13,14 +13,18 @@ use Rattle.doc_resolve.specs.WrittenPaths.{path_written}
 use Rattle.doc_resolve.proofs.DotSteps.{texts}
 
 -- what a reference with neither scheme nor authority leads to
-kind_inside : (base : List (List ℕ)) (r : Uri) → r.scheme ≡ None → r.authority ≡ None → kind_by (rooted base) r r.scheme r.authority ≡ page_or_nowhere (target_on base r.path) (anchor_of r.fragment)
+kind_inside : (base : List (List ℕ)) (r : Uri) → r.scheme ≡ None → r.authority ≡ None
+    → kind_by (rooted base) r r.scheme r.authority ≡ page_or_nowhere (target_on base r.path) (anchor_of r.fragment)
 unfolding resolve
 kind_inside base r no_scheme no_authority =
     ap (λ s. kind_by (rooted base) r s r.authority) no_scheme
     ∙ ap (λ a. kind_by (rooted base) r None a) no_authority
-    ∙ ap kind_of_target (ap (λ s. resolve_by (rooted base) r s r.authority) no_scheme ∙ ap (λ a. resolve_by (rooted base) r None a) no_authority)
+    ∙ ap kind_of_target (ap (λ s. resolve_by (rooted base) r s r.authority) no_scheme
+    ∙ ap (λ a. resolve_by (rooted base) r None a) no_authority)
 
-pub kind_on-inside : (base : List (List ℕ)) (dest : List ℕ) (r : Uri) (path anchor : Option (List ℕ)) → r ≡ reference dest → r.scheme ≡ None → r.authority ≡ None → path ≡ target_on base r.path → anchor ≡ anchor_of r.fragment → page_or_nowhere path anchor ≡ kind_on (rooted base) dest
+pub kind_on-inside : (base : List (List ℕ)) (dest : List ℕ) (r : Uri) (path anchor : Option (List ℕ)) → r ≡ reference dest
+    → r.scheme ≡ None → r.authority ≡ None → path ≡ target_on base r.path → anchor ≡ anchor_of r.fragment
+    → page_or_nowhere path anchor ≡ kind_on (rooted base) dest
 unfolding kind_on
 kind_on-inside base dest r path anchor parsed no_scheme no_authority found named =
     ap (λ p. page_or_nowhere p anchor) found

@@ -4,13 +4,15 @@ use Rattle.std.specs.Prelude.{codes}
 use Rattle.doc_rules.proofs.Computing.{page_words}
 use Rattle.doc_rules.specs.Anchors.{anchors_of}
 
-used_names : anchors_of (codes "A" ∷ codes "A" ∷ codes "A-1" ∷ codes "!" ∷ []) ≡ codes "a" ∷ codes "a-1" ∷ codes "a-1-1" ∷ codes "section" ∷ []
+used_names : anchors_of (codes "A" ∷ codes "A" ∷ codes "A-1" ∷ codes "!" ∷ [])
+    ≡ codes "a" ∷ codes "a-1" ∷ codes "a-1-1" ∷ codes "section" ∷ []
 unfolding page_words
 used_names = refl
 
 -- the least number that is free
 least_numbers :
-    anchors_of (codes "a" ∷ codes "a-1" ∷ codes "a" ∷ codes "a" ∷ codes "?" ∷ codes "Section" ∷ []) ≡ codes "a" ∷ codes "a-1" ∷ codes "a-2" ∷ codes "a-3" ∷ codes "section" ∷ codes "section-1" ∷ []
+    anchors_of (codes "a" ∷ codes "a-1" ∷ codes "a" ∷ codes "a" ∷ codes "?" ∷ codes "Section" ∷ [])
+    ≡ codes "a" ∷ codes "a-1" ∷ codes "a-2" ∷ codes "a-3" ∷ codes "section" ∷ codes "section-1" ∷ []
 unfolding page_words
 least_numbers = refl
 

@@ -32,10 +32,12 @@ contiguous (c ∷ rest) at (b ∷ before) column after e =
     omega arith
 
 pub columns_are_contiguous : ColumnsAreContiguous
-columns_are_contiguous line before column after e = let here : column.first ≡ 0 + total_width before = contiguous line 0 before column after e in omega arith
+columns_are_contiguous line before column after e = let here : column.first
+    ≡ 0 + total_width before = contiguous line 0 before column after e in omega arith
 
 wide : (c at : ℕ) (b : Bool) →
-    MatchBool b (((at + (if b then 4 - at % 4 else 1)) % 4 ≡ 0) × (1 ≤ (if b then 4 - at % 4 else 1)) × ((if b then 4 - at % 4 else 1) ≤ 4)) ((if b then 4 - at % 4 else 1) ≡ 1)
+    MatchBool b (((at + (if b then 4 - at % 4 else 1)) % 4 ≡ 0) × (1 ≤ (if b then 4 - at % 4 else 1))
+    × ((if b then 4 - at % 4 else 1) ≤ 4)) ((if b then 4 - at % 4 else 1) ≡ 1)
 wide c at true = (omega arith, omega arith, omega arith)
 wide c at false = refl
 

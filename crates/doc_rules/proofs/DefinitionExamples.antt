@@ -7,7 +7,8 @@ use Rattle.doc_rules.proofs.Shows.{◌shows◌, ◌gives◌}
 definitions :
     "[foo]: /url \"title\"\n\n[foo]\n" shows "<p><a href=\"/url\" title=\"title\">foo</a></p>\n" ×
     "   [foo]: \n      /url  \n           'the title'  \n\n[foo]\n" shows "<p><a href=\"/url\" title=\"the title\">foo</a></p>\n" ×
-    "[Foo*bar\\]]:my_(url) 'title (with parens)'\n\n[Foo*bar\\]]\n" shows "<p><a href=\"my_(url)\" title=\"title (with parens)\">Foo*bar]</a></p>\n" ×
+    "[Foo*bar\\]]:my_(url) 'title (with parens)'\n\n[Foo*bar\\]]\n" shows
+    "<p><a href=\"my_(url)\" title=\"title (with parens)\">Foo*bar]</a></p>\n" ×
     "[Foo bar]:\n<my url>\n'title'\n\n[Foo bar]\n" shows "<p><a href=\"my%20url\" title=\"title\">Foo bar</a></p>\n" ×
     "[foo]: /url '\ntitle\nline1\nline2\n'\n\n[foo]\n" shows "<p><a href=\"/url\" title=\"\ntitle\nline1\nline2\n\">foo</a></p>\n" ×
     "[foo]: /url 'title\n\nwith blank line'\n\n[foo]\n" shows "<p>[foo]: /url 'title</p>\n<p>with blank line'</p>\n<p>[foo]</p>\n" ×
@@ -15,7 +16,8 @@ definitions :
     "[foo]:\n\n[foo]\n" shows "<p>[foo]:</p>\n<p>[foo]</p>\n" ×
     "[foo]: <>\n\n[foo]\n" shows "<p><a href=\"\">foo</a></p>\n" ×
     "[foo]: <bar>(baz)\n\n[foo]\n" shows "<p>[foo]: <bar>(baz)</p>\n<p>[foo]</p>\n" ×
-    "[foo]: /url\\bar\\*baz \"foo\\\"bar\\baz\"\n\n[foo]\n" shows "<p><a href=\"/url%5Cbar*baz\" title=\"foo&quot;bar\\baz\">foo</a></p>\n" ×
+    "[foo]: /url\\bar\\*baz \"foo\\\"bar\\baz\"\n\n[foo]\n" shows "<p><a href=\"/url%5Cbar*baz\" title=\"foo&quot;bar\\baz\">foo</a></p>\n"
+    ×
     "[foo]\n\n[foo]: url\n" shows "<p><a href=\"url\">foo</a></p>\n" ×
     "[FOO]: /url\n\n[Foo]\n" shows "<p><a href=\"/url\">Foo</a></p>\n" ×
     "[ΑΓΩ]: /φου\n\n[αγω]\n" shows "<p><a href=\"/%CF%86%CE%BF%CF%85\">αγω</a></p>\n" ×
@@ -24,7 +26,8 @@ definitions :
     "    [foo]: /url \"title\"\n\n[foo]\n" shows "<pre><code>[foo]: /url &quot;title&quot;\n</code></pre>\n<p>[foo]</p>\n" ×
     "```\n[foo]: /url\n```\n\n[foo]\n" shows "<pre><code>[foo]: /url\n</code></pre>\n<p>[foo]</p>\n" ×
     "# [Foo]\n[foo]: /url\n> bar\n" shows "<h1><a href=\"/url\">Foo</a></h1>\n<blockquote>\n<p>bar</p>\n</blockquote>\n" ×
-    "[foo]: /foo-url \"foo\"\n[bar]: /bar-url\n  \"bar\"\n[baz]: /baz-url\n\n[foo],\n[bar],\n[baz]\n" shows "<p><a href=\"/foo-url\" title=\"foo\">foo</a>,\n<a href=\"/bar-url\" title=\"bar\">bar</a>,\n<a href=\"/baz-url\">baz</a></p>\n" ×
+    "[foo]: /foo-url \"foo\"\n[bar]: /bar-url\n  \"bar\"\n[baz]: /baz-url\n\n[foo],\n[bar],\n[baz]\n" shows
+    "<p><a href=\"/foo-url\" title=\"foo\">foo</a>,\n<a href=\"/bar-url\" title=\"bar\">bar</a>,\n<a href=\"/baz-url\">baz</a></p>\n" ×
     "[foo]: /url1\n\n[foo]: /url2\n\n[bar][foo]\n" shows "<p><a href=\"/url1\">bar</a></p>\n" ×
     -- the lines of a paragraph have lost the white space at their fronts
     "[a]: /u\n     [b]: /v\n\n[a] [b]\n" shows "<p><a href=\"/u\">a</a> <a href=\"/v\">b</a></p>\n" ×
@@ -34,7 +37,33 @@ definitions :
     -- this project's choice: an empty title is a title
     "[a]: /u ''\n\n[a]\n" shows "<p><a href=\"/u\" title=\"\">a</a></p>\n"
 unfolding html_words
-definitions = (refl, refl, refl, refl, refl, refl, refl, refl, refl, refl, refl, refl, refl, refl, refl, refl, refl, refl, refl, refl, refl, refl, refl, refl, refl)
+definitions = (
+  refl,
+  refl,
+  refl,
+  refl,
+  refl,
+  refl,
+  refl,
+  refl,
+  refl,
+  refl,
+  refl,
+  refl,
+  refl,
+  refl,
+  refl,
+  refl,
+  refl,
+  refl,
+  refl,
+  refl,
+  refl,
+  refl,
+  refl,
+  refl,
+  refl,
+)
 
 labels :
     -- full case folding

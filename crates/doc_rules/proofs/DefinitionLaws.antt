@@ -14,4 +14,5 @@ at_first d a b later e false = e
 pub first_wins : FirstWins
 unfolding find_reference
 first_wins [] more name = refl
-first_wins (d ∷ first) more name = at_first d (find_reference (first ++ more) name) (find_reference first name) (find_reference more name) (first_wins first more name) (bytes_eq (normal_label d.label) (normal_label name))
+first_wins (d ∷ first) more name = at_first d (find_reference (first ++ more) name) (find_reference first name) (find_reference more name)
+    (first_wins first more name) (bytes_eq (normal_label d.label) (normal_label name))

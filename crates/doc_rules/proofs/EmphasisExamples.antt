@@ -29,7 +29,31 @@ one_delimiter :
     "foo *_*\n" shows "<p>foo <em>_</em></p>\n" ×
     "foo ***\n" shows "<p>foo ***</p>\n"
 unfolding html_words
-one_delimiter = (refl, refl, refl, refl, refl, refl, refl, refl, refl, refl, refl, refl, refl, refl, refl, refl, refl, refl, refl, refl, refl, refl, refl)
+one_delimiter = (
+  refl,
+  refl,
+  refl,
+  refl,
+  refl,
+  refl,
+  refl,
+  refl,
+  refl,
+  refl,
+  refl,
+  refl,
+  refl,
+  refl,
+  refl,
+  refl,
+  refl,
+  refl,
+  refl,
+  refl,
+  refl,
+  refl,
+  refl,
+)
 
 two_delimiters :
     "**foo bar**\n" shows "<p><strong>foo bar</strong></p>\n" ×

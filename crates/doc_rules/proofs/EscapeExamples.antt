@@ -5,7 +5,8 @@ use Rattle.doc_rules.proofs.Computing.{html_words}
 use Rattle.doc_rules.proofs.Shows.{◌shows◌, ◌gives◌}
 
 escapes :
-    "\\!\\\"\\#\\$\\%\\&\\'\\(\\)\\*\\+\\,\\-\\.\\/\\:\\;\\<\\=\\>\\?\\@\\[\\\\\\]\\^\\_\\`\\{\\|\\}\\~\n" shows "<p>!&quot;#$%&amp;'()*+,-./:;&lt;=&gt;?@[\\]^_`{|}~</p>\n" ×
+    "\\!\\\"\\#\\$\\%\\&\\'\\(\\)\\*\\+\\,\\-\\.\\/\\:\\;\\<\\=\\>\\?\\@\\[\\\\\\]\\^\\_\\`\\{\\|\\}\\~\n" shows
+    "<p>!&quot;#$%&amp;'()*+,-./:;&lt;=&gt;?@[\\]^_`{|}~</p>\n" ×
     "\\\t\\A\\a\\ \\3\\φ\\«\n" shows "<p>\\\t\\A\\a\\ \\3\\φ\\«</p>\n" ×
     "\\*not emphasized*\n\\<br/> not a tag\n\\[not a link](/foo)\n\\`not code`\n1\\. not a list\n\\* not a list\n\\# not a heading\n\\[foo]: /url \"not a reference\"\n\\&ouml; not a character entity\n" shows "<p>*not emphasized*\n&lt;br/&gt; not a tag\n[not a link](/foo)\n`not code`\n1. not a list\n* not a list\n# not a heading\n[foo]: /url &quot;not a reference&quot;\n&amp;ouml; not a character entity</p>\n" ×
     "\\\\*emphasis*\n" shows "<p>\\<em>emphasis</em></p>\n" ×
@@ -23,10 +24,12 @@ unfolding html_words
 escapes = (refl, refl, refl, refl, refl, refl, refl, refl, refl, refl, refl, refl)
 
 references :
-    (codes "&nbsp; &amp; &copy; &AElig; &Dcaron;\n&frac34; &HilbertSpace; &DifferentialD;\n&ClockwiseContourIntegral; &ngE;\n") gives (codes "<p>" ++ (0xA0 ∷ codes " &amp; © Æ Ď\n¾ ℋ ⅆ\n∲ ≧̸</p>\n")) ×
+    (codes "&nbsp; &amp; &copy; &AElig; &Dcaron;\n&frac34; &HilbertSpace; &DifferentialD;\n&ClockwiseContourIntegral; &ngE;\n") gives
+    (codes "<p>" ++ (0xA0 ∷ codes " &amp; © Æ Ď\n¾ ℋ ⅆ\n∲ ≧̸</p>\n")) ×
     "&#35; &#1234; &#992; &#0;\n" shows "<p># Ӓ Ϡ �</p>\n" ×
     "&#X22; &#XD06; &#xcab;\n" shows "<p>&quot; ആ ಫ</p>\n" ×
-    "&nbsp &x; &#; &#x;\n&#87654321;\n&#abcdef0;\n&ThisIsNotDefined; &hi?;\n" shows "<p>&amp;nbsp &amp;x; &amp;#; &amp;#x;\n&amp;#87654321;\n&amp;#abcdef0;\n&amp;ThisIsNotDefined; &amp;hi?;</p>\n" ×
+    "&nbsp &x; &#; &#x;\n&#87654321;\n&#abcdef0;\n&ThisIsNotDefined; &hi?;\n" shows
+    "<p>&amp;nbsp &amp;x; &amp;#; &amp;#x;\n&amp;#87654321;\n&amp;#abcdef0;\n&amp;ThisIsNotDefined; &amp;hi?;</p>\n" ×
     "&copy\n" shows "<p>&amp;copy</p>\n" ×
     "&MadeUpEntity;\n" shows "<p>&amp;MadeUpEntity;</p>\n" ×
     "&#0; &copy &ngE; &MadeUpEntity;\n" shows "<p>� &amp;copy ≧̸ &amp;MadeUpEntity;</p>\n" ×

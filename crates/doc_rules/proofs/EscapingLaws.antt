@@ -40,18 +40,26 @@ three_bytes : (c : ℕ) → 2048 ≤ c → c < 65536 → encode_utf8 c ≡ (224 
 unfolding encode_utf8
 three_bytes c l h = rw (le-ltb c 128 (omega arith), le-ltb c 2048 l, lt-ltb c 65536 h)
 
-four_bytes : (c : ℕ) → 65536 ≤ c → encode_utf8 c ≡ (240 + c / 262144) ∷ (128 + (c / 4096) % 64) ∷ (128 + (c / 64) % 64) ∷ (128 + c % 64) ∷ []
+four_bytes : (c : ℕ) → 65536 ≤ c → encode_utf8 c ≡ (240 + c / 262144) ∷ (128 + (c / 4096) % 64) ∷ (128 + (c / 64) % 64) ∷ (128 + c % 64) ∷
+    []
 unfolding encode_utf8
 four_bytes c l = rw (le-ltb c 128 (omega arith), le-ltb c 2048 (omega arith), le-ltb c 65536 l)
 
 high_bytes_stay : (c : ℕ) → 128 ≤ c → AllByRecursion Stays (encode_utf8 c)
 high_bytes_stay c h =
     elim (cases_lt c 2048) [
-      | inl l ↦ subst (AllByRecursion Stays) (sym (two_bytes c h l)) (high_sum 192 (c / 64) (omega arith), (high_sum 128 (c % 64) (omega arith), tt))
+      | inl l ↦ subst (AllByRecursion Stays) (sym (two_bytes c h l))
+          (high_sum 192 (c / 64) (omega arith), (high_sum 128 (c % 64) (omega arith), tt))
       | inr g ↦ elim (cases_lt c 65536) [
-        | inl l ↦ subst (AllByRecursion Stays) (sym (three_bytes c g l)) (high_sum 224 (c / 4096) (omega arith), (high_sum 128 ((c / 64) % 64) (omega arith), (high_sum 128 (c % 64) (omega arith), tt)))
-        | inr k ↦ subst (AllByRecursion Stays) (sym (four_bytes c k))
-            (high_sum 240 (c / 262144) (omega arith), (high_sum 128 ((c / 4096) % 64) (omega arith), (high_sum 128 ((c / 64) % 64) (omega arith), (high_sum 128 (c % 64) (omega arith), tt))))
+        | inl l ↦ subst (AllByRecursion Stays) (sym (three_bytes c g l))
+            (high_sum 224 (c / 4096) (omega arith), (high_sum 128 ((c / 64) % 64) (omega arith), (high_sum 128 (c % 64) (omega arith), tt)))
+        | inr k ↦ subst (AllByRecursion Stays) (sym (four_bytes c k)) (
+          high_sum 240 (c / 262144) (omega arith),
+          (
+            high_sum 128 ((c / 4096) % 64) (omega arith),
+            (high_sum 128 ((c / 64) % 64) (omega arith), (high_sum 128 (c % 64) (omega arith), tt)),
+          ),
+        )
       ]
     ]
 
@@ -87,7 +95,11 @@ abbrev escaped_at : ℕ → Bool → Bool → Bool → Bool → Text
 escaped_at c a b d e =
     elim a [
       | true ↦ codes "&amp;"
-      | false ↦ elim b [ true ↦ codes "&lt;" | false ↦ elim d [ true ↦ codes "&gt;" | false ↦ elim e [ true ↦ codes "&quot;" | false ↦ c ∷ [] ] ] ]
+      | false ↦ elim b [
+        | true ↦ codes "&lt;"
+        | false ↦ elim d
+            [ true ↦ codes "&gt;" | false ↦ elim e [ true ↦ codes "&quot;" | false ↦ c ∷ [] ] ]
+      ]
     ]
 
 other : (c : ℕ) → (c ≡ 38 → ⊥) → (c ≡ 60 → ⊥) → (c ≡ 62 → ⊥) → (c ≡ 34 → ⊥) → Alike c

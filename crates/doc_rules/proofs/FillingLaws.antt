@@ -10,7 +10,19 @@ use Rattle.doc_rules.specs.Characters.{Text}
 use Rattle.doc_rules.specs.Escaping.{escaped_char, html_escape}
 use Rattle.doc_rules.specs.Blocks.{Document, document_of}
 use Rattle.doc_rules.specs.Html.{Output, Linker, Shown, Href, Missing, link_tag, output_of, html_of}
-use Rattle.doc_rules.specs.Pages.{PagePiece, HtmlPiece, LinkPiece, document_anchors, document_page, page_of, piece_text, filled, encoded_piece, encoded, encoded_shown}
+use Rattle.doc_rules.specs.Pages.{
+  PagePiece,
+  HtmlPiece,
+  LinkPiece,
+  document_anchors,
+  document_page,
+  page_of,
+  piece_text,
+  filled,
+  encoded_piece,
+  encoded,
+  encoded_shown,
+}
 use Rattle.doc_rules.specs.Laws.{ShowsAlike, FillingIsByBytes, FilledPagesAreHtml}
 use Rattle.doc_rules.proofs.EscapingLaws.{escaping_is_by_bytes}
 use Rattle.doc_rules.proofs.PieceLaws.{pieces_join}
@@ -22,7 +34,11 @@ same_choice : (c : ℕ) (a b d e : Bool) →
     (if a then codes "&amp;" else (if b then codes "&lt;" else (if d then codes "&gt;" else (if e then codes "&quot;" else c ∷ []))))
     ≡ elim a [
       | true ↦ codes "&amp;"
-      | false ↦ elim b [ true ↦ codes "&lt;" | false ↦ elim d [ true ↦ codes "&gt;" | false ↦ elim e [ true ↦ codes "&quot;" | false ↦ c ∷ [] ] ] ]
+      | false ↦ elim b [
+        | true ↦ codes "&lt;"
+        | false ↦ elim d
+            [ true ↦ codes "&gt;" | false ↦ elim e [ true ↦ codes "&quot;" | false ↦ c ∷ [] ] ]
+      ]
     ]
 same_choice c true b d e = refl
 same_choice c false true d e = refl
@@ -50,7 +66,8 @@ title_encoded (Some title) =
     encodes-append (name ++ escaped title) (codes "\"")
     ∙ ap (λ front. front ++ codes "\"") (encodes-append name (escaped title) ∙ ap (λ value. name ++ value) (escapes_encoded title))
 
-tag_encoded : (shown : Shown) (title : Option Text) → encode_utf8_all (link_tag shown title) ≡ opening_tag (option_map encode_utf8_all title) (encoded_shown shown)
+tag_encoded : (shown : Shown) (title : Option Text) → encode_utf8_all (link_tag shown title)
+    ≡ opening_tag (option_map encode_utf8_all title) (encoded_shown shown)
 unfolding link_tag encoded_shown encode_utf8
 tag_encoded Missing title = refl
 tag_encoded (Href href) title =
@@ -59,7 +76,8 @@ tag_encoded (Href href) title =
     encodes-append (name ++ href ++ quote ++ title_attribute title) (codes ">")
     ∙ ap (λ front. front ++ codes ">")
     (encodes-append (name ++ href ++ quote) (title_attribute title)
-    ∙ (ap (λ front. front ++ encode_utf8_all (title_attribute title)) (encodes-append (name ++ href) quote ∙ ap (λ front. front ++ quote) (encodes-append name href))
+    ∙ (ap (λ front. front ++ encode_utf8_all (title_attribute title)) (encodes-append (name ++ href) quote
+    ∙ ap (λ front. front ++ quote) (encodes-append name href))
     ∙ ap (λ attribute. name ++ encode_utf8_all href ++ quote ++ attribute) (title_encoded title)))
 
 -- ---- pieces
@@ -71,7 +89,8 @@ module _ (linker : Linker) (shown : List ℕ → PageShown) (alike : ShowsAlike 
   piece_encoded (LinkPiece target) =
       ap (opening_tag (option_map encode_utf8_all target.title)) (alike target.dest) ∙ sym (tag_encoded (linker target.dest) target.title)
 
-  pieces_encoded : (some : List PagePiece) → flat_map (filled_piece shown) (map encoded_piece some) ≡ encode_utf8_all (flat_map (piece_text linker) some)
+  pieces_encoded : (some : List PagePiece) → flat_map (filled_piece shown) (map encoded_piece some)
+      ≡ encode_utf8_all (flat_map (piece_text linker) some)
   pieces_encoded [] = refl
   pieces_encoded (piece ∷ more) =
       ap (λ front. front ++ flat_map (filled_piece shown) (map encoded_piece more)) (piece_encoded piece)

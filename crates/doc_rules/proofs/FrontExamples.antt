@@ -24,7 +24,8 @@ content = refl
 
 columns :
     columns_of (codes "a\tb\t")
-    ≡ record { char = 97; first = 0; width = 1 } ∷ record { char = 9; first = 1; width = 3 } ∷ record { char = 98; first = 4; width = 1 } ∷ record { char = 9; first = 5; width = 3 } ∷ []
+    ≡ record { char = 97; first = 0; width = 1 } ∷ record { char = 9; first = 1; width = 3 } ∷ record { char = 98; first = 4; width = 1 } ∷
+    record { char = 9; first = 5; width = 3 } ∷ []
 unfolding reference_words
 columns = refl
 
@@ -39,7 +40,8 @@ skipped = (refl, refl, refl, refl)
 
 -- ---- escapes and references (2.4, 2.5)
 
-references : unescape built_in (codes "&#0; &copy &ngE; &MadeUpEntity;") ≡ 0xFFFD ∷ codes " &copy " ++ (0x2267 ∷ 0x338 ∷ codes " &MadeUpEntity;")
+references : unescape built_in (codes "&#0; &copy &ngE; &MadeUpEntity;") ≡ 0xFFFD ∷ codes " &copy "
+    ++ (0x2267 ∷ 0x338 ∷ codes " &MadeUpEntity;")
 unfolding reference_words
 references = refl
 
@@ -208,7 +210,8 @@ margins = (refl, refl, refl, refl, refl, refl)
 -- the first definition wins
 first_of_two :
     find_reference
-    (record { label = codes "A"; target = record { dest = codes "x"; title = None } } ∷ record { label = codes "a"; target = record { dest = codes "y"; title = None } } ∷ [])
+    (record { label = codes "A"; target = record { dest = codes "x"; title = None } } ∷
+    record { label = codes "a"; target = record { dest = codes "y"; title = None } } ∷ [])
     (codes " a ")
     ≡ Some (record { dest = codes "x"; title = None })
 unfolding reference_words

@@ -1,18 +1,128 @@
 -- Tags, destinations, titles, labels, definitions, addresses and references leave the end of a text; definitions one after another are
 -- one and then the others.
-use Rattle.std.proofs.Common.{◌≡◌, ℕ, zero, suc, ◌<◌, ◌≤◌, Bool, not, ◌==◌, List, [], ◌∷◌, length, refl, ap, sym, ◌∙◌, Option, Some, None, arith, subst}
+use Rattle.std.proofs.Common.{
+  ◌≡◌,
+  ℕ,
+  zero,
+  suc,
+  ◌<◌,
+  ◌≤◌,
+  Bool,
+  not,
+  ◌==◌,
+  List,
+  [],
+  ◌∷◌,
+  length,
+  refl,
+  ap,
+  sym,
+  ◌∙◌,
+  Option,
+  Some,
+  None,
+  arith,
+  subst,
+}
 use Rattle.std.specs.Prelude.{codes, ◌||◌, option_map, nat_lt}
-use Rattle.std.specs.Char.{is_ascii_punctuation, is_ascii_alphabetic, is_ascii_alphanumeric, is_ascii_digit, is_ascii_hexdigit, is_ascii_control}
+use Rattle.std.specs.Char.{
+  is_ascii_punctuation,
+  is_ascii_alphabetic,
+  is_ascii_alphanumeric,
+  is_ascii_digit,
+  is_ascii_hexdigit,
+  is_ascii_control,
+}
 use Rattle.doc_rules.specs.Characters.{Text, one_of, none_of, is_space_or_tab}
-use Rattle.doc_rules.specs.Parsers.{one, is, word, ◌then◌, ◌or◌, maybe, many, some, at_most, repeated, through, before, inside, passing, spacing, some_spacing}
+use Rattle.doc_rules.specs.Parsers.{
+  one,
+  is,
+  word,
+  ◌then◌,
+  ◌or◌,
+  maybe,
+  many,
+  some,
+  at_most,
+  repeated,
+  through,
+  before,
+  inside,
+  passing,
+  spacing,
+  some_spacing,
+}
 use Rattle.doc_rules.specs.Entities.{Table}
-use Rattle.doc_rules.specs.Tags.{tag_name, attribute_name, quoted_by, attribute_value, attribute, open_tag, closing_tag, html_tag, comment, instruction, declaration, cdata, raw_html}
+use Rattle.doc_rules.specs.Tags.{
+  tag_name,
+  attribute_name,
+  quoted_by,
+  attribute_value,
+  attribute,
+  open_tag,
+  closing_tag,
+  html_tag,
+  comment,
+  instruction,
+  declaration,
+  cdata,
+  raw_html,
+}
 use Rattle.doc_rules.specs.Autolinks.{is_scheme_char, scheme, uri, is_local_char, is_domain_char, is_domain_part, domain_part, mail}
 use Rattle.doc_rules.specs.Escapes.{decimal_reference, hexadecimal_reference, named_reference}
-use Rattle.doc_rules.specs.Destinations.{escaped, many_or_escaped, angled, is_bare, balanced, bare, destination, has_blank_line, title_in, title}
+use Rattle.doc_rules.specs.Destinations.{
+  escaped,
+  many_or_escaped,
+  angled,
+  is_bare,
+  balanced,
+  bare,
+  destination,
+  has_blank_line,
+  title_in,
+  title,
+}
 use Rattle.doc_rules.specs.Labels.{label_text, is_label, label}
-use Rattle.doc_rules.specs.Definitions.{Definition, DefinitionSource, end_of_line, rest_of_line, margin, with_title, without_title, after_destination, after_label, definition_source, definition_of, definitions_within, definitions_of}
-use Rattle.doc_rules.proofs.ParserLaws.{Leaves, Takes, IsRest, rest_is_shorter, one_leaves, one_takes, nothing_leaves, word_leaves, then_leaves, first_takes, or_leaves, maybe_leaves, many_leaves, some_leaves, at_most_leaves, repeated_leaves, through_leaves, passing_leaves, line_ending_leaves, spacing_leaves, some_spacing_leaves, is_all, is_rest_again}
+use Rattle.doc_rules.specs.Definitions.{
+  Definition,
+  DefinitionSource,
+  end_of_line,
+  rest_of_line,
+  margin,
+  with_title,
+  without_title,
+  after_destination,
+  after_label,
+  definition_source,
+  definition_of,
+  definitions_within,
+  definitions_of,
+}
+use Rattle.doc_rules.specs.Rests.{IsRest}
+use Rattle.doc_rules.proofs.ParserLaws.{
+  Leaves,
+  Takes,
+  rest_is_shorter,
+  one_leaves,
+  one_takes,
+  nothing_leaves,
+  word_leaves,
+  then_leaves,
+  first_takes,
+  or_leaves,
+  maybe_leaves,
+  many_leaves,
+  some_leaves,
+  at_most_leaves,
+  repeated_leaves,
+  through_leaves,
+  passing_leaves,
+  line_ending_leaves,
+  spacing_leaves,
+  some_spacing_leaves,
+  is_all,
+  is_rest_again,
+}
 
 pub is_leaves : (c : ℕ) → Leaves (is c)
 is_leaves c = one_leaves (λ d. d == c)
@@ -24,13 +134,15 @@ is_takes c = one_takes (λ d. d == c)
 
 pub tag_name_leaves : Leaves tag_name
 unfolding tag_name
-tag_name_leaves = then_leaves (one is_ascii_alphabetic) (many (λ c. is_ascii_alphanumeric c || (c == 45))) (one_leaves is_ascii_alphabetic) (many_leaves (λ c. is_ascii_alphanumeric c || (c == 45)))
+tag_name_leaves = then_leaves (one is_ascii_alphabetic) (many (λ c. is_ascii_alphanumeric c || (c == 45))) (one_leaves is_ascii_alphabetic)
+    (many_leaves (λ c. is_ascii_alphanumeric c || (c == 45)))
 
 pub attribute_name_leaves : Leaves attribute_name
 unfolding attribute_name
 attribute_name_leaves =
     then_leaves (one (λ c. is_ascii_alphabetic c || one_of (codes "_:") c)) (many (λ c. is_ascii_alphanumeric c || one_of (codes "_.:-") c))
-    (one_leaves (λ c. is_ascii_alphabetic c || one_of (codes "_:") c)) (many_leaves (λ c. is_ascii_alphanumeric c || one_of (codes "_.:-") c))
+    (one_leaves (λ c. is_ascii_alphabetic c || one_of (codes "_:") c))
+    (many_leaves (λ c. is_ascii_alphanumeric c || one_of (codes "_.:-") c))
 
 pub quoted_by_leaves : (quote : ℕ) → Leaves (quoted_by quote)
 quoted_by_leaves quote =
@@ -50,7 +162,8 @@ attribute_leaves =
     (then_leaves some_spacing attribute_name some_spacing_leaves attribute_name_leaves)
     (maybe_leaves (spacing then is 61 then spacing then attribute_value)
     (then_leaves (spacing then is 61 then spacing) attribute_value
-    (then_leaves (spacing then is 61) spacing (then_leaves spacing (is 61) spacing_leaves (is_leaves 61)) spacing_leaves) attribute_value_leaves))
+    (then_leaves (spacing then is 61) spacing (then_leaves spacing (is 61) spacing_leaves (is_leaves 61)) spacing_leaves)
+    attribute_value_leaves))
 
 pub open_tag_leaves : Leaves open_tag
 unfolding open_tag
@@ -58,7 +171,8 @@ open_tag_leaves =
     then_leaves (is 60 then tag_name then repeated attribute then spacing then maybe (is 47)) (is 62)
     (then_leaves (is 60 then tag_name then repeated attribute then spacing) (maybe (is 47))
     (then_leaves (is 60 then tag_name then repeated attribute) spacing
-    (then_leaves (is 60 then tag_name) (repeated attribute) (then_leaves (is 60) tag_name (is_leaves 60) tag_name_leaves) (repeated_leaves attribute attribute_leaves)) spacing_leaves)
+    (then_leaves (is 60 then tag_name) (repeated attribute) (then_leaves (is 60) tag_name (is_leaves 60) tag_name_leaves)
+    (repeated_leaves attribute attribute_leaves)) spacing_leaves)
     (maybe_leaves (is 47) (is_leaves 47)))
     (is_leaves 62)
 
@@ -66,7 +180,8 @@ pub closing_tag_leaves : Leaves closing_tag
 unfolding closing_tag
 closing_tag_leaves =
     then_leaves (word (codes "</") then tag_name then spacing) (is 62)
-    (then_leaves (word (codes "</") then tag_name) spacing (then_leaves (word (codes "</")) tag_name (word_leaves (codes "</")) tag_name_leaves) spacing_leaves) (is_leaves 62)
+    (then_leaves (word (codes "</") then tag_name) spacing (then_leaves (word (codes "</")) tag_name (word_leaves (codes "</"))
+    tag_name_leaves) spacing_leaves) (is_leaves 62)
 
 pub html_tag_leaves : Leaves html_tag
 html_tag_leaves = or_leaves open_tag closing_tag open_tag_leaves closing_tag_leaves
@@ -76,28 +191,33 @@ unfolding comment
 comment_leaves =
     or_leaves (word (codes "<!-->") or word (codes "<!--->")) (word (codes "<!--") then through (word (codes "-->")))
     (or_leaves (word (codes "<!-->")) (word (codes "<!--->")) (word_leaves (codes "<!-->")) (word_leaves (codes "<!--->")))
-    (then_leaves (word (codes "<!--")) (through (word (codes "-->"))) (word_leaves (codes "<!--")) (through_leaves (word (codes "-->")) (word_leaves (codes "-->"))))
+    (then_leaves (word (codes "<!--")) (through (word (codes "-->"))) (word_leaves (codes "<!--"))
+    (through_leaves (word (codes "-->")) (word_leaves (codes "-->"))))
 
 pub instruction_leaves : Leaves instruction
 unfolding instruction
-instruction_leaves = then_leaves (word (codes "<?")) (through (word (codes "?>"))) (word_leaves (codes "<?")) (through_leaves (word (codes "?>")) (word_leaves (codes "?>")))
+instruction_leaves = then_leaves (word (codes "<?")) (through (word (codes "?>"))) (word_leaves (codes "<?"))
+    (through_leaves (word (codes "?>")) (word_leaves (codes "?>")))
 
 pub declaration_leaves : Leaves declaration
 unfolding declaration
 declaration_leaves =
     then_leaves (word (codes "<!") then one is_ascii_alphabetic) (through (is 62))
-    (then_leaves (word (codes "<!")) (one is_ascii_alphabetic) (word_leaves (codes "<!")) (one_leaves is_ascii_alphabetic)) (through_leaves (is 62) (is_leaves 62))
+    (then_leaves (word (codes "<!")) (one is_ascii_alphabetic) (word_leaves (codes "<!")) (one_leaves is_ascii_alphabetic))
+    (through_leaves (is 62) (is_leaves 62))
 
 pub cdata_leaves : Leaves cdata
 unfolding cdata
-cdata_leaves = then_leaves (word (codes "<![CDATA[")) (through (word (codes "]]>"))) (word_leaves (codes "<![CDATA[")) (through_leaves (word (codes "]]>")) (word_leaves (codes "]]>")))
+cdata_leaves = then_leaves (word (codes "<![CDATA[")) (through (word (codes "]]>"))) (word_leaves (codes "<![CDATA["))
+    (through_leaves (word (codes "]]>")) (word_leaves (codes "]]>")))
 
 pub raw_html_leaves : Leaves raw_html
 unfolding raw_html
 raw_html_leaves =
     or_leaves (html_tag or comment or instruction or declaration) cdata
     (or_leaves (html_tag or comment or instruction) declaration
-    (or_leaves (html_tag or comment) instruction (or_leaves html_tag comment html_tag_leaves comment_leaves) instruction_leaves) declaration_leaves) cdata_leaves
+    (or_leaves (html_tag or comment) instruction (or_leaves html_tag comment html_tag_leaves comment_leaves) instruction_leaves)
+    declaration_leaves) cdata_leaves
 
 -- ---- destinations and titles (6.3)
 
@@ -115,21 +235,24 @@ pub angled_leaves : Leaves angled
 unfolding angled
 angled_leaves =
     then_leaves (is 60 then many_or_escaped (none_of (codes "<>\n\r"))) (is 62)
-    (then_leaves (is 60) (many_or_escaped (none_of (codes "<>\n\r"))) (is_leaves 60) (many_or_escaped_leaves (none_of (codes "<>\n\r")))) (is_leaves 62)
+    (then_leaves (is 60) (many_or_escaped (none_of (codes "<>\n\r"))) (is_leaves 60) (many_or_escaped_leaves (none_of (codes "<>\n\r"))))
+    (is_leaves 62)
 
 pub balanced_leaves : (n : ℕ) → Leaves (balanced n)
 unfolding balanced
 balanced_leaves zero = many_or_escaped_leaves is_bare
 balanced_leaves (suc n) =
     repeated_leaves (escaped or one is_bare or (is 40 then balanced n then is 41))
-    (or_leaves (escaped or one is_bare) (is 40 then balanced n then is 41) (or_leaves escaped (one is_bare) escaped_leaves (one_leaves is_bare))
+    (or_leaves (escaped or one is_bare) (is 40 then balanced n then is 41)
+    (or_leaves escaped (one is_bare) escaped_leaves (one_leaves is_bare))
     (then_leaves (is 40 then balanced n) (is 41) (then_leaves (is 40) (balanced n) (is_leaves 40) (balanced_leaves n)) (is_leaves 41)))
 
 pub bare_leaves : Leaves bare
 unfolding bare
 bare_leaves text rest e = at (is 60 text) e
   where
-    at : (found : Option Text) → (elim found [ Some mid ↦ None | None ↦ passing (λ front. nat_lt 0 (length front)) (balanced 32) text ]) ≡ Some rest → IsRest rest text
+    at : (found : Option Text) → (elim found [ Some mid ↦ None | None ↦ passing (λ front. nat_lt 0 (length front)) (balanced 32) text ])
+        ≡ Some rest → IsRest rest text
     at (Some mid) f = absurd cc
     at None f = passing_leaves (λ front. nat_lt 0 (length front)) (balanced 32) (balanced_leaves 32) text rest f
 
@@ -140,13 +263,15 @@ destination_leaves = or_leaves angled bare angled_leaves bare_leaves
 pub title_in_leaves : (left right : ℕ) → Leaves (title_in left right)
 title_in_leaves left right =
     then_leaves (is left then many_or_escaped (λ c. not ((c == left) || (c == right)))) (is right)
-    (then_leaves (is left) (many_or_escaped (λ c. not ((c == left) || (c == right)))) (is_leaves left) (many_or_escaped_leaves (λ c. not ((c == left) || (c == right))))) (is_leaves right)
+    (then_leaves (is left) (many_or_escaped (λ c. not ((c == left) || (c == right)))) (is_leaves left)
+    (many_or_escaped_leaves (λ c. not ((c == left) || (c == right))))) (is_leaves right)
 
 pub title_leaves : Leaves title
 unfolding title
 title_leaves =
     passing_leaves (λ front. not (has_blank_line front)) (title_in 34 34 or title_in 39 39 or title_in 40 41)
-    (or_leaves (title_in 34 34 or title_in 39 39) (title_in 40 41) (or_leaves (title_in 34 34) (title_in 39 39) (title_in_leaves 34 34) (title_in_leaves 39 39)) (title_in_leaves 40 41))
+    (or_leaves (title_in 34 34 or title_in 39 39) (title_in 40 41)
+    (or_leaves (title_in 34 34) (title_in 39 39) (title_in_leaves 34 34) (title_in_leaves 39 39)) (title_in_leaves 40 41))
 
 -- ---- labels (6.3)
 
@@ -154,13 +279,15 @@ pub label_leaves : Leaves label
 unfolding label
 label_leaves =
     then_leaves (is 91 then passing is_label label_text) (is 93)
-    (then_leaves (is 91) (passing is_label label_text) (is_leaves 91) (passing_leaves is_label label_text (many_or_escaped_leaves (none_of (codes "[]"))))) (is_leaves 93)
+    (then_leaves (is 91) (passing is_label label_text) (is_leaves 91)
+    (passing_leaves is_label label_text (many_or_escaped_leaves (none_of (codes "[]"))))) (is_leaves 93)
 
 pub label_takes : Takes label
 unfolding label
 label_takes =
     first_takes (is 91 then passing is_label label_text) (is 93)
-    (first_takes (is 91) (passing is_label label_text) (is_takes 91) (passing_leaves is_label label_text (many_or_escaped_leaves (none_of (codes "[]"))))) (is_leaves 93)
+    (first_takes (is 91) (passing is_label label_text) (is_takes 91)
+    (passing_leaves is_label label_text (many_or_escaped_leaves (none_of (codes "[]"))))) (is_leaves 93)
 
 -- ---- definitions (4.7)
 
@@ -176,7 +303,8 @@ rest_of_line_leaves = then_leaves (many is_space_or_tab) end_of_line (many_leave
 pub margin_leaves : Leaves margin
 margin_leaves =
     then_leaves (maybe (is 32) then maybe (is 32)) (maybe (is 32))
-    (then_leaves (maybe (is 32)) (maybe (is 32)) (maybe_leaves (is 32) (is_leaves 32)) (maybe_leaves (is 32) (is_leaves 32))) (maybe_leaves (is 32) (is_leaves 32))
+    (then_leaves (maybe (is 32)) (maybe (is 32)) (maybe_leaves (is 32) (is_leaves 32)) (maybe_leaves (is 32) (is_leaves 32)))
+    (maybe_leaves (is 32) (is_leaves 32))
 
 -- what a definition leaves is the end of this text
 abbrev EndsIn : Text → Option DefinitionSource → Type 0
@@ -187,15 +315,18 @@ unfolding with_title
 with_title_ends name dest text source e = at (title text) refl e
   where
     behind_title : (behind : Text) → title text ≡ Some behind → (found : Option Text) → rest_of_line behind ≡ found →
-        option_map (λ rest. record { label = name; dest = dest; title = Some (before behind text); rest = rest }) found ≡ Some source → IsRest source.rest text
+        option_map (λ rest. record { label = name; dest = dest; title = Some (before behind text); rest = rest }) found ≡ Some source
+        → IsRest source.rest text
     behind_title behind f None g k = absurd cc
     behind_title behind f (Some rest) g k =
         let same : record { label = name; dest = dest; title = Some (before behind text); rest = rest } ≡ source = cc in
-        subst (λ (s : DefinitionSource). IsRest s.rest text) same (is_rest_again text behind rest (rest_of_line_leaves behind rest g) (title_leaves text behind f))
+        subst (λ (s : DefinitionSource). IsRest s.rest text) same
+        (is_rest_again text behind rest (rest_of_line_leaves behind rest g) (title_leaves text behind f))
 
     at : (found : Option Text) → title text ≡ found → (elim found [
       | None ↦ None
-      | Some behind ↦ option_map (λ rest. record { label = name; dest = dest; title = Some (before behind text); rest = rest }) (rest_of_line behind)
+      | Some behind ↦ option_map (λ rest. record { label = name; dest = dest; title = Some (before behind text); rest = rest })
+          (rest_of_line behind)
     ]) ≡ Some source → IsRest source.rest text
     at None f k = absurd cc
     at (Some behind) f k = behind_title behind f (rest_of_line behind) refl k
@@ -215,10 +346,12 @@ after_destination_ends : (name dest text : Text) → EndsIn text (after_destinat
 unfolding after_destination
 after_destination_ends name dest text source e = at (some_spacing text) refl e
   where
-    behind_spacing : (start : Text) → some_spacing text ≡ Some start → (found : Option DefinitionSource) → with_title name dest start ≡ found →
+    behind_spacing : (start : Text) → some_spacing text ≡ Some start → (found : Option DefinitionSource)
+        → with_title name dest start ≡ found →
         (elim found [ Some those ↦ Some those | None ↦ without_title name dest text ]) ≡ Some source → IsRest source.rest text
     behind_spacing start f None g k = without_title_ends name dest text source k
-    behind_spacing start f (Some those) g k = is_rest_again text start source.rest (with_title_ends name dest start source (g ∙ k)) (some_spacing_leaves text start f)
+    behind_spacing start f (Some those) g k = is_rest_again text start source.rest (with_title_ends name dest start source (g ∙ k))
+        (some_spacing_leaves text start f)
 
     at : (found : Option Text) → some_spacing text ≡ found → (elim found [
       | None ↦ without_title name dest text
@@ -232,11 +365,13 @@ unfolding after_label
 after_label_ends name text source e = at ((is 58 then spacing) text) refl e
   where
     behind_colon : (start : Text) → (is 58 then spacing) text ≡ Some start → (found : Option Text) → destination start ≡ found →
-        (elim found [ None ↦ None | Some behind ↦ after_destination name (before behind start) behind ]) ≡ Some source → IsRest source.rest text
+        (elim found [ None ↦ None | Some behind ↦ after_destination name (before behind start) behind ]) ≡ Some source
+        → IsRest source.rest text
     behind_colon start f None g k = absurd cc
     behind_colon start f (Some behind) g k =
         is_rest_again text start source.rest
-        (is_rest_again start behind source.rest (after_destination_ends name (before behind start) behind source k) (destination_leaves start behind g))
+        (is_rest_again start behind source.rest (after_destination_ends name (before behind start) behind source k)
+        (destination_leaves start behind g))
         (then_leaves (is 58) spacing (is_leaves 58) spacing_leaves text start f)
 
     at : (found : Option Text) → (is 58 then spacing) text ≡ found → (elim found [
@@ -247,19 +382,24 @@ after_label_ends name text source e = at ((is 58 then spacing) text) refl e
     at (Some start) f k = behind_colon start f (destination start) refl k
 
 -- a definition takes a character at least, and leaves the end of the text
-definition_source_ends : (text : Text) (source : DefinitionSource) → definition_source text ≡ Some source → (length source.rest < length text) × IsRest source.rest text
+definition_source_ends : (text : Text) (source : DefinitionSource) → definition_source text ≡ Some source
+    → (length source.rest < length text) × IsRest source.rest text
 unfolding definition_source
 definition_source_ends text source e = at (margin text) refl e
   where
     behind_margin : (start : Text) → margin text ≡ Some start → (found : Option Text) → label start ≡ found →
-        (elim found [ None ↦ None | Some behind ↦ after_label (inside (before behind start)) behind ]) ≡ Some source → (length source.rest < length text) × IsRest source.rest text
+        (elim found [ None ↦ None | Some behind ↦ after_label (inside (before behind start)) behind ]) ≡ Some source
+        → (length source.rest < length text) × IsRest source.rest text
     behind_margin start f None g k = absurd cc
     behind_margin start f (Some behind) g k =
         let ends : IsRest source.rest behind = after_label_ends (inside (before behind start)) behind source k in
         let a : length start ≤ length text = rest_is_shorter start text (margin_leaves text start f) in
         let b : length behind < length start = label_takes start behind g in
-        let d : length source.rest ≤ length behind = rest_is_shorter source.rest behind ends in
-        (omega arith, is_rest_again text start source.rest (is_rest_again start behind source.rest ends (label_leaves start behind g)) (margin_leaves text start f))
+        let d : length source.rest ≤ length behind = rest_is_shorter source.rest behind ends in (
+          omega arith,
+          is_rest_again text start source.rest (is_rest_again start behind source.rest ends (label_leaves start behind g))
+              (margin_leaves text start f),
+        )
 
     at : (found : Option Text) → margin text ≡ found → (elim found [
       | None ↦ None
@@ -291,7 +431,8 @@ none_within (suc n) table text h = at (definition_source text) refl
     at (Some source) e = let shorter : length source.rest < length text = definition_takes text source e in absurd (omega arith)
 
 -- more room than characters doesn't matter
-pub definitions_enough : (n m : ℕ) (table : Table) (text : Text) → length text ≤ n → length text ≤ m → definitions_within n table text ≡ definitions_within m table text
+pub definitions_enough : (n m : ℕ) (table : Table) (text : Text) → length text ≤ n → length text ≤ m
+    → definitions_within n table text ≡ definitions_within m table text
 unfolding definitions_within
 definitions_enough zero m table text f g = sym (none_within m table text f)
 definitions_enough (suc n) zero table text f g = none_within (suc n) table text g
@@ -321,11 +462,13 @@ definitions_step table [] = at (definition_source []) refl
     at (Some source) e = let shorter : length source.rest < 0 = definition_takes [] source e in absurd (omega arith)
 definitions_step table (c ∷ text) = at (definition_source (c ∷ text)) refl
   where
-    at : (found : Option DefinitionSource) → definition_source (c ∷ text) ≡ found → one_more (length text) table (c ∷ text) found ≡ first_and_more table (c ∷ text) found
+    at : (found : Option DefinitionSource) → definition_source (c ∷ text) ≡ found
+        → one_more (length text) table (c ∷ text) found ≡ first_and_more table (c ∷ text) found
     at None e = refl
     at (Some source) e =
         let shorter : length source.rest < length (c ∷ text) = definition_takes (c ∷ text) source e in
-        ap (λ (more : List Definition × Text). (definition_of table source ∷ more.0, more.1)) (definitions_enough (length text) (length source.rest) table source.rest (omega arith) (omega arith))
+        ap (λ (more : List Definition × Text). (definition_of table source ∷ more.0, more.1))
+        (definitions_enough (length text) (length source.rest) table source.rest (omega arith) (omega arith))
 
 -- the definitions at the front of a text leave its end
 within_ends : (n : ℕ) (table : Table) (text : Text) → IsRest (definitions_within n table text).1 text
@@ -333,9 +476,11 @@ unfolding definitions_within
 within_ends zero table text = is_all text
 within_ends (suc n) table text = at (λ rest. within_ends n table rest) (definition_source text) refl
   where
-    at : ((rest : Text) → IsRest (definitions_within n table rest).1 rest) → (found : Option DefinitionSource) → definition_source text ≡ found → IsRest (one_more n table text found).1 text
+    at : ((rest : Text) → IsRest (definitions_within n table rest).1 rest) → (found : Option DefinitionSource)
+        → definition_source text ≡ found → IsRest (one_more n table text found).1 text
     at go None e = is_all text
-    at go (Some source) e = is_rest_again text source.rest (definitions_within n table source.rest).1 (go source.rest) (definition_ends text source e)
+    at go (Some source) e = is_rest_again text source.rest (definitions_within n table source.rest).1 (go source.rest)
+        (definition_ends text source e)
 
 pub definitions_end : (table : Table) (text : Text) → IsRest (definitions_of table text).1 text
 unfolding definitions_of
@@ -347,7 +492,8 @@ pub scheme_leaves : Leaves scheme
 unfolding scheme
 scheme_leaves =
     then_leaves (one is_ascii_alphabetic then one is_scheme_char) (at_most 30 (one is_scheme_char))
-    (then_leaves (one is_ascii_alphabetic) (one is_scheme_char) (one_leaves is_ascii_alphabetic) (one_leaves is_scheme_char)) (at_most_leaves 30 (one is_scheme_char) (one_leaves is_scheme_char))
+    (then_leaves (one is_ascii_alphabetic) (one is_scheme_char) (one_leaves is_ascii_alphabetic) (one_leaves is_scheme_char))
+    (at_most_leaves 30 (one is_scheme_char) (one_leaves is_scheme_char))
 
 pub uri_leaves : Leaves uri
 unfolding uri
@@ -363,7 +509,8 @@ pub mail_leaves : Leaves mail
 unfolding mail
 mail_leaves =
     then_leaves (some is_local_char then is 64 then domain_part) (repeated (is 46 then domain_part))
-    (then_leaves (some is_local_char then is 64) domain_part (then_leaves (some is_local_char) (is 64) (some_leaves is_local_char) (is_leaves 64)) domain_part_leaves)
+    (then_leaves (some is_local_char then is 64) domain_part
+    (then_leaves (some is_local_char) (is 64) (some_leaves is_local_char) (is_leaves 64)) domain_part_leaves)
     (repeated_leaves (is 46 then domain_part) (then_leaves (is 46) domain_part (is_leaves 46) domain_part_leaves))
 
 -- ---- character references (2.5)
@@ -373,7 +520,8 @@ unfolding decimal_reference
 decimal_reference_leaves =
     then_leaves (is 35 then one is_ascii_digit then at_most 6 (one is_ascii_digit)) (is 59)
     (then_leaves (is 35 then one is_ascii_digit) (at_most 6 (one is_ascii_digit))
-    (then_leaves (is 35) (one is_ascii_digit) (is_leaves 35) (one_leaves is_ascii_digit)) (at_most_leaves 6 (one is_ascii_digit) (one_leaves is_ascii_digit))) (is_leaves 59)
+    (then_leaves (is 35) (one is_ascii_digit) (is_leaves 35) (one_leaves is_ascii_digit))
+    (at_most_leaves 6 (one is_ascii_digit) (one_leaves is_ascii_digit))) (is_leaves 59)
 
 pub hexadecimal_reference_leaves : Leaves hexadecimal_reference
 unfolding hexadecimal_reference

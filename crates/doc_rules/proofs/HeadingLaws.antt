@@ -7,10 +7,39 @@ use Rattle.doc_rules.specs.Entities.{Table}
 use Rattle.doc_rules.specs.Definitions.{Definition}
 use Rattle.doc_rules.specs.Reading.{inlines_of}
 use Rattle.doc_rules.specs.Forests.{none, ◌▹◌, node}
-use Rattle.doc_rules.specs.Blocks.{Leaf, Paragraph, Heading, IndentedCode, FencedCode, HtmlBlock, ThematicBreak, Container, BlockQuote, ListBlock, ListItem, Document}
+use Rattle.doc_rules.specs.Blocks.{
+  Leaf,
+  Paragraph,
+  Heading,
+  IndentedCode,
+  FencedCode,
+  HtmlBlock,
+  ThematicBreak,
+  Container,
+  BlockQuote,
+  ListBlock,
+  ListItem,
+  Document,
+}
 use Rattle.doc_rules.specs.PlainTexts.{leaf_headings, headings_in, headings_of}
 use Rattle.doc_rules.specs.Anchors.{free_anchor, anchor_name, anchors_behind}
-use Rattle.doc_rules.specs.Html.{Writing, Output, write, write_text, new_line, is_fresh, paragraph_html, heading_html, code_html, leaf_html, inlines_html, is_tight_inside, container_start, container_end, blocks_html}
+use Rattle.doc_rules.specs.Html.{
+  Writing,
+  Output,
+  write,
+  write_text,
+  new_line,
+  is_fresh,
+  paragraph_html,
+  heading_html,
+  code_html,
+  leaf_html,
+  inlines_html,
+  is_tight_inside,
+  container_start,
+  container_end,
+  blocks_html,
+}
 use Rattle.doc_rules.specs.Pages.{page_headings, document_anchors, document_page}
 use Rattle.doc_rules.specs.Laws.{AnchorsAreAsMany, HeadingsTakeAnchors, HeadingsHaveAnchors}
 
@@ -40,7 +69,8 @@ listed_anchors (heading ∷ more) (anchor ∷ anchors) e = ap (λ rest. anchor �
 as_many : (table : Table) (document : Document) → length (document_anchors table document) ≡ length (headings_of table document)
 unfolding document_anchors
 as_many table document =
-    anchors_are_as_many (map (λ heading. heading.1) (headings_of table document)) ∙ length-map (headings_of table document) (λ heading. heading.1)
+    anchors_are_as_many (map (λ heading. heading.1) (headings_of table document))
+    ∙ length-map (headings_of table document) (λ heading. heading.1)
 
 pub headings_have_anchors : HeadingsHaveAnchors
 unfolding document_page
@@ -90,17 +120,20 @@ end_keeps (ListBlock start tight) w = new_line_keeps w
 end_keeps ListItem w = refl
 
 -- first so many, and then so many more
-both : (firsts seconds : List (ℕ × Text)) (anchors between after : List Text) → between ≡ drop (length firsts) anchors → after ≡ drop (length seconds) between →
+both : (firsts seconds : List (ℕ × Text)) (anchors between after : List Text) → between ≡ drop (length firsts) anchors
+    → after ≡ drop (length seconds) between →
     after ≡ drop (length (firsts ++ seconds)) anchors
 both firsts seconds anchors between after e f =
-    f ∙ (ap (drop (length seconds)) e ∙ (drop-drop (length seconds) (length firsts) anchors ∙ ap (λ n. drop n anchors) (sym (length-append firsts seconds))))
+    f ∙ (ap (drop (length seconds)) e ∙ (drop-drop (length seconds) (length firsts) anchors
+    ∙ ap (λ n. drop n anchors) (sym (length-append firsts seconds))))
 
 pub headings_take_anchors : HeadingsTakeAnchors
 unfolding blocks_html headings_in
 headings_take_anchors table refs tight none w = refl
 headings_take_anchors table refs tight (before ▹ leaf) w =
     let first : Writing = blocks_html table refs tight before w in
-    both (headings_in table refs before) (leaf_headings table refs leaf) w.anchors first.anchors (leaf_html table refs tight leaf first).anchors
+    both (headings_in table refs before) (leaf_headings table refs leaf) w.anchors first.anchors
+    (leaf_html table refs tight leaf first).anchors
     (headings_take_anchors table refs tight before w) (leaf_takes table refs tight leaf first)
 headings_take_anchors table refs tight (node before container inside) w =
     let first : Writing = blocks_html table refs tight before w in
@@ -108,4 +141,5 @@ headings_take_anchors table refs tight (node before container inside) w =
     let second : Writing = blocks_html table refs (is_tight_inside tight container) inside start in
     both (headings_in table refs before) (headings_in table refs inside) w.anchors first.anchors (container_end container second).anchors
     (headings_take_anchors table refs tight before w)
-    (end_keeps container second ∙ (headings_take_anchors table refs (is_tight_inside tight container) inside start ∙ ap (drop (length (headings_in table refs inside))) (start_keeps container first)))
+    (end_keeps container second ∙ (headings_take_anchors table refs (is_tight_inside tight container) inside start
+    ∙ ap (drop (length (headings_in table refs inside))) (start_keeps container first)))

@@ -4,8 +4,10 @@ use Rattle.doc_rules.proofs.Computing.{html_words}
 use Rattle.doc_rules.proofs.Shows.{◌shows◌}
 
 kinds :
-    "<table><tr><td>\n<pre>\n**Hello**,\n\n_world_.\n</pre>\n</td></tr></table>\n" shows "<table><tr><td>\n<pre>\n**Hello**,\n<p><em>world</em>.\n</pre></p>\n</td></tr></table>\n" ×
-    "<table>\n  <tr>\n    <td>\n           hi\n    </td>\n  </tr>\n</table>\n\nokay.\n" shows "<table>\n  <tr>\n    <td>\n           hi\n    </td>\n  </tr>\n</table>\n<p>okay.</p>\n" ×
+    "<table><tr><td>\n<pre>\n**Hello**,\n\n_world_.\n</pre>\n</td></tr></table>\n" shows
+    "<table><tr><td>\n<pre>\n**Hello**,\n<p><em>world</em>.\n</pre></p>\n</td></tr></table>\n" ×
+    "<table>\n  <tr>\n    <td>\n           hi\n    </td>\n  </tr>\n</table>\n\nokay.\n" shows
+    "<table>\n  <tr>\n    <td>\n           hi\n    </td>\n  </tr>\n</table>\n<p>okay.</p>\n" ×
     " <div>\n  *hello*\n         <foo><a>\n" shows " <div>\n  *hello*\n         <foo><a>\n" ×
     "</div>\n*foo*\n" shows "</div>\n*foo*\n" ×
     "<DIV CLASS=\"foo\">\n\n*Markdown*\n\n</DIV>\n" shows "<DIV CLASS=\"foo\">\n<p><em>Markdown</em></p>\n</DIV>\n" ×
@@ -14,7 +16,8 @@ kinds :
     "<div></div>\n``` c\nint x = 33;\n```\n" shows "<div></div>\n``` c\nint x = 33;\n```\n" ×
     "<Warning>\n*bar*\n</Warning>\n" shows "<Warning>\n*bar*\n</Warning>\n" ×
     "<del>\n\n*foo*\n\n</del>\n" shows "<del>\n<p><em>foo</em></p>\n</del>\n" ×
-    "<pre language=\"haskell\"><code>\nimport Text\n\nmain\n</code></pre>\nokay\n" shows "<pre language=\"haskell\"><code>\nimport Text\n\nmain\n</code></pre>\n<p>okay</p>\n" ×
+    "<pre language=\"haskell\"><code>\nimport Text\n\nmain\n</code></pre>\nokay\n" shows
+    "<pre language=\"haskell\"><code>\nimport Text\n\nmain\n</code></pre>\n<p>okay</p>\n" ×
     "<textarea>\n\n*foo*\n\n_bar_\n\n</textarea>\n" shows "<textarea>\n\n*foo*\n\n_bar_\n\n</textarea>\n" ×
     "<style\n  type=\"text/css\">\n\nfoo\n" shows "<style\n  type=\"text/css\">\n\nfoo\n" ×
     "<style>p{color:red;}</style>\n*foo*\n" shows "<style>p{color:red;}</style>\n<p><em>foo</em></p>\n" ×
@@ -31,7 +34,33 @@ kinds :
     "<p\n*a*\n" shows "<p\n*a*\n" ×
     "<p!>\n*a*\n" shows "<p>&lt;p!&gt;\n<em>a</em></p>\n"
 unfolding html_words
-kinds = (refl, refl, refl, refl, refl, refl, refl, refl, refl, refl, refl, refl, refl, refl, refl, refl, refl, refl, refl, refl, refl, refl, refl, refl, refl)
+kinds = (
+  refl,
+  refl,
+  refl,
+  refl,
+  refl,
+  refl,
+  refl,
+  refl,
+  refl,
+  refl,
+  refl,
+  refl,
+  refl,
+  refl,
+  refl,
+  refl,
+  refl,
+  refl,
+  refl,
+  refl,
+  refl,
+  refl,
+  refl,
+  refl,
+  refl,
+)
 
 containers_and_paragraphs :
     "> <div>\n> foo\n\nbar\n" shows "<blockquote>\n<div>\nfoo\n</blockquote>\n<p>bar</p>\n" ×

@@ -10,7 +10,8 @@ code_spans :
     "` `` `\n" shows "<p><code>``</code></p>\n" ×
     "`  ``  `\n" shows "<p><code> `` </code></p>\n" ×
     "` a`\n" shows "<p><code> a</code></p>\n" ×
-    (codes "`" ++ (0xA0 ∷ codes "b" ++ (0xA0 ∷ codes "`\n"))) gives (codes "<p><code>" ++ (0xA0 ∷ codes "b" ++ (0xA0 ∷ codes "</code></p>\n"))) ×
+    (codes "`" ++ (0xA0 ∷ codes "b" ++ (0xA0 ∷ codes "`\n"))) gives (codes "<p><code>"
+    ++ (0xA0 ∷ codes "b" ++ (0xA0 ∷ codes "</code></p>\n"))) ×
     "` `\n`  `\n" shows "<p><code> </code>\n<code>  </code></p>\n" ×
     "``\nfoo\nbar  \nbaz\n``\n" shows "<p><code>foo bar   baz</code></p>\n" ×
     "``\nfoo \n``\n" shows "<p><code>foo </code></p>\n" ×
@@ -29,11 +30,35 @@ code_spans :
     -- an escaped backtick is no part of the run behind it
     "\\``a`\n" shows "<p>`<code>a</code></p>\n"
 unfolding html_words
-code_spans = (refl, refl, refl, refl, refl, refl, refl, refl, refl, refl, refl, refl, refl, refl, refl, refl, refl, refl, refl, refl, refl, refl)
+code_spans = (
+  refl,
+  refl,
+  refl,
+  refl,
+  refl,
+  refl,
+  refl,
+  refl,
+  refl,
+  refl,
+  refl,
+  refl,
+  refl,
+  refl,
+  refl,
+  refl,
+  refl,
+  refl,
+  refl,
+  refl,
+  refl,
+  refl,
+)
 
 autolinks :
     "<http://foo.bar.baz>\n" shows "<p><a href=\"http://foo.bar.baz\">http://foo.bar.baz</a></p>\n" ×
-    "<https://foo.bar.baz/test?q=hello&id=22&boolean>\n" shows "<p><a href=\"https://foo.bar.baz/test?q=hello&amp;id=22&amp;boolean\">https://foo.bar.baz/test?q=hello&amp;id=22&amp;boolean</a></p>\n" ×
+    "<https://foo.bar.baz/test?q=hello&id=22&boolean>\n" shows
+    "<p><a href=\"https://foo.bar.baz/test?q=hello&amp;id=22&amp;boolean\">https://foo.bar.baz/test?q=hello&amp;id=22&amp;boolean</a></p>\n" ×
     "<irc://foo.bar:2233/baz>\n" shows "<p><a href=\"irc://foo.bar:2233/baz\">irc://foo.bar:2233/baz</a></p>\n" ×
     "<MAILTO:FOO@BAR.BAZ>\n" shows "<p><a href=\"MAILTO:FOO@BAR.BAZ\">MAILTO:FOO@BAR.BAZ</a></p>\n" ×
     "<a+b+c:d>\n" shows "<p><a href=\"a+b+c:d\">a+b+c:d</a></p>\n" ×
@@ -50,20 +75,45 @@ autolinks :
     "https://example.com\n" shows "<p>https://example.com</p>\n" ×
     "foo@bar.example.com\n" shows "<p>foo@bar.example.com</p>\n" ×
     -- a scheme has 2 to 32 characters
-    "<abbbbbbbbbbbbbbbbbbbbbbbbbbbbbbb:x>\n" shows "<p><a href=\"abbbbbbbbbbbbbbbbbbbbbbbbbbbbbbb:x\">abbbbbbbbbbbbbbbbbbbbbbbbbbbbbbb:x</a></p>\n" ×
+    "<abbbbbbbbbbbbbbbbbbbbbbbbbbbbbbb:x>\n" shows
+    "<p><a href=\"abbbbbbbbbbbbbbbbbbbbbbbbbbbbbbb:x\">abbbbbbbbbbbbbbbbbbbbbbbbbbbbbbb:x</a></p>\n" ×
     "<abbbbbbbbbbbbbbbbbbbbbbbbbbbbbbbb:x>\n" shows "<p>&lt;abbbbbbbbbbbbbbbbbbbbbbbbbbbbbbbb:x&gt;</p>\n" ×
     -- ASCII controls alone are excluded
     (codes "<ab:" ++ (0x7F ∷ codes ">\n")) gives (codes "<p>&lt;ab:" ++ (0x7F ∷ codes "&gt;</p>\n")) ×
     (codes "<ab:" ++ (0x85 ∷ codes ">\n")) gives (codes "<p><a href=\"ab:%C2%85\">ab:" ++ (0x85 ∷ codes "</a></p>\n")) ×
     "<a@b-.c>\n" shows "<p>&lt;a@b-.c&gt;</p>\n"
 unfolding html_words
-autolinks = (refl, refl, refl, refl, refl, refl, refl, refl, refl, refl, refl, refl, refl, refl, refl, refl, refl, refl, refl, refl, refl, refl)
+autolinks = (
+  refl,
+  refl,
+  refl,
+  refl,
+  refl,
+  refl,
+  refl,
+  refl,
+  refl,
+  refl,
+  refl,
+  refl,
+  refl,
+  refl,
+  refl,
+  refl,
+  refl,
+  refl,
+  refl,
+  refl,
+  refl,
+  refl,
+)
 
 raw_html :
     "<a><bab><c2c>\n" shows "<p><a><bab><c2c></p>\n" ×
     "<a/><b2/>\n" shows "<p><a/><b2/></p>\n" ×
     "<a  /><b2\ndata=\"foo\" >\n" shows "<p><a  /><b2\ndata=\"foo\" ></p>\n" ×
-    "<a foo=\"bar\" bam = 'baz <em>\"</em>'\n_boolean zoop:33=zoop:33 />\n" shows "<p><a foo=\"bar\" bam = 'baz <em>\"</em>'\n_boolean zoop:33=zoop:33 /></p>\n" ×
+    "<a foo=\"bar\" bam = 'baz <em>\"</em>'\n_boolean zoop:33=zoop:33 />\n" shows
+    "<p><a foo=\"bar\" bam = 'baz <em>\"</em>'\n_boolean zoop:33=zoop:33 /></p>\n" ×
     "Foo <responsive-image src=\"foo.jpg\" />\n" shows "<p>Foo <responsive-image src=\"foo.jpg\" /></p>\n" ×
     "<33> <__>\n" shows "<p>&lt;33&gt; &lt;__&gt;</p>\n" ×
     "<a h*#ref=\"hi\">\n" shows "<p>&lt;a h*#ref=&quot;hi&quot;&gt;</p>\n" ×

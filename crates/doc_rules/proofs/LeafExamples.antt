@@ -24,7 +24,8 @@ unfolding html_words
 thematic_breaks = (refl, refl, refl, refl, refl, refl, refl, refl, refl, refl, refl, refl, refl, refl, refl)
 
 atx_headings :
-    "# foo\n## foo\n### foo\n#### foo\n##### foo\n###### foo\n" shows "<h1>foo</h1>\n<h2>foo</h2>\n<h3>foo</h3>\n<h4>foo</h4>\n<h5>foo</h5>\n<h6>foo</h6>\n" ×
+    "# foo\n## foo\n### foo\n#### foo\n##### foo\n###### foo\n" shows
+    "<h1>foo</h1>\n<h2>foo</h2>\n<h3>foo</h3>\n<h4>foo</h4>\n<h5>foo</h5>\n<h6>foo</h6>\n" ×
     "####### foo\n" shows "<p>####### foo</p>\n" ×
     "#5 bolt\n\n#hashtag\n" shows "<p>#5 bolt</p>\n<p>#hashtag</p>\n" ×
     "\\## foo\n" shows "<p>## foo</p>\n" ×
@@ -56,7 +57,8 @@ setext_headings :
     "Foo\n= =\n\nFoo\n--- -\n" shows "<p>Foo\n= =</p>\n<p>Foo</p>\n<hr />\n" ×
     "Foo  \n-----\n" shows "<h2>Foo</h2>\n" ×
     "Foo\\\n----\n" shows "<h2>Foo\\</h2>\n" ×
-    "`Foo\n----\n`\n\n<a title=\"a lot\n---\nof dashes\"/>\n" shows "<h2>`Foo</h2>\n<p>`</p>\n<h2>&lt;a title=&quot;a lot</h2>\n<p>of dashes&quot;/&gt;</p>\n" ×
+    "`Foo\n----\n`\n\n<a title=\"a lot\n---\nof dashes\"/>\n" shows
+    "<h2>`Foo</h2>\n<p>`</p>\n<h2>&lt;a title=&quot;a lot</h2>\n<p>of dashes&quot;/&gt;</p>\n" ×
     "- Foo\n---\n" shows "<ul>\n<li>Foo</li>\n</ul>\n<hr />\n" ×
     "Foo\nBar\n---\n" shows "<h2>Foo\nBar</h2>\n" ×
     "---\nFoo\n---\nBar\n---\nBaz\n" shows "<hr />\n<h2>Foo</h2>\n<h2>Bar</h2>\n<p>Baz</p>\n" ×
@@ -73,7 +75,34 @@ setext_headings :
     "[foo]: /url\n-\n" shows "<p>-</p>\n" ×
     "[foo]: /url\n===\n===\n" shows "<h1>===</h1>\n"
 unfolding html_words
-setext_headings = (refl, refl, refl, refl, refl, refl, refl, refl, refl, refl, refl, refl, refl, refl, refl, refl, refl, refl, refl, refl, refl, refl, refl, refl, refl, refl)
+setext_headings = (
+  refl,
+  refl,
+  refl,
+  refl,
+  refl,
+  refl,
+  refl,
+  refl,
+  refl,
+  refl,
+  refl,
+  refl,
+  refl,
+  refl,
+  refl,
+  refl,
+  refl,
+  refl,
+  refl,
+  refl,
+  refl,
+  refl,
+  refl,
+  refl,
+  refl,
+  refl,
+)
 
 indented_code :
     "    a simple\n      indented code block\n" shows "<pre><code>a simple\n  indented code block\n</code></pre>\n" ×
@@ -82,7 +111,8 @@ indented_code :
     "    <a/>\n    *hi*\n\n    - one\n" shows "<pre><code>&lt;a/&gt;\n*hi*\n\n- one\n</code></pre>\n" ×
     "    chunk1\n\n    chunk2\n  \n \n \n    chunk3\n" shows "<pre><code>chunk1\n\nchunk2\n\n\n\nchunk3\n</code></pre>\n" ×
     "    foo\nbar\n" shows "<pre><code>foo\n</code></pre>\n<p>bar</p>\n" ×
-    "# Heading\n    foo\nHeading\n------\n    foo\n----\n" shows "<h1>Heading</h1>\n<pre><code>foo\n</code></pre>\n<h2>Heading</h2>\n<pre><code>foo\n</code></pre>\n<hr />\n" ×
+    "# Heading\n    foo\nHeading\n------\n    foo\n----\n" shows
+    "<h1>Heading</h1>\n<pre><code>foo\n</code></pre>\n<h2>Heading</h2>\n<pre><code>foo\n</code></pre>\n<hr />\n" ×
     "        foo\n    bar\n" shows "<pre><code>    foo\nbar\n</code></pre>\n" ×
     "\n    \n    foo\n    \n\n" shows "<pre><code>foo\n</code></pre>\n" ×
     "    foo  \n" shows "<pre><code>foo  \n</code></pre>\n"
@@ -106,7 +136,8 @@ fenced_code :
     "```\naaa\n    ```\n" shows "<pre><code>aaa\n    ```\n</code></pre>\n" ×
     "~~~~~~\naaa\n~~~ ~~\n" shows "<pre><code>aaa\n~~~ ~~\n</code></pre>\n" ×
     "foo\n```\nbar\n```\nbaz\n" shows "<p>foo</p>\n<pre><code>bar\n</code></pre>\n<p>baz</p>\n" ×
-    "~~~~    ruby startline=3 $%@#$\ndef foo(x)\n  return 3\nend\n~~~~~~~\n" shows "<pre><code class=\"language-ruby\">def foo(x)\n  return 3\nend\n</code></pre>\n" ×
+    "~~~~    ruby startline=3 $%@#$\ndef foo(x)\n  return 3\nend\n~~~~~~~\n" shows
+    "<pre><code class=\"language-ruby\">def foo(x)\n  return 3\nend\n</code></pre>\n" ×
     "````;\n````\n" shows "<pre><code class=\"language-;\"></code></pre>\n" ×
     "``` aa ```\nfoo\n" shows "<p><code>aa</code>\nfoo</p>\n" ×
     "~~~ aa ``` ~~~\nfoo\n~~~\n" shows "<pre><code class=\"language-aa\">foo\n</code></pre>\n" ×
@@ -118,7 +149,33 @@ fenced_code :
     -- of a blank line in an item's fence the item's columns go, and no more
     "- ```\n       \n  ```\n" shows "<ul>\n<li>\n<pre><code>     \n</code></pre>\n</li>\n</ul>\n"
 unfolding html_words
-fenced_code = (refl, refl, refl, refl, refl, refl, refl, refl, refl, refl, refl, refl, refl, refl, refl, refl, refl, refl, refl, refl, refl, refl, refl, refl, refl)
+fenced_code = (
+  refl,
+  refl,
+  refl,
+  refl,
+  refl,
+  refl,
+  refl,
+  refl,
+  refl,
+  refl,
+  refl,
+  refl,
+  refl,
+  refl,
+  refl,
+  refl,
+  refl,
+  refl,
+  refl,
+  refl,
+  refl,
+  refl,
+  refl,
+  refl,
+  refl,
+)
 
 paragraphs :
     "aaa\n\nbbb\n" shows "<p>aaa</p>\n<p>bbb</p>\n" ×

@@ -25,7 +25,8 @@ inline_links :
     "[link](foo\\)\\:)\n" shows "<p><a href=\"foo):\">link</a></p>\n" ×
     "[link](foo\\bar)\n" shows "<p><a href=\"foo%5Cbar\">link</a></p>\n" ×
     "[link](foo%20b&auml;)\n" shows "<p><a href=\"foo%20b%C3%A4\">link</a></p>\n" ×
-    "[link](/url \"title\")\n[link](/url 'title')\n[link](/url (title))\n" shows "<p><a href=\"/url\" title=\"title\">link</a>\n<a href=\"/url\" title=\"title\">link</a>\n<a href=\"/url\" title=\"title\">link</a></p>\n" ×
+    "[link](/url \"title\")\n[link](/url 'title')\n[link](/url (title))\n" shows
+    "<p><a href=\"/url\" title=\"title\">link</a>\n<a href=\"/url\" title=\"title\">link</a>\n<a href=\"/url\" title=\"title\">link</a></p>\n" ×
     "[link](/url \"title \\\"&quot;\")\n" shows "<p><a href=\"/url\" title=\"title &quot;&quot;\">link</a></p>\n" ×
     (codes "[link](/url" ++ (0xA0 ∷ codes "\"title\")\n")) gives (codes "<p><a href=\"/url%C2%A0%22title%22\">link</a></p>\n") ×
     "[link](/url \"title \"and\" title\")\n" shows "<p>[link](/url &quot;title &quot;and&quot; title&quot;)</p>\n" ×
@@ -33,7 +34,35 @@ inline_links :
     "[link](   /uri\n  \"title\"  )\n" shows "<p><a href=\"/uri\" title=\"title\">link</a></p>\n" ×
     "[link] (/uri)\n" shows "<p>[link] (/uri)</p>\n"
 unfolding html_words
-inline_links = (refl, refl, refl, refl, refl, refl, refl, refl, refl, refl, refl, refl, refl, refl, refl, refl, refl, refl, refl, refl, refl, refl, refl, refl, refl, refl, refl)
+inline_links = (
+  refl,
+  refl,
+  refl,
+  refl,
+  refl,
+  refl,
+  refl,
+  refl,
+  refl,
+  refl,
+  refl,
+  refl,
+  refl,
+  refl,
+  refl,
+  refl,
+  refl,
+  refl,
+  refl,
+  refl,
+  refl,
+  refl,
+  refl,
+  refl,
+  refl,
+  refl,
+  refl,
+)
 
 link_texts :
     "[link [foo [bar]]](/uri)\n" shows "<p><a href=\"/uri\">link [foo [bar]]</a></p>\n" ×
@@ -48,7 +77,8 @@ link_texts :
     "*foo [bar* baz]\n" shows "<p><em>foo [bar</em> baz]</p>\n" ×
     "[foo <bar attr=\"](baz)\">\n" shows "<p>[foo <bar attr=\"](baz)\"></p>\n" ×
     "[foo`](/uri)`\n" shows "<p>[foo<code>](/uri)</code></p>\n" ×
-    "[foo<https://example.com/?search=](uri)>\n" shows "<p>[foo<a href=\"https://example.com/?search=%5D(uri)\">https://example.com/?search=](uri)</a></p>\n"
+    "[foo<https://example.com/?search=](uri)>\n" shows
+    "<p>[foo<a href=\"https://example.com/?search=%5D(uri)\">https://example.com/?search=](uri)</a></p>\n"
 unfolding html_words
 link_texts = (refl, refl, refl, refl, refl, refl, refl, refl, refl, refl, refl, refl, refl)
 
@@ -77,10 +107,12 @@ reference_links = (refl, refl, refl, refl, refl, refl, refl, refl, refl, refl, r
 
 images :
     "![foo](/url \"title\")\n" shows "<p><img src=\"/url\" alt=\"foo\" title=\"title\" /></p>\n" ×
-    "![foo *bar*]\n\n[foo *bar*]: train.jpg \"train & tracks\"\n" shows "<p><img src=\"train.jpg\" alt=\"foo bar\" title=\"train &amp; tracks\" /></p>\n" ×
+    "![foo *bar*]\n\n[foo *bar*]: train.jpg \"train & tracks\"\n" shows
+    "<p><img src=\"train.jpg\" alt=\"foo bar\" title=\"train &amp; tracks\" /></p>\n" ×
     "![foo ![bar](/url)](/url2)\n" shows "<p><img src=\"/url2\" alt=\"foo bar\" /></p>\n" ×
     "![foo [bar](/url)](/url2)\n" shows "<p><img src=\"/url2\" alt=\"foo bar\" /></p>\n" ×
-    "My ![foo bar](/path/to/train.jpg  \"title\"   )\n" shows "<p>My <img src=\"/path/to/train.jpg\" alt=\"foo bar\" title=\"title\" /></p>\n" ×
+    "My ![foo bar](/path/to/train.jpg  \"title\"   )\n" shows
+    "<p>My <img src=\"/path/to/train.jpg\" alt=\"foo bar\" title=\"title\" /></p>\n" ×
     "![](/url)\n" shows "<p><img src=\"/url\" alt=\"\" /></p>\n" ×
     "![foo][bar]\n\n[bar]: /url\n" shows "<p><img src=\"/url\" alt=\"foo\" /></p>\n" ×
     "![Foo][]\n\n[foo]: /url \"title\"\n" shows "<p><img src=\"/url\" alt=\"Foo\" title=\"title\" /></p>\n" ×
@@ -107,8 +139,10 @@ choices :
     "[foo][]\n" shows "<p>[foo][]</p>\n" ×
     -- parentheses are balanced, to 32 levels
     "[a](b(c)\n" shows "<p>[a](b(c)</p>\n" ×
-    "[a]((((((((((((((((((((((((((((((((()))))))))))))))))))))))))))))))))\n" shows "<p><a href=\"(((((((((((((((((((((((((((((((())))))))))))))))))))))))))))))))\">a</a></p>\n" ×
-    "[a](((((((((((((((((((((((((((((((((())))))))))))))))))))))))))))))))))\n" shows "<p>[a](((((((((((((((((((((((((((((((((())))))))))))))))))))))))))))))))))</p>\n" ×
+    "[a]((((((((((((((((((((((((((((((((()))))))))))))))))))))))))))))))))\n" shows
+    "<p><a href=\"(((((((((((((((((((((((((((((((())))))))))))))))))))))))))))))))\">a</a></p>\n" ×
+    "[a](((((((((((((((((((((((((((((((((())))))))))))))))))))))))))))))))))\n" shows
+    "<p>[a](((((((((((((((((((((((((((((((((())))))))))))))))))))))))))))))))))</p>\n" ×
     -- nothing is stripped between '<' and '>'
     "[a](< b >)\n" shows "<p><a href=\"%20b%20\">a</a></p>\n" ×
     -- a title holds its own delimiters only escaped

@@ -20,7 +20,8 @@ links_headings_and_texts :
           ∷ LinkPiece (record { dest = codes "d"; title = Some (codes "e") })
           ∷ HtmlPiece (codes "c</a> ")
           ∷ LinkPiece (record { dest = codes "http://f"; title = None })
-          ∷ HtmlPiece (codes "http://f</a></p>\n<h2 id=\"a-b-1\">A b</h2>\n<ul>\n<li><code>x</code></li>\n</ul>\n<pre><code class=\"language-w\">y\n</code></pre>\n")
+          ∷ HtmlPiece
+          (codes "http://f</a></p>\n<h2 id=\"a-b-1\">A b</h2>\n<ul>\n<li><code>x</code></li>\n</ul>\n<pre><code class=\"language-w\">y\n</code></pre>\n")
           ∷ [];
       headings =
           record { level = 1; anchor = codes "a-b"; text = codes "A b" }
@@ -110,7 +111,8 @@ times n text = concat (replicate n text)
 
 -- past 100 open quotes and items a marker is text
 a_hundred_quotes :
-    (times 101 (codes "> ") ++ codes "x\n") gives (times 100 (codes "<blockquote>\n") ++ (codes "<p>&gt; x</p>\n" ++ times 100 (codes "</blockquote>\n")))
+    (times 101 (codes "> ") ++ codes "x\n") gives (times 100 (codes "<blockquote>\n")
+    ++ (codes "<p>&gt; x</p>\n" ++ times 100 (codes "</blockquote>\n")))
 unfolding html_words times
 a_hundred_quotes = refl
 
@@ -122,14 +124,16 @@ unfolding html_words times
 a_hundred_items = refl
 
 heading_in_a_hundred_quotes :
-    (times 100 (codes ">") ++ codes "# x\n") gives (times 100 (codes "<blockquote>\n") ++ (codes "<h1>x</h1>\n" ++ times 100 (codes "</blockquote>\n")))
+    (times 100 (codes ">") ++ codes "# x\n") gives (times 100 (codes "<blockquote>\n")
+    ++ (codes "<h1>x</h1>\n" ++ times 100 (codes "</blockquote>\n")))
 unfolding html_words times
 heading_in_a_hundred_quotes = refl
 
 -- only those count that the line matched, and those that began on it
 others_count_no_more :
     (times 100 (codes ">") ++ codes "# x\n- > y\n")
-    gives (times 100 (codes "<blockquote>\n") ++ (codes "<h1>x</h1>\n" ++ (times 100 (codes "</blockquote>\n") ++ codes "<ul>\n<li>\n<blockquote>\n<p>y</p>\n</blockquote>\n</li>\n</ul>\n")))
+    gives (times 100 (codes "<blockquote>\n") ++ (codes "<h1>x</h1>\n"
+    ++ (times 100 (codes "</blockquote>\n") ++ codes "<ul>\n<li>\n<blockquote>\n<p>y</p>\n</blockquote>\n</li>\n</ul>\n")))
 unfolding html_words times
 others_count_no_more = refl
 
@@ -163,7 +167,8 @@ long_label = ap (html_of built_in plain_linker []) long_label_document ∙ long_
 too_long_label_document :
     document_of built_in (labelled 1000)
     ≡ record {
-      blocks = none ▹ Paragraph (codes "[" ++ (times 1000 (codes "x") ++ codes "]")) ▹ Paragraph (codes "[" ++ (times 1000 (codes "x") ++ codes "]: /u"));
+      blocks = none ▹ Paragraph (codes "[" ++ (times 1000 (codes "x") ++ codes "]")) ▹ Paragraph
+          (codes "[" ++ (times 1000 (codes "x") ++ codes "]: /u"));
       refs = [];
     }
 unfolding html_words times labelled
@@ -172,13 +177,15 @@ too_long_label_document = refl
 too_long_label_html :
     html_of built_in plain_linker []
     (record {
-      blocks = none ▹ Paragraph (codes "[" ++ (times 1000 (codes "x") ++ codes "]")) ▹ Paragraph (codes "[" ++ (times 1000 (codes "x") ++ codes "]: /u"));
+      blocks = none ▹ Paragraph (codes "[" ++ (times 1000 (codes "x") ++ codes "]")) ▹ Paragraph
+          (codes "[" ++ (times 1000 (codes "x") ++ codes "]: /u"));
       refs = [];
     })
     ≡ codes "<p>[" ++ (times 1000 (codes "x") ++ (codes "]</p>\n<p>[" ++ (times 1000 (codes "x") ++ codes "]: /u</p>\n")))
 unfolding html_words times
 too_long_label_html = refl
 
-too_long_label : labelled 1000 gives (codes "<p>[" ++ (times 1000 (codes "x") ++ (codes "]</p>\n<p>[" ++ (times 1000 (codes "x") ++ codes "]: /u</p>\n"))))
+too_long_label : labelled 1000 gives (codes "<p>[" ++ (times 1000 (codes "x")
+    ++ (codes "]</p>\n<p>[" ++ (times 1000 (codes "x") ++ codes "]: /u</p>\n"))))
 unfolding rendered_plain
 too_long_label = ap (html_of built_in plain_linker []) too_long_label_document ∙ too_long_label_html

@@ -1,5 +1,29 @@
 -- Lines, with and without their endings, are those of doc_page.
-use Rattle.std.proofs.Common.{◌≡◌, ℕ, zero, suc, ◌-◌, ◌<◌, ◌≤◌, Bool, true, false, List, [], ◌∷◌, refl, ap, sym, ◌∙◌, subst, length, take, get_or, map, arith}
+use Rattle.std.proofs.Common.{
+  ◌≡◌,
+  ℕ,
+  zero,
+  suc,
+  ◌-◌,
+  ◌<◌,
+  ◌≤◌,
+  Bool,
+  true,
+  false,
+  List,
+  [],
+  ◌∷◌,
+  refl,
+  ap,
+  sym,
+  ◌∙◌,
+  subst,
+  length,
+  take,
+  get_or,
+  map,
+  arith,
+}
 use Rattle.std.specs.Prelude.{◌==◌, ◌||◌, ◌&&◌, not, if◌then◌else◌}
 use Rattle.std.specs.List.{list_all, suffix_len, onto_first as std_onto_first, AllByRecursion}
 use Rattle.std.proofs.lemmas.List.Folds.{list_all_at}
@@ -81,7 +105,8 @@ lf_line : (c : ℕ) (rest : Text) → (c == 10) ≡ true → lines_of (c ∷ res
 unfolding lines_of
 lf_line c rest e = ap (λ b. elim b [ true ↦ (c ∷ []) ∷ lines_of rest | false ↦ onto_first c (lines_of rest) ]) (lf_ends c rest e)
 
-goes_on : (c : ℕ) (rest : Text) → AllEndOnce (lines_of rest) → ends_line c rest ≡ false → (t : Bool) → is_ending c ≡ t → AllEndOnce (onto_first c (lines_of rest))
+goes_on : (c : ℕ) (rest : Text) → AllEndOnce (lines_of rest) → ends_line c rest ≡ false → (t : Bool) → is_ending c ≡ t
+    → AllEndOnce (onto_first c (lines_of rest))
 unfolding ends_line onto_first
 goes_on c rest h e false is = onto_ends c (lines_of rest) is h
 goes_on c [] h e true is = absurd (false≢true (sym e ∙ is))
@@ -120,11 +145,13 @@ cut_here c rest is h = record {
   last = λ l. absurd (omega arith);
 }
 
-behind_more : (c : ℕ) (rest content : Text) → Cut rest content → (k : ℕ) → length (c ∷ content) ≤ k → k < length (c ∷ rest) → is_ending (get_or (c ∷ rest) k 0) ≡ true
+behind_more : (c : ℕ) (rest content : Text) → Cut rest content → (k : ℕ) → length (c ∷ content) ≤ k → k < length (c ∷ rest)
+    → is_ending (get_or (c ∷ rest) k 0) ≡ true
 behind_more c rest content cut zero h l = absurd (omega arith)
 behind_more c rest content cut (suc k) h l = cut.behind k (omega arith) (omega arith)
 
-last_more : (c : ℕ) (rest content : Text) → is_ending c ≡ false → Cut rest content → is_ending (get_or (c ∷ rest) (length content) 0) ≡ false
+last_more : (c : ℕ) (rest content : Text) → is_ending c ≡ false → Cut rest content
+    → is_ending (get_or (c ∷ rest) (length content) 0) ≡ false
 last_more c rest [] e cut = e
 last_more c rest (d ∷ content) e cut =
     let place : length content ≡ length (d ∷ content) - 1 = omega arith in
@@ -135,7 +162,8 @@ cut_more c rest content e cut = record {
   fits = let h = cut.fits in omega arith;
   front = ap (λ more. c ∷ more) cut.front;
   behind = behind_more c rest content cut;
-  last = λ _. let place : length (c ∷ content) - 1 ≡ length content = omega arith in ap (λ k. is_ending (get_or (c ∷ rest) k 0)) place ∙ last_more c rest content e cut;
+  last = λ _. let place : length (c ∷ content) - 1 ≡ length content = omega arith in ap (λ k. is_ending (get_or (c ∷ rest) k 0)) place
+      ∙ last_more c rest content e cut;
 }
 
 cut_at : (c : ℕ) (rest : Text) → (EndsOnce rest → Cut rest (without_ending rest)) → (t : Bool) → is_ending c ≡ t → Behind rest t →
@@ -151,7 +179,8 @@ cut_line (c ∷ rest) h = cut_at c rest (cut_line rest) (is_ending c) refl h
 cut_is : (line content : Text) → Cut line content → page_without_ending line ≡ content
 unfolding page_without_ending
 cut_is line content cut =
-    let ending : suffix_len is_ending line ≡ length line - length content = suffix_len_is is_ending line (length content) 0 cut.fits cut.behind cut.last in
+    let ending : suffix_len is_ending line ≡ length line - length content = suffix_len_is is_ending line (length content) 0 cut.fits
+    cut.behind cut.last in
     let fits = cut.fits in
     let size : length line - (length line - length content) ≡ length content = omega arith in
     ap (λ k. take (length line - k) line) ending ∙ (ap (λ k. take k line) size ∙ cut.front)

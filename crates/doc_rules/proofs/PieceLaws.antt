@@ -8,7 +8,20 @@ use Rattle.doc_page.specs.declared.rendered.LinkSpot.{LinkSpot}
 use Rattle.doc_page.specs.declared.rendered.Piece.{Piece}
 use Rattle.doc_page.specs.declared.rendered.Piece.TheVariants.{Html, Link}
 use Rattle.doc_rules.specs.Html.{Character, LinkTag, Output, output_of, Linker, written_text, link_tag}
-use Rattle.doc_rules.specs.Pages.{PagePiece, HtmlPiece, LinkPiece, onto_html, pieces_of, document_anchors, document_page, page_of, piece_text, filled, encoded_piece, encoded}
+use Rattle.doc_rules.specs.Pages.{
+  PagePiece,
+  HtmlPiece,
+  LinkPiece,
+  onto_html,
+  pieces_of,
+  document_anchors,
+  document_page,
+  page_of,
+  piece_text,
+  filled,
+  encoded_piece,
+  encoded,
+}
 use Rattle.doc_page.specs.Laws as pages
 use Rattle.doc_rules.specs.Laws.{IsCut, PiecesAreCut, RenderedIsCut, PiecesJoin}
 
@@ -47,7 +60,8 @@ pub record Starts (bytes : List ℕ) : Type 0 where
   pub rest : List ℕ
   pub is : bytes ≡ first ∷ rest
 
-four_ways : (a b c : Bool) (w x y z : ℕ) (p q r s : List ℕ) → Starts (if a then w ∷ p else (if b then x ∷ q else (if c then y ∷ r else z ∷ s)))
+four_ways : (a b c : Bool) (w x y z : ℕ) (p q r s : List ℕ)
+    → Starts (if a then w ∷ p else (if b then x ∷ q else (if c then y ∷ r else z ∷ s)))
 four_ways true b c w x y z p q r s = record { first = w; rest = p; is = refl }
 four_ways false true c w x y z p q r s = record { first = x; rest = q; is = refl }
 four_ways false false true w x y z p q r s = record { first = y; rest = r; is = refl }
@@ -67,7 +81,8 @@ text_has_a_byte c text =
 at_end : (bytes : List ℕ) → Starts bytes → pages.IsCut (Html bytes ∷ [])
 at_end bytes s = subst (λ bs. pages.IsCut (Html bs ∷ [])) (sym s.is) tt
 
-before_link : (bytes : List ℕ) (spot : LinkSpot) (more : List Piece) → Starts bytes → pages.IsCut more → pages.IsCut (Html bytes ∷ Link spot ∷ more)
+before_link : (bytes : List ℕ) (spot : LinkSpot) (more : List Piece) → Starts bytes → pages.IsCut more
+    → pages.IsCut (Html bytes ∷ Link spot ∷ more)
 before_link bytes spot more s h = subst (λ bs. pages.IsCut (Html bs ∷ Link spot ∷ more)) (sym s.is) h
 
 cut_in_bytes : (some : List PagePiece) → IsCut some → pages.IsCut (map encoded_piece some)
@@ -77,7 +92,8 @@ cut_in_bytes (LinkPiece target ∷ more) h = cut_in_bytes more h
 cut_in_bytes (HtmlPiece [] ∷ more) h = absurd h
 cut_in_bytes (HtmlPiece (c ∷ text) ∷ []) h = at_end (encode_utf8_all (c ∷ text)) (text_has_a_byte c text)
 cut_in_bytes (HtmlPiece (c ∷ text) ∷ LinkPiece target ∷ more) h =
-    before_link (encode_utf8_all (c ∷ text)) (record { dest = encode_utf8_all target.dest; title = option_map encode_utf8_all target.title }) (map encoded_piece more)
+    before_link (encode_utf8_all (c ∷ text))
+    (record { dest = encode_utf8_all target.dest; title = option_map encode_utf8_all target.title }) (map encoded_piece more)
     (text_has_a_byte c text) (cut_in_bytes more h)
 cut_in_bytes (HtmlPiece (c ∷ text) ∷ HtmlPiece other ∷ more) h = absurd h
 

@@ -8,7 +8,18 @@ use Rattle.doc_rules.specs.Columns.{columns_from, width_at, cell_of, Line, cells
 use Rattle.doc_rules.specs.Entities.{Table}
 use Rattle.doc_rules.specs.ContainerStarts.{behind_quote_marker, quote_start}
 use Rattle.doc_rules.specs.Forests.{none, node}
-use Rattle.doc_rules.specs.Trees.{QuoteLines, Tree, NoParagraph, matched, add_leaf_or_item, add_blocks, lazy_situation, add_line, add_lines, tree_within}
+use Rattle.doc_rules.specs.Trees.{
+  QuoteLines,
+  Tree,
+  NoParagraph,
+  matched,
+  add_leaf_or_item,
+  add_blocks,
+  lazy_situation,
+  add_line,
+  add_lines,
+  tree_within,
+}
 use Rattle.doc_rules.specs.Lists.{listed}
 use Rattle.doc_rules.specs.Blocks.{container_of, blocks_of, references_of, tree_document}
 use Rattle.doc_rules.specs.Laws.{has_tab, QuotedTree, QuotedDocument, quote_over}
@@ -45,7 +56,8 @@ content_no_tab : (line : Text) → has_tab line ≡ false → has_tab (line_cont
 unfolding without_ending
 content_no_tab [] e = refl
 content_no_tab (c ∷ rest) e =
-    content_at c rest (left_false (c == 9) (has_tab rest) e) (content_no_tab rest (right_false (c == 9) (has_tab rest) e)) ((c == 10) || (c == 13))
+    content_at c rest (left_false (c == 9) (has_tab rest) e) (content_no_tab rest (right_false (c == 9) (has_tab rest) e))
+    ((c == 10) || (c == 13))
 
 abbrev NoTabs : List Text → Type 0
 NoTabs = AllByRecursion (λ line. has_tab line ≡ false)
@@ -76,8 +88,10 @@ unfolding columns_from cell_of
 shifted [] a b e = refl
 shifted (c ∷ rest) a b e =
     let first : (c == 9) ≡ false = left_false (c == 9) (has_tab rest) e in
-    ap (λ w. record { char = c; width = w } ∷ map cell_of (columns_from (a + width_at c a) rest)) (one_wide c a first ∙ sym (one_wide c b first))
-    ∙ ap (λ more. record { char = c; width = width_at c b } ∷ more) (shifted rest (a + width_at c a) (b + width_at c b) (right_false (c == 9) (has_tab rest) e))
+    ap (λ w. record { char = c; width = w } ∷ map cell_of (columns_from (a + width_at c a) rest)) (one_wide c a first
+    ∙ sym (one_wide c b first))
+    ∙ ap (λ more. record { char = c; width = width_at c b } ∷ more)
+    (shifted rest (a + width_at c a) (b + width_at c b) (right_false (c == 9) (has_tab rest) e))
 
 and_false : (a : Bool) → (a && false) ≡ false
 and_false true = refl
@@ -86,9 +100,14 @@ and_false false = refl
 skip_none : (line : Line) → skip 0 line ≡ line
 unfolding skip
 skip_none [] = refl
-skip_none (cell ∷ rest) = ap (λ t. elim t [ false ↦ cell ∷ rest | true ↦ elim (nat_le cell.width 0) [ true ↦ skip (0 - cell.width) rest | false ↦ spaces (cell.width - 0) ++ rest ] ]) (and_false (is_gap cell))
+skip_none (cell ∷ rest) = ap (λ t. elim t [
+  | false ↦ cell ∷ rest
+  | true ↦ elim (nat_le cell.width 0)
+      [ true ↦ skip (0 - cell.width) rest | false ↦ spaces (cell.width - 0) ++ rest ]
+]) (and_false (is_gap cell))
 
-pub quote_behind : (line : Text) → has_tab line ≡ false → quote_start (cells_of (line_content (marked_line line))) ≡ Some (cells_of (line_content line))
+pub quote_behind : (line : Text) → has_tab line ≡ false → quote_start (cells_of (line_content (marked_line line)))
+    ≡ Some (cells_of (line_content line))
 unfolding quote_start behind_quote_marker indent after_indent skip columns_from cell_of without_ending secure_char
 quote_behind line e = ap Some (skip_none _ ∙ shifted (line_content line) 2 0 (content_no_tab line e))
 
@@ -101,26 +120,37 @@ add_inside : (room : ℕ) (table : Table) (tree : Tree) (line rest : Line) → q
     add_line (suc room) table line (node none QuoteLines tree) ≡ node none QuoteLines (add_line room table rest tree)
 unfolding add_line matched
 add_inside room table tree line rest e =
-    ap (λ o. elim o [ Some more ↦ node none QuoteLines (add_line (suc room - 1) table more tree) | None ↦ add_blocks (suc room) table (lazy_situation tree) line (node none QuoteLines tree) ]) e
+    ap (λ o. elim o [
+      | Some more ↦ node none QuoteLines (add_line (suc room - 1) table more tree)
+      | None ↦ add_blocks (suc room) table
+          (lazy_situation tree) line (node none QuoteLines tree)
+    ]) e
     ∙ ap (λ n. node none QuoteLines (add_line n table rest tree)) (one_less room)
 
-add_first : (room : ℕ) (table : Table) (line rest : Line) → quote_start line ≡ Some rest → add_line (suc room) table line none ≡ node none QuoteLines (add_line room table rest none)
+add_first : (room : ℕ) (table : Table) (line rest : Line) → quote_start line ≡ Some rest
+    → add_line (suc room) table line none ≡ node none QuoteLines (add_line room table rest none)
 unfolding add_line add_blocks
-add_first room table line rest e = ap (λ o. elim o [ Some more ↦ node none QuoteLines (add_blocks room table NoParagraph more none) | None ↦ add_leaf_or_item table NoParagraph line none (λ first. add_blocks room table NoParagraph first none) ]) e
+add_first room table line rest e = ap (λ o. elim o [
+  | Some more ↦ node none QuoteLines (add_blocks room table NoParagraph more none)
+  | None
+      ↦ add_leaf_or_item table NoParagraph line none (λ first. add_blocks room table NoParagraph first none)
+]) e
 
 lines_inside : (room : ℕ) (table : Table) (lines : List Text) (tree : Tree) → NoTabs lines →
     add_lines (suc room) table (map marked_line lines) (node none QuoteLines tree) ≡ node none QuoteLines (add_lines room table lines tree)
 unfolding add_lines
 lines_inside room table [] tree h = refl
 lines_inside room table (line ∷ more) tree h =
-    ap (add_lines (suc room) table (map marked_line more)) (add_inside room table tree (cells_of (line_content (marked_line line))) (cells_of (line_content line)) (quote_behind line h.0))
+    ap (add_lines (suc room) table (map marked_line more)) (add_inside room table tree (cells_of (line_content (marked_line line)))
+    (cells_of (line_content line)) (quote_behind line h.0))
     ∙ lines_inside room table more (add_line room table (cells_of (line_content line)) tree) h.1
 
 all_lines : (room : ℕ) (table : Table) (line : Text) (more : List Text) → NoTabs (line ∷ more) →
     add_lines (suc room) table (map marked_line (line ∷ more)) none ≡ node none QuoteLines (add_lines room table (line ∷ more) none)
 unfolding add_lines
 all_lines room table line more h =
-    ap (add_lines (suc room) table (map marked_line more)) (add_first room table (cells_of (line_content (marked_line line))) (cells_of (line_content line)) (quote_behind line h.0))
+    ap (add_lines (suc room) table (map marked_line more)) (add_first room table (cells_of (line_content (marked_line line)))
+    (cells_of (line_content line)) (quote_behind line h.0))
     ∙ lines_inside room table more (add_line room table (cells_of (line_content line)) none) h.1
 
 abbrev Holds : ℕ → Table → List Text → Type 0
@@ -131,7 +161,8 @@ unfolding onto_first
 onto_lines room table c [] h = all_lines room table (c ∷ []) [] h
 onto_lines room table c (line ∷ more) h = all_lines room table (c ∷ line) more h
 
-some_lines : (room : ℕ) (table : Table) (c : ℕ) (lines : List Text) (b : Bool) → NoTabs (elim b [ true ↦ (c ∷ []) ∷ lines | false ↦ onto_first c lines ]) →
+some_lines : (room : ℕ) (table : Table) (c : ℕ) (lines : List Text) (b : Bool)
+    → NoTabs (elim b [ true ↦ (c ∷ []) ∷ lines | false ↦ onto_first c lines ]) →
     Holds room table (elim b [ true ↦ (c ∷ []) ∷ lines | false ↦ onto_first c lines ])
 some_lines room table c lines true h = all_lines room table (c ∷ []) lines h
 some_lines room table c lines false h = onto_lines room table c lines h
@@ -144,9 +175,11 @@ pub quoted_tree : QuotedTree
 quoted_tree room table c rest e =
     ap (λ lines. add_lines (suc room) table lines none) (quoted_has (c ∷ rest)) ∙ text_lines room table c rest (lines_no_tab (c ∷ rest) e)
 
-over_quote : (table : Table) (tree : Tree) → tree_document table (listed (node none QuoteLines tree)) ≡ quote_over (tree_document table (listed tree))
+over_quote : (table : Table) (tree : Tree) → tree_document table (listed (node none QuoteLines tree))
+    ≡ quote_over (tree_document table (listed tree))
 unfolding tree_document listed blocks_of references_of container_of
 over_quote table tree = refl
 
 pub quoted_document : QuotedDocument
-quoted_document room table c rest e = ap (λ tree. tree_document table (listed tree)) (quoted_tree room table c rest e) ∙ over_quote table (tree_within room table (c ∷ rest))
+quoted_document room table c rest e = ap (λ tree. tree_document table (listed tree)) (quoted_tree room table c rest e)
+    ∙ over_quote table (tree_within room table (c ∷ rest))

@@ -69,7 +69,11 @@ all_marked : (lines : List Text) → lines_of (later lines) ≡ head_kept lines 
 unfolding lines_of later head_kept onto_first ends_line
 all_marked [] e = refl
 all_marked (line ∷ more) e =
-    ap (λ b. onto_first 62 (elim b [ true ↦ (32 ∷ []) ∷ lines_of (line ++ quoted_lines more) | false ↦ onto_first 32 (lines_of (line ++ quoted_lines more)) ])) (space_goes_on (line ++ quoted_lines more))
+    ap (λ b. onto_first 62 (elim b [
+      | true ↦ (32 ∷ []) ∷ lines_of (line ++ quoted_lines more)
+      | false ↦ onto_first 32
+          (lines_of (line ++ quoted_lines more))
+    ])) (space_goes_on (line ++ quoted_lines more))
     ∙ ap (λ ls. onto_first 62 (onto_first 32 ls)) e
 
 nothing_left : lines_of (later []) ≡ head_kept []
@@ -80,17 +84,23 @@ at_char : (c : ℕ) (rest : Text) → lines_of (later (lines_of rest)) ≡ head_
     lines_of (c ∷ behind (lines_of rest) b) ≡ head_kept (split c (lines_of rest) b)
 unfolding lines_of head_kept
 at_char c rest same true e =
-    ap (λ b. elim b [ true ↦ (c ∷ []) ∷ lines_of (quoted_lines (lines_of rest)) | false ↦ onto_first c (lines_of (quoted_lines (lines_of rest))) ])
+    ap (λ b. elim b [
+      | true ↦ (c ∷ []) ∷ lines_of (quoted_lines (lines_of rest))
+      | false ↦ onto_first c
+          (lines_of (quoted_lines (lines_of rest)))
+    ])
     (ends_quoted c (lines_of rest) (ends_before c rest e))
     ∙ ap (λ ls. (c ∷ []) ∷ ls) (all_marked (lines_of rest) same)
 at_char c rest same false e =
-    ap (λ b. elim b [ true ↦ (c ∷ []) ∷ lines_of (later (lines_of rest)) | false ↦ onto_first c (lines_of (later (lines_of rest))) ]) (same_end c rest ∙ e)
+    ap (λ b. elim b [ true ↦ (c ∷ []) ∷ lines_of (later (lines_of rest)) | false ↦ onto_first c (lines_of (later (lines_of rest))) ])
+    (same_end c rest ∙ e)
     ∙ (ap (onto_first c) same ∙ head_split c (lines_of rest))
 
 later_lines : (text : Text) → lines_of (later (lines_of text)) ≡ head_kept (lines_of text)
 unfolding lines_of
 later_lines [] = nothing_left
-later_lines (c ∷ rest) = ap lines_of (later_split c (lines_of rest) (ends_line c rest)) ∙ at_char c rest (later_lines rest) (ends_line c rest) refl
+later_lines (c ∷ rest) = ap lines_of (later_split c (lines_of rest) (ends_line c rest))
+    ∙ at_char c rest (later_lines rest) (ends_line c rest) refl
 
 pub quoted_has : (text : Text) → lines_of (quoted text) ≡ map marked_line (lines_of text)
 quoted_has text = all_marked (lines_of text) (later_lines text)

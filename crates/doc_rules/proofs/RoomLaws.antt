@@ -1,5 +1,27 @@
 -- Room for containers that isn't used does not matter: by the steps of adding a line, once for the tree and once for its depth.
-use Rattle.std.proofs.Common.{◌≡◌, ℕ, zero, suc, ◌-◌, Bool, true, false, List, [], ◌∷◌, ◌++◌, refl, ap, sym, ◌∙◌, subst, Option, Some, None, arith}
+use Rattle.std.proofs.Common.{
+  ◌≡◌,
+  ℕ,
+  zero,
+  suc,
+  ◌-◌,
+  Bool,
+  true,
+  false,
+  List,
+  [],
+  ◌∷◌,
+  ◌++◌,
+  refl,
+  ap,
+  sym,
+  ◌∙◌,
+  subst,
+  Option,
+  Some,
+  None,
+  arith,
+}
 use Rattle.std.specs.Prelude.{◌||◌, ◌&&◌, not, nat_le}
 use Rattle.doc_rules.specs.Characters.{Text}
 use Rattle.doc_rules.specs.Lines.{lines_of, line_content}
@@ -9,7 +31,41 @@ use Rattle.doc_rules.specs.HtmlStarts.{ends_before_blank, ends_html}
 use Rattle.doc_rules.specs.LeafStarts.{closes_fence}
 use Rattle.doc_rules.specs.ContainerStarts.{quote_start, ItemStart, item_start}
 use Rattle.doc_rules.specs.Forests.{none, ◌▹◌, node}
-use Rattle.doc_rules.specs.Trees.{LeafLines, ParagraphLines, IndentedLines, FencedLines, HtmlLines, BlankLine, ContainerLines, QuoteLines, ItemLines, Tree, Situation, NoParagraph, InParagraph, has_no_paragraph, LeafStart, NewLeaf, Underline, matched, continued, leaf_begins, underlined, with_start, item_may_begin, line_text, add_text, add_leaf, add_item, add_leaf_or_item, add_blocks, lazy_situation, add_to_leaf, add_line, add_lines}
+use Rattle.doc_rules.specs.Trees.{
+  LeafLines,
+  ParagraphLines,
+  IndentedLines,
+  FencedLines,
+  HtmlLines,
+  BlankLine,
+  ContainerLines,
+  QuoteLines,
+  ItemLines,
+  Tree,
+  Situation,
+  NoParagraph,
+  InParagraph,
+  has_no_paragraph,
+  LeafStart,
+  NewLeaf,
+  Underline,
+  matched,
+  continued,
+  leaf_begins,
+  underlined,
+  with_start,
+  item_may_begin,
+  line_text,
+  add_text,
+  add_leaf,
+  add_item,
+  add_leaf_or_item,
+  add_blocks,
+  lazy_situation,
+  add_to_leaf,
+  add_line,
+  add_lines,
+}
 use Rattle.doc_rules.specs.Lists.{listed}
 use Rattle.doc_rules.specs.Blocks.{tree_document, document_of}
 use Rattle.doc_rules.specs.Laws.{IsWithin, RoomIsEnough, QuotedWithin, quote_over}
@@ -17,9 +73,11 @@ use Rattle.doc_rules.proofs.QuoteLaws.{quoted_document}
 
 -- ---- one line with less room
 
-item_same : (room : ℕ) (tree : Tree) (i : ItemStart) (small large : Line → Tree) → ((first : Line) → IsWithin room (large first) → small first ≡ large first) → (b : Bool) →
+item_same : (room : ℕ) (tree : Tree) (i : ItemStart) (small large : Line → Tree)
+    → ((first : Line) → IsWithin room (large first) → small first ≡ large first) → (b : Bool) →
     IsWithin (suc room) (node tree (ItemLines i.kind i.start i.columns) (elim b [ true ↦ none | false ↦ large i.first ])) →
-    node tree (ItemLines i.kind i.start i.columns) (elim b [ true ↦ none | false ↦ small i.first ]) ≡ node tree (ItemLines i.kind i.start i.columns) (elim b [ true ↦ none | false ↦ large i.first ])
+    node tree (ItemLines i.kind i.start i.columns) (elim b [ true ↦ none | false ↦ small i.first ])
+    ≡ node tree (ItemLines i.kind i.start i.columns) (elim b [ true ↦ none | false ↦ large i.first ])
 item_same room tree i small large more true h = refl
 item_same room tree i small large more false h = ap (node tree (ItemLines i.kind i.start i.columns)) (more i.first h.1)
 
@@ -27,41 +85,58 @@ abbrev at_item : Situation → Line → Tree → (Line → Tree) → Option Item
 at_item s line tree inside found =
     elim found [
       | None ↦ add_text s line tree
-      | Some i ↦ elim (item_may_begin s i) [ false ↦ add_text s line tree | true ↦ node tree (ItemLines i.kind i.start i.columns) (elim (is_blank_line i.first) [ true ↦ none | false ↦ inside i.first ]) ]
+      | Some i ↦ elim (item_may_begin s i) [
+        | false ↦ add_text s line tree
+        | true ↦ node tree (ItemLines i.kind i.start i.columns)
+            (elim (is_blank_line i.first) [ true ↦ none | false ↦ inside i.first ])
+      ]
     ]
 
 abbrev at_may : Situation → Line → Tree → (Line → Tree) → ItemStart → Bool → Tree
-at_may s line tree inside i may = elim may [ false ↦ add_text s line tree | true ↦ node tree (ItemLines i.kind i.start i.columns) (elim (is_blank_line i.first) [ true ↦ none | false ↦ inside i.first ]) ]
+at_may s line tree inside i may = elim may [
+  | false ↦ add_text s line tree
+  | true ↦ node tree (ItemLines i.kind i.start i.columns)
+      (elim (is_blank_line i.first) [ true ↦ none | false ↦ inside i.first ])
+]
 
-may_same : (room : ℕ) (s : Situation) (line : Line) (tree : Tree) (small large : Line → Tree) → ((first : Line) → IsWithin room (large first) → small first ≡ large first) →
-    (i : ItemStart) (may : Bool) → IsWithin (suc room) (at_may s line tree large i may) → at_may s line tree small i may ≡ at_may s line tree large i may
+may_same : (room : ℕ) (s : Situation) (line : Line) (tree : Tree) (small large : Line → Tree)
+    → ((first : Line) → IsWithin room (large first) → small first ≡ large first) →
+    (i : ItemStart) (may : Bool) → IsWithin (suc room) (at_may s line tree large i may)
+    → at_may s line tree small i may ≡ at_may s line tree large i may
 may_same room s line tree small large more i false h = refl
 may_same room s line tree small large more i true h = item_same room tree i small large more (is_blank_line i.first) h
 
-items_same : (room : ℕ) (s : Situation) (line : Line) (tree : Tree) (small large : Line → Tree) → ((first : Line) → IsWithin room (large first) → small first ≡ large first) →
-    (found : Option ItemStart) → IsWithin (suc room) (at_item s line tree large found) → at_item s line tree small found ≡ at_item s line tree large found
+items_same : (room : ℕ) (s : Situation) (line : Line) (tree : Tree) (small large : Line → Tree)
+    → ((first : Line) → IsWithin room (large first) → small first ≡ large first) →
+    (found : Option ItemStart) → IsWithin (suc room) (at_item s line tree large found)
+    → at_item s line tree small found ≡ at_item s line tree large found
 items_same room s line tree small large more None h = refl
 items_same room s line tree small large more (Some i) h = may_same room s line tree small large more i (item_may_begin s i) h
 
 abbrev at_leaf : Situation → Line → Tree → (Line → Tree) → Option LeafStart → Tree
 at_leaf s line tree inside start = elim start [ Some b ↦ with_start tree b | None ↦ add_item s line tree inside ]
 
-leaves_same : (room : ℕ) (s : Situation) (line : Line) (tree : Tree) (small large : Line → Tree) → ((first : Line) → IsWithin room (large first) → small first ≡ large first) →
-    (start : Option LeafStart) → IsWithin (suc room) (at_leaf s line tree large start) → at_leaf s line tree small start ≡ at_leaf s line tree large start
+leaves_same : (room : ℕ) (s : Situation) (line : Line) (tree : Tree) (small large : Line → Tree)
+    → ((first : Line) → IsWithin room (large first) → small first ≡ large first) →
+    (start : Option LeafStart) → IsWithin (suc room) (at_leaf s line tree large start)
+    → at_leaf s line tree small start ≡ at_leaf s line tree large start
 unfolding add_item
 leaves_same room s line tree small large more (Some b) h = refl
 leaves_same room s line tree small large more None h = items_same room s line tree small large more (item_start line) h
 
 -- without room nothing but a leaf has started
-may_none : (s : Situation) (line : Line) (tree : Tree) (large : Line → Tree) (i : ItemStart) (may : Bool) → IsWithin 0 (at_may s line tree large i may) → add_text s line tree ≡ at_may s line tree large i may
+may_none : (s : Situation) (line : Line) (tree : Tree) (large : Line → Tree) (i : ItemStart) (may : Bool)
+    → IsWithin 0 (at_may s line tree large i may) → add_text s line tree ≡ at_may s line tree large i may
 may_none s line tree large i false h = refl
 may_none s line tree large i true h = absurd h
 
-items_none : (s : Situation) (line : Line) (tree : Tree) (large : Line → Tree) (found : Option ItemStart) → IsWithin 0 (at_item s line tree large found) → add_text s line tree ≡ at_item s line tree large found
+items_none : (s : Situation) (line : Line) (tree : Tree) (large : Line → Tree) (found : Option ItemStart)
+    → IsWithin 0 (at_item s line tree large found) → add_text s line tree ≡ at_item s line tree large found
 items_none s line tree large None h = refl
 items_none s line tree large (Some i) h = may_none s line tree large i (item_may_begin s i) h
 
-leaves_none : (s : Situation) (line : Line) (tree : Tree) (large : Line → Tree) (start : Option LeafStart) → IsWithin 0 (at_leaf s line tree large start) →
+leaves_none : (s : Situation) (line : Line) (tree : Tree) (large : Line → Tree) (start : Option LeafStart)
+    → IsWithin 0 (at_leaf s line tree large start) →
     elim start [ Some b ↦ with_start tree b | None ↦ add_text s line tree ] ≡ at_leaf s line tree large start
 unfolding add_item
 leaves_none s line tree large (Some b) h = refl
@@ -69,42 +144,61 @@ leaves_none s line tree large None h = items_none s line tree large (item_start 
 
 abbrev at_quote : ℕ → Table → Situation → Line → Tree → Option Line → Tree
 at_quote room table s line tree found =
-    elim found [ Some rest ↦ node tree QuoteLines (add_blocks room table NoParagraph rest none) | None ↦ add_leaf_or_item table s line tree (λ first. add_blocks room table NoParagraph first none) ]
+    elim found [
+      | Some rest ↦ node tree QuoteLines (add_blocks room table NoParagraph rest none)
+      | None ↦ add_leaf_or_item table s line tree
+          (λ first. add_blocks room table NoParagraph first none)
+    ]
 
-quotes_none : (table : Table) (s : Situation) (line : Line) (tree : Tree) (found : Option Line) → IsWithin 0 (at_quote 0 table s line tree found) →
+quotes_none : (table : Table) (s : Situation) (line : Line) (tree : Tree) (found : Option Line)
+    → IsWithin 0 (at_quote 0 table s line tree found) →
     add_leaf table s line tree ≡ at_quote 0 table s line tree found
 unfolding add_leaf add_leaf_or_item
 quotes_none table s line tree (Some rest) h = absurd h
-quotes_none table s line tree None h = leaves_none s line tree (λ first. add_blocks 0 table NoParagraph first none) (leaf_begins table s line) h
+quotes_none table s line tree None h = leaves_none s line tree (λ first. add_blocks 0 table NoParagraph first none)
+    (leaf_begins table s line) h
 
 quotes_same : (room : ℕ) (table : Table) (s : Situation) (line : Line) (tree : Tree) →
-    ((first : Line) → IsWithin room (add_blocks (suc room) table NoParagraph first none) → add_blocks room table NoParagraph first none ≡ add_blocks (suc room) table NoParagraph first none) →
-    (found : Option Line) → IsWithin (suc room) (at_quote (suc room) table s line tree found) → at_quote room table s line tree found ≡ at_quote (suc room) table s line tree found
+    ((first : Line) → IsWithin room (add_blocks (suc room) table NoParagraph first none)
+    → add_blocks room table NoParagraph first none ≡ add_blocks (suc room) table NoParagraph first none) →
+    (found : Option Line) → IsWithin (suc room) (at_quote (suc room) table s line tree found)
+    → at_quote room table s line tree found ≡ at_quote (suc room) table s line tree found
 unfolding add_leaf_or_item
 quotes_same room table s line tree more (Some rest) h = ap (node tree QuoteLines) (more rest h.1)
 quotes_same room table s line tree more None h =
-    leaves_same room s line tree (λ first. add_blocks room table NoParagraph first none) (λ first. add_blocks (suc room) table NoParagraph first none) more (leaf_begins table s line) h
+    leaves_same room s line tree (λ first. add_blocks room table NoParagraph first none)
+    (λ first. add_blocks (suc room) table NoParagraph first none) more (leaf_begins table s line) h
 
-add_blocks_same : (room : ℕ) (table : Table) (s : Situation) (line : Line) (tree : Tree) → IsWithin room (add_blocks (suc room) table s line tree) →
+add_blocks_same : (room : ℕ) (table : Table) (s : Situation) (line : Line) (tree : Tree)
+    → IsWithin room (add_blocks (suc room) table s line tree) →
     add_blocks room table s line tree ≡ add_blocks (suc room) table s line tree
 unfolding add_blocks
 add_blocks_same zero table s line tree h = quotes_none table s line tree (quote_start line) h
-add_blocks_same (suc room) table s line tree h = quotes_same room table s line tree (λ first g. add_blocks_same room table NoParagraph first none g) (quote_start line) h
+add_blocks_same (suc room) table s line tree h = quotes_same room table s line tree
+    (λ first g. add_blocks_same room table NoParagraph first none g) (quote_start line) h
 
 abbrev at_code : ℕ → Table → Line → Tree → List Text → Bool → Tree
 at_code room table line before lines b =
-    elim b [ true ↦ before ▹ IndentedLines (lines ++ text_of (skip 4 line) ∷ []) | false ↦ add_blocks room table NoParagraph line (before ▹ IndentedLines lines) ]
+    elim b [
+      | true ↦ before ▹ IndentedLines (lines ++ text_of (skip 4 line) ∷ [])
+      | false ↦ add_blocks room table NoParagraph line
+          (before ▹ IndentedLines lines)
+    ]
 
 code_same : (room : ℕ) (table : Table) (line : Line) (before : Tree) (lines : List Text) (b : Bool) →
-    IsWithin room (at_code (suc room) table line before lines b) → at_code room table line before lines b ≡ at_code (suc room) table line before lines b
+    IsWithin room (at_code (suc room) table line before lines b)
+    → at_code room table line before lines b ≡ at_code (suc room) table line before lines b
 code_same room table line before lines true h = refl
 code_same room table line before lines false h = add_blocks_same room table NoParagraph line (before ▹ IndentedLines lines) h
 
-add_to_leaf_same : (room : ℕ) (table : Table) (line : Line) (before : Tree) (leaf : LeafLines) → IsWithin room (add_to_leaf (suc room) table line before leaf) →
+add_to_leaf_same : (room : ℕ) (table : Table) (line : Line) (before : Tree) (leaf : LeafLines)
+    → IsWithin room (add_to_leaf (suc room) table line before leaf) →
     add_to_leaf room table line before leaf ≡ add_to_leaf (suc room) table line before leaf
 unfolding add_to_leaf
-add_to_leaf_same room table line before (ParagraphLines text) h = add_blocks_same room table (InParagraph text) line (before ▹ ParagraphLines text) h
-add_to_leaf_same room table line before (IndentedLines lines) h = code_same room table line before lines (nat_le 4 (indent line) || is_blank_line line) h
+add_to_leaf_same room table line before (ParagraphLines text) h = add_blocks_same room table (InParagraph text) line
+    (before ▹ ParagraphLines text) h
+add_to_leaf_same room table line before (IndentedLines lines) h = code_same room table line before lines
+    (nat_le 4 (indent line) || is_blank_line line) h
 add_to_leaf_same room table line before (FencedLines true opening info lines) h = refl
 add_to_leaf_same room table line before (HtmlLines true kind lines) h = refl
 add_to_leaf_same room table line before leaf h = add_blocks_same room table NoParagraph line (before ▹ leaf) h
@@ -114,23 +208,32 @@ one_less n = omega arith
 
 abbrev at_node : ℕ → Table → Line → Tree → ContainerLines → Tree → Option Line → Tree
 at_node room table line before c inside found =
-    elim found [ Some rest ↦ node before c (add_line (room - 1) table rest inside) | None ↦ add_blocks room table (lazy_situation inside) line (node before c inside) ]
+    elim found [
+      | Some rest ↦ node before c (add_line (room - 1) table rest inside)
+      | None ↦ add_blocks room table (lazy_situation inside)
+          line (node before c inside)
+    ]
 
 node_same : (room : ℕ) (table : Table) (line : Line) (before : Tree) (c : ContainerLines) (inside : Tree) →
-    ((n : ℕ) (rest : Line) → IsWithin n (add_line (suc n) table rest inside) → add_line n table rest inside ≡ add_line (suc n) table rest inside) →
-    (found : Option Line) → IsWithin room (at_node (suc room) table line before c inside found) → at_node room table line before c inside found ≡ at_node (suc room) table line before c inside found
+    ((n : ℕ) (rest : Line) → IsWithin n (add_line (suc n) table rest inside)
+    → add_line n table rest inside ≡ add_line (suc n) table rest inside) →
+    (found : Option Line) → IsWithin room (at_node (suc room) table line before c inside found)
+    → at_node room table line before c inside found ≡ at_node (suc room) table line before c inside found
 node_same room table line before c inside more None h = add_blocks_same room table (lazy_situation inside) line (node before c inside) h
 node_same zero table line before c inside more (Some rest) h = absurd h
 node_same (suc room) table line before c inside more (Some rest) h =
-    let g : IsWithin room (add_line (suc room) table rest inside) = subst (λ n. IsWithin room (add_line n table rest inside)) (one_less (suc room)) h.1 in
+    let g : IsWithin room (add_line (suc room) table rest inside) = subst (λ n. IsWithin room (add_line n table rest inside))
+    (one_less (suc room)) h.1 in
     ap (λ n. node before c (add_line n table rest inside)) (one_less room)
     ∙ (ap (node before c) (more room rest g) ∙ ap (λ n. node before c (add_line n table rest inside)) (sym (one_less (suc room))))
 
-add_line_same : (room : ℕ) (table : Table) (line : Line) (tree : Tree) → IsWithin room (add_line (suc room) table line tree) → add_line room table line tree ≡ add_line (suc room) table line tree
+add_line_same : (room : ℕ) (table : Table) (line : Line) (tree : Tree) → IsWithin room (add_line (suc room) table line tree)
+    → add_line room table line tree ≡ add_line (suc room) table line tree
 unfolding add_line
 add_line_same room table line none h = add_blocks_same room table NoParagraph line none h
 add_line_same room table line (before ▹ leaf) h = add_to_leaf_same room table line before leaf h
-add_line_same room table line (node before c inside) h = node_same room table line before c inside (λ n rest g. add_line_same n table rest inside g) (matched c inside line) h
+add_line_same room table line (node before c inside) h = node_same room table line before c inside
+    (λ n rest g. add_line_same n table rest inside g) (matched c inside line) h
 
 -- ---- a line makes nothing less deep
 
@@ -157,7 +260,17 @@ with_start_deep n tree (NewLeaf leaf) h = h
 with_start_deep n tree (Underline level) h = underlined_deep n level tree h
 
 add_text_at : (n : ℕ) (line : Line) (tree : Tree) (blank closed code : Bool) →
-    IsWithin n (elim blank [ true ↦ tree ▹ BlankLine | false ↦ elim closed [ false ↦ continued line tree | true ↦ elim code [ true ↦ tree ▹ IndentedLines (text_of (skip 4 line) ∷ []) | false ↦ tree ▹ ParagraphLines (line_text line) ] ] ]) →
+    IsWithin n (elim blank [
+      | true ↦ tree ▹ BlankLine
+      | false ↦ elim closed [
+        | false ↦ continued line tree
+        | true ↦ elim code [
+          | true ↦ tree ▹ IndentedLines (text_of (skip 4 line) ∷ [])
+          | false ↦ tree ▹
+              ParagraphLines (line_text line)
+        ]
+      ]
+    ]) →
     IsWithin n tree
 add_text_at n line tree true closed code h = h
 add_text_at n line tree false false code h = continued_deep n line tree h
@@ -168,57 +281,74 @@ add_text_deep : (n : ℕ) (s : Situation) (line : Line) (tree : Tree) → IsWith
 unfolding add_text
 add_text_deep n s line tree h = add_text_at n line tree (is_blank_line line) (has_no_paragraph s) (nat_le 4 (indent line)) h
 
-may_deep : (n : ℕ) (s : Situation) (line : Line) (tree : Tree) (large : Line → Tree) (i : ItemStart) (may : Bool) → IsWithin n (at_may s line tree large i may) → IsWithin n tree
+may_deep : (n : ℕ) (s : Situation) (line : Line) (tree : Tree) (large : Line → Tree) (i : ItemStart) (may : Bool)
+    → IsWithin n (at_may s line tree large i may) → IsWithin n tree
 may_deep n s line tree large i false h = add_text_deep n s line tree h
-may_deep n s line tree large i true h = node_before n tree (elim (is_blank_line i.first) [ true ↦ none | false ↦ large i.first ]) (ItemLines i.kind i.start i.columns) h
+may_deep n s line tree large i true h = node_before n tree (elim (is_blank_line i.first) [ true ↦ none | false ↦ large i.first ])
+    (ItemLines i.kind i.start i.columns) h
 
-add_item_deep : (n : ℕ) (s : Situation) (line : Line) (tree : Tree) (large : Line → Tree) (found : Option ItemStart) → IsWithin n (at_item s line tree large found) → IsWithin n tree
+add_item_deep : (n : ℕ) (s : Situation) (line : Line) (tree : Tree) (large : Line → Tree) (found : Option ItemStart)
+    → IsWithin n (at_item s line tree large found) → IsWithin n tree
 add_item_deep n s line tree large None h = add_text_deep n s line tree h
 add_item_deep n s line tree large (Some i) h = may_deep n s line tree large i (item_may_begin s i) h
 
-add_leaf_or_item_deep : (n : ℕ) (s : Situation) (line : Line) (tree : Tree) (large : Line → Tree) (start : Option LeafStart) → IsWithin n (at_leaf s line tree large start) → IsWithin n tree
+add_leaf_or_item_deep : (n : ℕ) (s : Situation) (line : Line) (tree : Tree) (large : Line → Tree) (start : Option LeafStart)
+    → IsWithin n (at_leaf s line tree large start) → IsWithin n tree
 unfolding add_item
 add_leaf_or_item_deep n s line tree large (Some b) h = with_start_deep n tree b h
 add_leaf_or_item_deep n s line tree large None h = add_item_deep n s line tree large (item_start line) h
 
-quotes_deep : (n room : ℕ) (table : Table) (s : Situation) (line : Line) (tree : Tree) (found : Option Line) → IsWithin n (at_quote room table s line tree found) → IsWithin n tree
+quotes_deep : (n room : ℕ) (table : Table) (s : Situation) (line : Line) (tree : Tree) (found : Option Line)
+    → IsWithin n (at_quote room table s line tree found) → IsWithin n tree
 unfolding add_leaf_or_item
 quotes_deep n room table s line tree (Some rest) h = node_before n tree (add_blocks room table NoParagraph rest none) QuoteLines h
-quotes_deep n room table s line tree None h = add_leaf_or_item_deep n s line tree (λ first. add_blocks room table NoParagraph first none) (leaf_begins table s line) h
+quotes_deep n room table s line tree None h = add_leaf_or_item_deep n s line tree (λ first. add_blocks room table NoParagraph first none)
+    (leaf_begins table s line) h
 
-add_blocks_once_deep : (n room : ℕ) (table : Table) (s : Situation) (line : Line) (tree : Tree) → IsWithin n (add_blocks (suc room) table s line tree) → IsWithin n tree
+add_blocks_once_deep : (n room : ℕ) (table : Table) (s : Situation) (line : Line) (tree : Tree)
+    → IsWithin n (add_blocks (suc room) table s line tree) → IsWithin n tree
 unfolding add_blocks
 add_blocks_once_deep n room table s line tree h = quotes_deep n room table s line tree (quote_start line) h
 
-add_leaf_deep : (n : ℕ) (s : Situation) (line : Line) (tree : Tree) (start : Option LeafStart) → IsWithin n (elim start [ Some b ↦ with_start tree b | None ↦ add_text s line tree ]) → IsWithin n tree
+add_leaf_deep : (n : ℕ) (s : Situation) (line : Line) (tree : Tree) (start : Option LeafStart)
+    → IsWithin n (elim start [ Some b ↦ with_start tree b | None ↦ add_text s line tree ]) → IsWithin n tree
 add_leaf_deep n s line tree (Some b) h = with_start_deep n tree b h
 add_leaf_deep n s line tree None h = add_text_deep n s line tree h
 
-add_blocks_deep : (n room : ℕ) (table : Table) (s : Situation) (line : Line) (tree : Tree) → IsWithin n (add_blocks room table s line tree) → IsWithin n tree
+add_blocks_deep : (n room : ℕ) (table : Table) (s : Situation) (line : Line) (tree : Tree) → IsWithin n (add_blocks room table s line tree)
+    → IsWithin n tree
 unfolding add_blocks add_leaf
 add_blocks_deep n zero table s line tree h = add_leaf_deep n s line tree (leaf_begins table s line) h
 add_blocks_deep n (suc room) table s line tree h = quotes_deep n room table s line tree (quote_start line) h
 
-code_deep : (n room : ℕ) (table : Table) (line : Line) (before : Tree) (lines : List Text) (b : Bool) → IsWithin n (at_code room table line before lines b) → IsWithin n before
+code_deep : (n room : ℕ) (table : Table) (line : Line) (before : Tree) (lines : List Text) (b : Bool)
+    → IsWithin n (at_code room table line before lines b) → IsWithin n before
 code_deep n room table line before lines true h = h
 code_deep n room table line before lines false h = add_blocks_deep n room table NoParagraph line (before ▹ IndentedLines lines) h
 
-fence_deep : (n : ℕ) (before : Tree) (a b : LeafLines) (t : Bool) → IsWithin n (elim t [ true ↦ before ▹ a | false ↦ before ▹ b ]) → IsWithin n before
+fence_deep : (n : ℕ) (before : Tree) (a b : LeafLines) (t : Bool) → IsWithin n (elim t [ true ↦ before ▹ a | false ↦ before ▹ b ])
+    → IsWithin n before
 fence_deep n before a b true h = h
 fence_deep n before a b false h = h
 
-html_deep : (n : ℕ) (before : Tree) (a b : LeafLines) (t : Bool) → IsWithin n (elim t [ true ↦ before ▹ a ▹ BlankLine | false ↦ before ▹ b ]) → IsWithin n before
+html_deep : (n : ℕ) (before : Tree) (a b : LeafLines) (t : Bool)
+    → IsWithin n (elim t [ true ↦ before ▹ a ▹ BlankLine | false ↦ before ▹ b ]) → IsWithin n before
 html_deep n before a b true h = h
 html_deep n before a b false h = h
 
-leaf_deep : (n room : ℕ) (table : Table) (line : Line) (before : Tree) (leaf : LeafLines) → IsWithin n (add_to_leaf room table line before leaf) → IsWithin n before
+leaf_deep : (n room : ℕ) (table : Table) (line : Line) (before : Tree) (leaf : LeafLines)
+    → IsWithin n (add_to_leaf room table line before leaf) → IsWithin n before
 unfolding add_to_leaf
-leaf_deep n room table line before (ParagraphLines text) h = add_blocks_deep n room table (InParagraph text) line (before ▹ ParagraphLines text) h
-leaf_deep n room table line before (IndentedLines lines) h = code_deep n room table line before lines (nat_le 4 (indent line) || is_blank_line line) h
+leaf_deep n room table line before (ParagraphLines text) h = add_blocks_deep n room table (InParagraph text) line
+    (before ▹ ParagraphLines text) h
+leaf_deep n room table line before (IndentedLines lines) h = code_deep n room table line before lines
+    (nat_le 4 (indent line) || is_blank_line line) h
 leaf_deep n room table line before (FencedLines true opening info lines) h =
-    fence_deep n before (FencedLines false opening info lines) (FencedLines true opening info (lines ++ text_of (skip opening.indent line) ∷ [])) (closes_fence opening line) h
+    fence_deep n before (FencedLines false opening info lines)
+    (FencedLines true opening info (lines ++ text_of (skip opening.indent line) ∷ [])) (closes_fence opening line) h
 leaf_deep n room table line before (HtmlLines true kind lines) h =
-    html_deep n before (HtmlLines false kind lines) (HtmlLines (not (ends_html kind (text_of line))) kind (lines ++ text_of line ∷ [])) (ends_before_blank kind && is_blank_line line) h
+    html_deep n before (HtmlLines false kind lines) (HtmlLines (not (ends_html kind (text_of line))) kind (lines ++ text_of line ∷ []))
+    (ends_before_blank kind && is_blank_line line) h
 leaf_deep n room table line before leaf h = add_blocks_deep n room table NoParagraph line (before ▹ leaf) h
 
 node_deep : (n room : ℕ) (table : Table) (line : Line) (before : Tree) (c : ContainerLines) (inside : Tree) →
@@ -232,15 +362,18 @@ add_line_deep : (n room : ℕ) (table : Table) (line : Line) (tree : Tree) → I
 unfolding add_line
 add_line_deep n room table line none h = tt
 add_line_deep n room table line (before ▹ leaf) h = leaf_deep n room table line before leaf h
-add_line_deep n room table line (node before c inside) h = node_deep n room table line before c inside (λ k m rest g. add_line_deep k m table rest inside g) (matched c inside line) h
+add_line_deep n room table line (node before c inside) h = node_deep n room table line before c inside
+    (λ k m rest g. add_line_deep k m table rest inside g) (matched c inside line) h
 
 -- ---- all lines
 
-add_lines_deep : (n room : ℕ) (table : Table) (lines : List Text) (tree : Tree) → IsWithin n (add_lines room table lines tree) → IsWithin n tree
+add_lines_deep : (n room : ℕ) (table : Table) (lines : List Text) (tree : Tree) → IsWithin n (add_lines room table lines tree)
+    → IsWithin n tree
 unfolding add_lines
 add_lines_deep n room table [] tree h = h
 add_lines_deep n room table (line ∷ more) tree h =
-    add_line_deep n room table (cells_of (line_content line)) tree (add_lines_deep n room table more (add_line room table (cells_of (line_content line)) tree) h)
+    add_line_deep n room table (cells_of (line_content line)) tree
+    (add_lines_deep n room table more (add_line room table (cells_of (line_content line)) tree) h)
 
 add_lines_same : (room : ℕ) (table : Table) (lines : List Text) (tree : Tree) → IsWithin room (add_lines (suc room) table lines tree) →
     add_lines room table lines tree ≡ add_lines (suc room) table lines tree
@@ -248,7 +381,8 @@ unfolding add_lines
 add_lines_same room table [] tree h = refl
 add_lines_same room table (line ∷ more) tree h =
     let next : Tree = add_line (suc room) table (cells_of (line_content line)) tree in
-    ap (add_lines room table more) (add_line_same room table (cells_of (line_content line)) tree (add_lines_deep room (suc room) table more next h))
+    ap (add_lines room table more) (add_line_same room table (cells_of (line_content line)) tree
+    (add_lines_deep room (suc room) table more next h))
     ∙ add_lines_same room table more next h
 
 pub room_is_enough : RoomIsEnough

@@ -13,7 +13,8 @@ lines :
     (codes "a" ++ (0x0 ∷ codes "b\n")) gives (codes "<p>a�b</p>\n") ×
     -- this project's choice: form feeds, vertical tabs and no-break spaces are text where white space decides structure
     (0xC ∷ codes "\n") gives (codes "<p>" ++ (0xC ∷ codes "</p>\n")) ×
-    (codes "a" ++ (0xC ∷ codes "\n\nb" ++ (0xB ∷ codes "\n"))) gives (codes "<p>a" ++ (0xC ∷ codes "</p>\n<p>b" ++ (0xB ∷ codes "</p>\n"))) ×
+    (codes "a" ++ (0xC ∷ codes "\n\nb" ++ (0xB ∷ codes "\n"))) gives (codes "<p>a" ++ (0xC ∷ codes "</p>\n<p>b" ++ (0xB ∷ codes "</p>\n")))
+    ×
     (codes "#" ++ (0xA0 ∷ codes "a\n")) gives (codes "<p>#" ++ (0xA0 ∷ codes "a</p>\n")) ×
     (codes ">" ++ (0xC ∷ codes "x\n")) gives (codes "<blockquote>\n<p>" ++ (0xC ∷ codes "x</p>\n</blockquote>\n"))
 unfolding html_words

@@ -44,7 +44,8 @@ with_number name n = name ++ (45 ∷ decimal n)
 -- the first of NAME-n, NAME-(n+1), .. that isn't used; NAME-(n+most), where those before it are
 unfoldable pub free_number : ℕ → ℕ → List Text → Text → Text
 free_number zero n used name = with_number name n
-free_number (suc most) n used name = elim (is_used used (with_number name n)) [ true ↦ free_number most (suc n) used name | false ↦ with_number name n ]
+free_number (suc most) n used name = elim (is_used used (with_number name n))
+    [ true ↦ free_number most (suc n) used name | false ↦ with_number name n ]
 
 -- the name where it is free, else with the least number from 1 that is free; one more numbers than names used are enough
 unfoldable pub free_anchor : List Text → Text → Text
@@ -53,7 +54,8 @@ free_anchor used name = elim (is_used used name) [ true ↦ free_number (length 
 -- the anchors of headings behind others that use these
 unfoldable pub anchors_behind : List Text → List Text → List Text
 anchors_behind used [] = []
-anchors_behind used (heading ∷ more) = free_anchor used (anchor_name heading) ∷ anchors_behind (free_anchor used (anchor_name heading) ∷ used) more
+anchors_behind used (heading ∷ more) = free_anchor used (anchor_name heading) ∷ anchors_behind
+    (free_anchor used (anchor_name heading) ∷ used) more
 
 -- the anchors of headings with these texts
 abbrev pub anchors_of : List Text → List Text

@@ -1,5 +1,26 @@
 -- Starts of block quotes and list items (CommonMark 0.31.2, sections 5.1 and 5.2).
-use Rattle.std.specs.Prelude.{ℕ, ◌+◌, ◌-◌, nat_le, Bool, true, false, not, ◌&&◌, ◌==◌, [], ◌∷◌, drop, length, Option, Some, None, option_and_then, if◌then◌else◌, codes}
+use Rattle.std.specs.Prelude.{
+  ℕ,
+  ◌+◌,
+  ◌-◌,
+  nat_le,
+  Bool,
+  true,
+  false,
+  not,
+  ◌&&◌,
+  ◌==◌,
+  [],
+  ◌∷◌,
+  drop,
+  length,
+  Option,
+  Some,
+  None,
+  option_and_then,
+  if◌then◌else◌,
+  codes,
+}
 use Rattle.std.specs.Char.{is_ascii_digit}
 use Rattle.doc_rules.specs.Characters.{Text, one_of}
 use Rattle.doc_rules.specs.Columns.{Line, indent, after_indent, skip, is_blank_line}
@@ -42,12 +63,14 @@ digits_of (cell ∷ rest) = elim (is_ascii_digit cell.char) [ true ↦ cell.char
 -- '-', '+' or '*'
 unfoldable pub bullet_marker : Line → Option ListMarker
 bullet_marker [] = None
-bullet_marker (cell ∷ rest) = elim (one_of (codes "-+*") cell.char) [ true ↦ Some (record { kind = Bullet cell.char; start = 0; behind = rest }) | false ↦ None ]
+bullet_marker (cell ∷ rest) = elim (one_of (codes "-+*") cell.char)
+    [ true ↦ Some (record { kind = Bullet cell.char; start = 0; behind = rest }) | false ↦ None ]
 
 -- the '.' or ')' behind this number
 unfoldable pub ordered_marker : ℕ → Line → Option ListMarker
 ordered_marker start [] = None
-ordered_marker start (cell ∷ rest) = elim (one_of (codes ".)") cell.char) [ true ↦ Some (record { kind = Ordered cell.char; start = start; behind = rest }) | false ↦ None ]
+ordered_marker start (cell ∷ rest) = elim (one_of (codes ".)") cell.char)
+    [ true ↦ Some (record { kind = Ordered cell.char; start = start; behind = rest }) | false ↦ None ]
 
 -- a bullet, or 1 to 9 digits and a delimiter
 unfoldable pub list_marker : Line → Option ListMarker
@@ -73,7 +96,13 @@ marker_end line marker = indent line + (length (after_indent line) - length mark
 
 -- the item whose content begins n columns behind its marker
 unfoldable pub item_at : Line → ListMarker → ℕ → ItemStart
-item_at line marker n = record { kind = marker.kind; start = marker.start; columns = marker_end line marker + n; first = skip n marker.behind }
+item_at line marker n = record {
+  kind = marker.kind;
+  start = marker.start;
+  columns = marker_end line marker + n;
+  first = skip n
+      marker.behind;
+}
 
 -- the content begins 1 to 4 columns behind the marker; where 5 or more columns follow, or the line ends, 1 column behind it
 unfoldable pub item_of : Line → ListMarker → Option ItemStart

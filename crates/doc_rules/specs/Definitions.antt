@@ -40,7 +40,8 @@ unfoldable pub with_title : Text → Text → Text → Option DefinitionSource
 with_title name dest text =
     elim (title text) [
       | None ↦ None
-      | Some behind ↦ option_map (λ rest. record { label = name; dest = dest; title = Some (before behind text); rest = rest }) (rest_of_line behind)
+      | Some behind ↦ option_map (λ rest. record { label = name; dest = dest; title = Some (before behind text); rest = rest })
+          (rest_of_line behind)
     ]
 
 -- without a title, where nothing more stands on the line
@@ -95,4 +96,5 @@ definitions_of table text = definitions_within (length text) table text
 -- the target of the first definition whose label matches
 unfoldable pub find_reference : List Definition → Text → Option Target
 find_reference [] name = None
-find_reference (d ∷ more) name = elim (bytes_eq (normal_label d.label) (normal_label name)) [ true ↦ Some d.target | false ↦ find_reference more name ]
+find_reference (d ∷ more) name = elim (bytes_eq (normal_label d.label) (normal_label name))
+    [ true ↦ Some d.target | false ↦ find_reference more name ]

@@ -1,5 +1,32 @@
 -- Backslash escapes and character references (CommonMark 0.31.2, sections 2.4 and 2.5).
-use Rattle.std.specs.Prelude.{ℕ, zero, suc, ◌+◌, ◌*◌, ◌-◌, nat_lt, nat_le, true, false, ◌&&◌, ◌||◌, ◌==◌, bytes_eq, [], ◌∷◌, ◌++◌, drop, take, length, fold, Option, Some, None, option_map, codes}
+use Rattle.std.specs.Prelude.{
+  ℕ,
+  zero,
+  suc,
+  ◌+◌,
+  ◌*◌,
+  ◌-◌,
+  nat_lt,
+  nat_le,
+  true,
+  false,
+  ◌&&◌,
+  ◌||◌,
+  ◌==◌,
+  bytes_eq,
+  [],
+  ◌∷◌,
+  ◌++◌,
+  drop,
+  take,
+  length,
+  fold,
+  Option,
+  Some,
+  None,
+  option_map,
+  codes,
+}
 use Rattle.std.specs.Char.{is_ascii_punctuation, is_ascii_digit, is_ascii_hexdigit, is_ascii_alphanumeric, digit_value}
 use Rattle.doc_rules.specs.Characters.{Text, one_of}
 use Rattle.doc_rules.specs.Parsers.{Parser, one, is, ◌then◌, some, at_most, before, inside}
@@ -41,7 +68,8 @@ unfoldable pub by_name : Table → Text → Option Meaning
 by_name table rest =
     elim (named_reference rest) [
       | None ↦ None
-      | Some after ↦ option_map (λ those. (those, length rest - length after)) (find_entity table (take (length rest - length after - 1) rest))
+      | Some after ↦ option_map (λ those. (those, length rest - length after))
+          (find_entity table (take (length rest - length after - 1) rest))
     ]
 
 -- the reference at the front of a text behind its '&'
@@ -66,7 +94,11 @@ backslash_escape (c ∷ rest) = elim (is_ascii_punctuation c) [ true ↦ Some (c
 
 -- the escape or the reference that this character begins before this rest
 unfoldable pub escape_or_reference : Table → ℕ → Text → Option Meaning
-escape_or_reference table c rest = elim (c == 92) [ true ↦ backslash_escape rest | false ↦ elim (c == 38) [ true ↦ character_reference table rest | false ↦ None ] ]
+escape_or_reference table c rest = elim (c == 92) [
+  | true ↦ backslash_escape rest
+  | false ↦ elim (c == 38)
+      [ true ↦ character_reference table rest | false ↦ None ]
+]
 
 -- what this character before this rest means: itself, where it begins neither
 unfoldable pub meaning : Table → ℕ → Text → Meaning

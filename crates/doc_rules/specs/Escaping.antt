@@ -10,7 +10,11 @@ unfoldable pub escaped_char : ℕ → Text
 escaped_char c =
     elim (c == 38) [
       | true ↦ codes "&amp;"
-      | false ↦ elim (c == 60) [ true ↦ codes "&lt;" | false ↦ elim (c == 62) [ true ↦ codes "&gt;" | false ↦ elim (c == 34) [ true ↦ codes "&quot;" | false ↦ c ∷ [] ] ] ]
+      | false ↦ elim (c == 60) [
+        | true ↦ codes "&lt;"
+        | false ↦ elim (c == 62)
+            [ true ↦ codes "&gt;" | false ↦ elim (c == 34) [ true ↦ codes "&quot;" | false ↦ c ∷ [] ] ]
+      ]
     ]
 
 -- each character so

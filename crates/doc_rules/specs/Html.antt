@@ -1,14 +1,65 @@
 -- Inlines and blocks as HTML (CommonMark 0.31.2; the layout is that of its examples).
-use Rattle.std.specs.Prelude.{ℕ, zero, suc, Bool, true, false, ◌==◌, List, [], ◌∷◌, ◌++◌, map, flat_map, decimal, drop, Option, Some, None, if◌then◌else◌, codes}
+use Rattle.std.specs.Prelude.{
+  ℕ,
+  zero,
+  suc,
+  Bool,
+  true,
+  false,
+  ◌==◌,
+  List,
+  [],
+  ◌∷◌,
+  ◌++◌,
+  map,
+  flat_map,
+  decimal,
+  drop,
+  Option,
+  Some,
+  None,
+  if◌then◌else◌,
+  codes,
+}
 use Rattle.doc_rules.specs.Characters.{Text, is_space_or_tab, strip_front}
 use Rattle.doc_rules.specs.Entities.{Table}
 use Rattle.doc_rules.specs.Destinations.{Target}
 use Rattle.doc_rules.specs.Definitions.{Definition}
-use Rattle.doc_rules.specs.Inlines.{Span, Emphasis, Strong, Link, Image, Inline, Literal, Code, Raw, Reference, SoftBreak, HardBreak, Start, End}
+use Rattle.doc_rules.specs.Inlines.{
+  Span,
+  Emphasis,
+  Strong,
+  Link,
+  Image,
+  Inline,
+  Literal,
+  Code,
+  Raw,
+  Reference,
+  SoftBreak,
+  HardBreak,
+  Start,
+  End,
+}
 use Rattle.doc_rules.specs.CodeSpans.{spaced}
 use Rattle.doc_rules.specs.Reading.{inlines_of}
 use Rattle.doc_rules.specs.Forests.{none, ◌▹◌, node}
-use Rattle.doc_rules.specs.Blocks.{Leaf, Paragraph, Heading, IndentedCode, FencedCode, HtmlBlock, ThematicBreak, Container, BlockQuote, ListBlock, ListItem, Blocks, Document, document_of}
+use Rattle.doc_rules.specs.Blocks.{
+  Leaf,
+  Paragraph,
+  Heading,
+  IndentedCode,
+  FencedCode,
+  HtmlBlock,
+  ThematicBreak,
+  Container,
+  BlockQuote,
+  ListBlock,
+  ListItem,
+  Blocks,
+  Document,
+  document_of,
+}
 use Rattle.doc_rules.specs.Escaping.{html_escape, url_escape}
 use Rattle.doc_rules.specs.PlainTexts.{plain}
 use Rattle.doc_page.specs.Pages.{title_attribute, opening_tag}
@@ -113,7 +164,8 @@ id_attribute (anchor ∷ more) = codes " id=\"" ++ html_escape anchor ++ codes "
 -- a heading over these inlines, with the next anchor
 unfoldable pub heading_html : ℕ → Output → Writing → Writing
 heading_html level inside w =
-    write (characters (codes "<h" ++ decimal level ++ id_attribute w.anchors ++ codes ">") ++ inside ++ characters (codes "</h" ++ decimal level ++ codes ">\n"))
+    write (characters (codes "<h" ++ decimal level ++ id_attribute w.anchors ++ codes ">") ++ inside
+    ++ characters (codes "</h" ++ decimal level ++ codes ">\n"))
     (record w { anchors = drop 1 w.anchors })
 
 -- what stands before the first space or tab
@@ -178,13 +230,15 @@ unfoldable pub blocks_html : Table → List Definition → Bool → Blocks → W
 blocks_html table refs tight none w = w
 blocks_html table refs tight (before ▹ leaf) w = leaf_html table refs tight leaf (blocks_html table refs tight before w)
 blocks_html table refs tight (node before container inside) w =
-    container_end container (blocks_html table refs (is_tight_inside tight container) inside (container_start container (blocks_html table refs tight before w)))
+    container_end container (blocks_html table refs (is_tight_inside tight container) inside
+    (container_start container (blocks_html table refs tight before w)))
 
 -- ---- documents
 
 -- what is written for a document; where no anchors are given, headings carry none
 unfoldable pub output_of : Table → List Text → Document → Output
-output_of table anchors document = (blocks_html table document.refs false document.blocks (record { output = []; anchors = anchors })).output
+output_of table anchors document = (blocks_html table document.refs false document.blocks
+    (record { output = []; anchors = anchors })).output
 
 -- how a link is shown: with the text of its href as it is written, or as a link to nothing that its reader sees
 pub data Shown : Type 0 where

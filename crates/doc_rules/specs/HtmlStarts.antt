@@ -36,7 +36,11 @@ is_among names name = list_any (bytes_eq name) names
 
 -- at the front a tag name, in any case one of these, and behind it a rest that passes the test
 unfoldable pub is_named : List Text → (Text → Bool) → Text → Bool
-is_named names test text = elim (tag_name text) [ None ↦ false | Some rest ↦ is_among names (map to_ascii_lowercase (before rest text)) && test rest ]
+is_named names test text = elim (tag_name text) [
+  | None ↦ false
+  | Some rest ↦ is_among names (map to_ascii_lowercase (before rest text)) &&
+      test rest
+]
 
 -- ---- starts
 

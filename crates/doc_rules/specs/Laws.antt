@@ -1,5 +1,33 @@
 -- Laws of the definitions; the proofs are in proofs/.
-use Rattle.std.specs.Prelude.{◌≡◌, ℕ, zero, suc, ◌+◌, ◌%◌, ◌^◌, ◌<◌, ◌≤◌, ⊤, Bool, false, ◌==◌, bytes_eq, List, [], ◌∷◌, ◌++◌, map, flat_map, drop, length, encode_utf8_all, Option, Some, None, codes}
+use Rattle.std.specs.Prelude.{
+  ◌≡◌,
+  ℕ,
+  zero,
+  suc,
+  ◌+◌,
+  ◌%◌,
+  ◌^◌,
+  ◌<◌,
+  ◌≤◌,
+  ⊤,
+  Bool,
+  false,
+  ◌==◌,
+  bytes_eq,
+  List,
+  [],
+  ◌∷◌,
+  ◌++◌,
+  map,
+  flat_map,
+  drop,
+  length,
+  encode_utf8_all,
+  Option,
+  Some,
+  None,
+  codes,
+}
 use Rattle.std.specs.Bool.{MatchBool}
 use Rattle.std.specs.List.{concat, AllByRecursion, IsDistinct, list_any}
 use Rattle.doc_rules.specs.Characters.{Text}
@@ -17,7 +45,19 @@ use Rattle.doc_rules.specs.PlainTexts.{headings_in, headings_of}
 use Rattle.doc_rules.specs.Anchors.{anchors_of}
 use Rattle.doc_rules.specs.Escaping.{html_escape}
 use Rattle.doc_rules.specs.Html.{Output, Writing, blocks_html, Linker, written_text, html_of}
-use Rattle.doc_rules.specs.Pages.{PagePiece, HtmlPiece, LinkPiece, Page, pieces_of, document_anchors, document_page, filled, encoded, encoded_shown, rendered_of}
+use Rattle.doc_rules.specs.Pages.{
+  PagePiece,
+  HtmlPiece,
+  LinkPiece,
+  Page,
+  pieces_of,
+  document_anchors,
+  document_page,
+  filled,
+  encoded,
+  encoded_shown,
+  rendered_of,
+}
 use Rattle.doc_page.specs.Laws as pages
 use Rattle.doc_page.specs.Escaping.{escaped}
 use Rattle.doc_page.specs.Lines.{lines as page_lines, without_ending as page_without_ending}
@@ -55,7 +95,8 @@ ColumnsAreContiguous = (line : Text) (before : List Column) (column : Column) (a
 
 -- a tab ends at a multiple of 4 and has 1 to 4 columns, another character has one
 abbrev pub IsWide : Column → Type 0
-IsWide column = MatchBool (column.char == 9) (((column.first + column.width) % 4 ≡ 0) × (1 ≤ column.width) × (column.width ≤ 4)) (column.width ≡ 1)
+IsWide column = MatchBool (column.char == 9) (((column.first + column.width) % 4 ≡ 0) × (1 ≤ column.width)
+    × (column.width ≤ 4)) (column.width ≡ 1)
 
 -- this holds of each column of a line
 abbrev pub TabsReachStops : Type 0
@@ -186,7 +227,8 @@ IsWithin (suc n) (node before container inside) = IsWithin (suc n) before × IsW
 
 -- room that isn't used doesn't matter
 abbrev pub RoomIsEnough : Type 0
-RoomIsEnough = (room : ℕ) (table : Table) (text : Text) → IsWithin room (tree_within (suc room) table text) → tree_within room table text ≡ tree_within (suc room) table text
+RoomIsEnough = (room : ℕ) (table : Table) (text : Text) → IsWithin room (tree_within (suc room) table text)
+    → tree_within room table text ≡ tree_within (suc room) table text
 
 -- a quoted text is one quote over the text, where that opens at most 99 quotes and items at once
 abbrev pub QuotedWithin : Type 0

@@ -40,7 +40,8 @@ unfoldable pub atx_heading : Text → Option (ℕ × Text)
 atx_heading text =
     elim (some (λ c. c == 35) text) [
       | None ↦ None
-      | Some rest ↦ elim (nat_le (length text - length rest) 6 && is_end rest) [ true ↦ Some (length text - length rest, heading_text rest) | false ↦ None ]
+      | Some rest ↦ elim (nat_le (length text - length rest) 6 && is_end rest)
+          [ true ↦ Some (length text - length rest, heading_text rest) | false ↦ None ]
     ]
 
 -- ---- underlines of setext headings (4.3)
@@ -77,12 +78,17 @@ fence_of c fits columns text =
 -- a fence and its info string as it stands, stripped: of backticks, with none in the info string, or of tildes
 unfoldable pub opening_fence : ℕ → Text → Option (Fence × Text)
 opening_fence columns text =
-    elim (fence_of 96 (list_all (λ c. not (c == 96))) columns text) [ Some found ↦ Some found | None ↦ fence_of 126 (λ info. true) columns text ]
+    elim (fence_of 96 (list_all (λ c. not (c == 96))) columns text)
+    [ Some found ↦ Some found | None ↦ fence_of 126 (λ info. true) columns text ]
 
 -- the same character, at least as many of it, and behind them spaces and tabs alone
 unfoldable pub is_closing_text : Fence → Text → Bool
 is_closing_text fence text =
-    elim (some (λ c. c == fence.char) text) [ None ↦ false | Some rest ↦ nat_le fence.length (length text - length rest) && is_blank_text rest ]
+    elim (some (λ c. c == fence.char) text) [
+      | None ↦ false
+      | Some rest ↦ nat_le fence.length (length text - length rest) && is_blank_text
+          rest
+    ]
 
 -- the line closes this fence
 unfoldable pub closes_fence : Fence → Line → Bool

@@ -2,6 +2,7 @@ pub mod Characters
 pub mod Lines
 pub mod Columns
 pub mod Parsers
+pub mod Rests
 pub mod Entities
 pub mod Escapes
 pub mod Tags

@@ -92,7 +92,8 @@ link_span bracket target = if bracket.image then Image target else Link target
 unfoldable pub linked : LastBracket → Target → List Inline
 linked last target =
     End (link_span last.bracket target)
-    ∷ onto (emphasis_of last.since) (Start (link_span last.bracket target) ∷ (if last.bracket.image then last.before else map without_links last.before))
+    ∷ onto (emphasis_of last.since) (Start (link_span last.bracket target) ∷
+    (if last.bracket.image then last.before else map without_links last.before))
 
 -- the bracket and the ']' as text
 unfoldable pub unlinked : LastBracket → List Inline

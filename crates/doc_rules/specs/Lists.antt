@@ -55,7 +55,8 @@ last_list kind (node before container inside) = None
 unfoldable pub with_item : ListKind → ℕ → ℕ → Tree → Tree → Tree
 with_item kind start columns inside before =
     elim (last_list kind before) [
-      | Some l ↦ node l.before (ListLines kind l.start (l.tight && not (ends_blank before || has_gap inside))) (node l.items (ItemLines kind start columns) inside)
+      | Some l ↦ node l.before (ListLines kind l.start (l.tight && not (ends_blank before || has_gap inside)))
+          (node l.items (ItemLines kind start columns) inside)
       | None ↦ node before (ListLines kind start (not (has_gap inside))) (node none (ItemLines kind start columns) inside)
     ]
 

@@ -51,7 +51,8 @@ pieces_of (LinkTag target ∷ more) = LinkPiece target ∷ pieces_of more
 unfoldable pub page_headings : List (ℕ × Text) → List Text → List PageHeading
 page_headings [] anchors = []
 page_headings (heading ∷ more) [] = []
-page_headings (heading ∷ more) (anchor ∷ anchors) = record { level = heading.0; anchor = anchor; text = heading.1 } ∷ page_headings more anchors
+page_headings (heading ∷ more) (anchor ∷ anchors) = record { level = heading.0; anchor = anchor; text = heading.1 } ∷ page_headings more
+    anchors
 
 -- the anchors of a document's headings
 unfoldable pub document_anchors : Table → Document → List Text

@@ -1,5 +1,27 @@
 -- Reading a text as inlines (CommonMark 0.31.2, section 6): what was made so far, the nearest first, and the rest of the text.
-use Rattle.std.specs.Prelude.{ℕ, zero, suc, ◌+◌, ◌-◌, nat_le, true, false, ◌==◌, List, [], ◌∷◌, ◌++◌, reverse, length, drop, take, Some, None, if◌then◌else◌, codes}
+use Rattle.std.specs.Prelude.{
+  ℕ,
+  zero,
+  suc,
+  ◌+◌,
+  ◌-◌,
+  nat_le,
+  true,
+  false,
+  ◌==◌,
+  List,
+  [],
+  ◌∷◌,
+  ◌++◌,
+  reverse,
+  length,
+  drop,
+  take,
+  Some,
+  None,
+  if◌then◌else◌,
+  codes,
+}
 use Rattle.std.specs.Char.{is_ascii_punctuation}
 use Rattle.doc_rules.specs.Characters.{Text, first_or}
 use Rattle.doc_rules.specs.Parsers.{is, ◌then◌, before, inside, run_length}
@@ -8,7 +30,22 @@ use Rattle.doc_rules.specs.Autolinks.{uri, mail}
 use Rattle.doc_rules.specs.Entities.{Table}
 use Rattle.doc_rules.specs.Escapes.{character_reference}
 use Rattle.doc_rules.specs.Definitions.{Definition}
-use Rattle.doc_rules.specs.Inlines.{Span, Link, Inline, Literal, Raw, Reference, SoftBreak, HardBreak, Start, End, Delimiters, Open, literals, onto}
+use Rattle.doc_rules.specs.Inlines.{
+  Span,
+  Link,
+  Inline,
+  Literal,
+  Raw,
+  Reference,
+  SoftBreak,
+  HardBreak,
+  Start,
+  End,
+  Delimiters,
+  Open,
+  literals,
+  onto,
+}
 use Rattle.doc_rules.specs.Emphasis.{run_between, emphasis_of}
 use Rattle.doc_rules.specs.CodeSpans.{code_span}
 use Rattle.doc_rules.specs.Links.{close_bracket}
@@ -34,7 +71,8 @@ backslash made c (d ∷ rest) =
 
 -- a '&' with this text behind it
 unfoldable pub ampersand : Table → List Inline → ℕ → Text → Step
-ampersand table made c rest = elim (character_reference table rest) [ None ↦ as_literal c made | Some found ↦ (Reference (c ∷ take found.1 rest) found.0 ∷ made, found.1) ]
+ampersand table made c rest = elim (character_reference table rest)
+    [ None ↦ as_literal c made | Some found ↦ (Reference (c ∷ take found.1 rest) found.0 ∷ made, found.1) ]
 
 -- ---- delimiter runs (6.2)
 
@@ -53,7 +91,11 @@ left_bracket made rest = (Open (record { image = false; live = true; behind = re
 -- a '!' with this text behind it
 unfoldable pub bang : List Inline → ℕ → Text → Step
 bang made c [] = as_literal c made
-bang made c (d ∷ rest) = elim (d == 91) [ true ↦ (Open (record { image = true; live = true; behind = rest }) ∷ made, 1) | false ↦ as_literal c made ]
+bang made c (d ∷ rest) = elim (d == 91) [
+  | true ↦ (Open (record { image = true; live = true; behind = rest }) ∷ made, 1)
+  | false ↦
+      as_literal c made
+]
 
 -- ---- autolinks and raw HTML (6.5, 6.6)
 
@@ -103,7 +145,8 @@ pub data Kind : Type 0 where
 
 -- the characters that may begin something
 unfoldable pub kinds : List (ℕ × Kind)
-kinds = (92, Backslash) ∷ (38, Ampersand) ∷ (96, Backtick) ∷ (60, LeftAngle) ∷ (42, Delimiter) ∷ (95, Delimiter) ∷ (91, LeftBracket) ∷ (33, Bang) ∷ (93, RightBracket) ∷ (32, Gap) ∷ (10, Gap) ∷ []
+kinds = (92, Backslash) ∷ (38, Ampersand) ∷ (96, Backtick) ∷ (60, LeftAngle) ∷ (42, Delimiter) ∷ (95, Delimiter) ∷ (91, LeftBracket) ∷
+    (33, Bang) ∷ (93, RightBracket) ∷ (32, Gap) ∷ (10, Gap) ∷ []
 
 -- what this table says of a character
 unfoldable pub kind_in : List (ℕ × Kind) → ℕ → Kind

@@ -12,7 +12,8 @@ tag_name = one is_ascii_alphabetic then many (λ c. is_ascii_alphanumeric c || (
 
 -- a letter, '_' or ':', then letters, digits, '_', '.', ':' and '-'
 unfoldable pub attribute_name : Parser
-attribute_name = one (λ c. is_ascii_alphabetic c || one_of (codes "_:") c) then many (λ c. is_ascii_alphanumeric c || one_of (codes "_.:-") c)
+attribute_name = one (λ c. is_ascii_alphabetic c || one_of (codes "_:") c) then many
+    (λ c. is_ascii_alphanumeric c || one_of (codes "_.:-") c)
 
 -- all between two of this quotation mark
 abbrev pub quoted_by : ℕ → Parser

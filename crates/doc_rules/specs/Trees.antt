@@ -1,6 +1,27 @@
 -- The tree of a text's lines, which are added one by one (CommonMark 0.31.2, sections 3, 4 and 5; the phases are those of its appendix).
 -- Nothing is marked open or closed but fences and HTML blocks: the open blocks are the last ones, and a blank line is kept as a leaf.
-use Rattle.std.specs.Prelude.{ℕ, zero, suc, ◌-◌, nat_le, Bool, true, false, not, ◌&&◌, ◌||◌, ◌==◌, List, [], ◌∷◌, ◌++◌, length, Option, Some, None}
+use Rattle.std.specs.Prelude.{
+  ℕ,
+  zero,
+  suc,
+  ◌-◌,
+  nat_le,
+  Bool,
+  true,
+  false,
+  not,
+  ◌&&◌,
+  ◌||◌,
+  ◌==◌,
+  List,
+  [],
+  ◌∷◌,
+  ◌++◌,
+  length,
+  Option,
+  Some,
+  None,
+}
 use Rattle.doc_rules.specs.Characters.{Text}
 use Rattle.doc_rules.specs.Lines.{lines_of, line_content}
 use Rattle.doc_rules.specs.Columns.{Line, cells_of, text_of, indent, after_indent, skip, is_blank_line}
@@ -43,7 +64,8 @@ is_empty_tree _ = false
 unfoldable pub matched : ContainerLines → Tree → Line → Option Line
 matched QuoteLines inside line = quote_start line
 matched (ItemLines kind start columns) inside line =
-    elim (nat_le columns (indent line) && not (is_blank_line line) || (is_blank_line line && not (is_empty_tree inside))) [ true ↦ Some (skip columns line) | false ↦ None ]
+    elim (nat_le columns (indent line) && not (is_blank_line line) || (is_blank_line line && not (is_empty_tree inside)))
+    [ true ↦ Some (skip columns line) | false ↦ None ]
 matched (ListLines kind start tight) inside line = None
 
 -- ---- the open paragraph
@@ -90,7 +112,8 @@ atx_begins text = elim (atx_heading text) [ Some heading ↦ Some (NewLeaf (AtxL
 
 -- 4.5
 unfoldable pub fence_begins : Line → Text → Option LeafStart
-fence_begins line text = elim (opening_fence (indent line) text) [ Some found ↦ Some (NewLeaf (FencedLines true found.0 found.1 [])) | None ↦ None ]
+fence_begins line text = elim (opening_fence (indent line) text)
+    [ Some found ↦ Some (NewLeaf (FencedLines true found.0 found.1 [])) | None ↦ None ]
 
 -- 4.6; kind 7 doesn't begin where a paragraph could go on, also lazily (the latter is this project's choice)
 unfoldable pub html_begins : Situation → Line → Text → Option LeafStart
@@ -158,13 +181,18 @@ add_text situation line tree =
       | true ↦ tree ▹ BlankLine
       | false ↦ elim (has_no_paragraph situation) [
         | false ↦ continued line tree
-        | true ↦ elim (nat_le 4 (indent line)) [ true ↦ tree ▹ IndentedLines (text_of (skip 4 line) ∷ []) | false ↦ tree ▹ ParagraphLines (line_text line) ]
+        | true ↦ elim (nat_le 4 (indent line)) [
+          | true ↦ tree ▹ IndentedLines (text_of (skip 4 line) ∷ [])
+          | false ↦ tree ▹ ParagraphLines
+              (line_text line)
+        ]
       ]
     ]
 
 -- the tree with a line that begins no container
 unfoldable pub add_leaf : Table → Situation → Line → Tree → Tree
-add_leaf table situation line tree = elim (leaf_begins table situation line) [ Some start ↦ with_start tree start | None ↦ add_text situation line tree ]
+add_leaf table situation line tree = elim (leaf_begins table situation line)
+    [ Some start ↦ with_start tree start | None ↦ add_text situation line tree ]
 
 -- the tree with a line that begins neither a quote nor a leaf; what the first line of an item begins inside is handed in
 unfoldable pub add_item : Situation → Line → Tree → (Line → Tree) → Tree
@@ -173,7 +201,8 @@ add_item situation line tree inside =
       | None ↦ add_text situation line tree
       | Some item ↦ elim (item_may_begin situation item) [
         | false ↦ add_text situation line tree
-        | true ↦ node tree (ItemLines item.kind item.start item.columns) (elim (is_blank_line item.first) [ true ↦ none | false ↦ inside item.first ])
+        | true ↦ node tree (ItemLines item.kind item.start item.columns)
+            (elim (is_blank_line item.first) [ true ↦ none | false ↦ inside item.first ])
       ]
     ]
 

@@ -30,7 +30,8 @@ unfolding demo_world last_id number_or
 first_given w id is = ap (number_or id) is
 
 module _ (render : Renders) (w1 w2 : World) (bytes : List ℕ) (Goes : ℕ → List Happened → Type 0) (Grows : List ℕ → Type 0) where
-  from_first : (w3 : World) → Happens render demo_world events.Connect w1 (Ok one) → Happens render w1 (events.Push one bytes) w2 (Ok tt) → StepsSend render w2 1 w3 (Goes 1) Grows
+  from_first : (w3 : World) → Happens render demo_world events.Connect w1 (Ok one) → Happens render w1 (events.Push one bytes) w2 (Ok tt)
+      → StepsSend render w2 1 w3 (Goes 1) Grows
       → RunSends render (Some bytes) (Goes 1) Grows
   from_first w3 made taken (rest, runs, goes, grows) =
       let a : Happened = record { world = demo_world; event = events.Connect; outcome = outcomes.Conn one } in
@@ -40,27 +41,33 @@ module _ (render : Renders) (w1 w2 : World) (bytes : List ℕ) (Goes : ℕ → L
         rest,
         w3,
         refl,
-        first demo_world w1 w3 events.Connect (outcomes.Conn one) (b ∷ rest) (Ok one, made, refl) (first w1 w2 w3 (events.Push one bytes) outcomes.Pushed rest (Ok tt, taken, refl) runs),
+        first demo_world w1 w3 events.Connect (outcomes.Conn one) (b ∷ rest) (Ok one, made, refl)
+            (first w1 w2 w3 (events.Push one bytes) outcomes.Pushed rest (Ok tt, taken, refl) runs),
         (a, b, refl, (refl, refl), (refl, refl)),
         goes,
         grows,
       )
 
-  from_number : (w3 : World) (id : ConnId) → one ≡ id → Happens render demo_world events.Connect w1 (Ok id) → Happens render w1 (events.Push id bytes) w2 (Ok tt)
+  from_number : (w3 : World) (id : ConnId) → one ≡ id → Happens render demo_world events.Connect w1 (Ok id)
+      → Happens render w1 (events.Push id bytes) w2 (Ok tt)
       → StepsSend render w2 id.0 w3 (Goes id.0) Grows → RunSends render (Some bytes) (Goes 1) Grows
   from_number w3 id is =
-      subst (λ (n : ConnId). Happens render demo_world events.Connect w1 (Ok n) → Happens render w1 (events.Push n bytes) w2 (Ok tt) → StepsSend render w2 n.0 w3 (Goes n.0) Grows → RunSends render (Some bytes) (Goes 1) Grows) is
+      subst (λ (n : ConnId). Happens render demo_world events.Connect w1 (Ok n) → Happens render w1 (events.Push n bytes) w2 (Ok tt)
+      → StepsSend render w2 n.0 w3 (Goes n.0) Grows → RunSends render (Some bytes) (Goes 1) Grows) is
       (from_first w3)
 
   pub opened : (p1 p2 : Renders) (w0 w3 : World) (id : ConnId) → p1 ≡ render → p2 ≡ p1 → w0 ≡ demo_world
-      → Happens render w0 events.Connect w1 (Ok id) → Happens p1 w1 (events.Push id bytes) w2 (Ok tt) → StepsSend p2 w2 id.0 w3 (Goes id.0) Grows
+      → Happens render w0 events.Connect w1 (Ok id) → Happens p1 w1 (events.Push id bytes) w2 (Ok tt)
+      → StepsSend p2 w2 id.0 w3 (Goes id.0) Grows
       → RunSends render (Some bytes) (Goes 1) Grows
   opened p1 p2 w0 w3 id e1 e2 is made taken sent =
       let made_there = subst (λ w. Happens render w events.Connect w1 (Ok id)) is made in
-      from_number w3 id (first_given w1 id made_there) made_there taken (subst (λ (p : Renders). StepsSend p w2 id.0 w3 (Goes id.0) Grows) (e2 ∙ e1) sent)
+      from_number w3 id (first_given w1 id made_there) made_there taken
+      (subst (λ (p : Renders). StepsSend p w2 id.0 w3 (Goes id.0) Grows) (e2 ∙ e1) sent)
 
 -- what stops the replies stops the demonstration
-pub stopped : (render p1 p2 : Renders) (w0 w1 w2 : World) (id : ConnId) (bytes : List ℕ) (old new : Option (List ℕ)) (fault : Fault) → p1 ≡ render → p2 ≡ p1 → w0 ≡ demo_world
+pub stopped : (render p1 p2 : Renders) (w0 w1 w2 : World) (id : ConnId) (bytes : List ℕ) (old new : Option (List ℕ)) (fault : Fault)
+    → p1 ≡ render → p2 ≡ p1 → w0 ≡ demo_world
     → Happens render w0 events.Connect w1 (Ok id) → Happens p1 w1 (events.Push id bytes) w2 (Ok tt) → StopsReplies p2 w2 id.0 old new fault
     → StopsDemo render (Some bytes) old new fault
 stopped render p1 p2 w0 w1 w2 id bytes old new faults.Usage e1 e2 is made taken stops = stops
@@ -74,21 +81,27 @@ stopped render p1 p2 w0 w1 w2 id bytes old new faults.Memory e1 e2 is made taken
 -- the same by the renderer before, and of an input of which the bytes are all
 pub of_all : (render page : Renders) (bytes : List ℕ) (input : Option (List ℕ)) (Goes : List Happened → Type 0) (Grows : List ℕ → Type 0)
     → page ≡ render → IfSome input (λ left. bytes ≡ left) → RunSends page (Some bytes) Goes Grows → RunSends render input Goes Grows
-of_all render page bytes input Goes Grows same all shown = by_input input all (subst (λ (p : Renders). RunSends p (Some bytes) Goes Grows) same shown)
+of_all render page bytes input Goes Grows same all shown = by_input input all
+    (subst (λ (p : Renders). RunSends p (Some bytes) Goes Grows) same shown)
   where
-    by_input : (input : Option (List ℕ)) → IfSome input (λ left. bytes ≡ left) → RunSends render (Some bytes) Goes Grows → RunSends render input Goes Grows
+    by_input : (input : Option (List ℕ)) → IfSome input (λ left. bytes ≡ left) → RunSends render (Some bytes) Goes Grows
+        → RunSends render input Goes Grows
     by_input None all (these, run, rest, v, is, runs, opens, goes, grows) = (these, run, rest, v, tt, runs, opens, goes, grows)
     by_input (Some xs) all (these, run, rest, v, is, runs, opens, goes, grows) = (these, run, rest, v, is ∙ all, runs, opens, goes, grows)
 
-too_long : (bytes : List ℕ) (input : Option (List ℕ)) → IfSome input (λ left. bytes ≡ left) → backlog_limit < length bytes → IfSome input (λ left. backlog_limit < length left)
+too_long : (bytes : List ℕ) (input : Option (List ℕ)) → IfSome input (λ left. bytes ≡ left) → backlog_limit < length bytes
+    → IfSome input (λ left. backlog_limit < length left)
 too_long bytes None all long = tt
 too_long bytes (Some left) all long = subst (λ xs. backlog_limit < length xs) all long
 
-pub stops_of_all : (render page : Renders) (bytes : List ℕ) (input old new : Option (List ℕ)) (fault : Fault) → page ≡ render → IfSome input (λ left. bytes ≡ left)
+pub stops_of_all : (render page : Renders) (bytes : List ℕ) (input old new : Option (List ℕ)) (fault : Fault) → page ≡ render
+    → IfSome input (λ left. bytes ≡ left)
     → StopsDemo page (Some bytes) old new fault → StopsDemo render input old new fault
 stops_of_all render page bytes input old new faults.Usage same all stops = stops
 stops_of_all render page bytes input old new (faults.CannotRead name) same all stops = stops
 stops_of_all render page bytes input old new faults.Refused same all (long, keeps) = (too_long bytes input all long, keeps)
-stops_of_all render page bytes input old new faults.CannotWrite same all stops = of_all render page bytes input (AreReplies 1) (AppendsPrefix old new) same all stops
+stops_of_all render page bytes input old new faults.CannotWrite same all stops = of_all render page bytes input (AreReplies 1)
+    (AppendsPrefix old new) same all stops
 stops_of_all render page bytes input old new faults.Memory same all (inl keeps) = inl keeps
-stops_of_all render page bytes input old new faults.Memory same all (inr stops) = inr (of_all render page bytes input (AreReplies 1) (Appends old new) same all stops)
+stops_of_all render page bytes input old new faults.Memory same all (inr stops) = inr
+    (of_all render page bytes input (AreReplies 1) (Appends old new) same all stops)

@@ -23,7 +23,8 @@ use Rattle.doc_server.specs.DemoSite.{demo_readers, demo_world, site_of_none, si
 -- ---- the readers
 
 abbrev demo_text : List ℕ
-demo_text = codes "\n[[reader]]\ntoken = \"tok-owner\"\nowner = true\n\n[[reader]]\ntoken = \"tok-ann\"\ngroups = [\"staff\"]\n\n[[reader]]\ntoken = \"tok-bob\"\ngroups = [\"ops\"]\n"
+demo_text = codes
+    "\n[[reader]]\ntoken = \"tok-owner\"\nowner = true\n\n[[reader]]\ntoken = \"tok-ann\"\ngroups = [\"staff\"]\n\n[[reader]]\ntoken = \"tok-bob\"\ngroups = [\"ops\"]\n"
 
 readers_of_text : readers_of demo_text ≡ Ok demo_readers
 unfolding toml_on_literals is_token groups_of_names
@@ -43,8 +44,10 @@ IsMemory readers_errors.Memory = ⊤
 IsMemory other = ⊥
 
 -- these readers are not refused
-pub not_refused : (e other : ReadersError) → e ≡ other → ¬ (IsMemory other) → (¬ (e ≡ readers_errors.Memory) → readers_of demo_text ≡ Err e) → ⊥
-not_refused e other same unlike h = no_error (readers_of demo_text) demo_readers e readers_of_text (h (λ is. unlike (subst IsMemory (sym is ∙ same) tt)))
+pub not_refused : (e other : ReadersError) → e ≡ other → ¬ (IsMemory other)
+    → (¬ (e ≡ readers_errors.Memory) → readers_of demo_text ≡ Err e) → ⊥
+not_refused e other same unlike h = no_error (readers_of demo_text) demo_readers e readers_of_text
+    (h (λ is. unlike (subst IsMemory (sym is ∙ same) tt)))
 
 -- ---- the names
 
@@ -71,7 +74,8 @@ ops = refl
 -- ---- the puts
 
 fits_by : (long full late stands : Bool) → long ≡ false → full ≡ false → late ≡ false
-    → ◌≡◌ {A = Result (Unit {0}) EditError} (if long then Err TooLong else (if (not stands && full) || late then Err StoreFull else Ok tt)) (Ok tt)
+    → ◌≡◌ {A = Result (Unit {0}) EditError} (if long then Err TooLong else (if (not stands && full) || late then Err StoreFull else Ok tt))
+    (Ok tt)
 fits_by true full late stands a b d = absurd (false≢true (sym a))
 fits_by false true late stands a b d = absurd (false≢true (sym b))
 fits_by false false true stands a b d = absurd (false≢true (sym d))
@@ -86,9 +90,11 @@ few_puts : (n : ℕ) → n ≤ 2 → nat_le put_limit n ≡ false
 unfolding put_limit
 few_puts n le = grind (arith)
 
-fits_few : (pages puts : ℕ) (stands : Bool) (text : List ℕ) → pages ≤ 2 → puts ≤ 2 → nat_lt text_limit (length text) ≡ false → fits pages stands puts text ≡ Ok tt
+fits_few : (pages puts : ℕ) (stands : Bool) (text : List ℕ) → pages ≤ 2 → puts ≤ 2 → nat_lt text_limit (length text) ≡ false
+    → fits pages stands puts text ≡ Ok tt
 fits_few pages puts stands text few little short =
-    fits_by (nat_lt text_limit (length text)) (nat_le page_limit pages) (nat_le put_limit puts) stands short (few_pages pages few) (few_puts puts little)
+    fits_by (nat_lt text_limit (length text)) (nat_le page_limit pages) (nat_le put_limit puts) stands short (few_pages pages few)
+    (few_puts puts little)
 
 -- at most n pages and puts
 abbrev IsSmall : ℕ → World → Type 0
@@ -103,11 +109,13 @@ accepted : (n : ℕ) (w : World) (path group text : List ℕ) → n ≤ 2 → Is
 accepted n w path group text le (few, little) short =
     let page : Page = record { groups = group ∷ []; text = text } in
     let stands = map.contains_key w.store.site.pages path in
-    let fine : fits (map.len w.store.site.pages) stands w.store.puts text ≡ Ok tt = fits_few (map.len w.store.site.pages) w.store.puts stands text (omega arith) (omega arith) short in
+    let fine : fits (map.len w.store.site.pages) stands w.store.puts text
+    ≡ Ok tt = fits_few (map.len w.store.site.pages) w.store.puts stands text (omega arith) (omega arith) short in
     let put = ap (put_by w.store path page stands) fine in (
       ((if stands then Replaced else Created), ap (λ r. r.1) put),
       subst (λ store. (map.len store.site.pages ≤ n + 1) × (store.puts ≤ n + 1)) (sym (ap (λ r. r.0) put)) (
-        subst (λ k. k ≤ n + 1) (sym (map.len-insert nat_list_cmp_total w.store.site.pages path page)) (one_more stands (map.len w.store.site.pages) n few),
+        subst (λ k. k ≤ n + 1) (sym (map.len-insert nat_list_cmp_total w.store.site.pages path page))
+            (one_more stands (map.len w.store.site.pages) n few),
         omega arith,
       ),
     )
@@ -133,17 +141,25 @@ first_accepted w is = subst (λ v. IsAccepted v (codes "a.md") (codes "staff") (
 after_one : (w v : World) → w ≡ site_of_none → v ≡ with_page w (codes "a.md") (codes "staff") (codes "Hello\n") → v ≡ site_of_one
 after_one w v is put = put ∙ ap (λ u. with_page u (codes "a.md") (codes "staff") (codes "Hello\n")) is
 
-pub second_accepted : (w v : World) → w ≡ site_of_none → v ≡ with_page w (codes "a.md") (codes "staff") (codes "Hello\n") → IsAccepted v (codes "b.md") (codes "staff") (codes "[c](c.md) [d](d.md)\n")
-second_accepted w v is put = subst (λ u. IsAccepted u (codes "b.md") (codes "staff") (codes "[c](c.md) [d](d.md)\n")) (sym (after_one w v is put)) second_put.0
+pub second_accepted : (w v : World) → w ≡ site_of_none → v ≡ with_page w (codes "a.md") (codes "staff") (codes "Hello\n")
+    → IsAccepted v (codes "b.md") (codes "staff") (codes "[c](c.md) [d](d.md)\n")
+second_accepted w v is put = subst (λ u. IsAccepted u (codes "b.md") (codes "staff") (codes "[c](c.md) [d](d.md)\n"))
+    (sym (after_one w v is put)) second_put.0
 
-after_two : (w v u : World) → w ≡ site_of_none → v ≡ with_page w (codes "a.md") (codes "staff") (codes "Hello\n") → u ≡ with_page v (codes "b.md") (codes "staff") (codes "[c](c.md) [d](d.md)\n") → u ≡ site_of_two
-after_two w v u is put also = also ∙ ap (λ x. with_page x (codes "b.md") (codes "staff") (codes "[c](c.md) [d](d.md)\n")) (after_one w v is put)
+after_two : (w v u : World) → w ≡ site_of_none → v ≡ with_page w (codes "a.md") (codes "staff") (codes "Hello\n")
+    → u ≡ with_page v (codes "b.md") (codes "staff") (codes "[c](c.md) [d](d.md)\n") → u ≡ site_of_two
+after_two w v u is put also = also ∙ ap (λ x. with_page x (codes "b.md") (codes "staff") (codes "[c](c.md) [d](d.md)\n"))
+    (after_one w v is put)
 
-pub third_accepted : (w v u : World) → w ≡ site_of_none → v ≡ with_page w (codes "a.md") (codes "staff") (codes "Hello\n") → u ≡ with_page v (codes "b.md") (codes "staff") (codes "[c](c.md) [d](d.md)\n")
+pub third_accepted : (w v u : World) → w ≡ site_of_none → v ≡ with_page w (codes "a.md") (codes "staff") (codes "Hello\n")
+    → u ≡ with_page v (codes "b.md") (codes "staff") (codes "[c](c.md) [d](d.md)\n")
     → IsAccepted u (codes "c.md") (codes "ops") (codes "See [b](b.md), [b](b.md).\n")
-third_accepted w v u is put also = subst (λ x. IsAccepted x (codes "c.md") (codes "ops") (codes "See [b](b.md), [b](b.md).\n")) (sym (after_two w v u is put also)) third_put.0
+third_accepted w v u is put also = subst (λ x. IsAccepted x (codes "c.md") (codes "ops") (codes "See [b](b.md), [b](b.md).\n"))
+    (sym (after_two w v u is put also)) third_put.0
 
-pub after_three : (w v u t : World) → w ≡ site_of_none → v ≡ with_page w (codes "a.md") (codes "staff") (codes "Hello\n") → u ≡ with_page v (codes "b.md") (codes "staff") (codes "[c](c.md) [d](d.md)\n")
+pub after_three : (w v u t : World) → w ≡ site_of_none → v ≡ with_page w (codes "a.md") (codes "staff") (codes "Hello\n")
+    → u ≡ with_page v (codes "b.md") (codes "staff") (codes "[c](c.md) [d](d.md)\n")
     → t ≡ with_page u (codes "c.md") (codes "ops") (codes "See [b](b.md), [b](b.md).\n") → t ≡ demo_world
 unfolding demo_world
-after_three w v u t is put also last = last ∙ ap (λ x. with_page x (codes "c.md") (codes "ops") (codes "See [b](b.md), [b](b.md).\n")) (after_two w v u is put also)
+after_three w v u t is put also last = last ∙ ap (λ x. with_page x (codes "c.md") (codes "ops") (codes "See [b](b.md), [b](b.md).\n"))
+    (after_two w v u is put also)

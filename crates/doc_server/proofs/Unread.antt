@@ -1,5 +1,27 @@
 -- Steps that send a reply take unread bytes.
-use Rattle.std.proofs.Common.{◌≡◌, ℕ, ◌<◌, ◌≤◌, List, [], ◌∷◌, Bool, true, false, cond, T, length, drop, sym, ap, ◌∙◌, subst, ◌==◌, arith, length-drop}
+use Rattle.std.proofs.Common.{
+  ◌≡◌,
+  ℕ,
+  ◌<◌,
+  ◌≤◌,
+  List,
+  [],
+  ◌∷◌,
+  Bool,
+  true,
+  false,
+  cond,
+  T,
+  length,
+  drop,
+  sym,
+  ap,
+  ◌∙◌,
+  subst,
+  ◌==◌,
+  arith,
+  length-drop,
+}
 use Rattle.std.specs.Prelude.{Option, Some, None, Result, Ok, Err, is_ok, MatchBool, if◌then◌else◌, ⊤}
 use Rattle.std.specs.FinMap as map
 use Rattle.std.specs.Cmp.{unsigned_tied}
@@ -47,12 +69,14 @@ unread_len w id = unread_of (map.get w.connections id)
 itself : (id : ℕ) → (id == id) ≡ true
 itself id = grind (arith)
 
-stands_after : (w : World) (id : ℕ) (k : Connection) (used : ℕ) (closes : Bool) → map.get (with_finished w id k used closes).connections id ≡ Some (finished k used closes)
+stands_after : (w : World) (id : ℕ) (k : Connection) (used : ℕ) (closes : Bool)
+    → map.get (with_finished w id k used closes).connections id ≡ Some (finished k used closes)
 stands_after w id k used closes =
     map.get-insert nat_cmp_total w.connections id (finished k used closes) id
     ∙ ap (λ t. cond t (Some (finished k used closes)) (map.get w.connections id)) (unsigned_tied id id ∙ itself id)
 
-fewer : (unread : List ℕ) (used : ℕ) (closes : Bool) → 1 ≤ used → used ≤ length unread → length (if closes then [] else drop used unread) < length unread
+fewer : (unread : List ℕ) (used : ℕ) (closes : Bool) → 1 ≤ used → used ≤ length unread
+    → length (if closes then [] else drop used unread) < length unread
 fewer unread used true some all = omega arith
 fewer unread used false some all = omega (arith, length-drop used unread)
 
@@ -60,7 +84,8 @@ fewer unread used false some all = omega (arith, length-drop used unread)
 abbrev pub Left : ℕ → World → ℕ → Type 0
 Left n v id = (unread_len v id < n) × IsMade v id
 
-left_after : (w : World) (id : ℕ) (k : Connection) (used : ℕ) (closes : Bool) → length (finished k used closes).unread < length k.unread → Left (length k.unread) (with_finished w id k used closes) id
+left_after : (w : World) (id : ℕ) (k : Connection) (used : ℕ) (closes : Bool) → length (finished k used closes).unread < length k.unread
+    → Left (length k.unread) (with_finished w id k used closes) id
 left_after w id k used closes less =
     let stands = stands_after w id k used closes in
     (subst (λ o. unread_of o < length k.unread) (sym stands) less, (finished k used closes, stands))
@@ -72,26 +97,32 @@ module _ (render : Renders) (w v : World) (id : ℕ) where
   abbrev Said : World × Result Step StepError → Type 0
   Said p = Sends (stepping p.1)
 
-  by_front : (said : Step) (k : Connection) (next : Front) → IsNext k.unread next → stepped_by render w id k next ≡ (v, Ok said) → Sends (stepping (Ok said)) → Left (length k.unread) v id
+  by_front : (said : Step) (k : Connection) (next : Front) → IsNext k.unread next → stepped_by render w id k next ≡ (v, Ok said)
+      → Sends (stepping (Ok said)) → Left (length k.unread) v id
   by_front said k nexts.More found is sends = absurd (subst Said (sym is) sends)
   by_front said k (nexts.Fault code bare) found is sends =
-      subst (λ (p : World × Result Step StepError). Left (length k.unread) p.0 id) is (left_after w id k 0 true (fault_has_bytes k.unread code bare found))
+      subst (λ (p : World × Result Step StepError). Left (length k.unread) p.0 id) is
+      (left_after w id k 0 true (fault_has_bytes k.unread code bare found))
   by_front said k (nexts.Request used request) found is sends =
       let a = answer_in render w request in
       let takes = takes_bytes k.unread used request found in
       subst (λ (p : World × Result Step StepError). Left (length k.unread) p.0 id) is
       (left_after (world_after w request a) id k used a.closes (fewer k.unread used a.closes takes.0 takes.1))
 
-  by_closed : (said : Step) (k : Connection) (closed : Bool) → MatchBool closed (Stays w (Ok steps.Closed) v (Ok said)) (Answers render w id v (Ok said) k) → Sends (stepping (Ok said)) → Left (length k.unread) v id
+  by_closed : (said : Step) (k : Connection) (closed : Bool)
+      → MatchBool closed (Stays w (Ok steps.Closed) v (Ok said)) (Answers render w id v (Ok said) k) → Sends (stepping (Ok said))
+      → Left (length k.unread) v id
   by_closed said k true (same, is) sends = absurd (subst (λ (r : Result Step StepError). Sends (stepping r)) is sends)
   by_closed said k false (next, found, is) sends = by_front said k next found is sends
 
-  by_option : (said : Step) (k : Option Connection) → StepsAt render w id v (Ok said) k → Sends (stepping (Ok said)) → Left (unread_of k) v id
+  by_option : (said : Step) (k : Option Connection) → StepsAt render w id v (Ok said) k → Sends (stepping (Ok said))
+      → Left (unread_of k) v id
   by_option said None (same, is) sends = absurd (no_error said step_errors.NoConnection is)
   by_option said (Some k) h sends = by_closed said k k.closed h sends
 
   -- a step that sends a reply takes unread bytes, and the connection still stands
-  pub reply_takes : (outcome : Outcome) → Leaves render w (events.Step (record { 0 = id })) v outcome → Sends outcome → Left (unread_len w id) v id
+  pub reply_takes : (outcome : Outcome) → Leaves render w (events.Step (record { 0 = id })) v outcome → Sends outcome
+      → Left (unread_len w id) v id
   reply_takes outcome (Err e, h, is) sends = absurd (subst Sends is sends)
   reply_takes outcome (Ok said, h, is) sends = by_option said (map.get w.connections id) h (subst Sends is sends)
 
@@ -100,7 +131,9 @@ module _ (render : Renders) (w v : World) (id : ℕ) where
   front_answers k (nexts.Fault code bare) e is = no_error _ e (ap (λ (p : World × Result Step StepError). p.1) is)
   front_answers k (nexts.Request used request) e is = no_error _ e (ap (λ (p : World × Result Step StepError). p.1) is)
 
-  missing_closed : (k : Connection) (closed : Bool) → MatchBool closed (Stays w (Ok steps.Closed) v (Err step_errors.NoConnection)) (Answers render w id v (Err step_errors.NoConnection) k) → ⊥
+  missing_closed : (k : Connection) (closed : Bool)
+      → MatchBool closed (Stays w (Ok steps.Closed) v (Err step_errors.NoConnection))
+      (Answers render w id v (Err step_errors.NoConnection) k) → ⊥
   missing_closed k true (same, is) = no_error steps.Closed step_errors.NoConnection (sym is)
   missing_closed k false (next, found, is) = front_answers k next step_errors.NoConnection is
 
@@ -108,7 +141,8 @@ module _ (render : Renders) (w v : World) (id : ℕ) where
   pub not_missing : IsMade w id → Happens render w (events.Step (record { 0 = id })) v (Err step_errors.NoConnection) → ⊥
   not_missing (k, is) h = missing_closed k k.closed (subst (StepsAt render w id v (Err step_errors.NoConnection)) is h)
 
-  memory_closed : (k : Connection) (closed : Bool) → MatchBool closed (Stays w (Ok steps.Closed) v (Err step_errors.Memory)) (Answers render w id v (Err step_errors.Memory) k) → v ≡ w
+  memory_closed : (k : Connection) (closed : Bool)
+      → MatchBool closed (Stays w (Ok steps.Closed) v (Err step_errors.Memory)) (Answers render w id v (Err step_errors.Memory) k) → v ≡ w
   memory_closed k true (same, is) = same
   memory_closed k false (same, stands) = same
 

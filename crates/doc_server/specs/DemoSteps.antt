@@ -27,13 +27,15 @@ StopsCall r fault = ⊥
 -- where there was no more.
 abbrev pub SendsNext : Renders → World → ℕ → World → Option (List ℕ) → Option (List ℕ) → Bool → Type 0
 SendsNext render w id v old new more =
-    (outcome : Outcome) × Leaves render w (events.Step (record { 0 = id })) v outcome × MatchBool more (Sends outcome) (Ends outcome) × Appends old new (sent_by outcome)
+    (outcome : Outcome) × Leaves render w (events.Step (record { 0 = id })) v outcome × MatchBool more (Sends outcome) (Ends outcome)
+    × Appends old new (sent_by outcome)
 
 -- Memory ran out before the step, or its reply was cut off.
 abbrev pub StopsNext : Renders → World → ℕ → World → Option (List ℕ) → Option (List ℕ) → Fault → Type 0
 StopsNext render w id v old new faults.Memory = (v ≡ w) × Keeps old new
 StopsNext render w id v old new faults.CannotWrite =
-    (outcome : Outcome) × Leaves render w (events.Step (record { 0 = id })) v outcome × Sends outcome × AppendsPrefix old new (sent_by outcome)
+    (outcome : Outcome) × Leaves render w (events.Step (record { 0 = id })) v outcome × Sends outcome
+    × AppendsPrefix old new (sent_by outcome)
 StopsNext render w id v old new fault = ⊥
 
 -- steps of this connection that go so, and what becomes of what they send

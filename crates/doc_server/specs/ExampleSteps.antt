@@ -3,7 +3,22 @@ use Rattle.std.specs.Prelude.{◌≡◌, ◌≤◌, ◌+◌, ℕ, List, [], ◌+
 use denote.Ref.{Bor}
 use Rattle.std.specs.Io.KnownBytes.{Appends}
 use Rattle.doc_server.specs.Outputs.{AppendsPrefix}
-use Rattle.doc_server.specs.Examples.{Example, Place, Between, InInput, InOutput, examples_from, examples_of, passes, one_more, example_line, lines_from, count_from, no_examples, count_of}
+use Rattle.doc_server.specs.Examples.{
+  Example,
+  Place,
+  Between,
+  InInput,
+  InOutput,
+  examples_from,
+  examples_of,
+  passes,
+  one_more,
+  example_line,
+  lines_from,
+  count_from,
+  no_examples,
+  count_of,
+}
 use Rattle.doc_server.specs.declared.count.Count.{Count}
 use Rattle.doc_server.specs.declared.example_reader.Part.{Part}
 use Rattle.doc_server.specs.declared.example_reader.Part.TheVariants as parts
@@ -47,5 +62,6 @@ HasRoom count = count.passed + count.failed + 1 ≤ 0xFFFF_FFFF_FFFF_FFFF
 -- what is printed of them.
 abbrev pub IsAt : List ℕ → Option (List ℕ) → Place → Count → Option (List ℕ) → List (List ℕ) → Type 0
 IsAt text old place count new rest =
-    (sent : List ℕ) × Appends old new sent × (lines_from no_examples (examples_of text) ≡ sent ++ lines_from count (examples_from place rest))
+    (sent : List ℕ) × Appends old new sent × (lines_from no_examples (examples_of text) ≡ sent
+    ++ lines_from count (examples_from place rest))
     × (count_of text ≡ count_from count (examples_from place rest)) × (count.passed + count.failed + length rest ≤ length text + 1)

@@ -1,6 +1,26 @@
 -- The examples of a published text of CommonMark, and what the command `examples` prints for them. The form of that text is the one of
 -- CommonMark 0.31.2's `spec.txt`; what is printed is this project's choice.
-use Rattle.std.specs.Prelude.{ℕ, ◌+◌, Bool, ◌||◌, ◌==◌, List, [], ◌∷◌, ◌++◌, map, codes, chars, encode_utf8_all, decimal, bytes_eq, Option, Some, None, if◌then◌else◌}
+use Rattle.std.specs.Prelude.{
+  ℕ,
+  ◌+◌,
+  Bool,
+  ◌||◌,
+  ◌==◌,
+  List,
+  [],
+  ◌∷◌,
+  ◌++◌,
+  map,
+  codes,
+  chars,
+  encode_utf8_all,
+  decimal,
+  bytes_eq,
+  Option,
+  Some,
+  None,
+  if◌then◌else◌,
+}
 use Rattle.std.specs.List.{slice_split}
 use Rattle.doc_server.specs.Rendering.{rendered}
 use Rattle.doc_server.specs.declared.count.Count.{Count}
@@ -86,7 +106,8 @@ passes example = bytes_eq (rendered example.input) example.output
 
 -- one example more, of which this says whether it passed
 abbrev pub one_more : Count → Bool → Count
-one_more count passed = if passed then record { passed = count.passed + 1; failed = count.failed } else record { passed = count.passed; failed = count.failed + 1 }
+one_more count passed = if passed then record { passed = count.passed + 1; failed = count.failed } else
+    record { passed = count.passed; failed = count.failed + 1 }
 
 -- the number of the next example: they are numbered from 1
 abbrev pub next_number : Count → ℕ

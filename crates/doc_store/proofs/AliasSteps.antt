@@ -1,5 +1,28 @@
 -- Steps of the edits of aliases.
-use Rattle.std.proofs.Common.{◌≡◌, ℕ, zero, suc, ◌+◌, ◌-◌, List, [], ◌∷◌, Bool, true, false, cond, not, ◌||◌, bytes_eq, is_some, refl, ap, sym, ◌∙◌, arith}
+use Rattle.std.proofs.Common.{
+  ◌≡◌,
+  ℕ,
+  zero,
+  suc,
+  ◌+◌,
+  ◌-◌,
+  List,
+  [],
+  ◌∷◌,
+  Bool,
+  true,
+  false,
+  cond,
+  not,
+  ◌||◌,
+  bytes_eq,
+  is_some,
+  refl,
+  ap,
+  sym,
+  ◌∙◌,
+  arith,
+}
 use Rattle.std.specs.Prelude.{Option, Some, None, option_map, if◌then◌else◌}
 use Rattle.std.specs.FinMap as map
 use Rattle.std.specs.Map.{keys_of, values_of}
@@ -25,13 +48,16 @@ Entries = List (List ℕ × List ℕ)
 -- ---- whether an alias leads to a path
 
 pub values_in_order : (entries : Entries) (path : List ℕ) → IsStrictlySortedBy (slice_cmp nat_cmp) (keys_of entries)
-    → list_any (λ goal. bytes_eq goal path) (values_of entries) ≡ list_any (λ goal. bytes_eq goal path) (map.values (map.from_entries {R = slice_cmp nat_cmp} entries))
-values_in_order entries path sorted = ap (λ es. list_any (λ goal. bytes_eq goal path) (values_of es)) (sym (entries_in_order nat_list_cmp_total exact_bytes entries sorted))
+    → list_any (λ goal. bytes_eq goal path) (values_of entries) ≡ list_any (λ goal. bytes_eq goal path)
+    (map.values (map.from_entries {R = slice_cmp nat_cmp} entries))
+values_in_order entries path sorted = ap (λ es. list_any (λ goal. bytes_eq goal path) (values_of es))
+    (sym (entries_in_order nat_list_cmp_total exact_bytes entries sorted))
 
 -- ---- the aliases that lead to a path are removed
 
 pub goals_removed : (entries kept : Entries) (path : List ℕ) → IsStrictlySortedBy (slice_cmp nat_cmp) (keys_of entries)
-    → kept ≡ filter (λ e. not (bytes_eq e.1 path)) entries → map.from_entries {R = slice_cmp nat_cmp} kept ≡ without_goal (map.from_entries entries) path
+    → kept ≡ filter (λ e. not (bytes_eq e.1 path)) entries
+    → map.from_entries {R = slice_cmp nat_cmp} kept ≡ without_goal (map.from_entries entries) path
 goals_removed entries kept path sorted is = map.same_map nat_list_cmp_total exact_bytes _ _ (λ q.
     ap (λ es. map.get (map.from_entries {R = slice_cmp nat_cmp} es) q) is
     ∙ get_filtered nat_list_cmp_total exact_bytes (λ goal. not (bytes_eq goal path)) entries q sorted
@@ -45,7 +71,8 @@ goals_removed entries kept path sorted is = map.same_map nat_list_cmp_total exac
 -- ---- how many aliases stand
 
 one_back : (m : TextMap (List ℕ)) (k : List ℕ) (n : ℕ) → map.len m ≡ n → map.contains_key m k ≡ true → n ≡ n - 1 + 1
-one_back m k zero e stands = absurd (none_there (map.contains_key m k) stands (ap (λ x. map.contains_key x k) (map.empty_of_len m e) ∙ ap is_some (map.get-empty (slice_cmp nat_cmp) k)))
+one_back m k zero e stands = absurd (none_there (map.contains_key m k) stands (ap (λ x. map.contains_key x k) (map.empty_of_len m e)
+    ∙ ap is_some (map.get-empty (slice_cmp nat_cmp) k)))
   where
     none_there : (b : Bool) → b ≡ true → b ≡ false → ⊥
     none_there true e f = cc
@@ -61,12 +88,14 @@ pub len_where_none : (m : TextMap (List ℕ)) (k : List ℕ) → map.contains_ke
 len_where_none m k none = ap (λ n. n + 1) (sym (map.len-remove nat_list_cmp_total m k ∙ ap (λ b. cond b (map.len m - 1) (map.len m)) none))
 
 -- how many stand after a move
-pub len-aliases_after : (m : TextMap (List ℕ)) (from to : List ℕ) → map.get m from ≡ None → map.len (map.remove m to) + 1 ≡ map.len (aliases_after m from to)
+pub len-aliases_after : (m : TextMap (List ℕ)) (from to : List ℕ) → map.get m from ≡ None
+    → map.len (map.remove m to) + 1 ≡ map.len (aliases_after m from to)
 unfolding aliases_after
 len-aliases_after m from to named =
     let others = map_values (goal_after from to) (map.remove m to) in
     let none : map.contains_key others from ≡ false =
-    contains-map_values (goal_after from to) (map.remove m to) from ∙ ap is_some (get_taken m to from ∙ ap (cond (same_key from to) None) named) ∙ nothing (same_key from to) in
+    contains-map_values (goal_after from to) (map.remove m to) from
+    ∙ ap is_some (get_taken m to from ∙ ap (cond (same_key from to) None) named) ∙ nothing (same_key from to) in
     ap (λ n. n + 1) (sym (len-map_values (goal_after from to) (map.remove m to)))
     ∙ sym (map.len-insert nat_list_cmp_total others from to ∙ ap (λ b. cond b (map.len others) (map.len others + 1)) none)
   where
@@ -81,7 +110,8 @@ abbrev moved_value : List ℕ → List ℕ → List ℕ → Option (List ℕ) �
 moved_value from to q found = option_map (goal_after from to) (cond (same_key q to) None found)
 
 -- a key below all others is none of them
-lookup_below : (k : List ℕ) (entries : Entries) → AllByRecursion (λ y. slice_cmp nat_cmp k y ≡ Less) (keys_of entries) → map.find (slice_cmp nat_cmp) k entries ≡ None
+lookup_below : (k : List ℕ) (entries : Entries) → AllByRecursion (λ y. slice_cmp nat_cmp k y ≡ Less) (keys_of entries)
+    → map.find (slice_cmp nat_cmp) k entries ≡ None
 lookup_below k [] before = refl
 lookup_below k (e ∷ es) before = rw before.0 (lookup_below k es before.1)
 
@@ -91,17 +121,22 @@ or_else None other = other
 or_else (Some x) other = Some x
 
 module _ (from to : List ℕ) where
-  get_one : (done : TextMap (List ℕ)) (k goal q : List ℕ) → map.get (if bytes_eq k to then done else map.insert done k (goal_after from to goal)) q
+  get_one : (done : TextMap (List ℕ)) (k goal q : List ℕ)
+      → map.get (if bytes_eq k to then done else map.insert done k (goal_after from to goal)) q
       ≡ cond (same_key k to) (map.get done q) (cond (same_key q k) (Some (goal_after from to goal)) (map.get done q))
-  get_one done k goal q = ap (λ b. map.get (if b then done else map.insert done k (goal_after from to goal)) q) (bytes_eq_is k to) ∙ by (same_key k to)
+  get_one done k goal q = ap (λ b. map.get (if b then done else map.insert done k (goal_after from to goal)) q) (bytes_eq_is k to)
+      ∙ by (same_key k to)
     where
-      by : (b : Bool) → map.get (if b then done else map.insert done k (goal_after from to goal)) q ≡ cond b (map.get done q) (cond (same_key q k) (Some (goal_after from to goal)) (map.get done q))
+      by : (b : Bool) → map.get (if b then done else map.insert done k (goal_after from to goal)) q
+          ≡ cond b (map.get done q) (cond (same_key q k) (Some (goal_after from to goal)) (map.get done q))
       by true = refl
       by false = get_set done k (goal_after from to goal) q
 
   -- one entry, then the others
-  one_more : (at_to q_is : Bool) (goal : List ℕ) (q k : List ℕ) (rest there : Option (List ℕ)) → same_key q k ≡ q_is → same_key k to ≡ at_to → (q_is ≡ true → rest ≡ None)
-      → or_else (moved_value from to q rest) (cond at_to there (cond q_is (Some (goal_after from to goal)) there)) ≡ or_else (moved_value from to q (cond q_is (Some goal) rest)) there
+  one_more : (at_to q_is : Bool) (goal : List ℕ) (q k : List ℕ) (rest there : Option (List ℕ)) → same_key q k ≡ q_is
+      → same_key k to ≡ at_to → (q_is ≡ true → rest ≡ None)
+      → or_else (moved_value from to q rest) (cond at_to there (cond q_is (Some (goal_after from to goal)) there))
+      ≡ or_else (moved_value from to q (cond q_is (Some goal) rest)) there
   one_more true false goal q k rest there q_is at none = refl
   one_more false false goal q k rest there q_is at none = refl
   one_more true true goal q k rest there q_is at none =
@@ -116,7 +151,8 @@ module _ (from to : List ℕ) where
       ∙ sym (ap (λ b. or_else (option_map (goal_after from to) (cond b None (Some goal))) there) same)
 
   get-with_moved : (done : TextMap (List ℕ)) (entries : Entries) (q : List ℕ) → IsStrictlySortedBy (slice_cmp nat_cmp) (keys_of entries)
-      → map.get (with_moved from to done entries) q ≡ or_else (moved_value from to q (map.find (slice_cmp nat_cmp) q entries)) (map.get done q)
+      → map.get (with_moved from to done entries) q ≡ or_else (moved_value from to q (map.find (slice_cmp nat_cmp) q entries))
+      (map.get done q)
   unfolding IsStrictlySortedBy
   get-with_moved done [] q sorted = by (same_key q to)
     where
@@ -130,7 +166,8 @@ module _ (from to : List ℕ) where
       (λ is. ap (λ k. map.find (slice_cmp nat_cmp) k es) (same_from q e.0 is) ∙ lookup_below e.0 es sorted.0)
 
   -- all entries, then the old path
-  pub aliases_followed : (entries : Entries) (aliases done : TextMap (List ℕ)) → IsStrictlySortedBy (slice_cmp nat_cmp) (keys_of entries) → map.from_entries entries ≡ aliases
+  pub aliases_followed : (entries : Entries) (aliases done : TextMap (List ℕ)) → IsStrictlySortedBy (slice_cmp nat_cmp) (keys_of entries)
+      → map.from_entries entries ≡ aliases
       → with_moved from to map.empty entries ≡ done → map.insert done from to ≡ aliases_after aliases from to
   aliases_followed entries aliases done sorted is all = map.same_map nat_list_cmp_total exact_bytes _ _ (λ q.
       get_set done from to q
@@ -156,32 +193,40 @@ agrees true e = refl
 agrees false e = cc
 
 module _ (from to : List ℕ) (done : TextMap (List ℕ)) (alias goal : List ℕ) (rest : Entries) where
-  pub alias_moved : not (bytes_eq alias to) ≡ true → with_moved from to done ((alias, goal) ∷ rest) ≡ with_moved from to (map.insert done alias (goal_after from to goal)) rest
-  alias_moved e = ap (λ b. with_moved from to (if b then done else map.insert done alias (goal_after from to goal)) rest) (differs (bytes_eq alias to) e)
+  pub alias_moved : not (bytes_eq alias to) ≡ true → with_moved from to done ((alias, goal) ∷ rest)
+      ≡ with_moved from to (map.insert done alias (goal_after from to goal)) rest
+  alias_moved e = ap (λ b. with_moved from to (if b then done else map.insert done alias (goal_after from to goal)) rest)
+      (differs (bytes_eq alias to) e)
 
   pub alias_left_out : not (bytes_eq alias to) ≡ false → with_moved from to done ((alias, goal) ∷ rest) ≡ with_moved from to done rest
-  alias_left_out e = ap (λ b. with_moved from to (if b then done else map.insert done alias (goal_after from to goal)) rest) (agrees (bytes_eq alias to) e)
+  alias_left_out e = ap (λ b. with_moved from to (if b then done else map.insert done alias (goal_after from to goal)) rest)
+      (agrees (bytes_eq alias to) e)
 
 -- ---- a move of a page without aliases
 
 some_same : (test : List ℕ → Bool) (x y : List ℕ) → Some x ≡ Some y → test x ≡ false → test y ≡ false
 some_same test x y e is = cc
 
-passes_not_by : (test : List ℕ → Bool) (x goal : List ℕ) (b t rest : Bool) (found : Option (List ℕ)) → test x ≡ t → (t || rest) ≡ false → cond b (Some x) found ≡ Some goal → (rest ≡ false → found ≡ Some goal → test goal ≡ false) → test goal ≡ false
+passes_not_by : (test : List ℕ → Bool) (x goal : List ℕ) (b t rest : Bool) (found : Option (List ℕ)) → test x ≡ t → (t || rest) ≡ false
+    → cond b (Some x) found ≡ Some goal → (rest ≡ false → found ≡ Some goal → test goal ≡ false) → test goal ≡ false
 passes_not_by test x goal b true rest found is none e more = cc
 passes_not_by test x goal true false rest found is none e more = some_same test x goal e is
 passes_not_by test x goal false false rest found is none e more = more none e
 
-found_passes_not : (test : List ℕ → Bool) (q goal : List ℕ) (entries : Entries) → list_any test (values_of entries) ≡ false → map.find (slice_cmp nat_cmp) q entries ≡ Some goal → test goal ≡ false
+found_passes_not : (test : List ℕ → Bool) (q goal : List ℕ) (entries : Entries) → list_any test (values_of entries) ≡ false
+    → map.find (slice_cmp nat_cmp) q entries ≡ Some goal → test goal ≡ false
 found_passes_not test q goal [] none e = cc
 found_passes_not test q goal (x ∷ xs) none e =
-    passes_not_by test x.1 goal (same_key q x.0) (test x.1) (list_any test (values_of xs)) (map.find (slice_cmp nat_cmp) q xs) refl none e (found_passes_not test q goal xs)
+    passes_not_by test x.1 goal (same_key q x.0) (test x.1) (list_any test (values_of xs)) (map.find (slice_cmp nat_cmp) q xs) refl none e
+    (found_passes_not test q goal xs)
 
-module _ (aliases : TextMap (List ℕ)) (from to : List ℕ) (named : map.get aliases from ≡ None) (none : list_any (λ goal. bytes_eq goal from) (map.values aliases) ≡ false) (apart : same_key from to ≡ false) where
+module _ (aliases : TextMap (List ℕ)) (from to : List ℕ) (named : map.get aliases from ≡ None)
+    (none : list_any (λ goal. bytes_eq goal from) (map.values aliases) ≡ false) (apart : same_key from to ≡ false) where
   stays_so : (q : List ℕ) (found : Option (List ℕ)) → map.get aliases q ≡ found → found ≡ option_map (goal_after from to) found
   stays_so q None e = refl
   stays_so q (Some goal) e =
-      sym (ap (λ b. Some (if b then to else goal)) (found_passes_not (λ g. bytes_eq g from) q goal (map.entries aliases) none (sym (map.get-entries aliases q) ∙ e)))
+      sym (ap (λ b. Some (if b then to else goal)) (found_passes_not (λ g. bytes_eq g from) q goal (map.entries aliases) none
+      (sym (map.get-entries aliases q) ∙ e)))
 
   pub one_alias_more : map.remove (map.insert aliases from to) to ≡ aliases_after aliases from to
   one_alias_more = map.same_map nat_list_cmp_total exact_bytes _ _ (λ q.
@@ -191,7 +236,8 @@ module _ (aliases : TextMap (List ℕ)) (from to : List ℕ) (named : map.get al
       ∙ sym (get-aliases_after aliases from to q))
     where
       by : (q : List ℕ) (f t : Bool) → same_key q from ≡ f → same_key q to ≡ t
-          → cond t None (cond f (Some to) (map.get aliases q)) ≡ cond f (Some to) (option_map (goal_after from to) (cond t None (map.get aliases q)))
+          → cond t None (cond f (Some to) (map.get aliases q)) ≡ cond f (Some to)
+          (option_map (goal_after from to) (cond t None (map.get aliases q)))
       by q true true f t = absurd (two (same_key from to) (ap (λ k. same_key k to) (sym (same_from q from f)) ∙ t) apart)
         where
           two : (b : Bool) → b ≡ true → b ≡ false → ⊥
@@ -202,7 +248,8 @@ module _ (aliases : TextMap (List ℕ)) (from to : List ℕ) (named : map.get al
       by q false false f t = stays_so q (map.get aliases q) refl
 
 -- an alias that was added and is taken out again
-pub alias_undone : (aliases : TextMap (List ℕ)) (from to : List ℕ) → map.get aliases from ≡ None → map.remove (map.insert aliases from to) from ≡ aliases
+pub alias_undone : (aliases : TextMap (List ℕ)) (from to : List ℕ) → map.get aliases from ≡ None
+    → map.remove (map.insert aliases from to) from ≡ aliases
 alias_undone aliases from to named = map.same_map nat_list_cmp_total exact_bytes _ _ (λ q.
     get_taken (map.insert aliases from to) from q
     ∙ ap (cond (same_key q from) None) (get_set aliases from to q)

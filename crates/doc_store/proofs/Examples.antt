@@ -114,7 +114,8 @@ path_of_nothing = refl
 abbrev read : List ℕ → Result (List (List ℕ × Reader)) ReadersError
 read text = readers_in (parse_document text)
 
-two_readers : read (codes "[[reader]]\ntoken = \"tok-owner\"\nowner = true\n\n[[reader]]\ntoken = \"ab==\"\ngroups = [\"staff\", \"ops\"]\nname = \"Ann\"\n")
+two_readers : read
+    (codes "[[reader]]\ntoken = \"tok-owner\"\nowner = true\n\n[[reader]]\ntoken = \"ab==\"\ngroups = [\"staff\", \"ops\"]\nname = \"Ann\"\n")
     ≡ Ok ((codes "tok-owner", owner) ∷ (codes "ab==", ann) ∷ [])
 unfolding toml_on_literals is_token groups_of_names owner ann
 two_readers = refl

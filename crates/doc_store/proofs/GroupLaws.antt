@@ -1,5 +1,27 @@
 -- The different names of a list are the keys of a finite set: so they are its names, and equal sets have equal lists.
-use Rattle.std.proofs.Common.{◌≡◌, ℕ, List, [], ◌∷◌, map as mapped, Bool, true, false, ◌||◌, ◌++◌, cond, bytes_eq, Less, Equal, Greater, is_some, refl, sym, ap, ◌∙◌}
+use Rattle.std.proofs.Common.{
+  ◌≡◌,
+  ℕ,
+  List,
+  [],
+  ◌∷◌,
+  map as mapped,
+  Bool,
+  true,
+  false,
+  ◌||◌,
+  ◌++◌,
+  cond,
+  bytes_eq,
+  Less,
+  Equal,
+  Greater,
+  is_some,
+  refl,
+  sym,
+  ap,
+  ◌∙◌,
+}
 use Rattle.std.specs.Prelude.{Option, Some, None}
 use Rattle.std.specs.Cmp.Lexicographic.{slice_cmp}
 use Rattle.std.specs.FinMap as map
@@ -22,10 +44,12 @@ abbrev key : List ℕ × Unit {0} → List ℕ
 key entry = entry.0
 
 -- a name in its place is a key in its place
-keys_put : (name : List ℕ) (entries : List (List ℕ × Unit {0})) → mapped key (map.put (slice_cmp nat_cmp) name tt entries) ≡ with_name name (mapped key entries)
+keys_put : (name : List ℕ) (entries : List (List ℕ × Unit {0}))
+    → mapped key (map.put (slice_cmp nat_cmp) name tt entries) ≡ with_name name (mapped key entries)
 keys_put name [] = refl
 keys_put name (e ∷ es) =
-    elim (slice_cmp nat_cmp name e.0) as (λ order. mapped key (by_order order ((name, tt) ∷ e ∷ es) ((e.0, tt) ∷ es) (e ∷ map.put (slice_cmp nat_cmp) name tt es))
+    elim (slice_cmp nat_cmp name e.0) as (λ order. mapped key
+    (by_order order ((name, tt) ∷ e ∷ es) ((e.0, tt) ∷ es) (e ∷ map.put (slice_cmp nat_cmp) name tt es))
     ≡ match_ordering order (name ∷ e.0 ∷ mapped key es) (e.0 ∷ mapped key es) (e.0 ∷ with_name name (mapped key es))) [
       | Less ↦ refl
       | Equal ↦ refl
@@ -40,7 +64,8 @@ all set (name ∷ names) = all (map.insert set name tt) names
 keys_all : (set : Names) (names : List (List ℕ)) → with_names (map.keys set) names ≡ map.keys (all set names)
 keys_all set [] = refl
 keys_all set (name ∷ names) =
-    ap (λ before. with_names before names) (sym (ap (mapped key) (map.entries-insert nat_list_cmp_total set name tt) ∙ keys_put name (map.entries set)))
+    ap (λ before. with_names before names) (sym (ap (mapped key) (map.entries-insert nat_list_cmp_total set name tt)
+    ∙ keys_put name (map.entries set)))
     ∙ keys_all (map.insert set name tt) names
 
 either : (a b : Bool) (other : Option (Unit {0})) → cond b (Some tt) (cond a (Some tt) other) ≡ cond (a || b) (Some tt) other
@@ -48,7 +73,8 @@ either true true other = refl
 either true false other = refl
 either false b other = refl
 
-get_all : (set : Names) (names : List (List ℕ)) (q : List ℕ) → map.get (all set names) q ≡ cond (list_any (eq_by_cmp (slice_cmp nat_cmp) q) names) (Some tt) (map.get set q)
+get_all : (set : Names) (names : List (List ℕ)) (q : List ℕ)
+    → map.get (all set names) q ≡ cond (list_any (eq_by_cmp (slice_cmp nat_cmp) q) names) (Some tt) (map.get set q)
 get_all set [] q = refl
 get_all set (name ∷ names) q =
     get_all (map.insert set name tt) names q
@@ -80,7 +106,8 @@ same_names names name =
     ap (list_any (bytes_eq name)) (different_keys names)
     ∙ sym (any_same name (map.keys (all start names)))
     ∙ sym (map.contains_key-keys (all start names) name)
-    ∙ ap is_some (get_all start names name ∙ ap (cond (list_any (eq_by_cmp (slice_cmp nat_cmp) name) names) (Some tt)) (map.get-from_sorted (slice_cmp nat_cmp) [] name tt))
+    ∙ ap is_some (get_all start names name ∙ ap (cond (list_any (eq_by_cmp (slice_cmp nat_cmp) name) names) (Some tt))
+    (map.get-from_sorted (slice_cmp nat_cmp) [] name tt))
     ∙ found (list_any (eq_by_cmp (slice_cmp nat_cmp) name) names)
     ∙ any_same name names
 
@@ -105,11 +132,13 @@ put_last name (first ∷ before) rest below =
     let more : slice_cmp nat_cmp name first ≡ Greater = nat_list_cmp_total.antisymm name first ∙ ap ordering_reverse below.0.0 in
     rw more (ap (λ names. first ∷ names) (put_last name before rest below.1))
 
-one_more_below : (name : List ℕ) (before rest : List (List ℕ)) → AreBelow before (name ∷ rest) → IsBelow name rest → AreBelow (before ++ name ∷ []) rest
+one_more_below : (name : List ℕ) (before rest : List (List ℕ)) → AreBelow before (name ∷ rest) → IsBelow name rest
+    → AreBelow (before ++ name ∷ []) rest
 one_more_below name [] rest below all = (all, tt)
 one_more_below name (first ∷ before) rest below all = (below.0.1, one_more_below name before rest below.1 all)
 
-put_in_order : (before names : List (List ℕ)) → AreBelow before names → IsStrictlySortedBy (slice_cmp nat_cmp) names → with_names before names ≡ before ++ names
+put_in_order : (before names : List (List ℕ)) → AreBelow before names → IsStrictlySortedBy (slice_cmp nat_cmp) names
+    → with_names before names ≡ before ++ names
 unfolding IsStrictlySortedBy
 put_in_order before [] below sorted = sym (append-nil before)
 put_in_order before (name ∷ names) below sorted =
@@ -121,4 +150,5 @@ sorted_stays : (names : List (List ℕ)) → IsStrictlySortedBy (slice_cmp nat_c
 sorted_stays names sorted = put_in_order [] names tt sorted
 
 pub same_groups : SameGroups
-same_groups names others ours theirs same = sym (sorted_stays names ours.sorted) ∙ equal_sets names others same ∙ sorted_stays others theirs.sorted
+same_groups names others ours theirs same = sym (sorted_stays names ours.sorted) ∙ equal_sets names others same
+    ∙ sorted_stays others theirs.sorted

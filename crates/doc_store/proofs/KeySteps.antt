@@ -52,14 +52,16 @@ module _ {X : Type 0} (m : TextMap X) where
       by false e = (refl, e)
 
   -- what stands after a key was set is the new value under that key, or stood before under another
-  pub set_or_stood : (k : List ℕ) (w : X) (q : List ℕ) (v : X) → map.get (map.insert m k w) q ≡ Some v → ((same_key q k ≡ true) × (w ≡ v)) ⊎ ((same_key q k ≡ false) × (map.get m q ≡ Some v))
+  pub set_or_stood : (k : List ℕ) (w : X) (q : List ℕ) (v : X) → map.get (map.insert m k w) q ≡ Some v
+      → ((same_key q k ≡ true) × (w ≡ v)) ⊎ ((same_key q k ≡ false) × (map.get m q ≡ Some v))
   set_or_stood k w q v e = by (same_key q k) (sym (get_set k w q) ∙ e)
     where
       by : (b : Bool) → cond b (Some w) (map.get m q) ≡ Some v → ((b ≡ true) × (w ≡ v)) ⊎ ((b ≡ false) × (map.get m q ≡ Some v))
       by true e = inl (refl, some_is w v e)
       by false e = inr (refl, e)
 
-  pub contains_set : (k : List ℕ) (v : X) (q : List ℕ) → map.contains_key (map.insert m k v) q ≡ cond (same_key q k) true (map.contains_key m q)
+  pub contains_set : (k : List ℕ) (v : X) (q : List ℕ) → map.contains_key (map.insert m k v) q
+      ≡ cond (same_key q k) true (map.contains_key m q)
   contains_set k v q = ap is_some (get_set k v q) ∙ by (same_key q k)
     where
       by : (b : Bool) → is_some (cond b (Some v) (map.get m q)) ≡ cond b true (is_some (map.get m q))
@@ -74,7 +76,8 @@ module _ {X : Type 0} (m : TextMap X) where
       by false = refl
 
 -- an entry that a look-up finds has the key that is looked for
-pub entry_is : {X : Type 0} (path : List ℕ) (found : Option (Bor (List ℕ) × Bor X)) (value : Option X) → IfSome found (λ e. slice_cmp nat_cmp path e.0.now ≡ Equal)
+pub entry_is : {X : Type 0} (path : List ℕ) (found : Option (Bor (List ℕ) × Bor X)) (value : Option X)
+    → IfSome found (λ e. slice_cmp nat_cmp path e.0.now ≡ Equal)
     → option_map (λ e. e.1.now) found ≡ value → option_map (λ e. e.0.now) found ≡ option_map (λ _. path) value
 entry_is path None value same e = ap (option_map (λ _. path)) e
 entry_is path (Some entry) value same e = ap Some (sym (exact_bytes path entry.0.now same)) ∙ ap (option_map (λ _. path)) e

@@ -1,5 +1,25 @@
 -- Maps as contracts see them: how many keys they have, and those by `String` keys.
-use Rattle.std.proofs.Common.{◌≡◌, ℕ, List, [], ◌∷◌, ◌+◌, Bool, false, cond, String, string_bytes, length, add-one, is_some, refl, ap, sym, ◌∙◌, arith}
+use Rattle.std.proofs.Common.{
+  ◌≡◌,
+  ℕ,
+  List,
+  [],
+  ◌∷◌,
+  ◌+◌,
+  Bool,
+  false,
+  cond,
+  String,
+  string_bytes,
+  length,
+  add-one,
+  is_some,
+  refl,
+  ap,
+  sym,
+  ◌∙◌,
+  arith,
+}
 use Rattle.std.specs.Prelude.{Some, None}
 use Rattle.std.specs.declared.cmp.Ordering.{Ordering}
 use Rattle.std.specs.declared.cmp.Ordering.TheVariants.{Less}
@@ -32,8 +52,11 @@ module _ {K X : Type 0} {R : K → K → Ordering} (total : IsTotalOrder R) (exa
   unfolding IsStrictlySortedBy
   len-sorted [] sorted = sym (map.len-empty R X)
   len-sorted (e ∷ es) sorted =
-      let new : map.contains_key (map.from_entries {R = R} es) e.0 ≡ false = ap is_some (sym (looked_up total exact es e.0) ∙ lookup_before e.0 es sorted.0) in
-      sym (map.len-insert total (map.from_entries {R = R} es) e.0 e.1 ∙ ap (λ b. cond b (map.len (map.from_entries {R = R} es)) (map.len (map.from_entries {R = R} es) + 1)) new ∙ ap (λ n. n + 1) (sym (len-sorted es sorted.1)) ∙ add-one (length es))
+      let new : map.contains_key (map.from_entries {R = R} es) e.0 ≡ false = ap is_some (sym (looked_up total exact es e.0)
+      ∙ lookup_before e.0 es sorted.0) in
+      sym (map.len-insert total (map.from_entries {R = R} es) e.0 e.1
+      ∙ ap (λ b. cond b (map.len (map.from_entries {R = R} es)) (map.len (map.from_entries {R = R} es) + 1)) new
+      ∙ ap (λ n. n + 1) (sym (len-sorted es sorted.1)) ∙ add-one (length es))
 
   -- sorted entries are those of the map that they make
   pub entries_in_order : (es : List (K × X)) → IsStrictlySortedBy R (keys_of es) → map.entries (map.from_entries {R = R} es) ≡ es
@@ -61,21 +84,26 @@ module _ {K X : Type 0} {R : K → K → Ordering} (total : IsTotalOrder R) (exa
       ∙ ap (option_filter p) (looked_up total exact es q)
 
 -- a look-up by bytes among `String` keys
-pub looked_up_shown : {A : Type 0} (es : List (String A × Reader)) (token : List ℕ) → lookup (is_at (λ k. slice_cmp nat_cmp token (string_bytes k))) es ≡ lookup (is_at (slice_cmp nat_cmp token)) (entries_shown es)
+pub looked_up_shown : {A : Type 0} (es : List (String A × Reader)) (token : List ℕ)
+    → lookup (is_at (λ k. slice_cmp nat_cmp token (string_bytes k))) es ≡ lookup (is_at (slice_cmp nat_cmp token)) (entries_shown es)
 looked_up_shown [] token = refl
 looked_up_shown (e ∷ es) token = ap (cond (is_eq (slice_cmp nat_cmp token (string_bytes e.0))) (Some e.1)) (looked_up_shown es token)
 
 -- an insertion at a `String` key is one at its bytes
-pub inserted_shown : {A : Type 0} (m n : BTreeMap (String A) Reader) (key : String A) (reader : Reader) → Updates string_cmp m n key (Some reader)
-    → map.from_entries {R = slice_cmp nat_cmp} (entries_shown n.entries) ≡ map.insert (map.from_entries (entries_shown m.entries)) (string_bytes key) reader
+pub inserted_shown : {A : Type 0} (m n : BTreeMap (String A) Reader) (key : String A) (reader : Reader)
+    → Updates string_cmp m n key (Some reader)
+    → map.from_entries {R = slice_cmp nat_cmp} (entries_shown n.entries)
+    ≡ map.insert (map.from_entries (entries_shown m.entries)) (string_bytes key) reader
 inserted_shown m n key reader updates =
     inserted nat_list_cmp_total exact_bytes (entries_shown m.entries) (entries_shown n.entries) (string_bytes key) reader (λ token.
     sym (looked_up_shown n.entries token) ∙ btree_map_updates_text (string_bytes key) m n (Some reader) updates token
-    ∙ ap (λ b. cond b (Some reader) (lookup (is_at (λ k. slice_cmp nat_cmp token (string_bytes k))) m.entries)) (sym (is_eq-slice_cmp (string_bytes key) token))
+    ∙ ap (λ b. cond b (Some reader) (lookup (is_at (λ k. slice_cmp nat_cmp token (string_bytes k))) m.entries))
+    (sym (is_eq-slice_cmp (string_bytes key) token))
     ∙ ap (cond (is_eq (slice_cmp nat_cmp (string_bytes key) token)) (Some reader)) (looked_up_shown m.entries token))
 
 -- the same for a removal
-pub removed_shown : {A : Type 0} (m n : BTreeMap (String A) Reader) (token : List ℕ) → UpdatesBy string_cmp (λ k. slice_cmp nat_cmp token (string_bytes k)) m n None
+pub removed_shown : {A : Type 0} (m n : BTreeMap (String A) Reader) (token : List ℕ)
+    → UpdatesBy string_cmp (λ k. slice_cmp nat_cmp token (string_bytes k)) m n None
     → map.from_entries {R = slice_cmp nat_cmp} (entries_shown n.entries) ≡ map.remove (map.from_entries (entries_shown m.entries)) token
 removed_shown m n token updates =
     removed nat_list_cmp_total exact_bytes (entries_shown m.entries) (entries_shown n.entries) token (λ q.

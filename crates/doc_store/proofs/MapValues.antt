@@ -1,5 +1,26 @@
 -- Maps whose values are changed, and maps of sorted entries.
-use Rattle.std.proofs.Common.{◌≡◌, ℕ, suc, ◌&&◌, subst, List, [], ◌∷◌, Bool, true, false, cond, T, length, map as mapped, refl, ap, sym, ◌∙◌, is_some}
+use Rattle.std.proofs.Common.{
+  ◌≡◌,
+  ℕ,
+  suc,
+  ◌&&◌,
+  subst,
+  List,
+  [],
+  ◌∷◌,
+  Bool,
+  true,
+  false,
+  cond,
+  T,
+  length,
+  map as mapped,
+  refl,
+  ap,
+  sym,
+  ◌∙◌,
+  is_some,
+}
 use Rattle.std.specs.Prelude.{Option, Some, None, option_map}
 use Rattle.std.specs.FinMap as map
 use Rattle.std.specs.FinMap.Entries.{find, is_sorted, below_all}
@@ -18,7 +39,8 @@ module _ {X Y : Type 0} (f : X → Y) where
   option_map-none true o = refl
   option_map-none false o = refl
 
-  pub find-changed : (q : List ℕ) (es : List (List ℕ × X)) → find (slice_cmp nat_cmp) q (mapped (λ entry. (entry.0, f entry.1)) es) ≡ option_map f (find (slice_cmp nat_cmp) q es)
+  pub find-changed : (q : List ℕ) (es : List (List ℕ × X))
+      → find (slice_cmp nat_cmp) q (mapped (λ entry. (entry.0, f entry.1)) es) ≡ option_map f (find (slice_cmp nat_cmp) q es)
   find-changed q [] = refl
   find-changed q (e ∷ es) =
       ap (cond (eq_by_cmp (slice_cmp nat_cmp) q e.0) (Some (f e.1))) (find-changed q es)
@@ -60,11 +82,13 @@ module _ {X Y : Type 0} (f : X → Y) where
   pub contains-map_values : (m : TextMap X) (q : List ℕ) → map.contains_key (map_values f m) q ≡ map.contains_key m q
   contains-map_values m q = ap is_some (get-map_values m q) ∙ is_some-option_map (map.get m q)
 
-  below-changed : (k : List ℕ) (es : List (List ℕ × X)) → below_all (slice_cmp nat_cmp) k (mapped (λ entry. (entry.0, f entry.1)) es) ≡ below_all (slice_cmp nat_cmp) k es
+  below-changed : (k : List ℕ) (es : List (List ℕ × X)) → below_all (slice_cmp nat_cmp) k (mapped (λ entry. (entry.0, f entry.1)) es)
+      ≡ below_all (slice_cmp nat_cmp) k es
   below-changed k [] = refl
   below-changed k (e ∷ es) = ap (λ b. is_lt (slice_cmp nat_cmp k e.0) && b) (below-changed k es)
 
-  sorted-changed : (es : List (List ℕ × X)) → is_sorted (slice_cmp nat_cmp) (mapped (λ entry. (entry.0, f entry.1)) es) ≡ is_sorted (slice_cmp nat_cmp) es
+  sorted-changed : (es : List (List ℕ × X)) → is_sorted (slice_cmp nat_cmp) (mapped (λ entry. (entry.0, f entry.1)) es)
+      ≡ is_sorted (slice_cmp nat_cmp) es
   sorted-changed [] = refl
   sorted-changed (e ∷ es) = λ i. below-changed e.0 es i && sorted-changed es i
 
@@ -77,7 +101,8 @@ module _ {X Y : Type 0} (f : X → Y) where
       let changed : List (List ℕ × Y) = mapped (λ entry. (entry.0, f entry.1)) (map.entries m) in
       let sorted : T (is_sorted (slice_cmp nat_cmp) changed) = subst T (sym (sorted-changed (map.entries m))) (map.entries_sorted m) in
       ap map.len (map.same_map nat_list_cmp_total exact_bytes (map_values f m) (map.from_sorted changed) (λ q.
-      get-map_values m q ∙ ap (option_map f) (map.get-entries m q) ∙ sym (find-changed q (map.entries m)) ∙ sym (map.get-from_sorted (slice_cmp nat_cmp) changed q sorted)))
+      get-map_values m q ∙ ap (option_map f) (map.get-entries m q) ∙ sym (find-changed q (map.entries m))
+      ∙ sym (map.get-from_sorted (slice_cmp nat_cmp) changed q sorted)))
       ∙ map.len-entries (map.from_sorted changed)
       ∙ ap length (map.entries-from_sorted (slice_cmp nat_cmp) changed sorted)
       ∙ length-changed (map.entries m)

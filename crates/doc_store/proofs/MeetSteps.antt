@@ -1,5 +1,25 @@
 -- Steps of the search for a common name in two lists of different names, both in the order of bytes.
-use Rattle.std.proofs.Common.{◌≡◌, ℕ, List, [], ◌∷◌, true, false, ◌||◌, bytes_eq, length, Less, Equal, Greater, refl, sym, ap, ◌∙◌, subst, arith}
+use Rattle.std.proofs.Common.{
+  ◌≡◌,
+  ℕ,
+  List,
+  [],
+  ◌∷◌,
+  true,
+  false,
+  ◌||◌,
+  bytes_eq,
+  length,
+  Less,
+  Equal,
+  Greater,
+  refl,
+  sym,
+  ap,
+  ◌∙◌,
+  subst,
+  arith,
+}
 use Rattle.std.specs.Cmp.Lexicographic.{slice_cmp}
 use Rattle.std.specs.List.{list_any}
 use Rattle.std.specs.List.Sorted.{IsStrictlySortedBy}
@@ -25,7 +45,8 @@ none_of a (name ∷ names) below = rw (above_differs a name below.0) (none_of a 
 -- a name of theirs below all of ours is not needed
 not_needed : (b : List ℕ) (ours theirs : List (List ℕ)) → IsBelow b ours → meet ours (b ∷ theirs) ≡ meet ours theirs
 not_needed b [] theirs below = refl
-not_needed b (our ∷ ours) theirs below = λ i. (below_differs b our below.0 i || list_any (λ other. bytes_eq other our) theirs) || not_needed b ours theirs below.1 i
+not_needed b (our ∷ ours) theirs below = λ i. (below_differs b our below.0 i || list_any (λ other. bytes_eq other our) theirs) ||
+    not_needed b ours theirs below.1 i
 
 pub meet_no_names : (ours theirs : List (List ℕ)) → length theirs ≡ 0 → false ≡ meet ours theirs
 meet_no_names [] [] none = refl
@@ -37,12 +58,14 @@ no_names_meet [] theirs none = refl
 no_names_meet (our ∷ ours) theirs none = absurd (omega arith)
 
 -- the first names of both, compared
-pub our_first_passes : (a b : List ℕ) (ours theirs : List (List ℕ)) → IsStrictlySortedBy (slice_cmp nat_cmp) (b ∷ theirs) → slice_cmp nat_cmp a b ≡ Less → meet (a ∷ ours) (b ∷ theirs) ≡ meet ours (b ∷ theirs)
+pub our_first_passes : (a b : List ℕ) (ours theirs : List (List ℕ)) → IsStrictlySortedBy (slice_cmp nat_cmp) (b ∷ theirs)
+    → slice_cmp nat_cmp a b ≡ Less → meet (a ∷ ours) (b ∷ theirs) ≡ meet ours (b ∷ theirs)
 unfolding IsStrictlySortedBy
 our_first_passes a b ours theirs sorted less =
     ap (λ found. found || meet ours (b ∷ theirs)) (none_of a (b ∷ theirs) (less, below_more a b theirs less sorted.0))
 
-pub their_first_passes : (a b : List ℕ) (ours theirs : List (List ℕ)) → IsStrictlySortedBy (slice_cmp nat_cmp) (a ∷ ours) → slice_cmp nat_cmp a b ≡ Greater → meet (a ∷ ours) (b ∷ theirs) ≡ meet (a ∷ ours) theirs
+pub their_first_passes : (a b : List ℕ) (ours theirs : List (List ℕ)) → IsStrictlySortedBy (slice_cmp nat_cmp) (a ∷ ours)
+    → slice_cmp nat_cmp a b ≡ Greater → meet (a ∷ ours) (b ∷ theirs) ≡ meet (a ∷ ours) theirs
 unfolding IsStrictlySortedBy
 their_first_passes a b ours theirs sorted more =
     let less : slice_cmp nat_cmp b a ≡ Less = turned a b more in
@@ -55,7 +78,8 @@ firsts_meet a b ours theirs same =
 
 -- ---- the same of lists that are seen to have first names
 
-module _ (ours theirs our_rest their_rest : List (List ℕ)) (a b : List ℕ) (our_first : ours ≡ a ∷ our_rest) (their_first : theirs ≡ b ∷ their_rest) where
+module _ (ours theirs our_rest their_rest : List (List ℕ)) (a b : List ℕ) (our_first : ours ≡ a ∷ our_rest)
+    (their_first : theirs ≡ b ∷ their_rest) where
   pub we_pass : IsStrictlySortedBy (slice_cmp nat_cmp) theirs → slice_cmp nat_cmp a b ≡ Less → meet ours theirs ≡ meet our_rest theirs
   we_pass sorted less =
       (λ i. meet (our_first i) (their_first i))
@@ -71,5 +95,7 @@ module _ (ours theirs our_rest their_rest : List (List ℕ)) (a b : List ℕ) (o
   pub both_meet : slice_cmp nat_cmp a b ≡ Equal → meet ours theirs ≡ true
   both_meet same = (λ i. meet (our_first i) (their_first i)) ∙ firsts_meet a b our_rest their_rest same
 
-pub rest_is_sorted : (names rest : List (List ℕ)) (first : List ℕ) → names ≡ first ∷ rest → IsStrictlySortedBy (slice_cmp nat_cmp) names → IsStrictlySortedBy (slice_cmp nat_cmp) rest
-rest_is_sorted names rest first is sorted = sorted_tail (slice_cmp nat_cmp) first rest (subst (IsStrictlySortedBy (slice_cmp nat_cmp)) is sorted)
+pub rest_is_sorted : (names rest : List (List ℕ)) (first : List ℕ) → names ≡ first ∷ rest → IsStrictlySortedBy (slice_cmp nat_cmp) names
+    → IsStrictlySortedBy (slice_cmp nat_cmp) rest
+rest_is_sorted names rest first is sorted = sorted_tail (slice_cmp nat_cmp) first rest
+    (subst (IsStrictlySortedBy (slice_cmp nat_cmp)) is sorted)

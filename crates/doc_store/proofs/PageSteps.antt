@@ -17,7 +17,8 @@ not_both : {A : Type 0} (o : Option A) → IsTrue (is_some o) → o ≡ None →
 not_both None t e = cc
 not_both (Some x) t e = cc
 
-module _ {X : Type 0} (pages : TextMap X) (from to : List ℕ) (stands : IsTrue (map.contains_key pages from)) (free : map.get pages to ≡ None) where
+module _ {X : Type 0} (pages : TextMap X) (from to : List ℕ) (stands : IsTrue (map.contains_key pages from))
+    (free : map.get pages to ≡ None) where
   pub paths_apart : same_key from to ≡ false
   paths_apart = by (same_key from to) refl
     where
@@ -25,13 +26,16 @@ module _ {X : Type 0} (pages : TextMap X) (from to : List ℕ) (stands : IsTrue 
       by true e = absurd (not_both (map.get pages from) stands (ap (map.get pages) (same_from from to e) ∙ free))
       by false e = refl
 
-module _ (pages : TextMap StampedPage) (from to : List ℕ) (stamp : ℕ) (stands : IsTrue (map.contains_key pages from)) (free : map.get pages to ≡ None)
-    (path : List ℕ) (one : StampedPage) (path_is : path ≡ to) (with_one without : TextMap StampedPage) (put : with_one ≡ map.insert pages path one) (taken : without ≡ map.remove with_one from) where
+module _ (pages : TextMap StampedPage) (from to : List ℕ) (stamp : ℕ) (stands : IsTrue (map.contains_key pages from))
+    (free : map.get pages to ≡ None)
+    (path : List ℕ) (one : StampedPage) (path_is : path ≡ to) (with_one without : TextMap StampedPage)
+    (put : with_one ≡ map.insert pages path one) (taken : without ≡ map.remove with_one from) where
   put_at : with_one ≡ map.insert pages to one
   put_at = put ∙ ap (λ p. map.insert pages p one) path_is
 
   still_found : map.get with_one from ≡ map.get pages from
-  still_found = ap (λ m. map.get m from) put_at ∙ get_set pages to one from ∙ ap (λ b. cond b (Some one) (map.get pages from)) (paths_apart pages from to stands free)
+  still_found = ap (λ m. map.get m from) put_at ∙ get_set pages to one from
+      ∙ ap (λ b. cond b (Some one) (map.get pages from)) (paths_apart pages from to stands free)
 
   pub page_is_there : None ≡ map.get with_one from → ⊥
   page_is_there none = not_both (map.get pages from) stands (sym still_found ∙ sym none)
@@ -49,16 +53,20 @@ module _ (pages : TextMap StampedPage) (from to : List ℕ) (stamp : ℕ) (stand
       ∙ contains_set pages to one to
       ∙ ap (λ b. cond b true (map.contains_key pages to)) (same_itself to))
 
-  pub page_renamed : (page stamped : StampedPage) (new : TextMap StampedPage) → Some page ≡ map.get with_one from → stamped ≡ restamped stamp page → new ≡ map.insert without to stamped → new ≡ with_stamped pages from to stamp
+  pub page_renamed : (page stamped : StampedPage) (new : TextMap StampedPage) → Some page ≡ map.get with_one from
+      → stamped ≡ restamped stamp page → new ≡ map.insert without to stamped → new ≡ with_stamped pages from to stamp
   page_renamed page stamped new found is set =
       set ∙ (λ i. map.insert (taken i) to (is i))
       ∙ map.same_map nat_list_cmp_total exact_bytes _ _ (λ q.
       get_set (map.remove with_one from) to (restamped stamp page) q
-      ∙ ap (cond (same_key q to) (Some (restamped stamp page))) (get_taken with_one from q ∙ ap (cond (same_key q from) None) (ap (λ m. map.get m q) put_at ∙ get_set pages to one q))
+      ∙ ap (cond (same_key q to) (Some (restamped stamp page))) (get_taken with_one from q
+      ∙ ap (cond (same_key q from) None) (ap (λ m. map.get m q) put_at ∙ get_set pages to one q))
       ∙ by (same_key q to) (same_key q from) (map.get pages q)
-      ∙ sym (get_set (map.remove pages from) to (restamped stamp page) q ∙ ap (cond (same_key q to) (Some (restamped stamp page))) (get_taken pages from q)))
+      ∙ sym (get_set (map.remove pages from) to (restamped stamp page) q
+      ∙ ap (cond (same_key q to) (Some (restamped stamp page))) (get_taken pages from q)))
       ∙ ap (with_stamped_at pages from to stamp) (found ∙ still_found)
     where
-      by : (t f : Bool) (there : Option StampedPage) → cond t (Some (restamped stamp page)) (cond f None (cond t (Some one) there)) ≡ cond t (Some (restamped stamp page)) (cond f None there)
+      by : (t f : Bool) (there : Option StampedPage) → cond t (Some (restamped stamp page)) (cond f None (cond t (Some one) there))
+          ≡ cond t (Some (restamped stamp page)) (cond f None there)
       by true f there = refl
       by false f there = refl

@@ -1,5 +1,27 @@
 -- Collected names are in the order of bytes, no two the same.
-use Rattle.std.proofs.Common.{◌≡◌, ℕ, ◌≤◌, List, [], ◌∷◌, length, map, Bool, true, false, ◌&&◌, Less, Equal, Greater, refl, sym, ap, ◌∙◌, subst, arith}
+use Rattle.std.proofs.Common.{
+  ◌≡◌,
+  ℕ,
+  ◌≤◌,
+  List,
+  [],
+  ◌∷◌,
+  length,
+  map,
+  Bool,
+  true,
+  false,
+  ◌&&◌,
+  Less,
+  Equal,
+  Greater,
+  refl,
+  sym,
+  ap,
+  ◌∙◌,
+  subst,
+  arith,
+}
 use Rattle.std.specs.Cmp.Lexicographic.{slice_cmp}
 use Rattle.std.specs.List.{list_all, AllByRecursion}
 use Rattle.std.specs.List.Sorted.{IsStrictlySortedBy}
@@ -21,26 +43,31 @@ pub below_more : (a b : List ℕ) (names : List (List ℕ)) → slice_cmp nat_cm
 below_more a b [] less below = tt
 below_more a b (name ∷ names) less below = (nat_list_cmp_total.trans a b name less below.0, below_more a b names less below.1)
 
-below-with_name : (a name : List ℕ) (names : List (List ℕ)) → slice_cmp nat_cmp a name ≡ Less → IsBelow a names → IsBelow a (with_name name names)
+below-with_name : (a name : List ℕ) (names : List (List ℕ)) → slice_cmp nat_cmp a name ≡ Less → IsBelow a names
+    → IsBelow a (with_name name names)
 below-with_name a name [] less below = (less, tt)
 below-with_name a name (first ∷ rest) less below =
-    elim (slice_cmp nat_cmp name first) as (λ order. IsBelow a (match_ordering order (name ∷ first ∷ rest) (first ∷ rest) (first ∷ with_name name rest))) [
+    elim (slice_cmp nat_cmp name first) as (λ order. IsBelow a
+    (match_ordering order (name ∷ first ∷ rest) (first ∷ rest) (first ∷ with_name name rest))) [
       | Less ↦ (less, below)
       | Equal ↦ below
       | Greater ↦ (below.0, below-with_name a name rest less below.1)
     ]
 
-sorted-with_name : (name : List ℕ) (names : List (List ℕ)) → IsStrictlySortedBy (slice_cmp nat_cmp) names → IsStrictlySortedBy (slice_cmp nat_cmp) (with_name name names)
+sorted-with_name : (name : List ℕ) (names : List (List ℕ)) → IsStrictlySortedBy (slice_cmp nat_cmp) names
+    → IsStrictlySortedBy (slice_cmp nat_cmp) (with_name name names)
 unfolding IsStrictlySortedBy
 sorted-with_name name [] sorted = (tt, tt)
 sorted-with_name name (first ∷ rest) sorted =
-    (elim (slice_cmp nat_cmp name first) as (λ order. slice_cmp nat_cmp name first ≡ order → IsStrictlySortedBy (slice_cmp nat_cmp) (match_ordering order (name ∷ first ∷ rest) (first ∷ rest) (first ∷ with_name name rest))) [
+    (elim (slice_cmp nat_cmp name first) as (λ order. slice_cmp nat_cmp name first ≡ order
+    → IsStrictlySortedBy (slice_cmp nat_cmp) (match_ordering order (name ∷ first ∷ rest) (first ∷ rest) (first ∷ with_name name rest))) [
       | Less ↦ λ less. ((less, below_more name first rest less sorted.0), sorted)
       | Equal ↦ λ same. sorted
       | Greater ↦ λ more. (below-with_name first name rest (turned name first more) sorted.0, sorted-with_name name rest sorted.1)
     ]) refl
 
-sorted-with_names : (before names : List (List ℕ)) → IsStrictlySortedBy (slice_cmp nat_cmp) before → IsStrictlySortedBy (slice_cmp nat_cmp) (with_names before names)
+sorted-with_names : (before names : List (List ℕ)) → IsStrictlySortedBy (slice_cmp nat_cmp) before
+    → IsStrictlySortedBy (slice_cmp nat_cmp) (with_names before names)
 sorted-with_names before [] sorted = sorted
 sorted-with_names before (name ∷ names) sorted = sorted-with_names (with_name name before) names (sorted-with_name name before sorted)
 
@@ -57,17 +84,20 @@ right false b both = absurd (cc)
 both_hold : (a b : Bool) → a ≡ true → b ≡ true → (a && b) ≡ true
 both_hold a b one other = rw one other
 
-good-with_name : (name : List ℕ) (names : List (List ℕ)) → is_group name ≡ true → list_all is_group names ≡ true → list_all is_group (with_name name names) ≡ true
+good-with_name : (name : List ℕ) (names : List (List ℕ)) → is_group name ≡ true → list_all is_group names ≡ true
+    → list_all is_group (with_name name names) ≡ true
 good-with_name name [] good all = both_hold (is_group name) true good refl
 good-with_name name (first ∷ rest) good all =
-    elim (slice_cmp nat_cmp name first) as (λ order. list_all is_group (match_ordering order (name ∷ first ∷ rest) (first ∷ rest) (first ∷ with_name name rest)) ≡ true) [
+    elim (slice_cmp nat_cmp name first) as (λ order. list_all is_group
+    (match_ordering order (name ∷ first ∷ rest) (first ∷ rest) (first ∷ with_name name rest)) ≡ true) [
       | Less ↦ both_hold (is_group name) (list_all is_group (first ∷ rest)) good all
       | Equal ↦ all
       | Greater ↦ both_hold (is_group first) (list_all is_group (with_name name rest)) (left (is_group first) (list_all is_group rest) all)
           (good-with_name name rest good (right (is_group first) (list_all is_group rest) all))
     ]
 
-good-with_names : (before names : List (List ℕ)) → list_all is_group before ≡ true → list_all is_group names ≡ true → list_all is_group (with_names before names) ≡ true
+good-with_names : (before names : List (List ℕ)) → list_all is_group before ≡ true → list_all is_group names ≡ true
+    → list_all is_group (with_names before names) ≡ true
 good-with_names before [] good all = good
 good-with_names before (name ∷ names) good all =
     good-with_names (with_name name before) names (good-with_name name before (left (is_group name) (list_all is_group names) all) good)
@@ -82,7 +112,8 @@ no_groups = record { sorted = tt; good = refl; few = omega arith }
 pub no_names : (names : List (List ℕ)) → names ≡ [] → IsGroups names
 no_names names none = subst IsGroups (sym none) no_groups
 
-pub collected : (names found : List (List ℕ)) → list_all is_group names ≡ true → with_names [] names ≡ found → length found ≤ group_limit → IsGroups found
+pub collected : (names found : List (List ℕ)) → list_all is_group names ≡ true → with_names [] names ≡ found → length found ≤ group_limit
+    → IsGroups found
 collected names found good same few = record {
   sorted = subst (IsStrictlySortedBy (slice_cmp nat_cmp)) same (sorted-with_names [] names no_groups.sorted);
   good = sym (ap (list_all is_group) same) ∙ good-with_names [] names refl good;
@@ -90,7 +121,8 @@ collected names found good same few = record {
 }
 
 -- the names that a slice has
-pub collected_in_slice : {A : Type 0} (f : A → List ℕ) (names : List (List ℕ)) (found shown : List A) → list_all is_group names ≡ true → with_names [] names ≡ map f found → shown ≡ found → length shown ≤ group_limit → IsGroups (map f shown)
+pub collected_in_slice : {A : Type 0} (f : A → List ℕ) (names : List (List ℕ)) (found shown : List A) → list_all is_group names ≡ true
+    → with_names [] names ≡ map f found → shown ≡ found → length shown ≤ group_limit → IsGroups (map f shown)
 collected_in_slice f names found shown good same is few =
     collected names (map f shown) good (same ∙ ap (map f) (sym is)) (omega (arith, length-map shown f))
 

@@ -25,7 +25,8 @@ stamp_set stamps path n = get_set stamps path n path ∙ ap (λ b. cond b (Some 
 not_accepted : {X E : Type 0} (e : E) (x : X) → ◌≡◌ {A = Result X E} (Err e) (Ok x) → ⊥
 not_accepted e x is = cc
 
-put_takes : (store : StoreState) (path : List ℕ) (page : Page) (stands : Bool) (said : Result (Unit {0}) EditError) (done : Put) → IsStore store
+put_takes : (store : StoreState) (path : List ℕ) (page : Page) (stands : Bool) (said : Result (Unit {0}) EditError) (done : Put)
+    → IsStore store
     → (put_by store path page stands said).1 ≡ Ok done → TakesStamp store path (put_by store path page stands said).0
 put_takes store path page stands (Err e) done is ok = absurd (not_accepted e done ok)
 put_takes store path page stands (Ok fine) done is ok = record {
@@ -48,7 +49,8 @@ move_takes : (store : StoreState) (from to : List ℕ) (said : Result (Unit {0})
     → (moved_by store from to said).1 ≡ Ok tt → TakesStamp store to (moved_by store from to said).0
 move_takes store from to (Err e) is said ok = refused e ok
 move_takes store from to (Ok fine) is said ok =
-    let needs = move_needs (map.contains_key store.site.pages from) (map.contains_key store.site.pages to) (map.len (aliases_after store.site.aliases from to)) store.puts said in
+    let needs = move_needs (map.contains_key store.site.pages from) (map.contains_key store.site.pages to)
+    (map.len (aliases_after store.site.aliases from to)) store.puts said in
     record {
       taken = stamp_set (map.remove store.stamps from) to store.puts;
       fresh = no_stamp_to_come store is;

@@ -13,7 +13,22 @@ use Rattle.doc_store.specs.declared.readers.Set.{Set}
 use Rattle.doc_store.specs.declared.store.EditError.{EditError}
 use Rattle.doc_store.specs.declared.store.Put.{Put}
 use Rattle.doc_store.specs.declared.store.Put.TheVariants.{Created, Replaced}
-use Rattle.doc_store.proofs.StoreOnLists.{Entries, made, has-made, removed-made, len-none, len-more, store_of, no_page_on, taken_on, full_on, moved_on, put_on, removed_on, not_removed_on}
+use Rattle.doc_store.proofs.StoreOnLists.{
+  Entries,
+  made,
+  has-made,
+  removed-made,
+  len-none,
+  len-more,
+  store_of,
+  no_page_on,
+  taken_on,
+  full_on,
+  moved_on,
+  put_on,
+  removed_on,
+  not_removed_on,
+}
 use Rattle.doc_store.specs.Pages.{Page}
 use Rattle.doc_store.specs.Readers.{ReaderTable, set_reader}
 use Rattle.doc_store.specs.Store.{StoreState, put_into, without_page, moved_in, text_limit, page_limit, alias_limit, put_limit}
@@ -72,50 +87,70 @@ moved = store_of moved_pages one_alias moved_stamps 4
 move_leaves_an_alias : ◌≡◌ {A = MoveAnswer} (moved_in site (codes "c.md") (codes "e/c.md")) (moved, Ok tt)
 unfolding alias_limit put_limit
 move_leaves_an_alias =
-    moved_on pages [] stamps 3 (codes "c.md") (codes "e/c.md") c_page 1 refl refl (len-more (codes "c.md") (codes "e/c.md") [] 0 refl (len-none (List ℕ))) refl
+    moved_on pages [] stamps 3 (codes "c.md") (codes "e/c.md") c_page 1 refl refl
+    (len-more (codes "c.md") (codes "e/c.md") [] 0 refl (len-none (List ℕ))) refl
 
 move_of_an_alias : ◌≡◌ {A = MoveAnswer} (moved_in moved (codes "c.md") (codes "y.md")) (moved, Err move_errors.NoPage)
 move_of_an_alias = no_page_on moved_pages one_alias moved_stamps 4 (codes "c.md") (codes "y.md") refl
 
 -- and back: c.md is no alias any more, and e/c.md is one
-move_to_its_alias : ◌≡◌ {A = MoveAnswer} (moved_in moved (codes "e/c.md") (codes "c.md"))
-    (store_of ((codes "c.md", c_page) ∷ (codes "a.md", a_page) ∷ (codes "b.md", b_page) ∷ []) ((codes "e/c.md", codes "c.md") ∷ []) ((codes "c.md", 4) ∷ (codes "a.md", 0) ∷ (codes "b.md", 1) ∷ []) 5, Ok tt)
+move_to_its_alias : ◌≡◌ {A = MoveAnswer} (moved_in moved (codes "e/c.md") (codes "c.md")) (
+  store_of ((codes "c.md", c_page) ∷ (codes "a.md", a_page) ∷ (codes "b.md", b_page) ∷ []) ((codes "e/c.md", codes "c.md") ∷ [])
+      ((codes "c.md", 4) ∷ (codes "a.md", 0) ∷ (codes "b.md", 1) ∷ []) 5,
+  Ok tt,
+)
 unfolding alias_limit put_limit
 move_to_its_alias =
-    moved_on moved_pages one_alias moved_stamps 4 (codes "e/c.md") (codes "c.md") c_page 1 refl refl (len-more (codes "e/c.md") (codes "c.md") [] 0 refl (len-none (List ℕ))) refl
+    moved_on moved_pages one_alias moved_stamps 4 (codes "e/c.md") (codes "c.md") c_page 1 refl refl
+    (len-more (codes "e/c.md") (codes "c.md") [] 0 refl (len-none (List ℕ))) refl
 
 -- a second move keeps the first alias
 move_keeps_aliases : ◌≡◌ {A = MoveAnswer} (moved_in moved (codes "e/c.md") (codes "f.md")) (
-  store_of ((codes "f.md", c_page) ∷ (codes "a.md", a_page) ∷ (codes "b.md", b_page) ∷ []) ((codes "e/c.md", codes "f.md") ∷ (codes "c.md", codes "f.md") ∷ [])
+  store_of ((codes "f.md", c_page) ∷ (codes "a.md", a_page) ∷ (codes "b.md", b_page) ∷ [])
+      ((codes "e/c.md", codes "f.md") ∷ (codes "c.md", codes "f.md") ∷ [])
       ((codes "f.md", 4) ∷ (codes "a.md", 0) ∷ (codes "b.md", 1) ∷ []) 5,
   Ok tt,
 )
 unfolding alias_limit put_limit
 move_keeps_aliases =
     moved_on moved_pages one_alias moved_stamps 4 (codes "e/c.md") (codes "f.md") c_page 2 refl refl
-    (len-more (codes "e/c.md") (codes "f.md") ((codes "c.md", codes "f.md") ∷ []) 1 refl (len-more (codes "c.md") (codes "f.md") [] 0 refl (len-none (List ℕ)))) refl
+    (len-more (codes "e/c.md") (codes "f.md") ((codes "c.md", codes "f.md") ∷ []) 1 refl
+    (len-more (codes "c.md") (codes "f.md") [] 0 refl (len-none (List ℕ)))) refl
 
-move_without_stamps : ◌≡◌ {A = MoveAnswer} (moved_in (store_of pages [] stamps 18446744073709551615) (codes "c.md") (codes "y.md")) (store_of pages [] stamps 18446744073709551615, Err move_errors.StoreFull)
+move_without_stamps : ◌≡◌ {A = MoveAnswer} (moved_in (store_of pages [] stamps 18446744073709551615) (codes "c.md") (codes "y.md"))
+    (store_of pages [] stamps 18446744073709551615, Err move_errors.StoreFull)
 unfolding alias_limit put_limit
-move_without_stamps = full_on pages [] stamps 18446744073709551615 (codes "c.md") (codes "y.md") 1 refl refl (len-more (codes "c.md") (codes "y.md") [] 0 refl (len-none (List ℕ))) refl
+move_without_stamps = full_on pages [] stamps 18446744073709551615 (codes "c.md") (codes "y.md") 1 refl refl
+    (len-more (codes "c.md") (codes "y.md") [] 0 refl (len-none (List ℕ))) refl
 
 -- ---- puts and removals
 
-put_on_an_alias : ◌≡◌ {A = StoreState × Result Put EditError} (put_into moved (codes "c.md") staff (codes "New"))
-    (store_of ((codes "c.md", record { groups = staff; text = codes "New" }) ∷ moved_pages) [] ((codes "c.md", 4) ∷ moved_stamps) 5, Ok Created)
+put_on_an_alias : ◌≡◌ {A = StoreState × Result Put EditError} (put_into moved (codes "c.md") staff (codes "New")) (
+  store_of ((codes "c.md", record { groups = staff; text = codes "New" }) ∷ moved_pages) [] ((codes "c.md", 4) ∷ moved_stamps) 5,
+  Ok
+      Created,
+)
 unfolding text_limit page_limit put_limit
 put_on_an_alias =
     put_on moved_pages one_alias moved_stamps 4 (codes "c.md") staff (codes "New") false 3 refl
-    (len-more (codes "e/c.md") c_page ((codes "a.md", a_page) ∷ (codes "b.md", b_page) ∷ []) 2 refl (len-more (codes "a.md") a_page ((codes "b.md", b_page) ∷ []) 1 refl (len-more (codes "b.md") b_page [] 0 refl (len-none Page)))) refl
+    (len-more (codes "e/c.md") c_page ((codes "a.md", a_page) ∷ (codes "b.md", b_page) ∷ []) 2 refl
+    (len-more (codes "a.md") a_page ((codes "b.md", b_page) ∷ []) 1 refl (len-more (codes "b.md") b_page [] 0 refl (len-none Page))))
+    refl
 
-put_on_a_page : ◌≡◌ {A = StoreState × Result Put EditError} (put_into moved (codes "e/c.md") staff (codes "New"))
-    (store_of ((codes "e/c.md", record { groups = staff; text = codes "New" }) ∷ moved_pages) one_alias ((codes "e/c.md", 4) ∷ moved_stamps) 5, Ok Replaced)
+put_on_a_page : ◌≡◌ {A = StoreState × Result Put EditError} (put_into moved (codes "e/c.md") staff (codes "New")) (
+  store_of ((codes "e/c.md", record { groups = staff; text = codes "New" }) ∷ moved_pages) one_alias
+      ((codes "e/c.md", 4) ∷ moved_stamps) 5,
+  Ok Replaced,
+)
 unfolding text_limit page_limit put_limit
 put_on_a_page =
     put_on moved_pages one_alias moved_stamps 4 (codes "e/c.md") staff (codes "New") true 3 refl
-    (len-more (codes "e/c.md") c_page ((codes "a.md", a_page) ∷ (codes "b.md", b_page) ∷ []) 2 refl (len-more (codes "a.md") a_page ((codes "b.md", b_page) ∷ []) 1 refl (len-more (codes "b.md") b_page [] 0 refl (len-none Page)))) refl
+    (len-more (codes "e/c.md") c_page ((codes "a.md", a_page) ∷ (codes "b.md", b_page) ∷ []) 2 refl
+    (len-more (codes "a.md") a_page ((codes "b.md", b_page) ∷ []) 1 refl (len-more (codes "b.md") b_page [] 0 refl (len-none Page))))
+    refl
 
-page_is_removed_with_its_alias : without_page moved (codes "e/c.md") ≡ store_of ((codes "a.md", a_page) ∷ (codes "b.md", b_page) ∷ []) [] ((codes "a.md", 0) ∷ (codes "b.md", 1) ∷ []) 4
+page_is_removed_with_its_alias : without_page moved (codes "e/c.md")
+    ≡ store_of ((codes "a.md", a_page) ∷ (codes "b.md", b_page) ∷ []) [] ((codes "a.md", 0) ∷ (codes "b.md", 1) ∷ []) 4
 unfolding IsStrictlySortedBy
 page_is_removed_with_its_alias = removed_on moved_pages one_alias moved_stamps 4 (codes "e/c.md") refl (tt, tt)
 

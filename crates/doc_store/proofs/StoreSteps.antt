@@ -1,16 +1,62 @@
 -- Stores stay stores: an edit keeps what every store is.
-use Rattle.std.proofs.Common.{◌≡◌, ◌⊎◌, ⊎_elim, ℕ, ◌+◌, ◌<◌, List, Bool, true, false, cond, not, bytes_eq, is_some, inl, inr, refl, ap, sym, ◌∙◌, arith}
+use Rattle.std.proofs.Common.{
+  ◌≡◌,
+  ◌⊎◌,
+  ⊎_elim,
+  ℕ,
+  ◌+◌,
+  ◌<◌,
+  List,
+  Bool,
+  true,
+  false,
+  cond,
+  not,
+  bytes_eq,
+  is_some,
+  inl,
+  inr,
+  refl,
+  ap,
+  sym,
+  ◌∙◌,
+  arith,
+}
 use Rattle.std.specs.Prelude.{Option, Some, None, option_map}
 use Rattle.std.specs.FinMap as map
 use Rattle.std.specs.Cmp.Lexicographic.{slice_cmp}
 use Rattle.std.specs.Ordering.{nat_cmp}
 use Rattle.std.proofs.lemmas.Cmp.{nat_list_cmp_total}
-use Rattle.doc_store.proofs.KeySteps.{same_key, same_from, same_itself, bytes_eq_is, not_none, some_is, get_set, get_taken, stood, set_or_stood, contains_set, contains_taken}
+use Rattle.doc_store.proofs.KeySteps.{
+  same_key,
+  same_from,
+  same_itself,
+  bytes_eq_is,
+  not_none,
+  some_is,
+  get_set,
+  get_taken,
+  stood,
+  set_or_stood,
+  contains_set,
+  contains_taken,
+}
 use Rattle.doc_store.proofs.MapValues.{get-map_values}
 use Rattle.doc_store.specs.Maps.{TextMap, map_values}
 use Rattle.doc_store.specs.Pages.{Page}
 use Rattle.doc_store.specs.Sites.{Site, IsSite}
-use Rattle.doc_store.specs.Store.{StoreState, IsStore, empty_store, is_goal, without_goal, goal_after, aliases_after, with_page, with_move, with_key_at}
+use Rattle.doc_store.specs.Store.{
+  StoreState,
+  IsStore,
+  empty_store,
+  is_goal,
+  without_goal,
+  goal_after,
+  aliases_after,
+  with_page,
+  with_move,
+  with_key_at,
+}
 
 differ : (b : Bool) → b ≡ true → b ≡ false → ⊥
 differ true e f = cc
@@ -34,7 +80,8 @@ not_below_itself a n e h = omega (arith, e, h)
 
 pub stamps_set : (stamps : TextMap ℕ) (puts : ℕ) (k : List ℕ) → AreStamps stamps puts → AreStamps (map.insert stamps k puts) (puts + 1)
 stamps_set stamps puts k are = record {
-  below = λ path stamp e. ⊎_elim (λ new. same_less_more stamp puts new.1) (λ old. less_more stamp puts (are.below path stamp old.1)) (set_or_stood stamps k puts path stamp e);
+  below = λ path stamp e. ⊎_elim (λ new. same_less_more stamp puts new.1) (λ old. less_more stamp puts (are.below path stamp old.1))
+      (set_or_stood stamps k puts path stamp e);
   different = λ path other stamp e f.
       ⊎_elim
       (λ new. ⊎_elim
@@ -59,14 +106,16 @@ stamps_of store is = record { below = is.below; different = is.different }
 
 -- ---- a page is set
 
-contains_more : (X : Type 0) (m : TextMap X) (k : List ℕ) (v : X) (q : List ℕ) → map.contains_key m q ≡ true → map.contains_key (map.insert m k v) q ≡ true
+contains_more : (X : Type 0) (m : TextMap X) (k : List ℕ) (v : X) (q : List ℕ) → map.contains_key m q ≡ true
+    → map.contains_key (map.insert m k v) q ≡ true
 contains_more X m k v q e = contains_set m k v q ∙ ap (cond (same_key q k) true) e ∙ either (same_key q k)
   where
     either : (b : Bool) → cond b true true ≡ true
     either true = refl
     either false = refl
 
-not_more : (X : Type 0) (m : TextMap X) (k : List ℕ) (v : X) (q : List ℕ) → same_key q k ≡ false → map.contains_key m q ≡ false → map.contains_key (map.insert m k v) q ≡ false
+not_more : (X : Type 0) (m : TextMap X) (k : List ℕ) (v : X) (q : List ℕ) → same_key q k ≡ false → map.contains_key m q ≡ false
+    → map.contains_key (map.insert m k v) q ≡ false
 not_more X m k v q e f = contains_set m k v q ∙ ap (λ b. cond b true (map.contains_key m q)) e ∙ f
 
 pub put_stays : (store : StoreState) (path : List ℕ) (page : Page) → IsStore store → IsStore (with_page store path page)
@@ -74,26 +123,33 @@ put_stays store path page is =
     let stamps = stamps_set store.stamps store.puts path (stamps_of store is) in
     record {
       site = record {
-        apart = λ alias goal e. let old = stood store.site.aliases path alias goal e in not_more Page store.site.pages path page alias old.0 (is.site.apart alias goal old.1);
-        lead = λ alias goal e. let old = stood store.site.aliases path alias goal e in contains_more Page store.site.pages path page goal (is.site.lead alias goal old.1);
+        apart = λ alias goal e. let old = stood store.site.aliases path alias goal e in not_more Page store.site.pages path page alias
+            old.0 (is.site.apart alias goal old.1);
+        lead = λ alias goal e. let old = stood store.site.aliases path alias goal e in contains_more Page store.site.pages path page goal
+            (is.site.lead alias goal old.1);
       };
-      stamped = λ q. contains_set store.stamps path store.puts q ∙ ap (cond (same_key q path) true) (is.stamped q) ∙ sym (contains_set store.site.pages path page q);
+      stamped = λ q. contains_set store.stamps path store.puts q ∙ ap (cond (same_key q path) true) (is.stamped q)
+          ∙ sym (contains_set store.site.pages path page q);
       below = stamps.below;
       different = stamps.different;
     }
 
 -- ---- a page is removed
 
-pub get-without_goal : (aliases : TextMap (List ℕ)) (path q : List ℕ) → map.get (without_goal aliases path) q ≡ cond (not (is_goal path (map.get aliases q))) (map.get aliases q) None
+pub get-without_goal : (aliases : TextMap (List ℕ)) (path q : List ℕ)
+    → map.get (without_goal aliases path) q ≡ cond (not (is_goal path (map.get aliases q))) (map.get aliases q) None
 unfolding without_goal
 get-without_goal aliases path q =
-    map.get-retain_keys aliases (λ alias. not (is_goal path (map.get aliases alias))) q (λ x tied. ap (λ goal. not (is_goal path goal)) (map.get_tied nat_list_cmp_total aliases q x tied))
+    map.get-retain_keys aliases (λ alias. not (is_goal path (map.get aliases alias))) q
+    (λ x tied. ap (λ goal. not (is_goal path goal)) (map.get_tied nat_list_cmp_total aliases q x tied))
 
 -- an alias that is left leads elsewhere
-left : (aliases : TextMap (List ℕ)) (path alias goal : List ℕ) → map.get (without_goal aliases path) alias ≡ Some goal → (map.get aliases alias ≡ Some goal) × (same_key goal path ≡ false)
+left : (aliases : TextMap (List ℕ)) (path alias goal : List ℕ) → map.get (without_goal aliases path) alias ≡ Some goal
+    → (map.get aliases alias ≡ Some goal) × (same_key goal path ≡ false)
 left aliases path alias goal e = by (map.get aliases alias) (sym (get-without_goal aliases path alias) ∙ e)
   where
-    by_goal : (b : Bool) (old : List ℕ) → bytes_eq old path ≡ b → cond (not b) (Some old) None ≡ Some goal → ◌≡◌ {A = Option (List ℕ)} (Some old) (Some goal) × (same_key goal path ≡ false)
+    by_goal : (b : Bool) (old : List ℕ) → bytes_eq old path ≡ b → cond (not b) (Some old) None ≡ Some goal
+        → ◌≡◌ {A = Option (List ℕ)} (Some old) (Some goal) × (same_key goal path ≡ false)
     by_goal true old is e = absurd (not_none goal e)
     by_goal false old is e = (e, ap (λ g. same_key g path) (sym (some_is old goal e)) ∙ sym (bytes_eq_is old path) ∙ is)
 
@@ -101,7 +157,8 @@ left aliases path alias goal e = by (map.get aliases alias) (sym (get-without_go
     by None e = absurd (not_none goal e)
     by (Some old) e = by_goal (bytes_eq old path) old refl e
 
-still_there : (X : Type 0) (m : TextMap X) (k q : List ℕ) → same_key q k ≡ false → map.contains_key m q ≡ true → map.contains_key (map.remove m k) q ≡ true
+still_there : (X : Type 0) (m : TextMap X) (k q : List ℕ) → same_key q k ≡ false → map.contains_key m q ≡ true
+    → map.contains_key (map.remove m k) q ≡ true
 still_there X m k q e f = contains_taken m k q ∙ ap (λ b. cond b false (map.contains_key m q)) e ∙ f
 
 still_not : (X : Type 0) (m : TextMap X) (k q : List ℕ) → map.contains_key m q ≡ false → map.contains_key (map.remove m k) q ≡ false
@@ -123,10 +180,13 @@ remove_stays store path is =
     let stamps = stamps_taken store.stamps store.puts path (stamps_of store is) in
     record {
       site = record {
-        apart = λ alias goal e. still_not Page store.site.pages path alias (is.site.apart alias goal (left store.site.aliases path alias goal e).0);
-        lead = λ alias goal e. let old = left store.site.aliases path alias goal e in still_there Page store.site.pages path goal old.1 (is.site.lead alias goal old.0);
+        apart = λ alias goal e. still_not Page store.site.pages path alias
+            (is.site.apart alias goal (left store.site.aliases path alias goal e).0);
+        lead = λ alias goal e. let old = left store.site.aliases path alias goal e in still_there Page store.site.pages path goal old.1
+            (is.site.lead alias goal old.0);
       };
-      stamped = λ q. contains_taken store.stamps path q ∙ ap (cond (same_key q path) false) (is.stamped q) ∙ sym (contains_taken store.site.pages path q);
+      stamped = λ q. contains_taken store.stamps path q ∙ ap (cond (same_key q path) false) (is.stamped q)
+          ∙ sym (contains_taken store.site.pages path q);
       below = stamps.below;
       different = stamps.different;
     }
@@ -134,21 +194,25 @@ remove_stays store path is =
 -- ---- a page is moved
 
 pub get-aliases_after : (aliases : TextMap (List ℕ)) (from to q : List ℕ)
-    → map.get (aliases_after aliases from to) q ≡ cond (same_key q from) (Some to) (option_map (goal_after from to) (cond (same_key q to) None (map.get aliases q)))
+    → map.get (aliases_after aliases from to) q ≡ cond (same_key q from) (Some to)
+    (option_map (goal_after from to) (cond (same_key q to) None (map.get aliases q)))
 unfolding aliases_after
 get-aliases_after aliases from to q =
     get_set (map_values (goal_after from to) (map.remove aliases to)) from to q
-    ∙ ap (cond (same_key q from) (Some to)) (get-map_values (goal_after from to) (map.remove aliases to) q ∙ ap (option_map (goal_after from to)) (get_taken aliases to q))
+    ∙ ap (cond (same_key q from) (Some to)) (get-map_values (goal_after from to) (map.remove aliases to) q
+    ∙ ap (option_map (goal_after from to)) (get_taken aliases to q))
 
 -- an alias after a move is the old path, or one from before
 alias_after : (aliases : TextMap (List ℕ)) (from to alias goal : List ℕ) → map.get (aliases_after aliases from to) alias ≡ Some goal
-    → ((same_key alias from ≡ true) × (to ≡ goal)) ⊎ ((old : List ℕ) × (same_key alias to ≡ false) × (map.get aliases alias ≡ Some old) × (goal_after from to old ≡ goal))
+    → ((same_key alias from ≡ true) × (to ≡ goal)) ⊎ ((old : List ℕ) × (same_key alias to ≡ false) × (map.get aliases alias ≡ Some old)
+    × (goal_after from to old ≡ goal))
 alias_after aliases from to alias goal e = by (same_key alias from) (sym (get-aliases_after aliases from to alias) ∙ e)
   where
     Old : Type 0
     Old = (old : List ℕ) × (same_key alias to ≡ false) × (map.get aliases alias ≡ Some old) × (goal_after from to old ≡ goal)
 
-    by_old : (o : Option (List ℕ)) → map.get aliases alias ≡ o → same_key alias to ≡ false → option_map (goal_after from to) o ≡ Some goal → Old
+    by_old : (o : Option (List ℕ)) → map.get aliases alias ≡ o → same_key alias to ≡ false → option_map (goal_after from to) o ≡ Some goal
+        → Old
     by_old None is apart e = absurd (not_none goal e)
     by_old (Some old) is apart e = (old, apart, is, some_is _ goal e)
 
@@ -166,10 +230,12 @@ module _ (X : Type 0) (m : TextMap X) (from to : List ℕ) (v : X) where
   abbrev pub renamed : TextMap X
   renamed = map.insert (map.remove m from) to v
 
-  contains_renamed : (q : List ℕ) → map.contains_key renamed q ≡ cond (same_key q to) true (cond (same_key q from) false (map.contains_key m q))
+  contains_renamed : (q : List ℕ) → map.contains_key renamed q ≡ cond (same_key q to) true
+      (cond (same_key q from) false (map.contains_key m q))
   contains_renamed q = contains_set (map.remove m from) to v q ∙ ap (cond (same_key q to) true) (contains_taken m from q)
 
-module _ (site : Site) (from to : List ℕ) (page : Page) (is : IsSite site) (stands : map.contains_key site.pages from ≡ true) (free : map.contains_key site.pages to ≡ false) where
+module _ (site : Site) (from to : List ℕ) (page : Page) (is : IsSite site) (stands : map.contains_key site.pages from ≡ true)
+    (free : map.contains_key site.pages to ≡ false) where
   apart_paths : same_key from to ≡ false
   apart_paths = by (same_key from to) refl
     where
@@ -183,41 +249,50 @@ module _ (site : Site) (from to : List ℕ) (page : Page) (is : IsSite site) (st
   old_path_is_free : (alias : List ℕ) → same_key alias from ≡ true → map.contains_key moved_site.pages alias ≡ false
   old_path_is_free alias e =
       contains_renamed Page site.pages from to page alias
-      ∙ ap (λ b. cond b true (cond (same_key alias from) false (map.contains_key site.pages alias))) (ap (λ q. same_key q to) (same_from alias from e) ∙ apart_paths)
+      ∙ ap (λ b. cond b true (cond (same_key alias from) false (map.contains_key site.pages alias)))
+      (ap (λ q. same_key q to) (same_from alias from e) ∙ apart_paths)
       ∙ ap (λ b. cond b false (map.contains_key site.pages alias)) e
 
-  alias_is_free : (alias old : List ℕ) → same_key alias to ≡ false → map.get site.aliases alias ≡ Some old → map.contains_key moved_site.pages alias ≡ false
-  alias_is_free alias old other e = not_more Page (map.remove site.pages from) to page alias other (still_not Page site.pages from alias (is.apart alias old e))
+  alias_is_free : (alias old : List ℕ) → same_key alias to ≡ false → map.get site.aliases alias ≡ Some old
+      → map.contains_key moved_site.pages alias ≡ false
+  alias_is_free alias old other e = not_more Page (map.remove site.pages from) to page alias other
+      (still_not Page site.pages from alias (is.apart alias old e))
 
   new_path_stands : (goal : List ℕ) → to ≡ goal → map.contains_key moved_site.pages goal ≡ true
   new_path_stands goal e =
       ap (map.contains_key moved_site.pages) (sym e) ∙ contains_set (map.remove site.pages from) to page to
       ∙ ap (λ b. cond b true (map.contains_key (map.remove site.pages from) to)) (same_itself to)
 
-  goal_stands_by : (b : Bool) (old goal : List ℕ) → bytes_eq old from ≡ b → cond b to old ≡ goal → map.contains_key site.pages old ≡ true → map.contains_key moved_site.pages goal ≡ true
+  goal_stands_by : (b : Bool) (old goal : List ℕ) → bytes_eq old from ≡ b → cond b to old ≡ goal → map.contains_key site.pages old ≡ true
+      → map.contains_key moved_site.pages goal ≡ true
   goal_stands_by true old goal is e there = new_path_stands goal e
   goal_stands_by false old goal is e there =
       ap (map.contains_key moved_site.pages) (sym e)
-      ∙ contains_more Page (map.remove site.pages from) to page old (still_there Page site.pages from old (sym (bytes_eq_is old from) ∙ is) there)
+      ∙ contains_more Page (map.remove site.pages from) to page old
+      (still_there Page site.pages from old (sym (bytes_eq_is old from) ∙ is) there)
 
   pub site_moved : IsSite moved_site
   site_moved = record {
     apart = λ alias goal e.
-        ⊎_elim (λ new. old_path_is_free alias new.0) (λ old. alias_is_free alias old.0 old.1 old.2) (alias_after site.aliases from to alias goal e);
+        ⊎_elim (λ new. old_path_is_free alias new.0) (λ old. alias_is_free alias old.0 old.1 old.2)
+        (alias_after site.aliases from to alias goal e);
     lead = λ alias goal e.
-        ⊎_elim (λ new. new_path_stands goal new.1) (λ old. goal_stands_by (bytes_eq old.0 from) old.0 goal refl old.3 (is.lead alias old.0 old.2)) (alias_after site.aliases from to alias goal e);
+        ⊎_elim (λ new. new_path_stands goal new.1) (λ old. goal_stands_by (bytes_eq old.0 from) old.0 goal refl old.3
+        (is.lead alias old.0 old.2)) (alias_after site.aliases from to alias goal e);
   }
 
 standing : (X : Type 0) (o : Option X) → is_some o ≡ true → (x : X) × (o ≡ Some x)
 standing X None e = cc
 standing X (Some x) e = (x, refl)
 
-pub move_stays : (store : StoreState) (from to : List ℕ) → IsStore store → map.contains_key store.site.pages from ≡ true → map.contains_key store.site.pages to ≡ false → IsStore (with_move store from to)
+pub move_stays : (store : StoreState) (from to : List ℕ) → IsStore store → map.contains_key store.site.pages from ≡ true
+    → map.contains_key store.site.pages to ≡ false → IsStore (with_move store from to)
 move_stays store from to is stands free =
     let found = standing Page (map.get store.site.pages from) stands in
     let page = found.0 in
     let stamps = stamps_set (map.remove store.stamps from) store.puts to (stamps_taken store.stamps store.puts from (stamps_of store is)) in
-    let pages : with_key_at store.site.pages from to (map.get store.site.pages from) ≡ renamed Page store.site.pages from to page = ap (with_key_at store.site.pages from to) found.1 in
+    let pages : with_key_at store.site.pages from to (map.get store.site.pages from)
+    ≡ renamed Page store.site.pages from to page = ap (with_key_at store.site.pages from to) found.1 in
     record {
       site = rw pages (site_moved store.site from to page is.site stands free);
       stamped = λ q.
@@ -232,11 +307,14 @@ move_stays store from to is stands free =
 
 pub empty_is_store : IsStore empty_store
 empty_is_store =
-    let no_alias : (alias goal : List ℕ) → map.get (map.empty {X = List ℕ} {R = slice_cmp nat_cmp}) alias ≡ Some goal → ⊥ = λ alias goal e. not_none goal (sym (map.get-empty (slice_cmp nat_cmp) alias) ∙ e) in
-    let no_stamp : (path : List ℕ) (stamp : ℕ) → map.get (map.empty {X = ℕ} {R = slice_cmp nat_cmp}) path ≡ Some stamp → ⊥ = λ path stamp e. not_none stamp (sym (map.get-empty (slice_cmp nat_cmp) path) ∙ e) in
+    let no_alias : (alias goal : List ℕ) → map.get (map.empty {X = List ℕ} {R = slice_cmp nat_cmp}) alias ≡ Some goal
+    → ⊥ = λ alias goal e. not_none goal (sym (map.get-empty (slice_cmp nat_cmp) alias) ∙ e) in
+    let no_stamp : (path : List ℕ) (stamp : ℕ) → map.get (map.empty {X = ℕ} {R = slice_cmp nat_cmp}) path ≡ Some stamp
+    → ⊥ = λ path stamp e. not_none stamp (sym (map.get-empty (slice_cmp nat_cmp) path) ∙ e) in
     record {
       site = record { apart = λ alias goal e. absurd (no_alias alias goal e); lead = λ alias goal e. absurd (no_alias alias goal e) };
-      stamped = λ path. ap is_some (map.get-empty (slice_cmp nat_cmp) path) ∙ sym (ap is_some (map.get-empty {X = Page} (slice_cmp nat_cmp) path));
+      stamped = λ path. ap is_some (map.get-empty (slice_cmp nat_cmp) path)
+          ∙ sym (ap is_some (map.get-empty {X = Page} (slice_cmp nat_cmp) path));
       below = λ path stamp e. absurd (no_stamp path stamp e);
       different = λ path other stamp e f. absurd (no_stamp path stamp e);
     }

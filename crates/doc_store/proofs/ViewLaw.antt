@@ -13,20 +13,25 @@ use Rattle.doc_store.specs.Pages.{Page}
 use Rattle.doc_store.specs.Sites.{Site, may_see_at, page_of_alias, visible_to, view_of, entry_at, page_at, goal_by}
 
 -- what a reader sees under a path
-pub get-visible_pages : (site : Site) (reader : Option Reader) (path : List ℕ) → map.get (visible_to site reader).pages path ≡ cond (may_see_at reader (map.get site.pages path)) (map.get site.pages path) None
+pub get-visible_pages : (site : Site) (reader : Option Reader) (path : List ℕ)
+    → map.get (visible_to site reader).pages path ≡ cond (may_see_at reader (map.get site.pages path)) (map.get site.pages path) None
 unfolding visible_to
 get-visible_pages site reader path =
-    map.get-retain_keys site.pages (λ q. may_see_at reader (map.get site.pages q)) path (λ q tied. ap (may_see_at reader) (map.get_tied nat_list_cmp_total site.pages path q tied))
+    map.get-retain_keys site.pages (λ q. may_see_at reader (map.get site.pages q)) path
+    (λ q tied. ap (may_see_at reader) (map.get_tied nat_list_cmp_total site.pages path q tied))
 
 -- where an alias leads a reader
-pub get-visible_aliases : (site : Site) (reader : Option Reader) (alias : List ℕ) → map.get (visible_to site reader).aliases alias ≡ cond (may_see_at reader (page_of_alias site alias)) (map.get site.aliases alias) None
+pub get-visible_aliases : (site : Site) (reader : Option Reader) (alias : List ℕ)
+    → map.get (visible_to site reader).aliases alias ≡ cond (may_see_at reader (page_of_alias site alias)) (map.get site.aliases alias) None
 unfolding visible_to
 get-visible_aliases site reader alias =
     map.get-retain_keys site.aliases (λ q. may_see_at reader (page_of_alias site q)) alias
-    (λ q tied. ap (λ goal. may_see_at reader (option_and_then (map.get site.pages) goal)) (map.get_tied nat_list_cmp_total site.aliases alias q tied))
+    (λ q tied. ap (λ goal. may_see_at reader (option_and_then (map.get site.pages) goal))
+    (map.get_tied nat_list_cmp_total site.aliases alias q tied))
 
 -- what is seen is seen again
-seen_again : (reader : Option Reader) (page : Option Page) (sees : Bool) → may_see_at reader page ≡ sees → cond (may_see_at reader (cond sees page None)) (cond sees page None) None ≡ cond sees page None
+seen_again : (reader : Option Reader) (page : Option Page) (sees : Bool) → may_see_at reader page ≡ sees
+    → cond (may_see_at reader (cond sees page None)) (cond sees page None) None ≡ cond sees page None
 seen_again reader page true e = rw e refl
 seen_again reader page false e = refl
 
@@ -38,8 +43,10 @@ pages_again site reader = map.same_map nat_list_cmp_total exact_bytes _ _ (λ pa
     ∙ sym (get-visible_pages site reader path))
 
 -- where an alias leads a reader, it leads them again
-goal_again : (site : Site) (reader : Option Reader) (goal : Option (List ℕ)) (sees : Bool) → may_see_at reader (option_and_then (map.get site.pages) goal) ≡ sees
-    → cond (may_see_at reader (option_and_then (map.get (visible_to site reader).pages) (cond sees goal None))) (cond sees goal None) None ≡ cond sees goal None
+goal_again : (site : Site) (reader : Option Reader) (goal : Option (List ℕ)) (sees : Bool)
+    → may_see_at reader (option_and_then (map.get site.pages) goal) ≡ sees
+    → cond (may_see_at reader (option_and_then (map.get (visible_to site reader).pages) (cond sees goal None))) (cond sees goal None) None
+    ≡ cond sees goal None
 goal_again site reader goal false e = refl
 goal_again site reader None true e = same_none (may_see_at reader None)
   where
@@ -51,10 +58,12 @@ goal_again site reader (Some goal) true e =
     (get-visible_pages site reader goal ∙ ap (λ b. cond b (map.get site.pages goal) None) e)
     ∙ ap (λ b. cond b (Some goal) None) e
 
-aliases_again : (site : Site) (reader : Option Reader) → (visible_to (visible_to site reader) reader).aliases ≡ (visible_to site reader).aliases
+aliases_again : (site : Site) (reader : Option Reader) → (visible_to (visible_to site reader) reader).aliases
+    ≡ (visible_to site reader).aliases
 aliases_again site reader = map.same_map nat_list_cmp_total exact_bytes _ _ (λ alias.
     get-visible_aliases (visible_to site reader) reader alias
-    ∙ ap (λ goal. cond (may_see_at reader (option_and_then (map.get (visible_to site reader).pages) goal)) goal None) (get-visible_aliases site reader alias)
+    ∙ ap (λ goal. cond (may_see_at reader (option_and_then (map.get (visible_to site reader).pages) goal)) goal None)
+    (get-visible_aliases site reader alias)
     ∙ goal_again site reader (map.get site.aliases alias) (may_see_at reader (page_of_alias site alias)) refl
     ∙ sym (get-visible_aliases site reader alias))
 
@@ -82,7 +91,8 @@ no_reader_sees_nothing site = λ i. record { pages = no_pages i; aliases = no_al
 
 -- ---- views as lists
 
-entry_at-find : {X : Type 0} (entries : List (List ℕ × X)) (path : List ℕ) → entry_at entries path ≡ map.find (slice_cmp nat_cmp) path entries
+entry_at-find : {X : Type 0} (entries : List (List ℕ × X)) (path : List ℕ)
+    → entry_at entries path ≡ map.find (slice_cmp nat_cmp) path entries
 entry_at-find [] path = refl
 entry_at-find (entry ∷ rest) path =
     ap (λ t. cond t (Some entry.1) (entry_at rest path)) (texts_ties path entry.0)
@@ -93,12 +103,15 @@ pub entry_at-entries : {X : Type 0} (m : TextMap X) (path : List ℕ) → entry_
 entry_at-entries m path = entry_at-find (map.entries m) path ∙ sym (map.get-entries m path)
 
 pub goals_of_views : GoalsOfViews
-goals_of_views site reader path = λ i. goal_by path (entry_at-entries (visible_to site reader).pages path i) (entry_at-entries (visible_to site reader).aliases path i)
+goals_of_views site reader path = λ i. goal_by path (entry_at-entries (visible_to site reader).pages path i)
+    (entry_at-entries (visible_to site reader).aliases path i)
 
 -- the page that stands, where the reader may see it
-pub page_at-view_of : (site : Site) (reader : Option Reader) (path : List ℕ) → page_at (view_of site reader).pages path ≡ cond (may_see_at reader (map.get site.pages path)) (map.get site.pages path) None
+pub page_at-view_of : (site : Site) (reader : Option Reader) (path : List ℕ)
+    → page_at (view_of site reader).pages path ≡ cond (may_see_at reader (map.get site.pages path)) (map.get site.pages path) None
 page_at-view_of site reader path = entry_at-entries (visible_to site reader).pages path ∙ get-visible_pages site reader path
 
 -- where an alias leads, where the reader may see the page
-pub alias_at-view_of : (site : Site) (reader : Option Reader) (alias : List ℕ) → entry_at (view_of site reader).aliases alias ≡ cond (may_see_at reader (page_of_alias site alias)) (map.get site.aliases alias) None
+pub alias_at-view_of : (site : Site) (reader : Option Reader) (alias : List ℕ)
+    → entry_at (view_of site reader).aliases alias ≡ cond (may_see_at reader (page_of_alias site alias)) (map.get site.aliases alias) None
 alias_at-view_of site reader alias = entry_at-entries (visible_to site reader).aliases alias ∙ get-visible_aliases site reader alias

@@ -1,5 +1,27 @@
 -- Groups of readers. All of this is this project's choice.
-use Rattle.std.specs.Prelude.{◌≡◌, ◌≤◌, true, ℕ, List, [], ◌∷◌, length, map, Bool, not, ◌&&◌, ◌||◌, ◌==◌, nat_le, nat_lt, bytes_eq, Result, Ok, Err, if◌then◌else◌}
+use Rattle.std.specs.Prelude.{
+  ◌≡◌,
+  ◌≤◌,
+  true,
+  ℕ,
+  List,
+  [],
+  ◌∷◌,
+  length,
+  map,
+  Bool,
+  not,
+  ◌&&◌,
+  ◌||◌,
+  ◌==◌,
+  nat_le,
+  nat_lt,
+  bytes_eq,
+  Result,
+  Ok,
+  Err,
+  if◌then◌else◌,
+}
 use Rattle.std.specs.Borrow.{Bor}
 use Rattle.std.specs.Char.{is_ascii_digit, is_ascii_lowercase}
 use Rattle.std.specs.Cmp.Lexicographic.{slice_cmp}
@@ -28,7 +50,8 @@ is_group name = has_good_length name && list_all is_group_byte name
 -- one name more, in its place by the order of bytes; a name that stands already is not repeated
 abbrev pub with_name : List ℕ → List (List ℕ) → List (List ℕ)
 with_name name [] = name ∷ []
-with_name name (first ∷ rest) = match_ordering (slice_cmp nat_cmp name first) (name ∷ first ∷ rest) (first ∷ rest) (first ∷ with_name name rest)
+with_name name (first ∷ rest) = match_ordering (slice_cmp nat_cmp name first) (name ∷ first ∷ rest) (first ∷ rest)
+    (first ∷ with_name name rest)
 
 -- all of these names beside those that stand
 abbrev pub with_names : List (List ℕ) → List (List ℕ) → List (List ℕ)

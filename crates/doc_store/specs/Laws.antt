@@ -14,11 +14,13 @@ SameNames = (names : List (List ℕ)) (name : List ℕ) → list_any (bytes_eq n
 
 -- where each name is in both lists or in neither, the different ones are the same list
 abbrev pub EqualSets : Type 0
-EqualSets = (names others : List (List ℕ)) → ((name : List ℕ) → list_any (bytes_eq name) names ≡ list_any (bytes_eq name) others) → different_names names ≡ different_names others
+EqualSets = (names others : List (List ℕ)) → ((name : List ℕ) → list_any (bytes_eq name) names ≡ list_any (bytes_eq name) others)
+    → different_names names ≡ different_names others
 
 -- two sets of groups with the same names are the same list
 abbrev pub SameGroups : Type 0
-SameGroups = (names others : List (List ℕ)) → IsGroups names → IsGroups others → ((name : List ℕ) → list_any (bytes_eq name) names ≡ list_any (bytes_eq name) others) → names ≡ others
+SameGroups = (names others : List (List ℕ)) → IsGroups names → IsGroups others
+    → ((name : List ℕ) → list_any (bytes_eq name) names ≡ list_any (bytes_eq name) others) → names ≡ others
 
 -- a reader sees the whole of what the reader sees
 abbrev pub ViewOfView : Type 0
@@ -30,7 +32,8 @@ NoReaderSeesNothing = (site : Site) → visible_to site None ≡ empty_site
 
 -- a path leads in a view where it leads in what the reader sees
 abbrev pub GoalsOfViews : Type 0
-GoalsOfViews = (site : Site) (reader : Option Reader) (path : List ℕ) → goal_in (view_of site reader) path ≡ goal_of (visible_to site reader) path
+GoalsOfViews = (site : Site) (reader : Option Reader) (path : List ℕ)
+    → goal_in (view_of site reader) path ≡ goal_of (visible_to site reader) path
 
 -- From one store to the next a page got its path with the next stamp, which no page had; later stamps
 -- are larger, as they count on.

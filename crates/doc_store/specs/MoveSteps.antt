@@ -20,4 +20,5 @@ with_stamped pages from to stamp = with_stamped_at pages from to stamp (map.get 
 -- aliases with those of some entries as they are after a move, but for the new path
 abbrev pub with_moved : List ℕ → List ℕ → TextMap (List ℕ) → List (List ℕ × List ℕ) → TextMap (List ℕ)
 with_moved from to done [] = done
-with_moved from to done (entry ∷ rest) = with_moved from to (if bytes_eq entry.0 to then done else map.insert done entry.0 (goal_after from to entry.1)) rest
+with_moved from to done (entry ∷ rest) = with_moved from to
+    (if bytes_eq entry.0 to then done else map.insert done entry.0 (goal_after from to entry.1)) rest

@@ -1,5 +1,22 @@
 -- Sites, and what a reader sees of one. All of this is this project's choice.
-use Rattle.std.specs.Prelude.{◌≡◌, ℕ, List, [], ◌∷◌, Bool, true, false, ◌||◌, bytes_eq, Option, Some, None, option_and_then, if◌then◌else◌, refl}
+use Rattle.std.specs.Prelude.{
+  ◌≡◌,
+  ℕ,
+  List,
+  [],
+  ◌∷◌,
+  Bool,
+  true,
+  false,
+  ◌||◌,
+  bytes_eq,
+  Option,
+  Some,
+  None,
+  option_and_then,
+  if◌then◌else◌,
+  refl,
+}
 use Rattle.std.specs.Coded.{Coded, code_by, coded×, coded_list, coded_ℕ}
 use Rattle.std.specs.FinMap as map
 use Rattle.doc_store.specs.declared.reader.Reader.{Reader}
@@ -16,7 +33,8 @@ pub record Site : Type 0 where
 
 abbrev pub site_code : Coded Site
 site_code =
-    code_by (TextMap Page × TextMap (List ℕ)) (coded× (map.code (coded_list coded_ℕ) page_code) (map.code (coded_list coded_ℕ) (coded_list coded_ℕ)))
+    code_by (TextMap Page × TextMap (List ℕ)) (coded× (map.code (coded_list coded_ℕ) page_code)
+    (map.code (coded_list coded_ℕ) (coded_list coded_ℕ)))
     (λ s. (s.pages, s.aliases)) (λ p. record { pages = p.0; aliases = p.1 }) (λ _. refl)
 
 -- a site without pages
@@ -66,7 +84,8 @@ pub record View : Type 0 where
 
 abbrev pub view_code : Coded View
 view_code =
-    code_by (List (List ℕ × Page) × List (List ℕ × List ℕ)) (coded× (coded_list (coded× (coded_list coded_ℕ) page_code)) (coded_list (coded× (coded_list coded_ℕ) (coded_list coded_ℕ))))
+    code_by (List (List ℕ × Page) × List (List ℕ × List ℕ))
+    (coded× (coded_list (coded× (coded_list coded_ℕ) page_code)) (coded_list (coded× (coded_list coded_ℕ) (coded_list coded_ℕ))))
     (λ v. (v.pages, v.aliases)) (λ p. record { pages = p.0; aliases = p.1 }) (λ _. refl)
 
 abbrev pub view_of : Site → Option Reader → View

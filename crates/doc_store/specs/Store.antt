@@ -1,5 +1,30 @@
 -- The store: a site, and the edits of it. All of this is this project's choice.
-use Rattle.std.specs.Prelude.{◌≡◌, ℕ, ◌+◌, ◌-◌, ◌^◌, ◌<◌, List, length, Bool, false, not, ◌&&◌, ◌||◌, nat_lt, nat_le, bytes_eq, Option, Some, None, Result, Ok, Err, if◌then◌else◌, refl}
+use Rattle.std.specs.Prelude.{
+  ◌≡◌,
+  ℕ,
+  ◌+◌,
+  ◌-◌,
+  ◌^◌,
+  ◌<◌,
+  List,
+  length,
+  Bool,
+  false,
+  not,
+  ◌&&◌,
+  ◌||◌,
+  nat_lt,
+  nat_le,
+  bytes_eq,
+  Option,
+  Some,
+  None,
+  Result,
+  Ok,
+  Err,
+  if◌then◌else◌,
+  refl,
+}
 use Rattle.std.specs.Coded.{Coded, code_by, coded×, coded_list, coded_ℕ}
 use Rattle.std.specs.FinMap as map
 use Rattle.doc_store.specs.declared.moving.MoveError.{MoveError}
@@ -57,7 +82,8 @@ pub record IsStore (store : StoreState) : Type 0 where
   pub site : IsSite store.site
   pub stamped : (path : List ℕ) → map.contains_key store.stamps path ≡ map.contains_key store.site.pages path
   pub below : (path : List ℕ) (stamp : ℕ) → map.get store.stamps path ≡ Some stamp → stamp < store.puts
-  pub different : (path other : List ℕ) (stamp : ℕ) → map.get store.stamps path ≡ Some stamp → map.get store.stamps other ≡ Some stamp → path ≡ other
+  pub different : (path other : List ℕ) (stamp : ℕ) → map.get store.stamps path ≡ Some stamp → map.get store.stamps other ≡ Some stamp
+      → path ≡ other
 
 -- a store without pages
 abbrev pub empty_store : StoreState
@@ -102,7 +128,8 @@ effect_of site (set_page path page) = record { pages = map.insert site.pages pat
 effect_of site (remove_page path) = record { pages = map.remove site.pages path; aliases = without_goal site.aliases path }
 effect_of site (move_page from to) = record { pages = with_key site.pages from to; aliases = aliases_after site.aliases from to }
 
--- whether a put of a text is refused, from how many pages stand, whether one stands under its path, and how many puts and moves were accepted
+-- whether a put of a text is refused, from how many pages stand, whether one stands under its path, and how many puts and moves were
+-- accepted
 abbrev pub fits : ℕ → Bool → ℕ → List ℕ → Result (Unit {0}) EditError
 fits pages stands puts text =
     if nat_lt text_limit (length text) then Err TooLong
@@ -145,12 +172,17 @@ move_fits stands taken aliases puts =
 -- whether a move from one path to another is refused
 abbrev pub may_move : StoreState → List ℕ → List ℕ → Result (Unit {0}) MoveError
 may_move store from to =
-    move_fits (map.contains_key store.site.pages from) (map.contains_key store.site.pages to) (map.len (aliases_after store.site.aliases from to)) store.puts
+    move_fits (map.contains_key store.site.pages from) (map.contains_key store.site.pages to)
+    (map.len (aliases_after store.site.aliases from to)) store.puts
 
 -- the store after a page is moved: it has the next stamp
 abbrev pub with_move : StoreState → List ℕ → List ℕ → StoreState
 with_move store from to =
-    record { site = effect_of store.site (move_page from to); stamps = map.insert (map.remove store.stamps from) to store.puts; puts = store.puts + 1 }
+    record {
+      site = effect_of store.site (move_page from to);
+      stamps = map.insert (map.remove store.stamps from) to store.puts;
+      puts = store.puts + 1;
+    }
 
 -- the store after a move that fits or not
 abbrev pub moved_by : StoreState → List ℕ → List ℕ → Result (Unit {0}) MoveError → StoreState × Result (Unit {0}) MoveError

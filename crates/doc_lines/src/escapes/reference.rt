@@ -1,6 +1,6 @@
 //! Character references (CommonMark 0.31.2, section 2.5), behind their `&`.
 ghost use Rattle.std.specs.Prelude.{◌≡◌, [], ◌∷◌, chars, IfSome};
-ghost use Rattle.doc_rules.proofs.ParserLaws.{IsRest};
+ghost use Rattle.doc_rules.specs.Rests.{IsRest};
 ghost use Rattle.doc_rules.specs.Parsers.{before, inside};
 ghost use Rattle.std.specs.Prelude.{drop, codes};
 ghost use Rattle.std.specs.Char.{is_ascii_digit, is_ascii_hexdigit, is_ascii_alphanumeric};

@@ -1,7 +1,7 @@
 //! One character.
 ghost use Rattle.std.specs.Prelude.{◌≡◌, [], ◌∷◌, ◌++◌, ℕ, Bool, chars, IfSome, MatchOption};
 ghost use Rattle.std.specs.Char.{encode_utf8};
-ghost use Rattle.doc_rules.proofs.ParserLaws.{IsRest};
+ghost use Rattle.doc_rules.specs.Rests.{IsRest};
 ghost use Rattle.doc_rules.specs.Parsers.{one, is};
 ghost use Rattle.doc_lines.specs.RestSteps.{rest_of, IsTestOf};
 

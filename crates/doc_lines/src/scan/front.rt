@@ -1,7 +1,7 @@
 //! What a scanner took.
 ghost use Rattle.std.specs.Prelude.{◌≡◌, ◌++◌, chars};
 ghost use Rattle.doc_rules.specs.Parsers.{before};
-ghost use Rattle.doc_rules.proofs.ParserLaws.{IsRest};
+ghost use Rattle.doc_rules.specs.Rests.{IsRest};
 
 /// What stands before the rest of a text, as a slice of that text. It takes no time over the text.
 pub fn front<'a>(text: &'a str, rest: &str) -> &'a str

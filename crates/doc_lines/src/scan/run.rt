@@ -1,6 +1,6 @@
 //! Runs of characters.
 ghost use Rattle.std.specs.Prelude.{◌≡◌, ℕ, Bool, Some, IfSome, chars};
-ghost use Rattle.doc_rules.proofs.ParserLaws.{IsRest};
+ghost use Rattle.doc_rules.specs.Rests.{IsRest};
 ghost use Rattle.doc_rules.specs.Parsers.{one, many, some, at_most};
 ghost use Rattle.doc_lines.specs.RestSteps.{rest_of, IsTestOf};
 

@@ -1,6 +1,6 @@
 //! Runs of characters that end at an ASCII character.
 ghost use Rattle.std.specs.Prelude.{◌<◌, ℕ, Bool, true, chars};
-ghost use Rattle.doc_rules.proofs.ParserLaws.{IsRest};
+ghost use Rattle.doc_rules.specs.Rests.{IsRest};
 ghost use Rattle.doc_lines.specs.RestSteps.{IsTestOf, IsAsciiClass, IsCutBefore};
 
 /// The text from the first character on that passes the test, or its end where none does. Only ASCII characters may pass, so the search

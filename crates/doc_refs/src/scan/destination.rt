@@ -3,7 +3,7 @@ ghost use Rattle.std.specs.Prelude.{◌≡◌, ◌≤◌, nat_lt, length, Some, 
 ghost use Rattle.doc_rules.specs.Characters.{none_of};
 ghost use Rattle.doc_rules.specs.Parsers.{is, passing};
 ghost use Rattle.doc_rules.specs.Destinations.{is_bare, angled, balanced, bare, destination};
-ghost use Rattle.doc_rules.proofs.ParserLaws.{IsRest};
+ghost use Rattle.doc_rules.specs.Rests.{IsRest};
 ghost use Rattle.doc_lines.specs.RestSteps.{rest_of};
 ghost use Rattle.doc_refs.specs.ParenthesisSteps.{end_of_run, IsNextPlace};
 

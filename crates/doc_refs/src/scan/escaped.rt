@@ -2,7 +2,7 @@
 ghost use Rattle.std.specs.Prelude.{◌≡◌, ◌<◌, ℕ, Bool, Some, IfSome, length, chars};
 ghost use Rattle.doc_rules.specs.Parsers.{one, ◌or◌};
 ghost use Rattle.doc_rules.specs.Destinations.{escaped, many_or_escaped};
-ghost use Rattle.doc_rules.proofs.ParserLaws.{IsRest};
+ghost use Rattle.doc_rules.specs.Rests.{IsRest};
 ghost use Rattle.doc_lines.specs.RestSteps.{rest_of, IsTestOf};
 
 use doc_lines::scan::character::{is, next_char, one};

@@ -4,7 +4,7 @@ ghost use Rattle.std.specs.List.{list_all};
 ghost use Rattle.doc_rules.specs.Characters.{none_of, is_space_tab_or_ending};
 ghost use Rattle.doc_rules.specs.Parsers.{begins_before, is_nothing};
 ghost use Rattle.doc_rules.specs.Labels.{label, label_text, is_label};
-ghost use Rattle.doc_rules.proofs.ParserLaws.{IsRest};
+ghost use Rattle.doc_rules.specs.Rests.{IsRest};
 ghost use Rattle.doc_lines.specs.RestSteps.{rest_of};
 
 use super::escaped::many_or_escaped;

@@ -11,4 +11,5 @@ until-rest-requires-clause-ascii c = λ b h. ends_are_ascii b (sym h)
 pub returns-in-None : goal.returns-in-None
 returns-in-None c =
     let nothing : rest_of c.is.result ≡ None = search rules in
-    front_is_content _ _ _ (c.until-rest.ensures.cut ends_plain (λ b t h. h) ends_are_ascii) (sym c.is.ensures ∙ nothing) c.front.ensures.joins
+    front_is_content _ _ _ (c.until-rest.ensures.cut ends_plain (λ b t h. h) ends_are_ascii) (sym c.is.ensures
+    ∙ nothing) c.front.ensures.joins

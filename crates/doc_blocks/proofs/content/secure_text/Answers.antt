@@ -12,7 +12,8 @@ characters-preserved c =
       search rules,
       (
         i.1.0 ++ c.in-Some.c ∷ [],
-        secured i.1.0 (chars c.characters.rest.now) _ _ _ _ c.in-Some.c c.secure_char.result i.1.1.0 c.in-Some.ensures.characters i.1.1.1 c.in_ok-push_char.ensures.ok c.secure_char.ensures,
+        secured i.1.0 (chars c.characters.rest.now) _ _ _ _ c.in-Some.c c.secure_char.result i.1.1.0 c.in-Some.ensures.characters i.1.1.1
+            c.in_ok-push_char.ensures.ok c.secure_char.ensures,
       ),
     )
 

@@ -1,7 +1,7 @@
 use Rattle.std.proofs.Common.{◌≡◌, [], map, chars}
 use Rattle.doc_rules.specs.Lines.{lines_of}
 use Rattle.doc_refs.specs.Targets.{targets_of}
-use Rattle.doc_one_pass.specs.Paths.{empty_path}
+use Rattle.doc_blocks_pass.specs.Paths.{empty_path}
 use Rattle.doc_blocks.specs.StateSteps.{shown, document_left}
 use Rattle.doc_blocks.specs.BuilderSteps.{state_of}
 use Rattle.doc_blocks.specs.LevelSteps.{IsSound}
@@ -10,5 +10,6 @@ use Rattle.doc_blocks.proofs.document.blocks.Given as goal
 abbrev pub invariant-lines : goal.invariant-lines
 invariant-lines l = record {
   sound : IsSound l.builder.levels;
-  left : document_left l.entities (lines_of (chars l.text)) (empty_path, targets_of []) ≡ document_left l.entities (map chars l.line-iterator) (shown (state_of l.builder));
+  left : document_left l.entities (lines_of (chars l.text)) (empty_path, targets_of [])
+      ≡ document_left l.entities (map chars l.line-iterator) (shown (state_of l.builder));
 }

@@ -2,9 +2,9 @@ use Rattle.std.proofs.Common.{◌≡◌, List, take}
 use Rattle.doc_rules.specs.Blocks.{Blocks}
 use Rattle.doc_rules.specs.Definitions.{Definition}
 use Rattle.doc_refs.specs.Targets.{targets_of}
-use Rattle.doc_leaves.specs.Views.{forest}
-use Rattle.doc_html.specs.Progress.{Progress}
-use Rattle.doc_html.specs.Telling.{blocks_told}
+use Rattle.doc_blocks_leaves.specs.Views.{forest}
+use Rattle.doc_html.specs.ProgressSteps.{Progress}
+use Rattle.doc_html.specs.TellingSteps.{blocks_told}
 use Rattle.doc_html.proofs.blocks.+blocks.Given as goal
 
 abbrev pub invariant-push_blocks-loop-block : goal.invariant-push_blocks-loop-block

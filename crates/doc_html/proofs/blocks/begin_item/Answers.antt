@@ -1,4 +1,4 @@
-use Rattle.doc_html.specs.Telling.{start_told}
+use Rattle.doc_html.specs.TellingSteps.{start_told}
 use Rattle.doc_html.proofs.blocks.begin_item.Goals as goal
 
 pub returns : goal.returns

@@ -1,4 +1,4 @@
-use Rattle.doc_html.specs.Telling.{end_told}
+use Rattle.doc_html.specs.TellingSteps.{end_told}
 use Rattle.doc_html.proofs.blocks.end_list.Goals as goal
 
 pub returns : goal.returns

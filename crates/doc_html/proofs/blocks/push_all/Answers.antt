@@ -5,4 +5,5 @@ use Rattle.doc_html.proofs.blocks.push_all.Goals as goal
 
 pub returns : goal.returns
 returns g c = λ definitions p is h.
-    c.in_ok-push_blocks.ensures definitions none p is (none_told (λ q. g.W.Writer.holds c.args.writer.now q) c.args.source.now.entities.now definitions false p h)
+    c.in_ok-push_blocks.ensures definitions none p is (none_told (λ q. g.W.Writer.holds c.args.writer.now q) c.args.source.now.entities.now
+    definitions false p h)

@@ -5,7 +5,7 @@ use Rattle.doc_rules.specs.Characters.{Text}
 use Rattle.doc_rules.specs.CodeSpans.{spaced}
 use Rattle.doc_rules.specs.Escaping.{html_escape}
 use Rattle.doc_rules.specs.Html.{characters}
-use Rattle.doc_html.specs.Progress.{Writes}
+use Rattle.doc_html.specs.ProgressSteps.{Writes}
 use Rattle.doc_html.proofs.code.push_spaced.Given as goal
 
 abbrev pub invariant-lines : goal.invariant-lines

@@ -5,5 +5,6 @@ use Rattle.doc_html.proofs.escaping.push_html.Goals as goal
 
 pub returns : goal.returns
 returns c =
-    let pushed : _ = html_pushed (string_bytes c.args.out.now) (string_bytes c.push_escaped.new.out) c.args.text.now (IsUtf8-string_bytes c.args.out.now) c.utf8.text in
+    let pushed : _ = html_pushed (string_bytes c.args.out.now) (string_bytes c.push_escaped.new.out) c.args.text.now
+    (IsUtf8-string_bytes c.args.out.now) c.utf8.text in
     search rules

@@ -6,8 +6,13 @@ use Rattle.doc_html.proofs.escaping.url.Goals as goal
 
 pub characters-init : goal.characters-init
 characters-init c =
-    let taken : Some (chars c.many-rest.result.now) ≡ many (λ d. does_stay d) (chars c.args.dest.now) = c.many-rest.ensures.value (λ d. does_stay d) (search rules) in
-    record { is_text = search rules; same = front_stays _ _ _ _ _ c.front.ensures.joins taken c.in_ok-out.ensures.bytes c.in_ok-push_text.ensures.ok }
+    let taken : Some (chars c.many-rest.result.now) ≡ many (λ d. does_stay d) (chars c.args.dest.now) = c.many-rest.ensures.value
+    (λ d. does_stay d) (search rules) in
+    record {
+      is_text = search rules;
+      same = front_stays _ _ _ _ _ c.front.ensures.joins taken c.in_ok-out.ensures.bytes
+          c.in_ok-push_text.ensures.ok;
+    }
 
 pub characters-preserved : goal.characters-preserved
 characters-preserved c = record {

@@ -7,4 +7,5 @@ pub returns : goal.returns
 unfolding inline_html
 returns g c =
     texts g.W.Writer.holds c.args.writer.now c.push_spaced.new.writer c.markup-2.new.writer _ (codes "</code>")
-    (texts g.W.Writer.holds c.args.writer.now c.markup.new.writer c.push_spaced.new.writer (codes "<code>") _ c.in_ok-markup.ensures c.in_ok-push_spaced.ensures) c.in_ok-markup-2.ensures
+    (texts g.W.Writer.holds c.args.writer.now c.markup.new.writer c.push_spaced.new.writer (codes "<code>") _ c.in_ok-markup.ensures
+    c.in_ok-push_spaced.ensures) c.in_ok-markup-2.ensures

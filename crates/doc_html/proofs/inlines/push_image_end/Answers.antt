@@ -7,4 +7,5 @@ pub returns : goal.returns
 unfolding span_end
 returns g c =
     texts g.W.Writer.holds c.args.writer.now c.push_title.new.writer c.markup-2.new.writer _ (codes " />")
-    (texts g.W.Writer.holds c.args.writer.now c.markup.new.writer c.push_title.new.writer (codes "\"") _ c.in_ok-markup.ensures c.in_ok-push_title.ensures) c.in_ok-markup-2.ensures
+    (texts g.W.Writer.holds c.args.writer.now c.markup.new.writer c.push_title.new.writer (codes "\"") _ c.in_ok-markup.ensures
+    c.in_ok-push_title.ensures) c.in_ok-markup-2.ensures

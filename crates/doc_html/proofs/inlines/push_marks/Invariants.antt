@@ -1,7 +1,7 @@
 use Rattle.std.proofs.Common.{◌≡◌, ◌≤◌, take}
 use Rattle.doc_rules.specs.Html.{inlines_html}
-use Rattle.doc_marks.specs.Views.{inlines_shown}
-use Rattle.doc_html.specs.Progress.{Writes}
+use Rattle.doc_inlines_marks.specs.Views.{inlines_shown}
+use Rattle.doc_html.specs.ProgressSteps.{Writes}
 use Rattle.doc_html.specs.InlineSteps.{images_along}
 use Rattle.doc_html.proofs.inlines.push_marks.Given as goal
 

@@ -1,4 +1,4 @@
-use Rattle.doc_html.specs.Telling.{leaf_told}
+use Rattle.doc_html.specs.TellingSteps.{leaf_told}
 use Rattle.doc_html.proofs.leaves.push_break.Goals as goal
 
 pub returns : goal.returns

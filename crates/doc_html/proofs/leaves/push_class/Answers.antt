@@ -7,5 +7,6 @@ returns-in_default g c = no_class g.W.Writer.holds c.args.writer.now (chars c.ar
 
 pub returns : goal.returns
 returns g c =
-    some_class g.W.Writer.holds c.args.writer.now c.markup.new.writer c.escaped.new.self c.markup-2.new.writer (chars c.args.word.now) _ _ c.in-Some.ensures.characters
+    some_class g.W.Writer.holds c.args.writer.now c.markup.new.writer c.escaped.new.self c.markup-2.new.writer (chars c.args.word.now) _ _
+    c.in-Some.ensures.characters
     c.in_ok-markup.ensures c.in_ok-escaped.ensures c.in_ok-markup-2.ensures

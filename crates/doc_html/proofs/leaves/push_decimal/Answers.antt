@@ -1,7 +1,7 @@
 use Rattle.std.proofs.Common.{◌≡◌, ◌∙◌, ap, chars, subst, rules, arith}
 use Rattle.std.specs.Prelude.{decimal}
 use Rattle.doc_rules.specs.Html.{characters}
-use Rattle.doc_html.specs.Progress.{Writes}
+use Rattle.doc_html.specs.ProgressSteps.{Writes}
 use Rattle.doc_html.proofs.TellingSteps.{decimal_chars}
 use Rattle.doc_html.proofs.leaves.push_decimal.Goals as goal
 

@@ -7,4 +7,5 @@ loop-mark-init c = plain_begins _ c.in_ok-out.ensures.bytes
 
 pub loop-mark-preserved : goal.loop-mark-preserved
 loop-mark-preserved c =
-    plain_goes_on c.args.marks.now c.loop-mark.mark-index c.mark-item.result (string_bytes c.loop-mark.out) _ (omega arith) c.mark-item.is c.loop-mark.invariant c.in_ok-push_mark.ensures
+    plain_goes_on c.args.marks.now c.loop-mark.mark-index c.mark-item.result (string_bytes c.loop-mark.out) _ (omega arith) c.mark-item.is
+    c.loop-mark.invariant c.in_ok-push_mark.ensures

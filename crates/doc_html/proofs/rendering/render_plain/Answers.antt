@@ -7,5 +7,6 @@ use Rattle.doc_html.proofs.rendering.render_plain.Goals as goal
 
 pub returns : goal.returns
 returns c =
-    c.in_ok-html.ensures (document_of c.args.entities.now (chars c.args.text.now)).refs plain_linker c.in_ok-document.ensures.refs plain_alike
+    c.in_ok-html.ensures (document_of c.args.entities.now (chars c.args.text.now)).refs plain_linker c.in_ok-document.ensures.refs
+    plain_alike
     ∙ ap encode_utf8_all (plain_told c.args.entities.now (chars c.args.text.now) _ c.in_ok-document.ensures.blocks)

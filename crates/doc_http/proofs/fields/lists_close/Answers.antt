@@ -6,4 +6,6 @@ use Rattle.doc_http.proofs.fields.lists_close.Goals as goal
 
 pub returns : goal.returns
 returns c =
-    any_from_yields_List is_close _ _ _ c.any.ensures.ran (YieldsList-from_slice_split _ (λ b. b == 44) c.args.value.now c.split.ensures.rest c.split.ensures.done c.split.ensures.closure (λ x b q k. search (rules, tests))) (λ x b q k. search (rules, tests))
+    any_from_yields_List is_close _ _ _ c.any.ensures.ran (YieldsList-from_slice_split _ (λ b. b == 44) c.args.value.now
+    c.split.ensures.rest c.split.ensures.done c.split.ensures.closure (λ x b q k. search (rules, tests)))
+    (λ x b q k. search (rules, tests))

@@ -5,4 +5,5 @@ use Rattle.doc_http.proofs.fields.value_named.Given as goal
 
 abbrev pub invariant-headers : goal.invariant-headers
 invariant-headers l =
-    value_named l.name (map (header_bytes l.text) l.headers) ≡ value_named l.name (map (header_bytes l.text) (drop l.header-index l.headers))
+    value_named l.name (map (header_bytes l.text) l.headers) ≡ value_named l.name
+    (map (header_bytes l.text) (drop l.header-index l.headers))

@@ -1,6 +1,6 @@
 use Rattle.std.proofs.Common.{◌≡◌, drop}
 use Rattle.doc_http.specs.Heads.{head_len}
-use Rattle.doc_http.specs.Knowledge.{behind}
+use Rattle.doc_http.specs.KnowledgeSteps.{behind}
 use Rattle.doc_http.proofs.head.find_end.Given as goal
 
 abbrev pub invariant-places : goal.invariant-places

@@ -10,4 +10,9 @@ returns-then-has_bare_line_feed-clause-missing c =
 pub returns-then-not-has_good_counts-clause-missing : goal.returns-then-not-has_good_counts-clause-missing
 returns-then-not-has_good_counts-clause-missing c =
     let found = c.in-Some.ensures.found in
-    λ is. (Some found.0, found.1, with_bad_counts c.args.text.now c.head_spans.new.headers c.in-Some.spans found.0 found.2 (sym c.if-not-has_good_counts.ensures))
+    λ is. (
+      Some found.0,
+      found.1,
+      with_bad_counts c.args.text.now c.head_spans.new.headers c.in-Some.spans found.0 found.2
+          (sym c.if-not-has_good_counts.ensures),
+    )

@@ -1,6 +1,6 @@
 use Rattle.std.proofs.Common.{◌≡◌, ◌==◌, Ok, slice_range, sym, ◌∙◌, subst, arith}
 use Rattle.std.proofs.lemmas.Result.{IfOk-weaker, on_err_weaker}
-use Rattle.doc_bodies.specs.Framings.{framing_of}
+use Rattle.doc_http_bodies.specs.Framings.{framing_of}
 use Rattle.doc_http.specs.Fields.{fields_of}
 use Rattle.doc_http.specs.Requests.{IsNext, IsRequest}
 use Rattle.doc_http.proofs.ProgressLemmas.{reading_found, reading_begins, ends_within, read_again, not_bad}
@@ -36,9 +36,11 @@ returns-clause-found c =
     let found = c.in-Some.ensures.found in
     let bytes = c.args.bytes.now in
     let text = slice_range bytes c.args.start c.args.end in
-    let framed = subst (λ h. framing_of (h.minor == 0) (fields_of h) ≡ Ok c.requires.4.0) (read_again text c.requires.0 found.0 c.requires.2 found.1) c.requires.4.1 in
+    let framed = subst (λ h. framing_of (h.minor == 0) (fields_of h) ≡ Ok c.requires.4.0)
+    (read_again text c.requires.0 found.0 c.requires.2 found.1) c.requires.4.1 in
     IfOk-weaker c.next_read.result _ (λ next. IsNext bytes next)
-    (λ next is. reading_found bytes c.args.start c.args.end c.requires.1 found.0 found.1 found.3 c.requires.4.0 framed c.args.reading c.requires.4.2 next
+    (λ next is. reading_found bytes c.args.start c.args.end c.requires.1 found.0 found.1 found.3 c.requires.4.0 framed c.args.reading
+    c.requires.4.2 next
     (is ∙ read_by_parts text c.good_head_spans.new.headers c.in-Some.spans found.0 found.2 c.args.end c.args.reading))
     c.next_read.ensures.found
 
@@ -47,8 +49,10 @@ returns-clause-memory c =
     let found = c.in-Some.ensures.found in
     let bytes = c.args.bytes.now in
     let text = slice_range bytes c.args.start c.args.end in
-    let framed = subst (λ h. framing_of (h.minor == 0) (fields_of h) ≡ Ok c.requires.4.0) (read_again text c.requires.0 found.0 c.requires.2 found.1) c.requires.4.1 in
+    let framed = subst (λ h. framing_of (h.minor == 0) (fields_of h) ≡ Ok c.requires.4.0)
+    (read_again text c.requires.0 found.0 c.requires.2 found.1) c.requires.4.1 in
     on_err_weaker c.next_read.result
-    (λ is. reading_begins bytes c.args.start c.args.end c.requires.1 found.0 found.1 found.3 c.requires.4.0 framed c.args.reading c.requires.4.2
+    (λ is. reading_begins bytes c.args.start c.args.end c.requires.1 found.0 found.1 found.3 c.requires.4.0 framed c.args.reading
+    c.requires.4.2
     (subst IsRequest (read_by_parts text c.good_head_spans.new.headers c.in-Some.spans found.0 found.2 c.args.end c.args.reading) is))
     c.next_read.ensures.memory

@@ -6,4 +6,5 @@ use Rattle.doc_http.proofs.request.next_request.Goals as goal
 
 pub returns-clause-within : goal.returns-clause-within
 returns-clause-within c =
-    IfOk-weaker c.next.result _ (UsesAtMost (length c.args.bytes.now)) (λ next is. uses_what_stands c.args.bytes.now next is) c.next.ensures.found
+    IfOk-weaker c.next.result _ (UsesAtMost (length c.args.bytes.now)) (λ next is. uses_what_stands c.args.bytes.now next is)
+    c.next.ensures.found

@@ -9,4 +9,5 @@ returns-in_default c =
     no_space_at_end (chars c.args.text.now) nothing
 
 pub returns-else-c-eq32 : goal.returns-else-c-eq32
-returns-else-c-eq32 c = other_at_end (chars c.args.text.now) (chars c.in-Some.before.now) c.in-Some.c c.in-Some.ensures (ne_eqb c.in-Some.c 32 c.if-c-eq32.false)
+returns-else-c-eq32 c = other_at_end (chars c.args.text.now) (chars c.in-Some.before.now) c.in-Some.c c.in-Some.ensures
+    (ne_eqb c.in-Some.c 32 c.if-c-eq32.false)

@@ -13,4 +13,5 @@ returns-in-Some c = stops_before_spaces (chars c.args.text.now) (chars c.plain_e
 pub returns-in-None : goal.returns-in-None
 returns-in-None c =
     let nothing : rest_of c.is.result ≡ None = search rules in
-    stops_at_something (chars c.args.text.now) (chars c.until-rest.result.now) (c.until-rest.ensures.cut begins_something (λ b t h. h) beginnings_are_ascii) (sym nothing ∙ c.is.ensures)
+    stops_at_something (chars c.args.text.now) (chars c.until-rest.result.now)
+    (c.until-rest.ensures.cut begins_something (λ b t h. h) beginnings_are_ascii) (sym nothing ∙ c.is.ensures)

@@ -7,4 +7,5 @@ front-requires c = cut_is_rest (chars c.args.text.now) (chars c.args.rest.now) c
 
 pub returns : goal.returns
 returns c =
-    plain_until (chars c.args.text.now) (chars c.args.rest.now) (chars c.front.result.now) (chars c.without_spaces.result.now) (chars c.text_behind.result.now) c.requires c.front.ensures.joins c.without_spaces.ensures c.text_behind.ensures
+    plain_until (chars c.args.text.now) (chars c.args.rest.now) (chars c.front.result.now) (chars c.without_spaces.result.now)
+    (chars c.text_behind.result.now) c.requires c.front.ensures.joins c.without_spaces.ensures c.text_behind.ensures

@@ -14,7 +14,8 @@ characters-preserved-in_default-escape_or_reference c =
       (
         record {
           front = i.2.0.front ++ c.in-Some.c ∷ [];
-          split = i.2.0.split ∙ (ap (λ more. i.2.0.front ++ more) c.in-Some.ensures.characters ∙ sym (append_assoc i.2.0.front (c.in-Some.c ∷ []) (chars c.in-Some.behind.now)));
+          split = i.2.0.split ∙ (ap (λ more. i.2.0.front ++ more) c.in-Some.ensures.characters
+              ∙ sym (append_assoc i.2.0.front (c.in-Some.c ∷ []) (chars c.in-Some.behind.now)));
         },
         goes_on _ _ i.2.0.front _ _ _ c.in-Some.c c.in-Some.ensures.characters c.in_default-escape_or_reference.ensures.value i.2.1,
       ),
@@ -27,7 +28,9 @@ characters-preserved c =
       search rules,
       (
         record { front = []; split = refl },
-        writes _ _ i.2.0.front _ _ _ _ _ _ _ _ _ c.in-Some.c c.in-Some.ensures.characters i.2.0.split c.front.ensures.joins c.in_ok-push_text.ensures.ok c.in_ok-push_characters.ensures.ok c.in-Some-escape_or_reference.ensures.value c.in-Some-escape_or_reference.ensures.end i.2.1,
+        writes _ _ i.2.0.front _ _ _ _ _ _ _ _ _ c.in-Some.c c.in-Some.ensures.characters i.2.0.split c.front.ensures.joins
+            c.in_ok-push_text.ensures.ok c.in_ok-push_characters.ensures.ok c.in-Some-escape_or_reference.ensures.value
+            c.in-Some-escape_or_reference.ensures.end i.2.1,
       ),
     )
 

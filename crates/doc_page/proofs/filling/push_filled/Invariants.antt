@@ -5,4 +5,5 @@ use Rattle.doc_page.proofs.filling.push_filled.Given as goal
 
 -- the pieces so far are written
 abbrev pub invariant-loop-piece : goal.invariant-loop-piece
-invariant-loop-piece g l = string_bytes l.out ≡ string_bytes l.fn.out ++ flat_map (filled_piece (g.L.Linker.shown l.linker)) (take l.piece-index l.piece-items)
+invariant-loop-piece g l = string_bytes l.out ≡ string_bytes l.fn.out
+    ++ flat_map (filled_piece (g.L.Linker.shown l.linker)) (take l.piece-index l.piece-items)

@@ -14,4 +14,5 @@ pub range-requires-clause-end_boundary : goal.range-requires-clause-end_boundary
 range-requires-clause-end_boundary c = cut_end blanks_are_ascii c.range_from-rest.result.now c.blanks_at_end.result c.blanks_at_end.ensures
 
 pub returns : goal.returns
-returns c = stripped_is c.args.text.now c.range_from-rest.result.now _ _ _ c.blanks_at_start.ensures c.range_from-rest.ensures.value c.blanks_at_end.ensures c.range.ensures.value
+returns c = stripped_is c.args.text.now c.range_from-rest.result.now _ _ _ c.blanks_at_start.ensures c.range_from-rest.ensures.value
+    c.blanks_at_end.ensures c.range.ensures.value

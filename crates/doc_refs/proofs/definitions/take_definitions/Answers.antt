@@ -20,12 +20,16 @@ definitions-preserved c =
     record {
       is_text = search rules;
       end = is_rest_again _ _ _ (definition_ends _ _ (sym c.in-Some.ensures)) i.end;
-      refs = taken_more c.args.entities.now (chars c.definitions.rest.now) (chars (string_bytes c.into_inner.result)) (target_shown c.in_ok-target.target) _ c.definitions.refs _ _ c.in-Some.ensures (ap chars c.into_inner.ensures ∙ c.in_ok-label.ensures) c.in_ok-target.ensures c.in_ok-add.ensures.ok i.refs;
-      rest = sym (ap (λ (ds : List Definition × Text). ds.1) (one_more c.args.entities.now (chars c.definitions.rest.now) _ c.in-Some.ensures)) ∙ i.rest;
+      refs = taken_more c.args.entities.now (chars c.definitions.rest.now) (chars (string_bytes c.into_inner.result))
+          (target_shown c.in_ok-target.target) _ c.definitions.refs _ _ c.in-Some.ensures (ap chars c.into_inner.ensures
+          ∙ c.in_ok-label.ensures) c.in_ok-target.ensures c.in_ok-add.ensures.ok i.refs;
+      rest = sym (ap (λ (ds : List Definition × Text). ds.1)
+          (one_more c.args.entities.now (chars c.definitions.rest.now) _ c.in-Some.ensures)) ∙ i.rest;
     }
 
 pub overflow_sub-result : goal.overflow_sub-result
-overflow_sub-result c = rest_is_no_longer c.args.text.now c.definitions.rest.now c.definitions.invariant.end c.utf8.text c.definitions.invariant.is_text
+overflow_sub-result c = rest_is_no_longer c.args.text.now c.definitions.rest.now c.definitions.invariant.end c.utf8.text
+    c.definitions.invariant.is_text
 
 pub returns-clause-refs : goal.returns-clause-refs
 returns-clause-refs c = taken_all c.args.entities.now (chars c.definitions.rest.now) _ _ c.in_default.ensures c.definitions.invariant.refs
@@ -38,4 +42,5 @@ returns-clause-rest c =
     ∙ i.rest
 
 pub returns-clause-boundary : goal.returns-clause-boundary
-returns-clause-boundary c = seam_is_boundary c.args.text.now c.definitions.rest.now c.definitions.invariant.end c.utf8.text c.definitions.invariant.is_text
+returns-clause-boundary c = seam_is_boundary c.args.text.now c.definitions.rest.now c.definitions.invariant.end c.utf8.text
+    c.definitions.invariant.is_text

@@ -2,7 +2,7 @@ use Rattle.std.proofs.Common.{◌≡◌, chars, length}
 use denote.Text.{Utf8}
 use denote.Shadow.{shadow}
 use Rattle.doc_rules.specs.Definitions.{definitions_of}
-use Rattle.doc_rules.proofs.ParserLaws.{IsRest}
+use Rattle.doc_rules.specs.Rests.{IsRest}
 use Rattle.doc_refs.specs.Targets.{targets_of, joined}
 use Rattle.doc_refs.proofs.definitions.take_definitions.Given as goal
 

@@ -8,7 +8,8 @@ use Rattle.doc_refs.proofs.labels.spaced.Goals as goal
 
 pub words-init : goal.words-init
 words-init c =
-    let start : Some (chars c.many-rest.result.now) ≡ many is_space_tab_or_ending (chars c.args.text.now) = c.many-rest.ensures.value is_space_tab_or_ending (search rules) in
+    let start : Some (chars c.many-rest.result.now) ≡ many is_space_tab_or_ending (chars c.args.text.now) = c.many-rest.ensures.value
+    is_space_tab_or_ending (search rules) in
     record { is_text = search rules; same = nothing_before _ _ c.in_ok-out.ensures.bytes ∙ front_is_stripped _ _ start }
 
 pub words-smaller : goal.words-smaller

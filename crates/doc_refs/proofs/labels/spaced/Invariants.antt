@@ -8,7 +8,8 @@ use Rattle.doc_refs.proofs.labels.spaced.Given as goal
 abbrev pub invariant-words : goal.invariant-words
 invariant-words l = record {
   is_text : shadow (Utf8 l.rest);
-  same : chars (string_bytes l.out) ++ collapse (strip_end is_space_tab_or_ending (chars l.rest)) ≡ collapse (strip is_space_tab_or_ending (chars l.text));
+  same : chars (string_bytes l.out) ++ collapse (strip_end is_space_tab_or_ending (chars l.rest))
+      ≡ collapse (strip is_space_tab_or_ending (chars l.text));
 }
 
 abbrev pub decreases-words : goal.decreases-words

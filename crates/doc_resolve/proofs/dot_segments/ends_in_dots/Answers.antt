@@ -9,4 +9,5 @@ returns-in-Some c =
     let last = c.in-Some.last.now in
     let front = c.in-Some.field-0-1.now in
     c.is_dots.ensures
-    ∙ sym (ap (λ p. ends_in_dots (texts p)) c.in-Some.ensures.cases.0 ∙ ap ends_in_dots (map-append (λ s. s.now) front _) ∙ ends_in_dots-last (texts front) last.now)
+    ∙ sym (ap (λ p. ends_in_dots (texts p)) c.in-Some.ensures.cases.0 ∙ ap ends_in_dots (map-append (λ s. s.now) front _)
+    ∙ ends_in_dots-last (texts front) last.now)

@@ -8,5 +8,6 @@ use Rattle.doc_resolve.proofs.reference.authority_len.Goals as goal
 pub returns : goal.returns
 returns c =
     let text = c.args.text.now in
-    let found = position_from_yields_List (λ b. b == 47) _ _ c.position.result c.position.ensures.ran (YieldsList-from_bytes text cc) (λ x b q k. search (rules, tests)) in
+    let found = position_from_yields_List (λ b. b == 47) _ _ c.position.result c.position.ensures.ran (YieldsList-from_bytes text cc)
+    (λ x b q k. search (rules, tests)) in
     c.unwrap_or.ensures ∙ ap (λ o. unwrap_or o (length text)) found ∙ position_or_end (λ b. b == 47) text

@@ -5,4 +5,5 @@ use Rattle.doc_resolve.proofs.reference.behind_slash.Goals as goal
 
 pub returns : goal.returns
 returns c =
-    behind_slash-found c.args.text.now c.strip_prefix.result (strip_prefix_char 47 c.args.text.now c.strip_prefix.result c.strip_prefix.ensures.cases (lit< tt))
+    behind_slash-found c.args.text.now c.strip_prefix.result
+    (strip_prefix_char 47 c.args.text.now c.strip_prefix.result c.strip_prefix.ensures.cases (lit< tt))

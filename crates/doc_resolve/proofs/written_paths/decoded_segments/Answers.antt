@@ -13,13 +13,15 @@ loop-segment-init c =
 pub returns-then-not-branch : goal.returns-then-not-branch
 returns-then-not-branch c =
     let bad = sym c.in_ok-push_segment.ensures.good ∙ c.if-not-branch.true in
-    sym (decoded-none (texts c.args.parts.now) c.loop-segment.segment-index c.loop-segment.text.items _ (text_at c.args.parts.now c.loop-segment.segment-index _ (omega arith)) bad c.loop-segment.invariant)
+    sym (decoded-none (texts c.args.parts.now) c.loop-segment.segment-index c.loop-segment.text.items _
+    (text_at c.args.parts.now c.loop-segment.segment-index _ (omega arith)) bad c.loop-segment.invariant)
 
 pub loop-segment-preserved : goal.loop-segment-preserved
 loop-segment-preserved c =
     let good = sym c.in_ok-push_segment.ensures.good ∙ c.if-not-branch.false in
     rw c.in_ok-push_segment.ensures.text
-    (decoded-more (texts c.args.parts.now) c.loop-segment.segment-index c.loop-segment.text.items _ (text_at c.args.parts.now c.loop-segment.segment-index _ (omega arith)) good c.loop-segment.invariant)
+    (decoded-more (texts c.args.parts.now) c.loop-segment.segment-index c.loop-segment.text.items _
+    (text_at c.args.parts.now c.loop-segment.segment-index _ (omega arith)) good c.loop-segment.invariant)
 
 pub returns : goal.returns
 returns c =

@@ -11,4 +11,5 @@ returns-in-Some c =
     let front = c.in-Some.field-0-1.now in
     c.is_empty.ensures
     ∙ is_empty-length last.now
-    ∙ sym (ap (λ p. ends_empty (texts p)) c.in-Some.ensures.cases.0 ∙ ap ends_empty (map-append (λ s. s.now) front _) ∙ ends_empty-last (texts front) last.now)
+    ∙ sym (ap (λ p. ends_empty (texts p)) c.in-Some.ensures.cases.0 ∙ ap ends_empty (map-append (λ s. s.now) front _)
+    ∙ ends_empty-last (texts front) last.now)

@@ -10,18 +10,26 @@ use Rattle.doc_server.proofs.demo.demo.Goals as goal
 pub returns-clause-sent : goal.returns-clause-sent
 returns-clause-sent g c =
     then_ok c.answer_all.result
-    (of_all (g.R.Renderer.page c.args.renderer) (g.R.Renderer.page c.in_ok-hub.hub.0) c.deref.result.now (g.I.Read.remaining c.args.input.now) (StepsToEnd 1)
-    (Appends (g.O.Write.contents (writer_of c.args.output.now)) (g.O.Write.contents (writer_of c.answer_all.new.output))) c.in_ok-hub.ensures.same
-    (subst (λ bytes. IfSome (g.I.Read.remaining c.args.input.now) (λ left. bytes ≡ left)) (sym c.deref.ensures.value) c.in_ok-bytes.ensures.bytes))
+    (of_all (g.R.Renderer.page c.args.renderer) (g.R.Renderer.page c.in_ok-hub.hub.0) c.deref.result.now
+    (g.I.Read.remaining c.args.input.now) (StepsToEnd 1)
+    (Appends (g.O.Write.contents (writer_of c.args.output.now)) (g.O.Write.contents (writer_of c.answer_all.new.output)))
+    c.in_ok-hub.ensures.same
+    (subst (λ bytes. IfSome (g.I.Read.remaining c.args.input.now) (λ left. bytes ≡ left)) (sym c.deref.ensures.value)
+    c.in_ok-bytes.ensures.bytes))
     c.answer_all.ensures.sent
 
 pub returns-clause-fault : goal.returns-clause-fault
 returns-clause-fault g c =
     then_err
-    (StopsDemo (g.R.Renderer.page c.in_ok-hub.hub.0) (Some c.deref.result.now) (g.O.Write.contents (writer_of c.args.output.now)) (g.O.Write.contents (writer_of c.answer_all.new.output)))
-    (StopsDemo (g.R.Renderer.page c.args.renderer) (g.I.Read.remaining c.args.input.now) (g.O.Write.contents (writer_of c.args.output.now)) (g.O.Write.contents (writer_of c.answer_all.new.output)))
+    (StopsDemo (g.R.Renderer.page c.in_ok-hub.hub.0) (Some c.deref.result.now) (g.O.Write.contents (writer_of c.args.output.now))
+    (g.O.Write.contents (writer_of c.answer_all.new.output)))
+    (StopsDemo (g.R.Renderer.page c.args.renderer) (g.I.Read.remaining c.args.input.now) (g.O.Write.contents (writer_of c.args.output.now))
+    (g.O.Write.contents (writer_of c.answer_all.new.output)))
     c.answer_all.result
-    (λ fault. stops_of_all (g.R.Renderer.page c.args.renderer) (g.R.Renderer.page c.in_ok-hub.hub.0) c.deref.result.now (g.I.Read.remaining c.args.input.now)
-    (g.O.Write.contents (writer_of c.args.output.now)) (g.O.Write.contents (writer_of c.answer_all.new.output)) fault c.in_ok-hub.ensures.same
-    (subst (λ bytes. IfSome (g.I.Read.remaining c.args.input.now) (λ left. bytes ≡ left)) (sym c.deref.ensures.value) c.in_ok-bytes.ensures.bytes))
+    (λ fault. stops_of_all (g.R.Renderer.page c.args.renderer) (g.R.Renderer.page c.in_ok-hub.hub.0) c.deref.result.now
+    (g.I.Read.remaining c.args.input.now)
+    (g.O.Write.contents (writer_of c.args.output.now)) (g.O.Write.contents (writer_of c.answer_all.new.output)) fault
+    c.in_ok-hub.ensures.same
+    (subst (λ bytes. IfSome (g.I.Read.remaining c.args.input.now) (λ left. bytes ≡ left)) (sym c.deref.ensures.value)
+    c.in_ok-bytes.ensures.bytes))
     c.answer_all.ensures.fault

@@ -32,4 +32,5 @@ put-requires-3-clause-accepted g c =
 
 pub returns-clause-world : goal.returns-clause-world
 returns-clause-world g c =
-    then_ok c.put-3.result (after_three c.args.hub.now.1 c.put.new.hub.1 c.put-2.new.hub.1 c.put-3.new.hub.1 c.requires.world c.in_ok-put.ensures.world c.in_ok-put-2.ensures.world) c.put-3.ensures.world
+    then_ok c.put-3.result (after_three c.args.hub.now.1 c.put.new.hub.1 c.put-2.new.hub.1 c.put-3.new.hub.1 c.requires.world
+    c.in_ok-put.ensures.world c.in_ok-put-2.ensures.world) c.put-3.ensures.world

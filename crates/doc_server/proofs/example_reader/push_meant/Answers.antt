@@ -13,10 +13,12 @@ loop-c-init c = (
 
 pub loop-c-preserved : goal.loop-c-preserved
 loop-c-preserved c =
-    let next = next_item _ _ c.loop-c.c-iterator c.next.new.self c.in-Some.c c.loop-c.invariant.0 c.loop-c.invariant.1 c.in-Some.ensures.steps in (
+    let next = next_item _ _ c.loop-c.c-iterator c.next.new.self c.in-Some.c c.loop-c.invariant.0 c.loop-c.invariant.1
+    c.in-Some.ensures.steps in (
       next.0,
       next.2,
-      char_pushed _ (string_bytes c.loop-c.out) (string_bytes c.push.new.self) c.in-Some.c c.loop-c.invariant.0 next.0 c.loop-c.invariant.2 next.1
+      char_pushed _ (string_bytes c.loop-c.out) (string_bytes c.push.new.self) c.in-Some.c c.loop-c.invariant.0 next.0 c.loop-c.invariant.2
+          next.1
           (c.in_ok-push.ensures.bytes ∙ ap (λ d. string_bytes c.loop-c.out ++ encode_utf8 d) c.tab_or.ensures),
     )
 
@@ -24,4 +26,5 @@ pub returns : goal.returns
 unfolding lib.Utf8.encode
 returns c =
     let ended = no_item _ _ c.loop-c.c-iterator c.next.new.self c.loop-c.invariant.0 c.loop-c.invariant.1 c.in-None.ensures.steps in
-    line_pushed (string_bytes c.args.out.now) (string_bytes c.loop-c.out) (string_bytes c.push-2.new.self) c.args.line.now c.loop-c.invariant.0 c.loop-c.invariant.2 ended c.in_ok-push-2.ensures.bytes
+    line_pushed (string_bytes c.args.out.now) (string_bytes c.loop-c.out) (string_bytes c.push-2.new.self) c.args.line.now
+    c.loop-c.invariant.0 c.loop-c.invariant.2 ended c.in_ok-push-2.ensures.bytes

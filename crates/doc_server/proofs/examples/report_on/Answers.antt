@@ -18,10 +18,12 @@ pub returns-in_err-send-clause-fault : goal.returns-in_err-send-clause-fault
 returns-in_err-send-clause-fault g c =
     let p = err_from_is_err_and c.from_residual-in_err-send.result c.from_residual-in_err-send.ensures.1 in
     let shown = c.as_bytes.ensures.value ∙ c.in_ok-line.ensures ∙ ap count_line c.in_ok-count.ensures.count in
-    rw (p.1, p.2) (count_cut _ _ _ _ _ c.as_bytes.result.now c.in_err-send.field-0.0 c.in_err-send.ensures.fault shown c.in_ok-count.ensures.sent c.in_err-send.ensures.cut)
+    rw (p.1, p.2) (count_cut _ _ _ _ _ c.as_bytes.result.now c.in_err-send.field-0.0 c.in_err-send.ensures.fault shown
+    c.in_ok-count.ensures.sent c.in_err-send.ensures.cut)
 
 pub returns-in_err-flush-clause-fault : goal.returns-in_err-flush-clause-fault
 returns-in_err-flush-clause-fault g c =
     let p = err_from_is_err_and c.from_residual-in_err-flush.result c.from_residual-in_err-flush.ensures.1 in
     let shown = c.as_bytes.ensures.value ∙ c.in_ok-line.ensures ∙ ap count_line c.in_ok-count.ensures.count in
-    rw (p.1, p.2) (report_unflushed _ _ _ _ _ _ c.as_bytes.result.now c.in_err-flush.field-0.0 c.in_err-flush.ensures.fault shown c.in_ok-count.ensures.sent c.in_ok-send.ensures.sent c.in_err-flush.ensures.same)
+    rw (p.1, p.2) (report_unflushed _ _ _ _ _ _ c.as_bytes.result.now c.in_err-flush.field-0.0 c.in_err-flush.ensures.fault shown
+    c.in_ok-count.ensures.sent c.in_ok-send.ensures.sent c.in_err-flush.ensures.same)

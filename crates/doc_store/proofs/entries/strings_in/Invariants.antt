@@ -5,4 +5,5 @@ use Rattle.doc_store.proofs.EntrySteps.{strings_after}
 use Rattle.doc_store.proofs.entries.strings_in.Given as goal
 
 abbrev pub invariant-loop-value : goal.invariant-loop-value
-invariant-loop-value l = strings_in (items_view l.array.items) ≡ strings_after (map (λ text. text.now) l.texts.items) (items_view (drop l.value-index l.array.items))
+invariant-loop-value l = strings_in (items_view l.array.items) ≡ strings_after (map (λ text. text.now) l.texts.items)
+    (items_view (drop l.value-index l.array.items))

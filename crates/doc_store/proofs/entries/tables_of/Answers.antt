@@ -30,4 +30,5 @@ returns c =
     let here = rw c.in-Some.is at found in
     let all : are_tables (array_view c.in-Some-as_array.tables.now) ≡ true =
     ap (λ values. are_tables (items_view values)) (sym c.deref.ensures.value) ∙ sym c.are_tables.ensures ∙ c.if-not-are_tables.false in
-    ap tables_at (sym here) ∙ ap tables_of (sym c.in-Some-as_array.ensures) ∙ rw all (ap (λ values. Ok (items_view values)) (sym c.deref-2.ensures.value))
+    ap tables_at (sym here) ∙ ap tables_of (sym c.in-Some-as_array.ensures)
+    ∙ rw all (ap (λ values. Ok (items_view values)) (sym c.deref-2.ensures.value))

@@ -6,4 +6,5 @@ use Rattle.doc_store.proofs.names.are_groups_in_text.Goals as goal
 
 pub returns : goal.returns
 returns c =
-    all_from_yields_List is_group _ _ _ c.all.ensures.ran (YieldsList-from_str_split 44 c.args.text.now (lit< tt) c.split.ensures.text c.split.ensures.has_more c.split.ensures.pattern) (λ x b q k. search (rules, tests))
+    all_from_yields_List is_group _ _ _ c.all.ensures.ran (YieldsList-from_str_split 44 c.args.text.now (lit< tt) c.split.ensures.text
+    c.split.ensures.has_more c.split.ensures.pattern) (λ x b q k. search (rules, tests))

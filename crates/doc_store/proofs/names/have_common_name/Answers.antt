@@ -11,21 +11,25 @@ loop-our-preserved-in-Less c = record {
   ours = rest_is_sorted c.loop-our.ours.now c.in-Some.our_rest.now c.in-Some.our.now c.in-Some.ensures.cases.0 c.loop-our.invariant.ours;
   theirs = c.loop-our.invariant.theirs;
   same = c.loop-our.invariant.same
-      ∙ we_pass c.loop-our.ours.now c.loop-our.theirs.now c.in-Some.our_rest.now c.in-Some-split_first.their_rest.now c.in-Some.our.now c.in-Some-split_first.their.now
+      ∙ we_pass c.loop-our.ours.now c.loop-our.theirs.now c.in-Some.our_rest.now c.in-Some-split_first.their_rest.now c.in-Some.our.now
+      c.in-Some-split_first.their.now
       c.in-Some.ensures.cases.0 c.in-Some-split_first.ensures.cases.0 c.loop-our.invariant.theirs (sym c.in-Less.ensures);
 }
 
 pub returns-in-Equal : goal.returns-in-Equal
 returns-in-Equal c =
     sym (c.loop-our.invariant.same
-    ∙ both_meet c.loop-our.ours.now c.loop-our.theirs.now c.in-Some.our_rest.now c.in-Some-split_first.their_rest.now c.in-Some.our.now c.in-Some-split_first.their.now
+    ∙ both_meet c.loop-our.ours.now c.loop-our.theirs.now c.in-Some.our_rest.now c.in-Some-split_first.their_rest.now c.in-Some.our.now
+    c.in-Some-split_first.their.now
     c.in-Some.ensures.cases.0 c.in-Some-split_first.ensures.cases.0 (sym c.in-Equal.ensures))
 
 pub loop-our-preserved : goal.loop-our-preserved
 loop-our-preserved c = record {
   ours = c.loop-our.invariant.ours;
-  theirs = rest_is_sorted c.loop-our.theirs.now c.in-Some-split_first.their_rest.now c.in-Some-split_first.their.now c.in-Some-split_first.ensures.cases.0 c.loop-our.invariant.theirs;
+  theirs = rest_is_sorted c.loop-our.theirs.now c.in-Some-split_first.their_rest.now c.in-Some-split_first.their.now
+      c.in-Some-split_first.ensures.cases.0 c.loop-our.invariant.theirs;
   same = c.loop-our.invariant.same
-      ∙ they_pass c.loop-our.ours.now c.loop-our.theirs.now c.in-Some.our_rest.now c.in-Some-split_first.their_rest.now c.in-Some.our.now c.in-Some-split_first.their.now
+      ∙ they_pass c.loop-our.ours.now c.loop-our.theirs.now c.in-Some.our_rest.now c.in-Some-split_first.their_rest.now c.in-Some.our.now
+      c.in-Some-split_first.their.now
       c.in-Some.ensures.cases.0 c.in-Some-split_first.ensures.cases.0 c.loop-our.invariant.ours (sym c.in-Greater.ensures);
 }

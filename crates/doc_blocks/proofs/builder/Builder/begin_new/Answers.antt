@@ -1,18 +1,57 @@
-use Rattle.std.proofs.Common.{rules, ◌≡◌, ◌∙◌, ℕ, ◌+◌, ◌-◌, ◌<◌, ◌≤◌, Bool, true, false, List, [], ◌∷◌, take, drop, length, vec_len, refl, ap, sym, subst, arith, Option, Some, None}
+use Rattle.std.proofs.Common.{
+  rules,
+  ◌≡◌,
+  ◌∙◌,
+  ℕ,
+  ◌+◌,
+  ◌-◌,
+  ◌<◌,
+  ◌≤◌,
+  Bool,
+  true,
+  false,
+  List,
+  [],
+  ◌∷◌,
+  take,
+  drop,
+  length,
+  vec_len,
+  refl,
+  ap,
+  sym,
+  subst,
+  arith,
+  Option,
+  Some,
+  None,
+}
 use Rattle.std.proofs.lemmas.List.{length-drop}
 use Rattle.doc_rules.specs.Characters.{Text}
 use Rattle.doc_rules.specs.Columns.{Line, is_blank_line}
 use Rattle.doc_rules.specs.Blocks.{Blocks}
 use Rattle.doc_rules.specs.Trees.{Situation, LeafStart, leaf_begins, NewLeaf, Underline}
-use Rattle.doc_one_pass.specs.Leaves.{OpenLeaf, NoLeaf}
-use Rattle.doc_one_pass.specs.Paths.{Level, OpenQuote, OpenItem, finished, with_blocks}
-use Rattle.doc_one_pass.specs.Closing.{leaf_closed}
-use Rattle.doc_starts.specs.Items.{kind_of, item_shown}
+use Rattle.doc_blocks_pass.specs.Leaves.{OpenLeaf, NoLeaf}
+use Rattle.doc_blocks_pass.specs.Paths.{Level, OpenQuote, OpenItem, finished, with_blocks}
+use Rattle.doc_blocks_pass.specs.Closing.{leaf_closed}
+use Rattle.doc_blocks_starts.specs.Items.{kind_of, item_shown}
 use Rattle.doc_lines.specs.Cursors.{left_of}
-use Rattle.doc_leaves.specs.Starts.{situation_of, start_shown, leaf_lines}
-use Rattle.doc_blocks.specs.Stacks.{Outer, Stack, with_inner_blocks, block_begun, item_begun, container_opened}
+use Rattle.doc_blocks_leaves.specs.Starts.{situation_of, start_shown, leaf_lines}
+use Rattle.doc_blocks.specs.StackSteps.{Outer, Stack, with_inner_blocks, block_begun, item_begun, container_opened}
 use Rattle.doc_blocks.specs.PathSteps.{closed_to}
-use Rattle.doc_blocks.specs.StateSteps.{State, below, met, shown, reached, all_closed, quote_opened, item_opened, leaf_opened, lines_opened, StepsTo}
+use Rattle.doc_blocks.specs.StateSteps.{
+  State,
+  below,
+  met,
+  shown,
+  reached,
+  all_closed,
+  quote_opened,
+  item_opened,
+  leaf_opened,
+  lines_opened,
+  StepsTo,
+}
 use Rattle.doc_blocks.specs.BuilderSteps.{state_of}
 use Rattle.doc_blocks.specs.LevelSteps.{stack_of}
 use Rattle.doc_blocks.proofs.LevelLemmas.{length_outers}
@@ -26,7 +65,9 @@ returns-clause-state c =
     let m = state_of c.close_to.new.self in
     let lines = leaf_lines (left_of c.args.line.now) c.args.leaf in
     let table = c.args.entities.now in
-    laws.leaf_put_there table lines m (stack_of c.begin_block.new.self) (stack_of c.put.new.self) c.begin.new.self c.in_ok-begin_block.ensures.stack
+    laws.leaf_put_there table lines m (stack_of c.begin_block.new.self) (stack_of c.put.new.self) c.begin.new.self
+    c.in_ok-begin_block.ensures.stack
     c.in_ok-block.ensures.leaf
-    (c.in_ok-put.ensures.stack ∙ ap (with_inner_blocks (stack_of c.begin_block.new.self)) (c.in_ok-block.ensures.block (finished (stack_of c.begin_block.new.self).inner)))
+    (c.in_ok-put.ensures.stack ∙ ap (with_inner_blocks (stack_of c.begin_block.new.self))
+    (c.in_ok-block.ensures.block (finished (stack_of c.begin_block.new.self).inner)))
     ∙ ap (laws.lines_there table lines) c.in_ok-close_to.ensures.state

@@ -1,18 +1,57 @@
-use Rattle.std.proofs.Common.{rules, ◌≡◌, ◌∙◌, ℕ, ◌+◌, ◌-◌, ◌<◌, ◌≤◌, Bool, true, false, List, [], ◌∷◌, take, drop, length, vec_len, refl, ap, sym, subst, arith, Option, Some, None}
+use Rattle.std.proofs.Common.{
+  rules,
+  ◌≡◌,
+  ◌∙◌,
+  ℕ,
+  ◌+◌,
+  ◌-◌,
+  ◌<◌,
+  ◌≤◌,
+  Bool,
+  true,
+  false,
+  List,
+  [],
+  ◌∷◌,
+  take,
+  drop,
+  length,
+  vec_len,
+  refl,
+  ap,
+  sym,
+  subst,
+  arith,
+  Option,
+  Some,
+  None,
+}
 use Rattle.std.proofs.lemmas.List.{length-drop}
 use Rattle.doc_rules.specs.Characters.{Text}
 use Rattle.doc_rules.specs.Columns.{Line, is_blank_line}
 use Rattle.doc_rules.specs.Blocks.{Blocks}
 use Rattle.doc_rules.specs.Trees.{Situation, LeafStart, leaf_begins, NewLeaf, Underline}
-use Rattle.doc_one_pass.specs.Leaves.{OpenLeaf, NoLeaf}
-use Rattle.doc_one_pass.specs.Paths.{Level, OpenQuote, OpenItem, finished, with_blocks}
-use Rattle.doc_one_pass.specs.Closing.{leaf_closed}
-use Rattle.doc_starts.specs.Items.{kind_of, item_shown}
+use Rattle.doc_blocks_pass.specs.Leaves.{OpenLeaf, NoLeaf}
+use Rattle.doc_blocks_pass.specs.Paths.{Level, OpenQuote, OpenItem, finished, with_blocks}
+use Rattle.doc_blocks_pass.specs.Closing.{leaf_closed}
+use Rattle.doc_blocks_starts.specs.Items.{kind_of, item_shown}
 use Rattle.doc_lines.specs.Cursors.{left_of}
-use Rattle.doc_leaves.specs.Starts.{situation_of, start_shown, leaf_lines}
-use Rattle.doc_blocks.specs.Stacks.{Outer, Stack, with_inner_blocks, block_begun, item_begun, container_opened}
+use Rattle.doc_blocks_leaves.specs.Starts.{situation_of, start_shown, leaf_lines}
+use Rattle.doc_blocks.specs.StackSteps.{Outer, Stack, with_inner_blocks, block_begun, item_begun, container_opened}
 use Rattle.doc_blocks.specs.PathSteps.{closed_to}
-use Rattle.doc_blocks.specs.StateSteps.{State, below, met, shown, reached, all_closed, quote_opened, item_opened, leaf_opened, lines_opened, StepsTo}
+use Rattle.doc_blocks.specs.StateSteps.{
+  State,
+  below,
+  met,
+  shown,
+  reached,
+  all_closed,
+  quote_opened,
+  item_opened,
+  leaf_opened,
+  lines_opened,
+  StepsTo,
+}
 use Rattle.doc_blocks.specs.BuilderSteps.{state_of}
 use Rattle.doc_blocks.specs.LevelSteps.{stack_of}
 use Rattle.doc_blocks.proofs.LevelLemmas.{length_outers}
@@ -23,7 +62,8 @@ use Rattle.doc_blocks.proofs.builder.Builder.close_leaf.Goals as goal
 
 pub returns-then-not-is_open-clause-state : goal.returns-then-not-is_open-clause-state
 returns-then-not-is_open-clause-state c =
-    leaves.leaf_closed_none c.args.entities.now (state_of c.args.self.now) (laws.none_open c.args.self.now.leaf (sym c.is_open.ensures ∙ c.if-not-is_open.true))
+    leaves.leaf_closed_none c.args.entities.now (state_of c.args.self.now)
+    (laws.none_open c.args.self.now.leaf (sym c.is_open.ensures ∙ c.if-not-is_open.true))
 
 pub returns-clause-state : goal.returns-clause-state
 returns-clause-state c =
@@ -32,5 +72,7 @@ returns-clause-state c =
     laws.same_state (stack_of c.put.new.self) _ c.close.new.self NoLeaf c.close.new.refs _
     (c.in_ok-put.ensures.stack
     ∙ (ap (with_inner_blocks stack) (c.in_ok-block.ensures.block (finished stack.inner))
-    ∙ ap (λ (l : Level). record stack { inner = l }) (sym (leaves.leaf_closed_some c.args.entities.now stack.inner s.leaf (laws.some_open s.leaf (sym c.is_open.ensures ∙ c.if-not-is_open.false))))))
+    ∙ ap (λ (l : Level). record stack { inner = l })
+    (sym (leaves.leaf_closed_some c.args.entities.now stack.inner s.leaf
+    (laws.some_open s.leaf (sym c.is_open.ensures ∙ c.if-not-is_open.false))))))
     c.in_ok-block.ensures.leaf c.in_ok-block.ensures.refs

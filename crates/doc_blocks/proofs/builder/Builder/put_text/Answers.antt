@@ -1,4 +1,31 @@
-use Rattle.std.proofs.Common.{rules, ◌≡◌, ◌∙◌, ℕ, ◌+◌, ◌-◌, ◌<◌, ◌≤◌, Bool, true, false, List, [], ◌∷◌, take, drop, length, vec_len, refl, ap, sym, subst, arith, Option, Some, None}
+use Rattle.std.proofs.Common.{
+  rules,
+  ◌≡◌,
+  ◌∙◌,
+  ℕ,
+  ◌+◌,
+  ◌-◌,
+  ◌<◌,
+  ◌≤◌,
+  Bool,
+  true,
+  false,
+  List,
+  [],
+  ◌∷◌,
+  take,
+  drop,
+  length,
+  vec_len,
+  refl,
+  ap,
+  sym,
+  subst,
+  arith,
+  Option,
+  Some,
+  None,
+}
 use Rattle.std.proofs.lemmas.List.{length-drop}
 use Rattle.doc_rules.specs.Characters.{Text}
 use Rattle.doc_rules.specs.Columns.{Line, is_blank_line}
@@ -6,16 +33,28 @@ use Rattle.doc_rules.specs.Blocks.{Blocks}
 use Rattle.doc_rules.specs.Trees.{Situation, LeafStart, leaf_begins, NewLeaf, Underline}
 use Rattle.std.proofs.Common.{not}
 use Rattle.doc_rules.specs.Trees.{line_text}
-use Rattle.doc_one_pass.specs.Leaves.{OpenLeaf, NoLeaf, OpenCode, OpenParagraph, code_with}
-use Rattle.doc_one_pass.specs.Paths.{Here}
-use Rattle.doc_one_pass.specs.Paths.{Level, OpenQuote, OpenItem, finished, with_blocks}
-use Rattle.doc_one_pass.specs.Closing.{leaf_closed}
-use Rattle.doc_starts.specs.Items.{kind_of, item_shown}
+use Rattle.doc_blocks_pass.specs.Leaves.{OpenLeaf, NoLeaf, OpenCode, OpenParagraph, code_with}
+use Rattle.doc_blocks_pass.specs.Paths.{Here}
+use Rattle.doc_blocks_pass.specs.Paths.{Level, OpenQuote, OpenItem, finished, with_blocks}
+use Rattle.doc_blocks_pass.specs.Closing.{leaf_closed}
+use Rattle.doc_blocks_starts.specs.Items.{kind_of, item_shown}
 use Rattle.doc_lines.specs.Cursors.{left_of}
-use Rattle.doc_leaves.specs.Starts.{situation_of, start_shown, leaf_lines}
-use Rattle.doc_blocks.specs.Stacks.{Outer, Stack, with_inner_blocks, block_begun, item_begun, container_opened}
+use Rattle.doc_blocks_leaves.specs.Starts.{situation_of, start_shown, leaf_lines}
+use Rattle.doc_blocks.specs.StackSteps.{Outer, Stack, with_inner_blocks, block_begun, item_begun, container_opened}
 use Rattle.doc_blocks.specs.PathSteps.{closed_to}
-use Rattle.doc_blocks.specs.StateSteps.{State, below, met, shown, reached, all_closed, quote_opened, item_opened, leaf_opened, lines_opened, StepsTo}
+use Rattle.doc_blocks.specs.StateSteps.{
+  State,
+  below,
+  met,
+  shown,
+  reached,
+  all_closed,
+  quote_opened,
+  item_opened,
+  leaf_opened,
+  lines_opened,
+  StepsTo,
+}
 use Rattle.doc_blocks.specs.BuilderSteps.{state_of}
 use Rattle.doc_blocks.specs.LevelSteps.{stack_of}
 use Rattle.doc_blocks.proofs.LevelLemmas.{length_outers}
@@ -36,9 +75,11 @@ pub returns-then-meets_paragraph-clause-reached : goal.returns-then-meets_paragr
 returns-then-meets_paragraph-clause-reached c =
     let s = state_of c.args.self.now in
     let line = left_of c.args.line.now in
-    leaves.text_continues c.args.entities.now c.args.depth s line c.continue_paragraph.new.self (sym c.is_blank_line.ensures ∙ c.if-is_blank_line.false)
+    leaves.text_continues c.args.entities.now c.args.depth s line c.continue_paragraph.new.self (sym c.is_blank_line.ensures
+    ∙ c.if-is_blank_line.false)
     (c.meets_paragraph.ensures c.args.depth ∙ ap not c.if-meets_paragraph.true)
-    (laws.continues_here line s.stack.inner s.leaf s.stack.blank ∙ ap (λ (l : OpenLeaf). Here s.stack.inner l s.stack.blank) (sym c.in_ok-continue_paragraph.ensures))
+    (laws.continues_here line s.stack.inner s.leaf s.stack.blank
+    ∙ ap (λ (l : OpenLeaf). Here s.stack.inner l s.stack.blank) (sym c.in_ok-continue_paragraph.ensures))
 
 pub returns-then-is_indented-clause-reached : goal.returns-then-is_indented-clause-reached
 returns-then-is_indented-clause-reached c =
@@ -46,8 +87,13 @@ returns-then-is_indented-clause-reached c =
     let m = c.close_to-2.new.self in
     leaves.text_code c.args.entities.now c.args.depth s (left_of c.args.line.now) (sym c.is_blank_line.ensures ∙ c.if-is_blank_line.false)
     (c.meets_paragraph.ensures c.args.depth ∙ ap not c.if-meets_paragraph.false) (sym c.is_indented.ensures ∙ c.if-is_indented.true)
-    ∙ ap shown (sym (laws.same_state (stack_of c.begin_block.new.self) _ c.begin_code.new.self _ m.refs _ c.in_ok-begin_block.ensures.stack c.in_ok-begin_code.ensures refl
-    ∙ ap (λ (t : State). record t { stack = block_begun t.stack; leaf = OpenCode (code_with (left_of c.args.line.now) []) (code_with (left_of c.args.line.now) []) }) c.in_ok-close_to-2.ensures.state))
+    ∙ ap shown (sym (laws.same_state (stack_of c.begin_block.new.self) _ c.begin_code.new.self _ m.refs _ c.in_ok-begin_block.ensures.stack
+    c.in_ok-begin_code.ensures refl
+    ∙ ap (λ (t : State). record t {
+      stack = block_begun t.stack;
+      leaf = OpenCode (code_with (left_of c.args.line.now) [])
+          (code_with (left_of c.args.line.now) []);
+    }) c.in_ok-close_to-2.ensures.state))
 
 pub returns-clause-reached : goal.returns-clause-reached
 returns-clause-reached c =
@@ -55,5 +101,7 @@ returns-clause-reached c =
     let m = c.close_to-2.new.self in
     leaves.text_begins c.args.entities.now c.args.depth s (left_of c.args.line.now) (sym c.is_blank_line.ensures ∙ c.if-is_blank_line.false)
     (c.meets_paragraph.ensures c.args.depth ∙ ap not c.if-meets_paragraph.false) (sym c.is_indented.ensures ∙ c.if-is_indented.false)
-    ∙ ap shown (sym (laws.same_state (stack_of c.begin_block.new.self) _ c.begin_paragraph.new.self _ m.refs _ c.in_ok-begin_block.ensures.stack c.in_ok-begin_paragraph.ensures refl
-    ∙ ap (λ (t : State). record t { stack = block_begun t.stack; leaf = OpenParagraph (line_text (left_of c.args.line.now)) }) c.in_ok-close_to-2.ensures.state))
+    ∙ ap shown (sym (laws.same_state (stack_of c.begin_block.new.self) _ c.begin_paragraph.new.self _ m.refs _
+    c.in_ok-begin_block.ensures.stack c.in_ok-begin_paragraph.ensures refl
+    ∙ ap (λ (t : State). record t { stack = block_begun t.stack; leaf = OpenParagraph (line_text (left_of c.args.line.now)) })
+    c.in_ok-close_to-2.ensures.state))

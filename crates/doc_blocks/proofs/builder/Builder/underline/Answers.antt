@@ -1,18 +1,57 @@
-use Rattle.std.proofs.Common.{rules, ◌≡◌, ◌∙◌, ℕ, ◌+◌, ◌-◌, ◌<◌, ◌≤◌, Bool, true, false, List, [], ◌∷◌, take, drop, length, vec_len, refl, ap, sym, subst, arith, Option, Some, None}
+use Rattle.std.proofs.Common.{
+  rules,
+  ◌≡◌,
+  ◌∙◌,
+  ℕ,
+  ◌+◌,
+  ◌-◌,
+  ◌<◌,
+  ◌≤◌,
+  Bool,
+  true,
+  false,
+  List,
+  [],
+  ◌∷◌,
+  take,
+  drop,
+  length,
+  vec_len,
+  refl,
+  ap,
+  sym,
+  subst,
+  arith,
+  Option,
+  Some,
+  None,
+}
 use Rattle.std.proofs.lemmas.List.{length-drop}
 use Rattle.doc_rules.specs.Characters.{Text}
 use Rattle.doc_rules.specs.Columns.{Line, is_blank_line}
 use Rattle.doc_rules.specs.Blocks.{Blocks}
 use Rattle.doc_rules.specs.Trees.{Situation, LeafStart, leaf_begins, NewLeaf, Underline}
-use Rattle.doc_one_pass.specs.Leaves.{OpenLeaf, NoLeaf}
-use Rattle.doc_one_pass.specs.Paths.{Level, OpenQuote, OpenItem, finished, with_blocks}
-use Rattle.doc_one_pass.specs.Closing.{leaf_closed}
-use Rattle.doc_starts.specs.Items.{kind_of, item_shown}
+use Rattle.doc_blocks_pass.specs.Leaves.{OpenLeaf, NoLeaf}
+use Rattle.doc_blocks_pass.specs.Paths.{Level, OpenQuote, OpenItem, finished, with_blocks}
+use Rattle.doc_blocks_pass.specs.Closing.{leaf_closed}
+use Rattle.doc_blocks_starts.specs.Items.{kind_of, item_shown}
 use Rattle.doc_lines.specs.Cursors.{left_of}
-use Rattle.doc_leaves.specs.Starts.{situation_of, start_shown, leaf_lines}
-use Rattle.doc_blocks.specs.Stacks.{Outer, Stack, with_inner_blocks, block_begun, item_begun, container_opened}
+use Rattle.doc_blocks_leaves.specs.Starts.{situation_of, start_shown, leaf_lines}
+use Rattle.doc_blocks.specs.StackSteps.{Outer, Stack, with_inner_blocks, block_begun, item_begun, container_opened}
 use Rattle.doc_blocks.specs.PathSteps.{closed_to}
-use Rattle.doc_blocks.specs.StateSteps.{State, below, met, shown, reached, all_closed, quote_opened, item_opened, leaf_opened, lines_opened, StepsTo}
+use Rattle.doc_blocks.specs.StateSteps.{
+  State,
+  below,
+  met,
+  shown,
+  reached,
+  all_closed,
+  quote_opened,
+  item_opened,
+  leaf_opened,
+  lines_opened,
+  StepsTo,
+}
 use Rattle.doc_blocks.specs.BuilderSteps.{state_of}
 use Rattle.doc_blocks.specs.LevelSteps.{stack_of}
 use Rattle.doc_blocks.proofs.LevelLemmas.{length_outers}
@@ -24,7 +63,8 @@ use Rattle.doc_blocks.proofs.builder.Builder.underline.Goals as goal
 pub returns-then-not-is_in_paragraph-clause-reached : goal.returns-then-not-is_in_paragraph-clause-reached
 returns-then-not-is_in_paragraph-clause-reached c =
     let s = state_of c.args.self.now in
-    leaves.underline_skipped c.args.entities.now c.args.depth c.args.level s (laws.in_paragraph_is (met c.args.depth s) _ c.is_in_paragraph.ensures c.if-not-is_in_paragraph.true)
+    leaves.underline_skipped c.args.entities.now c.args.depth c.args.level s
+    (laws.in_paragraph_is (met c.args.depth s) _ c.is_in_paragraph.ensures c.if-not-is_in_paragraph.true)
 
 pub returns-clause-reached : goal.returns-clause-reached
 returns-clause-reached c =
@@ -33,6 +73,7 @@ returns-clause-reached c =
     let there = laws.paragraph_there (met c.args.depth s) _ c.is_in_paragraph.ensures c.if-not-is_in_paragraph.false in
     let leaf = (leaves.in_paragraph (drop c.args.depth s.stack.outer) s.leaf there.0 there.1).1 in
     leaves.underline_reached table c.args.depth c.args.level s there.0 there.1
-    ∙ ap shown (sym (laws.heading_there table c.args.level s there.0 (stack_of c.put.new.self) (stack_of c.set_blank.new.self) c.underline.new.self c.underline.new.refs leaf
+    ∙ ap shown (sym (laws.heading_there table c.args.level s there.0 (stack_of c.put.new.self) (stack_of c.set_blank.new.self)
+    c.underline.new.self c.underline.new.refs leaf
     (c.in_ok-put.ensures.stack ∙ ap (with_inner_blocks s.stack) (c.in_ok-block.ensures.block (finished s.stack.inner)))
     c.set_blank.ensures.stack c.in_ok-block.ensures.leaf c.in_ok-block.ensures.refs))

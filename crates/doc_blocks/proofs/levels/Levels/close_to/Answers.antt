@@ -7,11 +7,13 @@ use Rattle.doc_blocks.proofs.levels.Levels.close_to.Goals as goal
 pub containers-preserved : goal.containers-preserved
 containers-preserved c =
     let n = c.close_last.new.self in
-    let within : c.args.depth ≤ length (stack_of n).outer = omega (arith, length_outers n.outer.items n.inner.base n.done.items, c.in_ok-close_last.ensures.depth) in
+    let within : c.args.depth ≤ length (stack_of n).outer = omega
+    (arith, length_outers n.outer.items n.inner.base n.done.items, c.in_ok-close_last.ensures.depth) in
     record {
       sound = c.in_ok-close_last.ensures.sound;
       within = omega (arith, c.in_ok-close_last.ensures.depth);
-      closes = closes_one_more c.args.depth (stack_of c.containers.self) (stack_of n) (stack_of c.args.self.now) within c.in_ok-close_last.ensures.closes c.containers.invariant.closes;
+      closes = closes_one_more c.args.depth (stack_of c.containers.self) (stack_of n) (stack_of c.args.self.now) within
+          c.in_ok-close_last.ensures.closes c.containers.invariant.closes;
     }
 
 pub returns-clause-stack : goal.returns-clause-stack

@@ -1,11 +1,36 @@
-use Rattle.doc_leaves.specs.declared.block.Block.TheVariants as variants
-use Rattle.std.proofs.Common.{rules, ◌≡◌, ◌+◌, ◌<◌, ◌≤◌, ◌∙◌, ap, sym, arith, ℕ, Bool, true, false, List, [], ◌∷◌, ◌++◌, length, take, drop, refl, Option, Some, None}
+use Rattle.doc_blocks_leaves.specs.declared.block.Block.TheVariants as variants
+use Rattle.std.proofs.Common.{
+  rules,
+  ◌≡◌,
+  ◌+◌,
+  ◌<◌,
+  ◌≤◌,
+  ◌∙◌,
+  ap,
+  sym,
+  arith,
+  ℕ,
+  Bool,
+  true,
+  false,
+  List,
+  [],
+  ◌∷◌,
+  ◌++◌,
+  length,
+  take,
+  drop,
+  refl,
+  Option,
+  Some,
+  None,
+}
 use Rattle.doc_rules.specs.Blocks.{Blocks}
-use Rattle.doc_one_pass.specs.Paths as paths
-use Rattle.doc_starts.specs.Items.{kind_of}
-use Rattle.doc_leaves.specs.declared.block.Block.{Block}
-use Rattle.doc_leaves.specs.Views.{behind, with_block, blocks_shown}
-use Rattle.doc_blocks.specs.Stacks.{Stack, with_inner_blocks}
+use Rattle.doc_blocks_pass.specs.Paths as paths
+use Rattle.doc_blocks_starts.specs.Items.{kind_of}
+use Rattle.doc_blocks_leaves.specs.declared.block.Block.{Block}
+use Rattle.doc_blocks_leaves.specs.Views.{behind, with_block, blocks_shown}
+use Rattle.doc_blocks.specs.StackSteps.{Stack, with_inner_blocks}
 use Rattle.doc_blocks.specs.LevelSteps.{stack_of, level_shown, level_at}
 use Rattle.doc_blocks.proofs.LevelLemmas.{stack_bare, stack_listed}
 use Rattle.doc_blocks.proofs.levels.Levels.finish_list.Goals as goal
@@ -13,12 +38,15 @@ use Rattle.doc_blocks.proofs.levels.Levels.finish_list.Goals as goal
 pub returns-in-None-clause-stack : goal.returns-in-None-clause-stack
 returns-in-None-clause-stack c =
     let s = c.args.self.now in
-    stack_bare s.outer.items s.inner.base s.done.items s.inner.gap s.inner.list c.take.new.self s.blank (sym c.in-None.ensures.value) c.in-None.ensures.after
+    stack_bare s.outer.items s.inner.base s.done.items s.inner.gap s.inner.list c.take.new.self s.blank (sym c.in-None.ensures.value)
+    c.in-None.ensures.after
 
 pub returns-clause-stack : goal.returns-clause-stack
 returns-clause-stack c =
     let s = c.args.self.now in
     let front = c.in_ok-items.ensures.items in
-    stack_listed s.outer.items s.inner.base s.done.items c.push.new.self.items s.inner.gap s.inner.list c.take.new.self c.in-Some.list c.in_ok-items.items c.start_of.result s.blank
+    stack_listed s.outer.items s.inner.base s.done.items c.push.new.self.items s.inner.gap s.inner.list c.take.new.self c.in-Some.list
+    c.in_ok-items.items c.start_of.result s.blank
     c.requires.outer c.requires.inner c.in-Some.ensures.value c.in-Some.ensures.after c.in_ok-items.ensures.tail c.start_of.ensures
-    (c.in_ok-push.ensures.items ∙ ap (λ (d : List Block). d ++ variants.List c.start_of.result c.in-Some.list.tight c.in_ok-items.items ∷ []) front)
+    (c.in_ok-push.ensures.items ∙ ap (λ (d : List Block). d ++ variants.List c.start_of.result c.in-Some.list.tight c.in_ok-items.items ∷
+    []) front)

@@ -1,7 +1,7 @@
 use Rattle.std.proofs.Common.{◌≡◌, ◌<◌, ◌≤◌, ◌∙◌, ap, sym, arith, ℕ, length, refl}
 use Rattle.std.proofs.Common.{◌+◌}
 use Rattle.doc_blocks.specs.LevelSteps.{stack_of}
-use Rattle.doc_blocks.specs.Stacks.{Outer, Stack}
+use Rattle.doc_blocks.specs.StackSteps.{Outer, Stack}
 use Rattle.std.specs.Prelude.{List}
 use Rattle.doc_lines.specs.Cursors.{left_of}
 use Rattle.doc_blocks.proofs.LevelLemmas.{length_outers}
@@ -17,7 +17,8 @@ containers-preserved c =
     record {
       sound = c.go_on_at.ensures.sound;
       within = omega arith;
-      descent = goes_further c.containers.depth (stack_of s).outer (stack_of n).outer _ at.here (left_of c.containers.rest) (left_of c.in-Some.inside) _ at.split
+      descent = goes_further c.containers.depth (stack_of s).outer (stack_of n).outer _ at.here (left_of c.containers.rest)
+          (left_of c.in-Some.inside) _ at.split
           (sym at.found_is) (ap (λ (t : Stack). t.outer) gone) c.containers.invariant.descent;
       inner = ap (λ (t : Stack). t.inner) gone ∙ c.containers.invariant.inner;
       blank = ap (λ (t : Stack). t.blank) gone ∙ c.containers.invariant.blank;
@@ -28,7 +29,8 @@ returns-in-None-clause-goes c =
     let s = c.containers.self in
     let at = c.in-None.ensures in
     record {
-      descent = goes_no_further c.containers.depth (stack_of s).outer _ at.here (left_of c.containers.rest) _ at.split (sym at.found_is) c.containers.invariant.descent;
+      descent = goes_no_further c.containers.depth (stack_of s).outer _ at.here (left_of c.containers.rest) _ at.split (sym at.found_is)
+          c.containers.invariant.descent;
       inner = c.containers.invariant.inner;
       blank = c.containers.invariant.blank;
     }

@@ -1,10 +1,35 @@
-use Rattle.std.proofs.Common.{rules, ◌≡◌, ◌+◌, ◌<◌, ◌≤◌, ◌∙◌, ap, sym, arith, ℕ, Bool, true, false, List, [], ◌∷◌, ◌++◌, length, take, drop, refl, Option, Some, None}
+use Rattle.std.proofs.Common.{
+  rules,
+  ◌≡◌,
+  ◌+◌,
+  ◌<◌,
+  ◌≤◌,
+  ◌∙◌,
+  ap,
+  sym,
+  arith,
+  ℕ,
+  Bool,
+  true,
+  false,
+  List,
+  [],
+  ◌∷◌,
+  ◌++◌,
+  length,
+  take,
+  drop,
+  refl,
+  Option,
+  Some,
+  None,
+}
 use Rattle.doc_rules.specs.Blocks.{Blocks}
-use Rattle.doc_one_pass.specs.Paths as paths
-use Rattle.doc_starts.specs.Items.{kind_of}
-use Rattle.doc_leaves.specs.declared.block.Block.{Block}
-use Rattle.doc_leaves.specs.Views.{behind, with_block, blocks_shown}
-use Rattle.doc_blocks.specs.Stacks.{Stack, with_inner_blocks}
+use Rattle.doc_blocks_pass.specs.Paths as paths
+use Rattle.doc_blocks_starts.specs.Items.{kind_of}
+use Rattle.doc_blocks_leaves.specs.declared.block.Block.{Block}
+use Rattle.doc_blocks_leaves.specs.Views.{behind, with_block, blocks_shown}
+use Rattle.doc_blocks.specs.StackSteps.{Stack, with_inner_blocks}
 use Rattle.doc_blocks.specs.LevelSteps.{stack_of, level_shown, level_at}
 use Rattle.doc_blocks.proofs.LevelLemmas.{stack_left, sound_left, bare_blocks, gap_shown}
 use Rattle.std.proofs.Common.{subst}
@@ -25,15 +50,20 @@ returns-clause-left c =
     let popped : f.outer.items ≡ c.pop.new.self.items ++ o ∷ [] =
     c.pop.ensures.items ∙ ap (λ (r : Option Open). c.pop.new.self.items ++ option_to_list r) c.unwrap-container.ensures in
     let front : done ≡ take f.inner.base f.done.items = c.in_ok-blocks.ensures.items ∙ ap (λ (n : ℕ). take n f.done.items) base in
-    let tail : c.in_ok-blocks.blocks.items ≡ drop f.inner.base f.done.items = c.in_ok-blocks.ensures.tail ∙ ap (λ (n : ℕ). drop n f.done.items) base in
+    let tail : c.in_ok-blocks.blocks.items ≡ drop f.inner.base f.done.items = c.in_ok-blocks.ensures.tail
+    ∙ ap (λ (n : ℕ). drop n f.done.items) base in
     record {
       outer =
           sym (ap (λ (s : Stack). s.outer) e)
           ∙ (stack_left f.outer.items c.pop.new.self.items o f.done.items done c.in_ok-blocks.blocks.items f.inner.base f.inner.list
           c.in_ok-finish_list.ensures.sound.outer c.in_ok-finish_list.ensures.sound.inner popped front tail
-          ∙ ap (λ (l : Level). outers_shown c.pop.new.self.items l.base done ++ (level_shown done l, container_shown o.container) ∷ []) (sym c.replace-inside.ensures.after));
-      blocks = ap blocks_shown tail ∙ (sym (bare_blocks f.done.items f.inner.base f.inner.gap f.inner.list c.in_ok-finish_list.ensures.bare) ∙ ap (λ (s : Stack). s.inner.blocks) e);
-      gap = ap (λ (l : Level). l.gap) c.replace-inside.ensures.value ∙ (sym (gap_shown f.done.items f.inner.base f.inner.gap f.inner.list) ∙ ap (λ (s : Stack). s.inner.gap) e);
+          ∙ ap (λ (l : Level). outers_shown c.pop.new.self.items l.base done ++ (level_shown done l, container_shown o.container) ∷ [])
+          (sym c.replace-inside.ensures.after));
+      blocks = ap blocks_shown tail
+          ∙ (sym (bare_blocks f.done.items f.inner.base f.inner.gap f.inner.list c.in_ok-finish_list.ensures.bare)
+          ∙ ap (λ (s : Stack). s.inner.blocks) e);
+      gap = ap (λ (l : Level). l.gap) c.replace-inside.ensures.value
+          ∙ (sym (gap_shown f.done.items f.inner.base f.inner.gap f.inner.list) ∙ ap (λ (s : Stack). s.inner.gap) e);
       blank = ap (λ (s : Stack). s.blank) e;
     }
 

@@ -1,10 +1,35 @@
-use Rattle.std.proofs.Common.{rules, ◌≡◌, ◌+◌, ◌<◌, ◌≤◌, ◌∙◌, ap, sym, arith, ℕ, Bool, true, false, List, [], ◌∷◌, ◌++◌, length, take, drop, refl, Option, Some, None}
+use Rattle.std.proofs.Common.{
+  rules,
+  ◌≡◌,
+  ◌+◌,
+  ◌<◌,
+  ◌≤◌,
+  ◌∙◌,
+  ap,
+  sym,
+  arith,
+  ℕ,
+  Bool,
+  true,
+  false,
+  List,
+  [],
+  ◌∷◌,
+  ◌++◌,
+  length,
+  take,
+  drop,
+  refl,
+  Option,
+  Some,
+  None,
+}
 use Rattle.doc_rules.specs.Blocks.{Blocks}
-use Rattle.doc_one_pass.specs.Paths as paths
-use Rattle.doc_starts.specs.Items.{kind_of}
-use Rattle.doc_leaves.specs.declared.block.Block.{Block}
-use Rattle.doc_leaves.specs.Views.{behind, with_block, blocks_shown}
-use Rattle.doc_blocks.specs.Stacks.{Stack, with_inner_blocks}
+use Rattle.doc_blocks_pass.specs.Paths as paths
+use Rattle.doc_blocks_starts.specs.Items.{kind_of}
+use Rattle.doc_blocks_leaves.specs.declared.block.Block.{Block}
+use Rattle.doc_blocks_leaves.specs.Views.{behind, with_block, blocks_shown}
+use Rattle.doc_blocks.specs.StackSteps.{Stack, with_inner_blocks}
 use Rattle.doc_blocks.specs.LevelSteps.{stack_of, level_shown, level_at}
 use Rattle.doc_blocks.proofs.LevelLemmas.{stack_pushed, put_behind}
 use Rattle.doc_blocks.proofs.levels.Levels.put.Goals as goal
@@ -15,5 +40,7 @@ returns-in_ok-push-clause-stack c =
     let s = c.finish_list.new.self in
     put_behind (stack_of c.args.self.now) _ (stack_of s) c.in-Some.block _ c.in_ok-finish_list.ensures.stack
     (stack_pushed s.outer.items s.inner.base s.done.items c.push.new.self.items s.inner.gap s.inner.list s.blank c.in-Some.block
-    c.in_ok-finish_list.ensures.sound.outer c.in_ok-finish_list.ensures.sound.inner c.in_ok-finish_list.ensures.bare c.in_ok-push.ensures.items)
-    ∙ ap (λ (b : Option Block). with_inner_blocks (stack_of c.args.self.now) (with_block b (paths.finished (stack_of c.args.self.now).inner))) (sym c.in-Some.is)
+    c.in_ok-finish_list.ensures.sound.outer c.in_ok-finish_list.ensures.sound.inner c.in_ok-finish_list.ensures.bare
+    c.in_ok-push.ensures.items)
+    ∙ ap (λ (b : Option Block). with_inner_blocks (stack_of c.args.self.now)
+    (with_block b (paths.finished (stack_of c.args.self.now).inner))) (sym c.in-Some.is)

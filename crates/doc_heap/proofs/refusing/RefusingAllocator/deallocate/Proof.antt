@@ -25,7 +25,33 @@ use prog.Memory.{size, align, capped}
 use prog.Wp.{WpFn}
 use types.ByLocal.{alloc_all, pass_all, free_all, look_at, get, through, sets, lands_as}
 use types.Logic.{sem}
-use types.Kit.{‵, raw, ◌⊛◌, later, given, prop, ◌$◌, ◌∵◌, !, qed, move, keep, use1, split, group, split3, join, learn, fsplit, fjoin, feq_i, regoal, suffices, await, done}
+use types.Kit.{
+  ‵,
+  raw,
+  ◌⊛◌,
+  later,
+  given,
+  prop,
+  ◌$◌,
+  ◌∵◌,
+  !,
+  qed,
+  move,
+  keep,
+  use1,
+  split,
+  group,
+  split3,
+  join,
+  learn,
+  fsplit,
+  fjoin,
+  feq_i,
+  regoal,
+  suffices,
+  await,
+  done,
+}
 use types.Run.{stop, fld, addr, no_more, and_then, of_opd, unit_lit, returns, enter}
 use Rattle.doc_heap.proofs.Shared.{self, word, pointer, args_of, inner_at}
 use Rattle.doc_heap.specs.contracts.refusing.RefusingAllocator.deallocate as promise
@@ -39,12 +65,21 @@ deallocate_spec 𝓤 𝓛 𝓜 𝓡 wired B laws g d drops met _ =
     let T = promise.ended B g d drops in
     let c = promise.clauses B g d drops 𝓛 𝓜.mem 𝓡.returns in
     let 𝓣 = tables 𝓤 𝓛.H 𝓜 𝓡 𝓡.env in
-    let stayed : Stays T.signature.params T.kept = (stay_dropped (self B) yes, (stay_dropped pointer yes, (stay_dropped word yes, (stay_dropped word yes, tt)))) in
+    let stayed : Stays T.signature.params T.kept = (
+      stay_dropped (self B) yes,
+      (stay_dropped pointer yes, (stay_dropped word yes, (stay_dropped word yes, tt))),
+    ) in
     let W = walk_of 𝓛 T stayed c in
-    proved 𝓛 T stayed c 𝓜 𝓡
-    (Goes-dropped 𝓛 2 (self B) yes (λ κs x f. refl), (Goes-dropped 𝓛 2 pointer yes (λ κs x f. refl), (Goes-dropped 𝓛 2 word yes (λ κs x f. refl), (Goes-dropped 𝓛 2 word yes (λ κs x f. refl), tt))))
+    proved 𝓛 T stayed c 𝓜 𝓡 (
+      Goes-dropped 𝓛 2 (self B) yes (λ κs x f. refl),
+      (
+        Goes-dropped 𝓛 2 pointer yes (λ κs x f. refl),
+        (Goes-dropped 𝓛 2 word yes (λ κs x f. refl), (Goes-dropped 𝓛 2 word yes (λ κs x f. refl), tt)),
+      ),
+    )
     (promise.Key.name (args_of Z)) here (code.unfolded 𝓤 𝓛.H 𝓜 𝓡 wired (B, tt) d drops)
-    (λ κs. (shr_vals, (rawptr_vals, (uint_vals w64, (uint_vals w64, tt))))) (λ κs. ((λ r vs s. s.0), (rawptr_Tells, (uint_Tells w64, (uint_Tells w64, tt)))))
+    (λ κs. (shr_vals, (rawptr_vals, (uint_vals w64, (uint_vals w64, tt)))))
+    (λ κs. ((λ r vs s. s.0), (rawptr_Tells, (uint_Tells w64, (uint_Tells w64, tt)))))
     (λ κs qs bounds a τ are.
     let κ = κs.0 in let q = qs.0 in let r = a.0 in let n = a.1.1.0 in let al = a.1.1.1.0 in
     let fits_n = are.1.1.0.1 in let fits_al = are.1.1.1.0.1 in
@@ -52,7 +87,17 @@ deallocate_spec 𝓤 𝓛 𝓜 𝓡 wired B laws g d drops met _ =
     let h = r.now.inner in
     let Said : Type 0 = (capped (size τ) ≡ n) × (capped (align τ) ≡ al) in
     let vs : Ptr → List Val = λ x. vptr r.ref_ptr.0 r.ref_ptr.1 ∷ ptr_val x ∷ vint w64 n ∷ vint w64 al ∷ [] in
-    let y : Ptr → W.Ghost = λ x. ((κs, qs, bounds, (r, (x, (n, (al, tt)))), (shr_vals r, (rawptr_vals x, (vint w64 n ∷ [], (vint w64 al ∷ [], tt))))), τ) in
+    let y : Ptr
+    → W.Ghost = λ x. (
+      (
+        κs,
+        qs,
+        bounds,
+        (r, (x, (n, (al, tt)))),
+        (shr_vals r, (rawptr_vals x, (vint w64 n ∷ [], (vint w64 al ∷ [], tt)))),
+      ),
+      τ,
+    ) in
     let z : (b o : ℕ) → (Gives Z 𝓛 𝓜.mem 𝓡.returns).Ghost = λ b o. at_gives Z 𝓛 𝓜.mem 𝓡.returns κ q inner h b o n al τ in
     qed 𝓛 (((‵ (flft κ q) ⊛ ‵ (flft κs.1.0 qs.1.0) ⊛ ‵ ftrue) ⊛ ‵ (owns (types_at T.signature.params κs) a (y a.1.0).0.4))
     ∷ (raw (fact 𝓤 (κs.1.0 ⊑ B.lives)) ⊛ raw (fact 𝓤 Said) ⊛ ‵ (fsep (room_for τ a.1.0) (token Z h τ a.1.0))) ∷ []) ∵
@@ -63,15 +108,20 @@ deallocate_spec 𝓤 𝓛 𝓜 𝓡 wired B laws g d drops met _ =
     use1 𝓛 (‵ (seen Z κ inner h)) (id⊢ 𝓤 _) $ keep ! (7 ∷ 0 ∷ 5 ∷ 6 ∷ []) $
     in_a_block ! a.1.0 (λ x. fsep (room_for τ x) (token Z h τ x)) (fst∗ 𝓤 (never 𝓤) (sem 𝓛 (token Z h τ null_ptr))) (λ b o is_block.
     regoal ! (λ x. prop (WpFn 𝓤 𝓛.H 𝓣.C 𝓣.Λ here (vs x) (W.post (y x)))) is_block refl $
-    fsplit ! $ enter ! _ _ _ _ _ $ alloc_all ! (λ l. pass_all ! refl ((tt, tt), ((tt, tt), ((tt, record { fits = fits_n }), ((tt, record { fits = fits_al }), tt)))) $
+    fsplit ! $ enter ! _ _ _ _ _
+    $ alloc_all ! (λ l. pass_all ! refl ((tt, tt), ((tt, tt), ((tt, record { fits = fits_n }), ((tt, record { fits = fits_al }), tt))))
+    $
     -- [the block's room; the right to free it; `inner`; the token of its lifetime; the other token; the locals]
     sets ! (addr ! (through ! refl (fld ! refl (stop !)))) refl (tt, tt) $
-    group ! 4 $ use1 𝓛 (raw ((Gives Z 𝓛 𝓜.mem 𝓡.returns).pre (z b o))) (Gives-goes Z 𝓛 𝓜.mem 𝓡.returns κ q inner h (⊑_trans κ κs.1.0 B.lives bounds.0 le) b o n al τ said.0 said.1 fits_n fits_al) $
+    group ! 4 $ use1 𝓛 (raw ((Gives Z 𝓛 𝓜.mem 𝓡.returns).pre (z b o)))
+    (Gives-goes Z 𝓛 𝓜.mem 𝓡.returns κ q inner h (⊑_trans κ κs.1.0 B.lives bounds.0 le) b o n al τ said.0 said.1 fits_n fits_al) $
     calls_at ! (framed 𝓤 𝓛.H 𝓜 𝓣) (Gives Z 𝓛 𝓜.mem 𝓡.returns) (met.deallocate drops) (z b o)
     (and_then ! (get ! refl) (and_then ! (get ! refl) (and_then ! (get ! refl) (and_then ! (get ! refl) (no_more !))))) (λ v.
-    use1 𝓛 (later (given (v ≡ vunit) (‵ (flft κ q)))) (Gives-Gives Z 𝓛 𝓜.mem 𝓡.returns κ q inner h b o n al τ v) $ await ! tt $ learn ! (λ is_unit.
+    use1 𝓛 (later (given (v ≡ vunit) (‵ (flft κ q)))) (Gives-Gives Z 𝓛 𝓜.mem 𝓡.returns κ q inner h b o n al τ v) $ await ! tt
+    $ learn ! (λ is_unit.
     lands_as ! is_unit refl (tt, tt) $ sets ! (of_opd ! (unit_lit !)) refl (tt, tt) $ returns ! (look_at ! 0 refl) $ free_all ! refl $
     -- [the two tokens], and then [they; what is left of the parameters, with `()`; no `ensures`]
     suffices ! _ (ends_at 𝓛 T stayed c (y (block_ptr b o)) vunit tt (tt, (tt, (tt, (tt, tt)))) (tt, (tt, (tt, (tt, tt))))) $
-    nothing ! $ feq_i ! (List Val) (vunit ∷ []) (vunit ∷ []) refl $ nothing ! $ nothing ! $ fjoin ! $ nothing ! $ fjoin ! $ nothing ! $ fjoin ! $ nothing ! $ fjoin ! $ join ! $
+    nothing ! $ feq_i ! (List Val) (vunit ∷ []) (vunit ∷ []) refl $ nothing ! $ nothing ! $ fjoin ! $ nothing ! $ fjoin ! $ nothing !
+    $ fjoin ! $ nothing ! $ fjoin ! $ join ! $
     move ! (2 ∷ 3 ∷ []) $ join ! $ join ! $ done !)))))))

@@ -6,4 +6,5 @@ pub returns-then-self : goal.returns-then-self
 returns-then-self g c = λ p h. holds_line (g.L.Linker.shown c.args.self.now.linker.now) _ c.args.self.now.fresh p h c.if-self.true
 
 pub returns : goal.returns
-returns g c = λ p h. holds_new_line (g.L.Linker.shown c.args.self.now.linker.now) _ _ c.args.self.now.fresh _ p h c.if-self.false c.in_ok-push_str.ensures.bytes refl
+returns g c = λ p h. holds_new_line (g.L.Linker.shown c.args.self.now.linker.now) _ _ c.args.self.now.fresh _ p h c.if-self.false
+    c.in_ok-push_str.ensures.bytes refl

@@ -6,5 +6,6 @@ use Rattle.doc_html.proofs.page_writer.PageWriterWriter.link.Goals as goal
 
 pub returns : goal.returns
 returns c = λ p h.
-    holds_link _ _ _ _ _ c.args.self.now.fresh _ _ _ _ p (Link c.in_ok-spot.spot) (target_shown c.args.target.now) h c.in_ok-cut.ensures.pieces c.in_ok-cut.ensures.html c.in_ok-push.ensures.items
+    holds_link _ _ _ _ _ c.args.self.now.fresh _ _ _ _ p (Link c.in_ok-spot.spot) (target_shown c.args.target.now) h
+    c.in_ok-cut.ensures.pieces c.in_ok-cut.ensures.html c.in_ok-push.ensures.items
     c.in_ok-spot.ensures refl

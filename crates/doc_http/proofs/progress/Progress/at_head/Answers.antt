@@ -1,7 +1,19 @@
 use Rattle.std.proofs.Common.{Ok, slice_range, sym, ap, ◌∙◌, subst, arith}
 use Rattle.std.proofs.lemmas.Result.{IfOk-weaker, on_err_weaker}
 use Rattle.doc_http.specs.Requests.{IsNext, IsRequest}
-use Rattle.doc_http.proofs.ProgressLemmas.{bad_head, good_head, whole_begins, reading_found, reading_begins, ends_within, knows_body, at_rest, whole_rest, knows_rest, on_err}
+use Rattle.doc_http.proofs.ProgressLemmas.{
+  bad_head,
+  good_head,
+  whole_begins,
+  reading_found,
+  reading_begins,
+  ends_within,
+  knows_body,
+  at_rest,
+  whole_rest,
+  knows_rest,
+  on_err,
+}
 use Rattle.doc_http.proofs.ReadLemmas.{method_text, framed_by_parts, with_fault, read_by_parts}
 use Rattle.doc_http.proofs.SpanLemmas.{places}
 use Rattle.doc_http.proofs.progress.Progress.at_head.Goals as goal
@@ -24,7 +36,8 @@ pub returns-in-Err-clause-found : goal.returns-in-Err-clause-found
 returns-in-Err-clause-found c =
     let found = c.in-Some.ensures.found in
     good_head c.args.bytes.now c.args.start c.args.end c.requires.lies found.0 found.1 _
-    (with_fault (slice_range c.args.bytes.now c.args.start c.args.end) c.good_head_spans.new.headers c.in-Some.spans found.0 found.2 c.args.end _ c.in-Err.fault c.code.result c.is_bare.result found.3
+    (with_fault (slice_range c.args.bytes.now c.args.start c.args.end) c.good_head_spans.new.headers c.in-Some.spans found.0 found.2
+    c.args.end _ c.in-Err.fault c.code.result c.is_bare.result found.3
     (sym c.in-Err.is ∙ c.framing_of.ensures) c.code.ensures c.is_bare.ensures)
 
 pub returns-in_err-reading-in-Ok-clause-memory : goal.returns-in_err-reading-in-Ok-clause-memory
@@ -32,7 +45,8 @@ returns-in_err-reading-in-Ok-clause-memory c =
     let found = c.in-Some.ensures.found in
     let bytes = c.args.bytes.now in
     let text = slice_range bytes c.args.start c.args.end in
-    let framed = framed_by_parts text c.good_head_spans.new.headers c.in-Some.spans found.0 found.2 ∙ sym c.framing_of.ensures ∙ c.in-Ok.is in
+    let framed = framed_by_parts text c.good_head_spans.new.headers c.in-Some.spans found.0 found.2 ∙ sym c.framing_of.ensures
+    ∙ c.in-Ok.is in
     on_err c.from_residual.result
     (whole_begins bytes c.args.start c.args.end c.requires.lies found.0 found.1 found.3 c.in-Ok.framing framed
     (whole_rest bytes c.args.end _ c.in-Ok.framing c.new-reader.ensures.framing c.in_err-reading-in-Ok.ensures.memory))
@@ -44,18 +58,23 @@ next_read-requires-clause-method_text c =
 
 pub next_read-requires-clause-end_fits : goal.next_read-requires-clause-end_fits
 next_read-requires-clause-end_fits c =
-    let reading_is = at_rest c.args.bytes.now c.args.end _ c.in-Ok.framing c.in_ok-reading-in-Ok.reading c.new-reader.ensures.framing c.in_ok-reading-in-Ok.ensures.found in
-    ends_within c.args.bytes.now c.args.start c.args.end c.requires.lies (omega arith) c.in-Ok.framing c.in_ok-reading-in-Ok.reading reading_is
+    let reading_is = at_rest c.args.bytes.now c.args.end _ c.in-Ok.framing c.in_ok-reading-in-Ok.reading c.new-reader.ensures.framing
+    c.in_ok-reading-in-Ok.ensures.found in
+    ends_within c.args.bytes.now c.args.start c.args.end c.requires.lies (omega arith) c.in-Ok.framing c.in_ok-reading-in-Ok.reading
+    reading_is
 
 pub returns-in_ok-reading-in-Ok-clause-found : goal.returns-in_ok-reading-in-Ok-clause-found
 returns-in_ok-reading-in-Ok-clause-found c =
     let found = c.in-Some.ensures.found in
     let bytes = c.args.bytes.now in
     let text = slice_range bytes c.args.start c.args.end in
-    let framed = framed_by_parts text c.good_head_spans.new.headers c.in-Some.spans found.0 found.2 ∙ sym c.framing_of.ensures ∙ c.in-Ok.is in
-    let reading_is = at_rest bytes c.args.end _ c.in-Ok.framing c.in_ok-reading-in-Ok.reading c.new-reader.ensures.framing c.in_ok-reading-in-Ok.ensures.found in
+    let framed = framed_by_parts text c.good_head_spans.new.headers c.in-Some.spans found.0 found.2 ∙ sym c.framing_of.ensures
+    ∙ c.in-Ok.is in
+    let reading_is = at_rest bytes c.args.end _ c.in-Ok.framing c.in_ok-reading-in-Ok.reading c.new-reader.ensures.framing
+    c.in_ok-reading-in-Ok.ensures.found in
     IfOk-weaker c.next_read.result _ (λ next. IsNext bytes next)
-    (λ next is. reading_found bytes c.args.start c.args.end c.requires.lies found.0 found.1 found.3 c.in-Ok.framing framed c.in_ok-reading-in-Ok.reading reading_is next
+    (λ next is. reading_found bytes c.args.start c.args.end c.requires.lies found.0 found.1 found.3 c.in-Ok.framing framed
+    c.in_ok-reading-in-Ok.reading reading_is next
     (is ∙ read_by_parts text c.good_head_spans.new.headers c.in-Some.spans found.0 found.2 c.args.end c.in_ok-reading-in-Ok.reading))
     c.next_read.ensures.found
 
@@ -64,11 +83,15 @@ returns-in_ok-reading-in-Ok-clause-memory c =
     let found = c.in-Some.ensures.found in
     let bytes = c.args.bytes.now in
     let text = slice_range bytes c.args.start c.args.end in
-    let framed = framed_by_parts text c.good_head_spans.new.headers c.in-Some.spans found.0 found.2 ∙ sym c.framing_of.ensures ∙ c.in-Ok.is in
-    let reading_is = at_rest bytes c.args.end _ c.in-Ok.framing c.in_ok-reading-in-Ok.reading c.new-reader.ensures.framing c.in_ok-reading-in-Ok.ensures.found in
+    let framed = framed_by_parts text c.good_head_spans.new.headers c.in-Some.spans found.0 found.2 ∙ sym c.framing_of.ensures
+    ∙ c.in-Ok.is in
+    let reading_is = at_rest bytes c.args.end _ c.in-Ok.framing c.in_ok-reading-in-Ok.reading c.new-reader.ensures.framing
+    c.in_ok-reading-in-Ok.ensures.found in
     on_err_weaker c.next_read.result
-    (λ is. reading_begins bytes c.args.start c.args.end c.requires.lies found.0 found.1 found.3 c.in-Ok.framing framed c.in_ok-reading-in-Ok.reading reading_is
-    (subst IsRequest (read_by_parts text c.good_head_spans.new.headers c.in-Some.spans found.0 found.2 c.args.end c.in_ok-reading-in-Ok.reading) is))
+    (λ is. reading_begins bytes c.args.start c.args.end c.requires.lies found.0 found.1 found.3 c.in-Ok.framing framed
+    c.in_ok-reading-in-Ok.reading reading_is
+    (subst IsRequest (read_by_parts text c.good_head_spans.new.headers c.in-Some.spans found.0 found.2 c.args.end
+    c.in_ok-reading-in-Ok.reading) is))
     c.next_read.ensures.memory
 
 pub returns-in_ok-reading-in-Ok-clause-knows : goal.returns-in_ok-reading-in-Ok-clause-knows
@@ -76,7 +99,15 @@ returns-in_ok-reading-in-Ok-clause-knows c =
     let found = c.in-Some.ensures.found in
     let bytes = c.args.bytes.now in
     let text = slice_range bytes c.args.start c.args.end in
-    let framed = framed_by_parts text c.good_head_spans.new.headers c.in-Some.spans found.0 found.2 ∙ sym c.framing_of.ensures ∙ c.in-Ok.is in
+    let framed = framed_by_parts text c.good_head_spans.new.headers c.in-Some.spans found.0 found.2 ∙ sym c.framing_of.ensures
+    ∙ c.in-Ok.is in
     let same = c.read.ensures.framing ∙ c.new-reader.ensures.framing in
-    knows_body c.args.start c.args.end c.read.new.self bytes
-    (found.0, c.requires.lies, found.1, found.3, framed ∙ ap Ok (sym same), knows_rest bytes c.args.end c.read.new.self c.read.ensures.knows)
+    knows_body c.args.start c.args.end c.read.new.self bytes (
+      found.0,
+      c.requires.lies,
+      found.1,
+      found.3,
+      framed ∙ ap Ok (sym same),
+      knows_rest bytes c.args.end c.read.new.self
+          c.read.ensures.knows,
+    )

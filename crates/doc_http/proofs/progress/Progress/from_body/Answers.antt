@@ -1,5 +1,5 @@
 use Rattle.std.proofs.Common.{Ok, refl, sym, ap, ◌∙◌, arith}
-use Rattle.doc_bodies.specs.Knowledge.{framing_of as framing_for}
+use Rattle.doc_http_bodies.specs.KnowledgeSteps.{framing_of as framing_for}
 use Rattle.doc_http.specs.declared.request.Next.TheVariants as next
 use Rattle.doc_http.proofs.ProgressLemmas.{whole_begins, reading_found, knows_body, at_rest, whole_rest, knows_rest, on_err}
 use Rattle.doc_http.proofs.SpanLemmas.{places}
@@ -20,20 +20,38 @@ returns-in_err-reading-clause-memory c =
 
 pub finish-requires : goal.finish-requires
 finish-requires c =
-    let at = c.requires.at in
-    (at.0, at.1, at.2, at.3, (framing_for c.args.reader, at.4, at_rest c.args.bytes.now c.args.end _ (framing_for c.args.reader) _ refl c.in_ok-reading.ensures.found))
+    let at = c.requires.at in (
+      at.0,
+      at.1,
+      at.2,
+      at.3,
+      (
+        framing_for c.args.reader,
+        at.4,
+        at_rest c.args.bytes.now c.args.end _ (framing_for c.args.reader) _ refl
+            c.in_ok-reading.ensures.found,
+      ),
+    )
 
 pub returns-in-More-clause-found : goal.returns-in-More-clause-found
 returns-in-More-clause-found c =
     let at = c.requires.at in
     let is = at_rest c.args.bytes.now c.args.end _ (framing_for c.args.reader) _ refl c.in_ok-reading.ensures.found in
-    reading_found c.args.bytes.now c.args.start c.args.end at.1 at.0 at.2 at.3 (framing_for c.args.reader) at.4 _ (sym c.in-More.is ∙ is) next.More refl
+    reading_found c.args.bytes.now c.args.start c.args.end at.1 at.0 at.2 at.3 (framing_for c.args.reader) at.4 _ (sym c.in-More.is
+    ∙ is) next.More refl
 
 pub returns-in-More-clause-knows : goal.returns-in-More-clause-knows
 returns-in-More-clause-knows c =
     let at = c.requires.at in
-    knows_body c.args.start c.args.end c.read.new.self c.args.bytes.now
-    (at.0, at.1, at.2, at.3, at.4 ∙ ap Ok (sym c.read.ensures.framing), knows_rest c.args.bytes.now c.args.end c.read.new.self c.read.ensures.knows)
+    knows_body c.args.start c.args.end c.read.new.self c.args.bytes.now (
+      at.0,
+      at.1,
+      at.2,
+      at.3,
+      at.4 ∙ ap Ok (sym c.read.ensures.framing),
+      knows_rest c.args.bytes.now c.args.end c.read.new.self
+          c.read.ensures.knows,
+    )
 
 pub returns-in_default : goal.returns-in_default
 returns-in_default c =
@@ -41,6 +59,13 @@ returns-in_default c =
     record {
       found = c.finish.ensures.found;
       memory = c.finish.ensures.memory;
-      knows = knows_body c.args.start c.args.end c.read.new.self c.args.bytes.now
-          (at.0, at.1, at.2, at.3, at.4 ∙ ap Ok (sym c.read.ensures.framing), knows_rest c.args.bytes.now c.args.end c.read.new.self c.read.ensures.knows);
+      knows = knows_body c.args.start c.args.end c.read.new.self c.args.bytes.now (
+        at.0,
+        at.1,
+        at.2,
+        at.3,
+        at.4 ∙ ap Ok (sym c.read.ensures.framing),
+        knows_rest c.args.bytes.now c.args.end c.read.new.self
+            c.read.ensures.knows,
+      );
     }

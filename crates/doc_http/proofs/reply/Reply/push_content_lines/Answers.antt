@@ -5,4 +5,5 @@ use Rattle.doc_http.proofs.reply.Reply.push_content_lines.Goals as goal
 pub returns : goal.returns
 returns c =
     IfOk-equal c.push_length.result _ _ _ c.push_length.ensures
-    (content_lines_after c.args.self.now _ _ _ _ c.if-self-eq204.false c.content_type.ensures c.in_ok-push_field.ensures c.content_len.ensures)
+    (content_lines_after c.args.self.now _ _ _ _ c.if-self-eq204.false c.content_type.ensures c.in_ok-push_field.ensures
+    c.content_len.ensures)

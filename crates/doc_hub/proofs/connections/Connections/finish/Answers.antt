@@ -17,7 +17,10 @@ returns c =
     let look = looked_up nat_cmp_total exact_unsigned es c.args.id in
     let h = c.in-Some.ensures.value in
     let k = (c.get_mut.follows.holds c.finish.new.self).3 in
-    finishes c.args.self.now _ c.args.id c.args.used c.args.last c.in-Some.connection.now c.finish.new.self (ap (λ m. map.get m c.args.id) (sym c.self.view_is) ∙ sym look ∙ sym h) (inserted nat_cmp_total exact_unsigned es (c.get_mut.follows.lender c.finish.new.self).entries c.args.id c.finish.new.self (k (rw (← h) refl)).0 ∙ ap (λ m. map.insert m c.args.id c.finish.new.self) c.self.view_is) c.finish.ensures
+    finishes c.args.self.now _ c.args.id c.args.used c.args.last c.in-Some.connection.now c.finish.new.self
+    (ap (λ m. map.get m c.args.id) (sym c.self.view_is) ∙ sym look ∙ sym h)
+    (inserted nat_cmp_total exact_unsigned es (c.get_mut.follows.lender c.finish.new.self).entries c.args.id c.finish.new.self
+    (k (rw (← h) refl)).0 ∙ ap (λ m. map.insert m c.args.id c.finish.new.self) c.self.view_is) c.finish.ensures
 
 pub returns-in_default : goal.returns-in_default
 returns-in_default c d found =

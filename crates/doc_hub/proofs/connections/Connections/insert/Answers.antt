@@ -7,5 +7,6 @@ use Rattle.doc_hub.proofs.connections.Connections.insert.Goals as goal
 
 pub returns-clause-ok : goal.returns-clause-ok
 returns-clause-ok c =
-    inserted nat_cmp_total exact_unsigned c.self.inside.entries.entries c.insert.new.self.entries c.args.id c.args.connection c.in_ok-insert.ensures.updates.0
+    inserted nat_cmp_total exact_unsigned c.self.inside.entries.entries c.insert.new.self.entries c.args.id c.args.connection
+    c.in_ok-insert.ensures.updates.0
     ∙ ap (λ m. map.insert m c.args.id c.args.connection) c.self.view_is

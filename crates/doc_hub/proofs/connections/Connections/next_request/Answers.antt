@@ -16,18 +16,24 @@ returns-in_default-clause-found c d found =
 
 pub returns-clause-found : goal.returns-clause-found
 returns-clause-found c d also =
-    let found = ap (λ m. map.get m c.args.id) (sym c.self.view_is) ∙ sym (looked_up nat_cmp_total exact_unsigned c.self.inside.entries.entries c.args.id) ∙ sym c.in-Some.ensures.value in
-    of_the_same (λ (k : Connection). IfOk c.next_request.result (λ next. IsNext k.unread next)) (map.get c.args.self.now c.args.id) c.in-Some.connection.now d found c.next_request.ensures.found also
+    let found = ap (λ m. map.get m c.args.id) (sym c.self.view_is)
+    ∙ sym (looked_up nat_cmp_total exact_unsigned c.self.inside.entries.entries c.args.id) ∙ sym c.in-Some.ensures.value in
+    of_the_same (λ (k : Connection). IfOk c.next_request.result (λ next. IsNext k.unread next)) (map.get c.args.self.now c.args.id)
+    c.in-Some.connection.now d found c.next_request.ensures.found also
 
 pub returns-clause-within : goal.returns-clause-within
 returns-clause-within c d also =
-    let found = ap (λ m. map.get m c.args.id) (sym c.self.view_is) ∙ sym (looked_up nat_cmp_total exact_unsigned c.self.inside.entries.entries c.args.id) ∙ sym c.in-Some.ensures.value in
-    of_the_same (λ (k : Connection). IfOk c.next_request.result (UsesAtMost (length k.unread))) (map.get c.args.self.now c.args.id) c.in-Some.connection.now d found c.next_request.ensures.within also
+    let found = ap (λ m. map.get m c.args.id) (sym c.self.view_is)
+    ∙ sym (looked_up nat_cmp_total exact_unsigned c.self.inside.entries.entries c.args.id) ∙ sym c.in-Some.ensures.value in
+    of_the_same (λ (k : Connection). IfOk c.next_request.result (UsesAtMost (length k.unread))) (map.get c.args.self.now c.args.id)
+    c.in-Some.connection.now d found c.next_request.ensures.within also
 
 pub returns-clause-memory : goal.returns-clause-memory
 returns-clause-memory c d also =
-    let found = ap (λ m. map.get m c.args.id) (sym c.self.view_is) ∙ sym (looked_up nat_cmp_total exact_unsigned c.self.inside.entries.entries c.args.id) ∙ sym c.in-Some.ensures.value in
-    of_the_same (λ (k : Connection). OnErr c.next_request.result (BeginsWithRequest k.unread)) (map.get c.args.self.now c.args.id) c.in-Some.connection.now d found c.next_request.ensures.memory also
+    let found = ap (λ m. map.get m c.args.id) (sym c.self.view_is)
+    ∙ sym (looked_up nat_cmp_total exact_unsigned c.self.inside.entries.entries c.args.id) ∙ sym c.in-Some.ensures.value in
+    of_the_same (λ (k : Connection). OnErr c.next_request.result (BeginsWithRequest k.unread)) (map.get c.args.self.now c.args.id)
+    c.in-Some.connection.now d found c.next_request.ensures.memory also
 
 pub returns-clause-same : goal.returns-clause-same
 returns-clause-same c =
@@ -35,7 +41,8 @@ returns-clause-same c =
     let h = c.in-Some.ensures.value in
     let k = (c.get_mut.follows.holds c.next_request.new.self).3 in
     let found = ap (λ m. map.get m c.args.id) (sym c.self.view_is) ∙ sym (looked_up nat_cmp_total exact_unsigned es c.args.id) ∙ sym h in
-    inserted nat_cmp_total exact_unsigned es (c.get_mut.follows.lender c.next_request.new.self).entries c.args.id c.next_request.new.self (k (rw (← h) refl)).0
+    inserted nat_cmp_total exact_unsigned es (c.get_mut.follows.lender c.next_request.new.self).entries c.args.id c.next_request.new.self
+    (k (rw (← h) refl)).0
     ∙ ap (λ m. map.insert m c.args.id c.next_request.new.self) c.self.view_is
     ∙ ap (map.insert c.args.self.now c.args.id) c.next_request.ensures.same
     ∙ insert_same c.args.self.now c.args.id c.in-Some.connection.now found

@@ -22,11 +22,14 @@ loop-event-preserved g c =
     let ok : is_ok c.push.result ≡ true = c.push.ensures.succeeds (omega arith) in
     let added : c.push.new.self.items ≡ c.loop-event.outcomes.items ++ c.happen-outcome.result ∷ [] = c.push.ensures.items ∙ rw ok refl in
     let more : vec_len c.push.new.self ≡ vec_len c.loop-event.outcomes + 1 = c.push.ensures.len ∙ rw ok refl in
-    let taken : take (i + 1) events ≡ take i events ++ event ∷ [] = take_more events i event (omega arith) ∙ ap (λ x. take i events ++ x ∷ []) (sym c.event-item.is) in
+    let taken : take (i + 1) events ≡ take i events ++ event ∷ [] = take_more events i event (omega arith)
+    ∙ ap (λ x. take i events ++ x ∷ []) (sym c.event-item.is) in
     record {
       same = c.happen-outcome.ensures.same ∙ c.loop-event.invariant.same;
       count = omega arith;
       room = omega arith;
-      told = one_more_event (g.R.Renderer.page c.args.self.now.0) (g.R.Renderer.page c.loop-event.self.0) c.args.self.now.1 c.loop-event.self.1 c.happen-outcome.new.self.1 (take i events) (take (i + 1) events) c.loop-event.outcomes.items c.push.new.self.items event c.happen-outcome.result
+      told = one_more_event (g.R.Renderer.page c.args.self.now.0) (g.R.Renderer.page c.loop-event.self.0) c.args.self.now.1
+          c.loop-event.self.1 c.happen-outcome.new.self.1 (take i events) (take (i + 1) events) c.loop-event.outcomes.items
+          c.push.new.self.items event c.happen-outcome.result
           c.loop-event.invariant.same c.loop-event.invariant.told c.happen-outcome.ensures.world taken added;
     }

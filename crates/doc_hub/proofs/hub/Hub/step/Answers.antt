@@ -10,7 +10,8 @@ use Rattle.doc_hub.proofs.hub.Hub.step.Goals as goal
 pub answer_to_fault-requires : goal.answer_to_fault-requires
 answer_to_fault-requires g c =
     let connection = c.in-Some.connection.now in
-    has_fault_code connection.unread c.in_ok-next_request.field-0 c.in-Fault.code c.in-Fault.bare c.in-Fault.is (c.in_ok-next_request.ensures.found connection (sym c.in-Some.ensures))
+    has_fault_code connection.unread c.in_ok-next_request.field-0 c.in-Fault.code c.in-Fault.bare c.in-Fault.is
+    (c.in_ok-next_request.ensures.found connection (sym c.in-Some.ensures))
 
 pub invariant_of-self-in-Fault : goal.invariant_of-self-in-Fault
 invariant_of-self-in-Fault g c =
@@ -21,7 +22,8 @@ invariant_of-self-in-Fault g c =
 
 pub make-requires : goal.make-requires
 make-requires g c =
-    edit_can_be_made (g.R.Renderer.page c.self.inside.renderer) c.self.inside.store (option_and_then (map.get c.self.inside.readers) (bearer_of c.in-Request.request)) c.self.inside.keep_alive c.in-Request.request
+    edit_can_be_made (g.R.Renderer.page c.self.inside.renderer) c.self.inside.store
+    (option_and_then (map.get c.self.inside.readers) (bearer_of c.in-Request.request)) c.self.inside.keep_alive c.in-Request.request
     c.get-in-Request.result.now c.in_ok-answer-in-Request.answer c.get-in-Request.ensures c.in_ok-answer-in-Request.ensures.answer
 
 pub invariant_of-self-in_err-make-in-Request : goal.invariant_of-self-in_err-make-in-Request
@@ -31,6 +33,7 @@ invariant_of-self-in_err-make-in-Request g c =
 pub invariant_of-self-in-Request : goal.invariant_of-self-in-Request
 invariant_of-self-in-Request g c =
     let same = c.in_ok-next_request.ensures.same in
-    finished_have c.self.inside.given c.next_request.new.self c.finish-in-Request.new.self c.args.id.0 c.in-Request.used c.in_ok-answer-in-Request.answer.closes c.in-Some.connection.now
+    finished_have c.self.inside.given c.next_request.new.self c.finish-in-Request.new.self c.args.id.0 c.in-Request.used
+    c.in_ok-answer-in-Request.answer.closes c.in-Some.connection.now
     (same_have c.self.inside.given c.self.inside.connections c.next_request.new.self same c.self.invariant)
     (c.in-Some.ensures ∙ ap (λ m. map.get m c.args.id.0) (sym same)) c.finish-in-Request.ensures

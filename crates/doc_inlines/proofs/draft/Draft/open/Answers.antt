@@ -6,11 +6,13 @@ returns-clause-brackets c = adds_bracket _ _ _ c.in_ok-push.ensures.items
 
 pub returns-clause-made : goal.returns-clause-made
 returns-clause-made c =
-    bracket_made _ _ _ _ _ _ _ _ _ c.requires.sound.brackets c.requires.sound.dead c.place-place.ensures.marks c.place-place.ensures.runs c.requires.text c.in_ok-push-2.ensures.items c.in_ok-push-2.ensures.runs c.in_ok-push.ensures.items
+    bracket_made _ _ _ _ _ _ _ _ _ c.requires.sound.brackets c.requires.sound.dead c.place-place.ensures.marks c.place-place.ensures.runs
+    c.requires.text c.in_ok-push-2.ensures.items c.in_ok-push-2.ensures.runs c.in_ok-push.ensures.items
 
 pub returns-clause-sound : goal.returns-clause-sound
 returns-clause-sound c = record {
   marks = c.in_ok-push-2.ensures.sound;
-  brackets = bracket_open _ _ _ _ _ _ _ _ c.requires.sound.brackets c.place-place.ensures.marks c.place-place.ensures.runs c.requires.text c.in_ok-push-2.ensures.items c.in_ok-push-2.ensures.runs c.in_ok-push.ensures.items;
+  brackets = bracket_open _ _ _ _ _ _ _ _ c.requires.sound.brackets c.place-place.ensures.marks c.place-place.ensures.runs c.requires.text
+      c.in_ok-push-2.ensures.items c.in_ok-push-2.ensures.runs c.in_ok-push.ensures.items;
   dead = still_below _ _ _ _ c.requires.sound.dead c.in_ok-push.ensures.items;
 }

@@ -6,7 +6,8 @@ pub returns : goal.returns
 returns c =
     let e = c.in_ok-bracket.ensures.items in
     let new = c.min-self.ensures ∙ ap (λ n. min c.args.self.now.dead n) (ap length c.as_slice-count.ensures.value) in
-    let live = c.is_live-live.ensures ∙ ap (λ n. c.in_ok-bracket.bracket.image || nat_le c.args.self.now.dead n) (ap length c.as_slice-count.ensures.value) in
+    let live = c.is_live-live.ensures ∙ ap (λ n. c.in_ok-bracket.bracket.image || nat_le c.args.self.now.dead n)
+    (ap length c.as_slice-count.ensures.value) in
     record {
       items = refl;
       brackets = e;

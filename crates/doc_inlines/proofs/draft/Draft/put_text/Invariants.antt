@@ -3,10 +3,10 @@ use denote.Text.{Utf8}
 use denote.Shadow.{shadow}
 use Rattle.doc_rules.specs.Inlines.{literals, onto}
 use Rattle.doc_rules.specs.Parsers.{before}
-use Rattle.doc_rules.proofs.ParserLaws.{IsRest}
-use Rattle.doc_emphasis.specs.Views.{items_of}
-use Rattle.doc_inlines.specs.Drafts.{IsDraft, made_of}
-use Rattle.doc_inlines.specs.Pieces.{AddsText}
+use Rattle.doc_rules.specs.Rests.{IsRest}
+use Rattle.doc_inlines_emphasis.specs.Views.{items_of}
+use Rattle.doc_inlines.specs.DraftSteps.{IsDraft, made_of}
+use Rattle.doc_inlines.specs.PieceSteps.{AddsText}
 use Rattle.doc_inlines.proofs.draft.Draft.put_text.Given as goal
 
 abbrev pub invariant-pieces : goal.invariant-pieces

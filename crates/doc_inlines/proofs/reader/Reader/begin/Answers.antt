@@ -1,7 +1,7 @@
 use Rattle.std.proofs.Common.{subst, sym, chars, ◌∙◌}
-use Rattle.doc_marks.specs.Slices.{AreSlices, AreCut}
+use Rattle.doc_inlines_marks.specs.Slices.{AreSlices, AreCut}
 use Rattle.doc_rules.specs.Parsers.{before}
-use Rattle.doc_inlines.specs.Readers.{AllBehind}
+use Rattle.doc_inlines.specs.ReaderSteps.{AllBehind}
 use Rattle.doc_inlines.proofs.ReaderLaws.{nothing_pending, none_uncut, all_of_itself}
 use Rattle.doc_inlines.proofs.reader.Reader.begin.Goals as goal
 

@@ -3,7 +3,7 @@ use Rattle.doc_rules.specs.Characters.{last_or}
 use Rattle.doc_rules.specs.Parsers.{run_length}
 use Rattle.doc_rules.specs.Inlines.{Delimiters}
 use Rattle.doc_rules.proofs.ParserLaws.{is_rest_again}
-use Rattle.doc_inlines.specs.Readers.{state_made}
+use Rattle.doc_inlines.specs.ReaderSteps.{state_made}
 use Rattle.doc_inlines.proofs.ItemLaws.{goes_on}
 use Rattle.doc_inlines.proofs.RunLaws.{behind_first, run_taken, run_text, run_reads}
 use Rattle.doc_inlines.proofs.reader.Reader.delimiters.Goals as goal
@@ -24,8 +24,10 @@ returns c = λ table targets.
     let n = run_length c.args.c (chars c.args.behind.now) in
     let found = c.behind_run-next.ensures.value in
     goes_on table targets c.args.self.now c.put_run.new.self c.args.c (chars c.args.behind.now) (chars c.behind_run-next.result.now)
-    (Delimiters (record { char = c.args.c; left = suc n; length = suc n; opens = c.opens-opens.result; closes = c.closes-closes.result }) ∷ state_made c.args.self.now) c.requires.sound p.sound p.text
+    (Delimiters (record { char = c.args.c; left = suc n; length = suc n; opens = c.opens-opens.result; closes = c.closes-closes.result }) ∷
+    state_made c.args.self.now) c.requires.sound p.sound p.text
     (ap (λ t. chars t.now) p.rest) c.requires.first c.behind_run-next.ensures.end
     (λ definitions e.
-    run_reads table definitions c.args.c _ _ _ _ _ _ _ _ c.requires.delimiter found (c.last_or_line-last.ensures ∙ ap (last_or 10) c.front.ensures.value) c.first_or_line-first.ensures c.opens-opens.ensures c.closes-closes.ensures)
+    run_reads table definitions c.args.c _ _ _ _ _ _ _ _ c.requires.delimiter found (c.last_or_line-last.ensures
+    ∙ ap (last_or 10) c.front.ensures.value) c.first_or_line-first.ensures c.opens-opens.ensures c.closes-closes.ensures)
     (p.made n c.args.c (run_taken _ _ _ _ _ c.requires.first found c.front-run.ensures.value))

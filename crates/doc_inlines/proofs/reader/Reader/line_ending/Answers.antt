@@ -1,6 +1,6 @@
 use Rattle.std.proofs.Common.{ap, chars, ◌∷◌}
 use Rattle.doc_rules.specs.Inlines.{SoftBreak}
-use Rattle.doc_inlines.specs.Readers.{state_made}
+use Rattle.doc_inlines.specs.ReaderSteps.{state_made}
 use Rattle.doc_inlines.proofs.ItemLaws.{goes_on}
 use Rattle.doc_inlines.proofs.RunLaws.{behind_first}
 use Rattle.doc_inlines.proofs.GapLaws.{soft_stands, soft_made, soft_reads}
@@ -12,5 +12,7 @@ put-requires-clause-stands c = soft_stands _ _ (behind_first 10 _ _ _ c.requires
 pub returns : goal.returns
 returns c = λ table targets.
     let p = c.in_ok-put.ensures in
-    goes_on table targets c.args.self.now c.put.new.self 10 (chars c.args.behind.now) (chars c.behind_run.result.now) (SoftBreak ∷ state_made c.args.self.now) c.requires.sound p.sound p.text (ap (λ t. chars t.now) p.rest) c.requires.first
-    c.behind_run.ensures.end (λ definitions e. soft_reads table definitions _ (state_made c.args.self.now) _ _ c.behind_run.ensures.value) (soft_made _ _ p.made)
+    goes_on table targets c.args.self.now c.put.new.self 10 (chars c.args.behind.now) (chars c.behind_run.result.now)
+    (SoftBreak ∷ state_made c.args.self.now) c.requires.sound p.sound p.text (ap (λ t. chars t.now) p.rest) c.requires.first
+    c.behind_run.ensures.end (λ definitions e. soft_reads table definitions _ (state_made c.args.self.now) _ _ c.behind_run.ensures.value)
+    (soft_made _ _ p.made)

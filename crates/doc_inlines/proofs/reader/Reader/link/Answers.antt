@@ -1,5 +1,5 @@
 use Rattle.std.proofs.Common.{ap, chars, refl, ◌∙◌}
-use Rattle.doc_emphasis.specs.Views.{items_of}
+use Rattle.doc_inlines_emphasis.specs.Views.{items_of}
 use Rattle.doc_inlines.proofs.ReaderLaws.{plain_moved, moved_behind, none_uncut, all_of_itself, nothing_pending}
 use Rattle.doc_inlines.proofs.BracketItemLaws.{longer_slices}
 use Rattle.doc_inlines.proofs.reader.Reader.link.Goals as goal

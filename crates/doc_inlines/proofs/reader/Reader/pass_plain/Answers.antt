@@ -8,4 +8,5 @@ pass-requires-clause-uncut c = run_uncut (before (chars c.args.rest.now) (chars 
 
 pub returns : goal.returns
 returns c = λ table targets.
-    run_goes_on table targets c.args.self.now c.pass.new.self (chars c.args.rest.now) c.requires.sound c.pass.ensures.sound c.pass.ensures.text (ap (λ t. chars t.now) c.pass.ensures.rest) c.requires.run c.pass.ensures.made
+    run_goes_on table targets c.args.self.now c.pass.new.self (chars c.args.rest.now) c.requires.sound c.pass.ensures.sound
+    c.pass.ensures.text (ap (λ t. chars t.now) c.pass.ensures.rest) c.requires.run c.pass.ensures.made

@@ -10,7 +10,9 @@ pub returns-in_ok-put-in-Raw-clause-made : goal.returns-in_ok-put-in-Raw-clause-
 returns-in_ok-put-in-Raw-clause-made c = raw_made _ c.in-Raw.html _ _ c.in-Raw.is c.in_ok-put-in-Raw.ensures.made
 
 pub returns-in_ok-put_autolink-in-Uri-clause-made : goal.returns-in_ok-put_autolink-in-Uri-clause-made
-returns-in_ok-put_autolink-in-Uri-clause-made c = uri_made _ c.in-Uri.address _ _ _ c.in-Uri.is chars-nil c.in_ok-put_autolink-in-Uri.ensures.made
+returns-in_ok-put_autolink-in-Uri-clause-made c = uri_made _ c.in-Uri.address _ _ _ c.in-Uri.is chars-nil
+    c.in_ok-put_autolink-in-Uri.ensures.made
 
 pub returns-in_ok-put_autolink-in-Mail-clause-made : goal.returns-in_ok-put_autolink-in-Mail-clause-made
-returns-in_ok-put_autolink-in-Mail-clause-made c = mail_made _ c.in-Mail.address _ _ _ c.in-Mail.is (chars-IsAscii _ (search rules)) c.in_ok-put_autolink-in-Mail.ensures.made
+returns-in_ok-put_autolink-in-Mail-clause-made c = mail_made _ c.in-Mail.address _ _ _ c.in-Mail.is (chars-IsAscii _ (search rules))
+    c.in_ok-put_autolink-in-Mail.ensures.made

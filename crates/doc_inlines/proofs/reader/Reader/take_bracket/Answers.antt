@@ -7,4 +7,5 @@ returns-then-is_empty c = has_none c.args.self.now (nothing_in _ _ _ c.if-is_emp
 pub returns : goal.returns
 returns c =
     let f = c.in_ok-flush.ensures in
-    taken c.pop.result c.args.self.now c.flush.new.self c.pop.new.self _ _ c.if-is_empty.false c.is_empty.ensures c.as_slice.ensures.value (record { text = f.text; rest = f.rest; plain = f.plain; made = f.made; sound = f.sound }) c.pop.ensures
+    taken c.pop.result c.args.self.now c.flush.new.self c.pop.new.self _ _ c.if-is_empty.false c.is_empty.ensures c.as_slice.ensures.value
+    (record { text = f.text; rest = f.rest; plain = f.plain; made = f.made; sound = f.sound }) c.pop.ensures

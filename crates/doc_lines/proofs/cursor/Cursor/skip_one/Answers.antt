@@ -6,26 +6,34 @@ use Rattle.doc_lines.proofs.CursorLaws.{skipped_at_end, skipped_at_other, skippe
 use Rattle.doc_lines.proofs.cursor.Cursor.skip_one.Goals as goal
 
 pub returns-in_default-clause-stop : goal.returns-in_default-clause-stop
-returns-in_default-clause-stop c = λ _. skipped_at_end c.args.columns c.args.self.now (ap (λ (p : Position). p.rest) (sym c.self.view_is) ∙ c.in_default.ensures.characters)
+returns-in_default-clause-stop c = λ _. skipped_at_end c.args.columns c.args.self.now (ap (λ (p : Position). p.rest) (sym c.self.view_is)
+    ∙ c.in_default.ensures.characters)
 
 pub returns-then-not-is_space_or_tab-clause-stop : goal.returns-then-not-is_space_or_tab-clause-stop
 returns-then-not-is_space_or_tab-clause-stop c =
     let other : is_space_or_tab c.in-Some.c ≡ false = sym c.is_space_or_tab.ensures ∙ c.if-not-is_space_or_tab.true in
-    λ _. skipped_at_other c.args.columns c.in-Some.c (chars c.in-Some.rest.now) c.args.self.now (ap (λ (p : Position). p.rest) (sym c.self.view_is) ∙ c.in-Some.ensures.characters) other
+    λ _. skipped_at_other c.args.columns c.in-Some.c (chars c.in-Some.rest.now) c.args.self.now
+    (ap (λ (p : Position). p.rest) (sym c.self.view_is) ∙ c.in-Some.ensures.characters) other
 
 pub returns-then-columns-width-clause-place : goal.returns-then-columns-width-clause-place
 returns-then-columns-width-clause-place c =
     let from : Position = position_at c.self.inside.line_length c.self.inside.rest.now c.self.inside.column c.self.inside.in_tab in
     let gap : is_space_or_tab c.in-Some.c ≡ true = sym c.is_space_or_tab.ensures ∙ c.if-not-is_space_or_tab.false in
-    let less : c.args.columns < width_at c.in-Some.c c.self.inside.column = omega (arith, c.width_at-width.ensures, c.if-columns-width.true) in
-    ap (skipped c.args.columns) (sym c.self.view_is) ∙ skipped_part c.args.columns c.in-Some.c (chars c.in-Some.rest.now) from c.in-Some.ensures.characters gap c.requires less
+    let less : c.args.columns < width_at c.in-Some.c c.self.inside.column = omega
+    (arith, c.width_at-width.ensures, c.if-columns-width.true) in
+    ap (skipped c.args.columns) (sym c.self.view_is) ∙ skipped_part c.args.columns c.in-Some.c (chars c.in-Some.rest.now) from
+    c.in-Some.ensures.characters gap c.requires less
 
 pub returns-clause-place : goal.returns-clause-place
 returns-clause-place c =
     let from : Position = position_at c.self.inside.line_length c.self.inside.rest.now c.self.inside.column c.self.inside.in_tab in
     let gap : is_space_or_tab c.in-Some.c ≡ true = sym c.is_space_or_tab.ensures ∙ c.if-not-is_space_or_tab.false in
-    let fits : width_at c.in-Some.c c.self.inside.column ≤ c.args.columns = omega (arith, c.width_at-width.ensures, c.if-columns-width.false) in
+    let fits : width_at c.in-Some.c c.self.inside.column ≤ c.args.columns = omega
+    (arith, c.width_at-width.ensures, c.if-columns-width.false) in
     ap (skipped c.args.columns) (sym c.self.view_is)
     ∙ skipped_whole c.args.columns c.in-Some.c (chars c.in-Some.rest.now) from c.in-Some.ensures.characters gap c.requires fits
-    ∙ ap (skipped (c.args.columns - width_at c.in-Some.c c.self.inside.column)) (sym (behind_is c.self.inside.line_length c.self.inside.rest.now c.in-Some.rest.now c.self.inside.column c.in-Some.c c.self.inside.in_tab c.self.invariant.0.0 c.in-Some.ensures.bytes))
-    ∙ ap (λ (w : ℕ). skipped (c.args.columns - w) (position_at c.self.inside.line_length c.in-Some.rest.now (c.self.inside.column + w) false)) (sym c.width_at-width.ensures)
+    ∙ ap (skipped (c.args.columns - width_at c.in-Some.c c.self.inside.column))
+    (sym (behind_is c.self.inside.line_length c.self.inside.rest.now c.in-Some.rest.now c.self.inside.column c.in-Some.c
+    c.self.inside.in_tab c.self.invariant.0.0 c.in-Some.ensures.bytes))
+    ∙ ap (λ (w : ℕ). skipped (c.args.columns - w) (position_at c.self.inside.line_length c.in-Some.rest.now (c.self.inside.column + w)
+    false)) (sym c.width_at-width.ensures)

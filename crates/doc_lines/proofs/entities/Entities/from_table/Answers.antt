@@ -6,4 +6,5 @@ use Rattle.doc_lines.proofs.AnswerLaws.{bad_answer}
 use Rattle.doc_lines.proofs.entities.Entities.from_table.Goals as goal
 
 pub returns-in-Some : goal.returns-in-Some
-returns-in-Some c = bad_answer (lines c.args.text.now) (bad_line 1 (lines c.args.text.now)) (twice_line built_in 1 (lines c.args.text.now)) c.in-Some.line (sym c.bad_line.ensures ∙ c.in-Some.is)
+returns-in-Some c = bad_answer (lines c.args.text.now) (bad_line 1 (lines c.args.text.now)) (twice_line built_in 1 (lines c.args.text.now))
+    c.in-Some.line (sym c.bad_line.ensures ∙ c.in-Some.is)

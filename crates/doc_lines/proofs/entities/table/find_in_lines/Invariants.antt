@@ -6,4 +6,5 @@ use Rattle.doc_lines.proofs.entities.table.find_in_lines.Given as goal
 
 -- the name is sought in the lines that are left of those
 abbrev pub invariant-loop-line : goal.invariant-loop-line
-invariant-loop-line l = find_entity (entities_in (take l.number (lines l.text))) l.name ≡ find_entity (entities_in (take l.left l.line-iterator)) l.name
+invariant-loop-line l = find_entity (entities_in (take l.number (lines l.text))) l.name
+    ≡ find_entity (entities_in (take l.left l.line-iterator)) l.name

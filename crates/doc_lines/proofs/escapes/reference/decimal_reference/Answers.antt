@@ -12,22 +12,27 @@ front-requires c = is_rest_again _ _ _ c.at_most-end.ensures.end c.in_ok-second.
 
 pub decimal_number-requires : goal.decimal_number-requires
 decimal_number-requires c =
-    digits_before is_ascii_digit 6 7 _ _ _ _ (omega arith) (c.in_ok-second.ensures.value is_ascii_digit (λ d b h. h)) (c.at_most-end.ensures.value is_ascii_digit (λ d b h. h)) c.front.ensures.joins
+    digits_before is_ascii_digit 6 7 _ _ _ _ (omega arith) (c.in_ok-second.ensures.value is_ascii_digit (λ d b h. h))
+    (c.at_most-end.ensures.value is_ascii_digit (λ d b h. h)) c.front.ensures.joins
 
 pub returns-clause-behind : goal.returns-clause-behind
 returns-clause-behind c =
-    decimal_is _ _ _ _ _ c.in_ok-digits.ensures (c.in_ok-second.ensures.value is_ascii_digit (λ d b h. h)) (c.at_most-end.ensures.value is_ascii_digit (λ d b h. h)) c.in_ok-rest.ensures
+    decimal_is _ _ _ _ _ c.in_ok-digits.ensures (c.in_ok-second.ensures.value is_ascii_digit (λ d b h. h))
+    (c.at_most-end.ensures.value is_ascii_digit (λ d b h. h)) c.in_ok-rest.ensures
 
 pub returns-in_err-rest-clause-behind : goal.returns-in_err-rest-clause-behind
 returns-in_err-rest-clause-behind c =
     let none : behind_of c.from_residual-in_err-rest.result ≡ None = search rules in
     none
-    ∙ decimal_is _ _ _ _ _ c.in_ok-digits.ensures (c.in_ok-second.ensures.value is_ascii_digit (λ d b h. h)) (c.at_most-end.ensures.value is_ascii_digit (λ d b h. h)) c.in_err-rest.ensures
+    ∙ decimal_is _ _ _ _ _ c.in_ok-digits.ensures (c.in_ok-second.ensures.value is_ascii_digit (λ d b h. h))
+    (c.at_most-end.ensures.value is_ascii_digit (λ d b h. h)) c.in_err-rest.ensures
 
 pub returns-clause-value : goal.returns-clause-value
 returns-clause-value c =
-    c.code_point.ensures ∙ ap code_point (c.decimal_number.ensures ∙ ap (number 10) (number_is_inside 35 59 _ _ _ _ _ c.in_ok-digits.ensures c.in_ok-rest.ensures c.front.ensures.joins))
+    c.code_point.ensures ∙ ap code_point (c.decimal_number.ensures
+    ∙ ap (number 10) (number_is_inside 35 59 _ _ _ _ _ c.in_ok-digits.ensures c.in_ok-rest.ensures c.front.ensures.joins))
 
 pub returns-clause-end : goal.returns-clause-end
 returns-clause-end c =
-    is_rest_again _ _ _ (is_rest_again _ _ _ (rest_behind 59 _ _ c.in_ok-rest.ensures) (is_rest_again _ _ _ c.at_most-end.ensures.end c.in_ok-second.ensures.end)) (rest_behind 35 _ _ c.in_ok-digits.ensures)
+    is_rest_again _ _ _ (is_rest_again _ _ _ (rest_behind 59 _ _ c.in_ok-rest.ensures)
+    (is_rest_again _ _ _ c.at_most-end.ensures.end c.in_ok-second.ensures.end)) (rest_behind 35 _ _ c.in_ok-digits.ensures)

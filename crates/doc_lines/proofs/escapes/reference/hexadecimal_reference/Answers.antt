@@ -13,26 +13,32 @@ front-requires c = is_rest_again _ _ _ c.at_most-end.ensures.end c.in_ok-second.
 
 pub hexadecimal_number-requires : goal.hexadecimal_number-requires
 hexadecimal_number-requires c =
-    digits_before is_ascii_hexdigit 5 6 _ _ _ _ (omega arith) (c.in_ok-second.ensures.value is_ascii_hexdigit (λ d b h. h)) (c.at_most-end.ensures.value is_ascii_hexdigit (λ d b h. h)) c.front.ensures.joins
+    digits_before is_ascii_hexdigit 5 6 _ _ _ _ (omega arith) (c.in_ok-second.ensures.value is_ascii_hexdigit (λ d b h. h))
+    (c.at_most-end.ensures.value is_ascii_hexdigit (λ d b h. h)) c.front.ensures.joins
 
 pub returns-clause-behind : goal.returns-clause-behind
 returns-clause-behind c =
-    hexadecimal_is _ _ _ _ _ _ c.in_ok-mark.ensures (c.in_ok-digits.ensures.value (one_of (codes "xX")) (λ d b h. h)) (c.in_ok-second.ensures.value is_ascii_hexdigit (λ d b h. h))
+    hexadecimal_is _ _ _ _ _ _ c.in_ok-mark.ensures (c.in_ok-digits.ensures.value (one_of (codes "xX")) (λ d b h. h))
+    (c.in_ok-second.ensures.value is_ascii_hexdigit (λ d b h. h))
     (c.at_most-end.ensures.value is_ascii_hexdigit (λ d b h. h)) c.in_ok-rest.ensures
 
 pub returns-in_err-rest-clause-behind : goal.returns-in_err-rest-clause-behind
 returns-in_err-rest-clause-behind c =
     let none : behind_of c.from_residual-in_err-rest.result ≡ None = search rules in
     none
-    ∙ hexadecimal_is _ _ _ _ _ _ c.in_ok-mark.ensures (c.in_ok-digits.ensures.value (one_of (codes "xX")) (λ d b h. h)) (c.in_ok-second.ensures.value is_ascii_hexdigit (λ d b h. h))
+    ∙ hexadecimal_is _ _ _ _ _ _ c.in_ok-mark.ensures (c.in_ok-digits.ensures.value (one_of (codes "xX")) (λ d b h. h))
+    (c.in_ok-second.ensures.value is_ascii_hexdigit (λ d b h. h))
     (c.at_most-end.ensures.value is_ascii_hexdigit (λ d b h. h)) c.in_err-rest.ensures
 
 pub returns-clause-value : goal.returns-clause-value
 returns-clause-value c =
     c.code_point.ensures
     ∙ ap code_point (c.hexadecimal_number.ensures
-    ∙ ap (number 16) (number_is_inside_mark 35 59 (one_of (codes "xX")) _ _ _ _ _ _ c.in_ok-mark.ensures (c.in_ok-digits.ensures.value (one_of (codes "xX")) (λ d b h. h)) c.in_ok-rest.ensures c.front.ensures.joins))
+    ∙ ap (number 16) (number_is_inside_mark 35 59 (one_of (codes "xX")) _ _ _ _ _ _ c.in_ok-mark.ensures
+    (c.in_ok-digits.ensures.value (one_of (codes "xX")) (λ d b h. h)) c.in_ok-rest.ensures c.front.ensures.joins))
 
 pub returns-clause-end : goal.returns-clause-end
 returns-clause-end c =
-    is_rest_again _ _ _ (is_rest_again _ _ _ (is_rest_again _ _ _ (rest_behind 59 _ _ c.in_ok-rest.ensures) (is_rest_again _ _ _ c.at_most-end.ensures.end c.in_ok-second.ensures.end)) c.in_ok-digits.ensures.end) (rest_behind 35 _ _ c.in_ok-mark.ensures)
+    is_rest_again _ _ _ (is_rest_again _ _ _ (is_rest_again _ _ _ (rest_behind 59 _ _ c.in_ok-rest.ensures)
+    (is_rest_again _ _ _ c.at_most-end.ensures.end c.in_ok-second.ensures.end)) c.in_ok-digits.ensures.end)
+    (rest_behind 35 _ _ c.in_ok-mark.ensures)

@@ -10,11 +10,13 @@ range-requires-clause-end_boundary c = seam_is_boundary c.args.text.now c.args.r
 
 pub returns-clause-joins : goal.returns-clause-joins
 returns-clause-joins c =
-    let value : c.range.result.now ≡ take (length c.args.text.now - length c.args.rest.now) c.args.text.now = grind (arith, c.range.ensures.value) in
+    let value : c.range.result.now ≡ take (length c.args.text.now - length c.args.rest.now) c.args.text.now = grind
+    (arith, c.range.ensures.value) in
     front_joins c.args.text.now c.args.rest.now c.range.result.now c.requires c.utf8.text c.utf8.rest c.range.utf8 value
 
 pub returns-clause-value : goal.returns-clause-value
 returns-clause-value c =
-    let value : c.range.result.now ≡ take (length c.args.text.now - length c.args.rest.now) c.args.text.now = grind (arith, c.range.ensures.value) in
+    let value : c.range.result.now ≡ take (length c.args.text.now - length c.args.rest.now) c.args.text.now = grind
+    (arith, c.range.ensures.value) in
     front_is_before (chars c.args.text.now) (chars c.args.rest.now) (chars c.range.result.now) c.requires
     (front_joins c.args.text.now c.args.rest.now c.range.result.now c.requires c.utf8.text c.utf8.rest c.range.utf8 value)

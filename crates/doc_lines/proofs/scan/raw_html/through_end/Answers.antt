@@ -5,5 +5,6 @@ use Rattle.doc_lines.proofs.scan.raw_html.through_end.Goals as goal
 
 pub returns : goal.returns
 returns c =
-    then_is (many (λ d. not (d == 62))) (is 62) (chars c.args.text.now) (chars c.many.result.now) _ (c.many.ensures.value (λ d. not (d == 62)) (λ d b h. h)) c.is.ensures
+    then_is (many (λ d. not (d == 62))) (is 62) (chars c.args.text.now) (chars c.many.result.now) _
+    (c.many.ensures.value (λ d. not (d == 62)) (λ d b h. h)) c.is.ensures
     ∙ sym (through_is 62 (chars c.args.text.now))

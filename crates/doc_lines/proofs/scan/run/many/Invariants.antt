@@ -2,7 +2,7 @@ use Rattle.std.proofs.Common.{◌≡◌, ℕ, Bool, chars, length}
 use denote.Text.{Utf8}
 use denote.Shadow.{shadow}
 use Rattle.doc_rules.specs.Parsers.{many}
-use Rattle.doc_rules.proofs.ParserLaws.{IsRest}
+use Rattle.doc_rules.specs.Rests.{IsRest}
 use Rattle.doc_lines.specs.RestSteps.{IsTestOf}
 use Rattle.doc_lines.proofs.scan.run.many.Given as goal
 

@@ -15,5 +15,6 @@ returns-in_err-behind g c = λ parser d.
 pub places-preserved : goal.places-preserved
 places-preserved g c = record {
   is_text = search rules;
-  same = λ parser d. c.places.invariant.same parser d ∙ through_further parser _ _ _ c.in_ok-behind.ensures.characters (d _ _ c.in_default.ensures);
+  same = λ parser d. c.places.invariant.same parser d ∙ through_further parser _ _ _ c.in_ok-behind.ensures.characters
+      (d _ _ c.in_default.ensures);
 }

@@ -9,4 +9,6 @@ returns-in_default c = paragraph_none c.args.run.now c.in_default.ensures.cases
 pub returns : goal.returns
 returns c =
     let after = lines_after (map (λ l. l.now) c.in-Some.others.now) in
-    paragraph_some c.args.run.now c.in-Some.first.now c.in-Some.others.now _ c.in-Some.ensures.cases.0 c.requires (c.new.ensures ∙ c.in_ok-push_lines.ensures ∙ ap (λ r. r ++ after) (c.in_ok-push_str.ensures.bytes ∙ ap (λ r. r ++ c.in-Some.first.now.now) c.in_ok-out.ensures.bytes))
+    paragraph_some c.args.run.now c.in-Some.first.now c.in-Some.others.now _ c.in-Some.ensures.cases.0 c.requires (c.new.ensures
+    ∙ c.in_ok-push_lines.ensures ∙ ap (λ r. r ++ after) (c.in_ok-push_str.ensures.bytes
+    ∙ ap (λ r. r ++ c.in-Some.first.now.now) c.in_ok-out.ensures.bytes))

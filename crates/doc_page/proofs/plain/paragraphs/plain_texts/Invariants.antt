@@ -8,5 +8,6 @@ use Rattle.doc_page.proofs.plain.paragraphs.plain_texts.Given as goal
 abbrev pub invariant-loop-line : goal.invariant-loop-line
 invariant-loop-line l = record {
   full : All (λ x. is_empty x ≡ false) (map (λ x. x.now) l.run.items);
-  told : l.texts.items ++ paragraphs (map (λ x. x.now) l.run.items ++ map (λ line. stripped (without_ending line)) l.line-iterator) ≡ plain_texts l.text;
+  told : l.texts.items ++ paragraphs (map (λ x. x.now) l.run.items ++ map (λ line. stripped (without_ending line)) l.line-iterator)
+      ≡ plain_texts l.text;
 }

@@ -5,7 +5,8 @@ use Rattle.doc_refs.proofs.scan.destination.next_place.Goals as goal
 
 pub returns-in-Some : goal.returns-in-Some
 returns-in-Some c = (
-  goes_over c.args.place.levels (32 - c.args.place.levels) (chars c.args.place.outermost.now) (chars c.args.place.rest.now) (chars c.in-Some.rest.now) (c.in-Some.ensures.value is_bare (λ d b h. h)),
+  goes_over c.args.place.levels (32 - c.args.place.levels) (chars c.args.place.outermost.now) (chars c.args.place.rest.now)
+      (chars c.in-Some.rest.now) (c.in-Some.ensures.value is_bare (λ d b h. h)),
   c.requires,
   c.in-Some.ensures.shorter,
 )

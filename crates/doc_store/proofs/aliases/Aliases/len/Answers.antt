@@ -7,4 +7,5 @@ use Rattle.doc_store.proofs.aliases.Aliases.len.Goals as goal
 
 pub returns-clause-len : goal.returns-clause-len
 returns-clause-len c =
-    c.len.ensures.len ∙ len-sorted nat_list_cmp_total exact_bytes c.self.inside.entries.entries c.len.ensures.ordered ∙ ap map.len c.self.view_is
+    c.len.ensures.len ∙ len-sorted nat_list_cmp_total exact_bytes c.self.inside.entries.entries c.len.ensures.ordered
+    ∙ ap map.len c.self.view_is

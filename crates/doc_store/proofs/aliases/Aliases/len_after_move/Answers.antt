@@ -6,4 +6,5 @@ pub returns-then-contains : goal.returns-then-contains
 returns-then-contains c = c.len.ensures.len ∙ len_where_alias c.args.self.now c.args.to.now (sym c.contains.ensures ∙ c.if-contains.true)
 
 pub returns : goal.returns
-returns c = ap (λ n. n + 1) c.len-2.ensures.len ∙ len_where_none c.args.self.now c.args.to.now (sym c.contains.ensures ∙ c.if-contains.false)
+returns c = ap (λ n. n + 1) c.len-2.ensures.len ∙ len_where_none c.args.self.now c.args.to.now (sym c.contains.ensures
+    ∙ c.if-contains.false)

@@ -7,5 +7,6 @@ use Rattle.doc_store.proofs.aliases.Aliases.remove.Goals as goal
 
 pub returns : goal.returns
 returns c =
-    removed nat_list_cmp_total exact_bytes c.self.inside.entries.entries c.remove.new.self.entries c.args.alias.now c.remove.ensures.updates.0
+    removed nat_list_cmp_total exact_bytes c.self.inside.entries.entries c.remove.new.self.entries c.args.alias.now
+    c.remove.ensures.updates.0
     ∙ ap (λ m. map.remove m c.args.alias.now) c.self.view_is

@@ -7,5 +7,6 @@ use Rattle.doc_store.proofs.pages.Pages.insert.Goals as goal
 
 pub returns-clause-ok : goal.returns-clause-ok
 returns-clause-ok c =
-    inserted nat_list_cmp_total exact_bytes c.self.inside.entries.entries c.insert.new.self.entries c.args.path c.args.page c.in_ok-insert.ensures.updates.0
+    inserted nat_list_cmp_total exact_bytes c.self.inside.entries.entries c.insert.new.self.entries c.args.path c.args.page
+    c.in_ok-insert.ensures.updates.0
     ∙ ap (λ m. map.insert m c.args.path c.args.page) c.self.view_is

@@ -7,4 +7,5 @@ use Rattle.doc_store.proofs.pages.Pages.len.Goals as goal
 
 pub returns : goal.returns
 returns c =
-    c.len.ensures.len ∙ len-sorted nat_list_cmp_total exact_bytes c.self.inside.entries.entries c.len.ensures.ordered ∙ ap map.len c.self.view_is
+    c.len.ensures.len ∙ len-sorted nat_list_cmp_total exact_bytes c.self.inside.entries.entries c.len.ensures.ordered
+    ∙ ap map.len c.self.view_is

@@ -15,4 +15,5 @@ returns-in-Some-clause-ok c =
 pub returns-in_default-clause-ok : goal.returns-in_default-clause-ok
 returns-in_default-clause-ok c =
     absurd (page_is_there c.args.self.now c.args.from.now c.args.to.now c.args.stamp c.requires.stands c.requires.free
-    c.in_ok-copy.field-0 c.empty.result c.in_ok-copy.ensures c.insert.new.self c.take.new.self c.in_ok-insert.ensures.ok c.take.ensures.rest c.in_default.ensures.page)
+    c.in_ok-copy.field-0 c.empty.result c.in_ok-copy.ensures c.insert.new.self c.take.new.self c.in_ok-insert.ensures.ok
+    c.take.ensures.rest c.in_default.ensures.page)

@@ -20,5 +20,6 @@ pub returns : goal.returns
 returns c =
     let found = c.in-Some.ensures.value in
     let updates = (c.get_mut.follows.holds c.args.page).3 in
-    inserted nat_list_cmp_total exact_bytes c.self.inside.entries.entries (c.get_mut.follows.lender c.args.page).entries c.args.path.now c.args.page (updates (rw (← found) refl)).0
+    inserted nat_list_cmp_total exact_bytes c.self.inside.entries.entries (c.get_mut.follows.lender c.args.page).entries c.args.path.now
+    c.args.page (updates (rw (← found) refl)).0
     ∙ ap (λ m. map.insert m c.args.path.now c.args.page) c.self.view_is

@@ -12,5 +12,6 @@ returns-clause-page c =
 
 pub returns-clause-rest : goal.returns-clause-rest
 returns-clause-rest c =
-    removed nat_list_cmp_total exact_bytes c.self.inside.entries.entries c.remove.new.self.entries c.args.path.now c.remove.ensures.updates.0
+    removed nat_list_cmp_total exact_bytes c.self.inside.entries.entries c.remove.new.self.entries c.args.path.now
+    c.remove.ensures.updates.0
     ∙ ap (λ m. map.remove m c.args.path.now) c.self.view_is

@@ -11,7 +11,8 @@ pub returns-clause-answer : goal.returns-clause-answer
 returns-clause-answer c =
     let es = c.self.inside.entries.entries in
     c.is_some.ensures
-    ∙ ap is_some (c.remove.ensures.value ∙ looked_up_shown es c.args.token.now ∙ looked_up nat_list_cmp_total exact_bytes (entries_shown es) c.args.token.now
+    ∙ ap is_some (c.remove.ensures.value ∙ looked_up_shown es c.args.token.now
+    ∙ looked_up nat_list_cmp_total exact_bytes (entries_shown es) c.args.token.now
     ∙ ap (λ m. map.get m c.args.token.now) c.self.view_is)
 
 pub returns-clause-readers : goal.returns-clause-readers

@@ -9,32 +9,37 @@ returns-then-may_see c =
     let path = c.args.path.now in
     c.in-Some.ensures.path ∙ ap (option_map (λ _. path)) (sym c.in-Some.ensures.page)
     ∙ ap (λ b. cond b (Some path) None) (sym c.if-may_see.true)
-    ∙ leads_to_page i.pages.now i.aliases.now c.self.invariant i.reader.now c.args.self.now c.self.view_is path c.in-Some.page.now c.may_see.result c.in-Some.ensures.page c.may_see.ensures
+    ∙ leads_to_page i.pages.now i.aliases.now c.self.invariant i.reader.now c.args.self.now c.self.view_is path c.in-Some.page.now
+    c.may_see.result c.in-Some.ensures.page c.may_see.ensures
 
 pub returns-else-may_see : goal.returns-else-may_see
 returns-else-may_see c =
     let i = c.self.inside in
     let path = c.args.path.now in
     ap (λ b. cond b (Some path) None) (sym c.if-may_see.false)
-    ∙ leads_to_page i.pages.now i.aliases.now c.self.invariant i.reader.now c.args.self.now c.self.view_is path c.in-Some.page.now c.may_see.result c.in-Some.ensures.page c.may_see.ensures
+    ∙ leads_to_page i.pages.now i.aliases.now c.self.invariant i.reader.now c.args.self.now c.self.view_is path c.in-Some.page.now
+    c.may_see.result c.in-Some.ensures.page c.may_see.ensures
 
 pub returns-in_err-goal : goal.returns-in_err-goal
 returns-in_err-goal c =
     let i = c.self.inside in
     let none : option_copied c.from_residual.result ≡ None = search rules in
     none
-    ∙ leads_nowhere i.pages.now i.aliases.now c.self.invariant i.reader.now c.args.self.now c.self.view_is c.args.path.now c.in_default.ensures.page (ap option_copied (sym c.in_err-goal.was) ∙ c.get.ensures)
+    ∙ leads_nowhere i.pages.now i.aliases.now c.self.invariant i.reader.now c.args.self.now c.self.view_is c.args.path.now
+    c.in_default.ensures.page (ap option_copied (sym c.in_err-goal.was) ∙ c.get.ensures)
 
 pub returns-then-sees : goal.returns-then-sees
 returns-then-sees c =
     let i = c.self.inside in
     ap (λ b. cond b (Some c.in_ok-goal.goal.now) None) (sym c.if-sees.true)
-    ∙ leads_as_alias i.pages.now i.aliases.now c.self.invariant i.reader.now c.args.self.now c.self.view_is c.args.path.now c.in_ok-goal.goal.now c.sees.result
+    ∙ leads_as_alias i.pages.now i.aliases.now c.self.invariant i.reader.now c.args.self.now c.self.view_is c.args.path.now
+    c.in_ok-goal.goal.now c.sees.result
     c.in_default.ensures.page (ap option_copied (sym c.in_ok-goal.was) ∙ c.get.ensures) c.sees.ensures
 
 pub returns-else-sees : goal.returns-else-sees
 returns-else-sees c =
     let i = c.self.inside in
     ap (λ b. cond b (Some c.in_ok-goal.goal.now) None) (sym c.if-sees.false)
-    ∙ leads_as_alias i.pages.now i.aliases.now c.self.invariant i.reader.now c.args.self.now c.self.view_is c.args.path.now c.in_ok-goal.goal.now c.sees.result
+    ∙ leads_as_alias i.pages.now i.aliases.now c.self.invariant i.reader.now c.args.self.now c.self.view_is c.args.path.now
+    c.in_ok-goal.goal.now c.sees.result
     c.in_default.ensures.page (ap option_copied (sym c.in_ok-goal.was) ∙ c.get.ensures) c.sees.ensures

@@ -15,7 +15,8 @@ returns-then-not-contains-clause-state c =
 
 pub invariant_of-self : goal.invariant_of-self
 invariant_of-self c =
-    store_removed c.self.inside.pages c.take.new.self c.self.inside.aliases c.remove_goal.new.self c.self.inside.puts c.args.self.now c.args.path.now
+    store_removed c.self.inside.pages c.take.new.self c.self.inside.aliases c.remove_goal.new.self c.self.inside.puts c.args.self.now
+    c.args.path.now
     c.self.view_is c.take.ensures.rest c.remove_goal.ensures c.self.invariant
 
 pub returns-clause-answer : goal.returns-clause-answer
@@ -25,5 +26,6 @@ returns-clause-answer c =
 
 pub returns-clause-state : goal.returns-clause-state
 returns-clause-state c =
-    removed_gives c.self.inside.pages c.take.new.self c.self.inside.aliases c.remove_goal.new.self c.self.inside.puts c.args.self.now c.args.path.now
+    removed_gives c.self.inside.pages c.take.new.self c.self.inside.aliases c.remove_goal.new.self c.self.inside.puts c.args.self.now
+    c.args.path.now
     c.self.view_is c.take.ensures.rest c.remove_goal.ensures (sym c.contains.ensures ∙ c.if-not-contains.false)

@@ -1,6 +1,0 @@
-use Rattle.std.proofs.Common.{chars}
-use Rattle.doc_anchors.specs.Numbers.{names, AreUsed}
-use Rattle.doc_anchors.proofs.numbers.next_number.Given as goal
-
-abbrev pub invariant-numbers : goal.invariant-numbers
-invariant-numbers l = AreUsed (names l.entries) (chars l.name) l.first l.number

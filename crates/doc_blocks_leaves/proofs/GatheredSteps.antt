@@ -1,0 +1,177 @@
+-- The text that is gathered for a leaf: it grows at its end, and what is kept is a front of it.
+use Rattle.std.proofs.Common.{
+  rules,
+  ◌≡◌,
+  ℕ,
+  zero,
+  suc,
+  ◌+◌,
+  ◌-◌,
+  ◌<◌,
+  ◌≤◌,
+  true,
+  false,
+  List,
+  [],
+  ◌∷◌,
+  ◌++◌,
+  length,
+  take,
+  chars,
+  refl,
+  ap,
+  sym,
+  ◌∙◌,
+  arith,
+  subst,
+  append-nil,
+  append_assoc,
+  length-append,
+  inl,
+  inr,
+}
+use Rattle.std.specs.Prelude.{replicate, slice_index, Result, Ok, Err, OnOk}
+use Rattle.std.specs.Str.{IsUtf8, IsCharBoundary}
+use Rattle.std.proofs.lemmas.Bool.{cases_lt}
+use Rattle.std.proofs.lemmas.Bool.Decides.{nat_tests}
+use Rattle.std.proofs.lemmas.List.{take-append-le, get_or_append_left}
+use Rattle.std.proofs.lemmas.Str.{IsCharBoundary-at_seam, chars-append, chars-IsAscii}
+use Rattle.doc_rules.specs.Characters.{Text}
+use Rattle.doc_rules.specs.Columns.{Line, width_at, columns_from, cell_of, cells_from, text_of, spaces}
+use Rattle.doc_lines.specs.Cursors.{Position, behind_first, after_next, cells_at, left_of}
+
+-- ---- what is kept
+
+-- a place in a text is one in the text that goes on behind it
+pub boundary_stays : (old more new : List ℕ) (n : ℕ) → new ≡ old ++ more → IsUtf8 more → IsCharBoundary old n → IsCharBoundary new n
+boundary_stays old more new n e u b = subst (λ (bytes : List ℕ). IsCharBoundary bytes n) (sym e) (elim (cases_lt n (length old)) [
+  | inl less ↦ (
+    let whole : length (old ++ more) ≡ length old + length more = length-append old more in omega arith,
+    λ h big.
+        let same : slice_index (old ++ more) n ≡ slice_index old n = get_or_append_left old more 0 n less in
+        let low : 128 ≤ slice_index old n = omega arith in
+        let high : 192 ≤ slice_index old n = b.1 less low in
+        omega arith,
+  )
+  | inr rest ↦ let all : n ≡ length old = omega (arith, b.0) in subst (λ (k : ℕ). IsCharBoundary (old ++ more) k) (sym all)
+      (IsCharBoundary-at_seam (old ++ more) old more refl u)
+])
+
+pub kept_stays : (old more new : List ℕ) (n : ℕ) → new ≡ old ++ more → n ≤ length old → chars (take n new) ≡ chars (take n old)
+kept_stays old more new n e h = ap (λ bytes. chars (take n bytes)) e ∙ ap chars (take-append-le n old more h)
+
+pub all_grows : (old more new : List ℕ) → new ≡ old ++ more → IsUtf8 old → chars new ≡ chars old ++ chars more
+all_grows old more new e u = ap chars e ∙ chars-append old more u
+
+-- ---- spaces
+
+pub one_more_space : (start mid new : Text) (total left : ℕ) → 0 < left → mid ++ replicate left 32 ≡ start ++ replicate total 32
+    → new ≡ mid ++ 32 ∷ [] → new ++ replicate (left - 1) 32 ≡ start ++ replicate total 32
+one_more_space start mid new total zero h e f = absurd (omega arith)
+one_more_space start mid new total (suc left) h e f =
+    let one : suc left - 1 ≡ left = omega arith in
+    ap (λ n. new ++ replicate n 32) one ∙ (ap (λ xs. xs ++ replicate left 32) f ∙ (append_assoc mid (32 ∷ []) (replicate left 32) ∙ e))
+
+pub no_more_spaces : (start mid : Text) (total left : ℕ) → left ≡ 0 → mid ++ replicate left 32 ≡ start ++ replicate total 32
+    → mid ≡ start ++ replicate total 32
+no_more_spaces start mid total left z e = sym (append-nil mid) ∙ (ap (λ n. mid ++ replicate n 32) (sym z) ∙ e)
+
+-- ---- a tab that is used in part
+
+text_of_cells : (at : ℕ) (text : Text) → text_of (cells_from at text) ≡ text
+unfolding columns_from cell_of text_of
+text_of_cells at [] = refl
+text_of_cells at (c ∷ rest) = ap (λ more. c ∷ more) (text_of_cells (at + width_at c at) rest)
+
+text_of_spaces : (n : ℕ) (line : Line) → text_of (spaces n ++ line) ≡ replicate n 32 ++ text_of line
+unfolding text_of
+text_of_spaces zero line = refl
+text_of_spaces (suc n) line = ap (λ more. 32 ∷ more) (text_of_spaces n line)
+
+pub passes_on : (from : Position) → from.column ≤ (after_next from).column
+passes_on from = at from.rest
+  where
+    at : (text : Text) → from.column ≤ (behind_first from text).column
+    at [] = omega arith
+    at (c ∷ rest) = omega arith
+
+pub passes_few : (from : Position) → (after_next from).column - from.column ≤ 4
+passes_few from = at from.rest
+  where
+    few : (c at : ℕ) → width_at c at ≤ 4
+    few c at = grind (arith, nat_tests)
+
+    at : (text : Text) → (behind_first from text).column - from.column ≤ 4
+    at [] = omega arith
+    at (c ∷ rest) = let w : width_at c from.column ≤ 4 = few c from.column in omega arith
+
+pub rest_in_tab : (from : Position) → from.in_tab ≡ true
+    → text_of (left_of from) ≡ replicate ((after_next from).column - from.column) 32 ++ (after_next from).rest
+rest_in_tab from e = ap (λ b. text_of (cells_at b from.column from.rest)) e ∙ at from.rest refl
+  where
+    at : (text : Text) → from.rest ≡ text → text_of (cells_at true from.column text)
+        ≡ replicate ((behind_first from text).column - from.column) 32 ++ (behind_first from text).rest
+    at [] f =
+        let none : from.column - from.column ≡ 0 = omega arith in
+        text_of_cells from.column [] ∙ (sym f ∙ ap (λ n. replicate n 32 ++ from.rest) (sym none))
+    at (c ∷ rest) f =
+        let wide : (from.column + width_at c from.column) - from.column ≡ width_at c from.column = omega arith in
+        text_of_spaces (width_at c from.column) (cells_from (from.column + width_at c from.column) rest)
+        ∙ (ap (λ more. replicate (width_at c from.column) 32 ++ more) (text_of_cells (from.column + width_at c from.column) rest)
+        ∙ ap (λ n. replicate n 32 ++ rest) (sym wide))
+
+pub rest_out_of_tab : (from : Position) → from.in_tab ≡ false → text_of (left_of from) ≡ from.rest
+rest_out_of_tab from e = ap (λ b. text_of (cells_at b from.column from.rest)) e ∙ at from.rest
+  where
+    at : (text : Text) → text_of (cells_at false from.column text) ≡ text
+    at [] = text_of_cells from.column []
+    at (c ∷ rest) = text_of_cells from.column (c ∷ rest)
+
+-- what is added inside a tab: spaces, and what stands behind it
+pub rest_added_in_tab : (line copied behind : Position) (count : ℕ) (old mid new rest : Text) →
+    line.in_tab ≡ true → copied ≡ line → behind ≡ after_next copied → count ≡ behind.column - line.column → rest ≡ behind.rest →
+    mid ≡ old ++ replicate count 32 → new ≡ mid ++ rest → new ≡ old ++ text_of (left_of line)
+rest_added_in_tab line copied behind count old mid new rest t e f k g m h =
+    let there : behind ≡ after_next line = f ∙ ap after_next e in
+    let wide : count ≡ (after_next line).column - line.column = k ∙ ap (λ (p : Position). p.column - line.column) there in
+    let more : rest ≡ (after_next line).rest = g ∙ ap (λ (p : Position). p.rest) there in
+    h
+    ∙ (ap (λ xs. xs ++ rest) m
+    ∙ (append_assoc old (replicate count 32) rest
+    ∙ (ap (λ n. old ++ (replicate n 32 ++ rest)) wide
+    ∙ (ap (λ xs. old ++ (replicate ((after_next line).column - line.column) 32 ++ xs)) more
+    ∙ ap (λ xs. old ++ xs) (sym (rest_in_tab line t))))))
+
+pub rest_added : (line : Position) (old new rest : Text) → line.in_tab ≡ false → rest ≡ line.rest → new ≡ old ++ rest
+    → new ≡ old ++ text_of (left_of line)
+rest_added line old new rest t g h = h ∙ ap (λ xs. old ++ xs) (g ∙ sym (rest_out_of_tab line t))
+
+pub goes_behind : (line copied behind : Position) → copied ≡ line → behind ≡ after_next copied → line.column ≤ behind.column
+goes_behind line copied behind e f = let c : behind.column ≡ (after_next line).column = ap (λ (p : Position). p.column) (f
+    ∙ ap after_next e) in let on = passes_on line in omega arith
+
+pub goes_few : (line copied behind : Position) → copied ≡ line → behind ≡ after_next copied → behind.column - line.column ≤ 4
+goes_few line copied behind e f = let c : behind.column ≡ (after_next line).column = ap (λ (p : Position). p.column) (f
+    ∙ ap after_next e) in let few = passes_few line in omega arith
+
+-- one text and another behind it
+pub both_added : (old mid new first second : Text) → mid ≡ old ++ first → new ≡ mid ++ second → new ≡ old ++ (first ++ second)
+both_added old mid new first second e f = f ∙ (ap (λ xs. xs ++ second) e ∙ append_assoc old first second)
+
+-- ---- one character
+
+ending_is : chars (10 ∷ []) ≡ 10 ∷ []
+ending_is = chars-IsAscii (10 ∷ []) (search rules)
+
+space_is : chars (32 ∷ []) ≡ 32 ∷ []
+space_is = chars-IsAscii (32 ∷ []) (search rules)
+
+pub ending_added : {A E : Type 0} (result : Result A E) (old new : Text) → OnOk result (new ≡ old ++ chars (10 ∷ []))
+    → OnOk result (new ≡ old ++ 10 ∷ [])
+ending_added (Ok a) old new h = h ∙ ap (λ more. old ++ more) ending_is
+ending_added (Err e) old new h = h
+
+pub space_added : {A E : Type 0} (result : Result A E) (old new : Text) → OnOk result (new ≡ old ++ chars (32 ∷ []))
+    → OnOk result (new ≡ old ++ 32 ∷ [])
+space_added (Ok a) old new h = h ∙ ap (λ more. old ++ more) space_is
+space_added (Err e) old new h = h

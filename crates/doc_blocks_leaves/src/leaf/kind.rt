@@ -1,0 +1,17 @@
+//! Kinds of open leaves.
+
+use doc_blocks_starts::fence::Fence;
+use doc_blocks_starts::html::HtmlKind;
+use doc_page::text::Text;
+
+/// What the open leaf is, if there is one.
+#[derive(Drop)]
+pub enum Kind {
+    Nothing,
+    Paragraph,
+    /// Indented code.
+    Code,
+    /// A fence with its info string, whose escapes and references are read.
+    Fenced { fence: Fence, info: Text },
+    Html(HtmlKind),
+}

@@ -1,0 +1,5 @@
+pub mod Leaves
+pub mod Paths
+pub mod Closing
+pub mod OpenBlocks
+pub mod Laws

@@ -1,0 +1,218 @@
+-- Markers of block quotes and list items, a character at a time.
+use Rattle.std.proofs.Common.{
+  ◌≡◌,
+  ℕ,
+  zero,
+  suc,
+  ◌+◌,
+  ◌-◌,
+  ◌*◌,
+  ◌<◌,
+  ◌≤◌,
+  Bool,
+  true,
+  false,
+  ◌==◌,
+  [],
+  ◌∷◌,
+  drop,
+  length,
+  refl,
+  ap,
+  sym,
+  ◌∙◌,
+  Option,
+  Some,
+  None,
+  arith,
+  ne_eqb,
+}
+use Rattle.std.specs.Prelude.{fold, codes}
+use Rattle.std.specs.Char.{is_ascii_digit, digit_value}
+use Rattle.std.proofs.lemmas.Bool.Decides.{nat_tests}
+use Rattle.doc_rules.specs.Characters.{Text, one_of}
+use Rattle.doc_rules.specs.Columns.{Line, Cell, width_at, skip}
+use Rattle.doc_rules.specs.ContainerStarts.{
+  ListKind,
+  Bullet,
+  Ordered,
+  ListMarker,
+  behind_quote_marker,
+  digits_of,
+  bullet_marker,
+  ordered_marker,
+}
+use Rattle.doc_rules.specs.Escapes.{number}
+use Rattle.doc_lines.specs.Cursors.{Position, first, after_next, left_of}
+use Rattle.doc_blocks_starts.specs.Lines.{IsPlain}
+use Rattle.doc_blocks_starts.specs.ItemSteps.{TakesDigit}
+use Rattle.doc_blocks_starts.proofs.CellLaws.{front_end, front_cell}
+
+-- ---- block quotes
+
+abbrev if_quoted : Line → Bool → Option Line
+if_quoted rest b = elim b [ true ↦ Some (skip 1 rest) | false ↦ None ]
+
+pub no_quote_at_end : (from : Position) → IsPlain from → None ≡ first from.rest → None ≡ behind_quote_marker (left_of from)
+unfolding behind_quote_marker
+no_quote_at_end from plain e = sym (ap behind_quote_marker (front_end from plain e))
+
+quote_at : (from next : Position) (c : ℕ) → IsPlain from → Some c ≡ first from.rest → next ≡ after_next from
+    → behind_quote_marker (left_of from) ≡ if_quoted (left_of next) (c == 62)
+unfolding behind_quote_marker
+quote_at from next c plain e f = ap behind_quote_marker (front_cell from next c plain e f)
+
+pub no_quote_at : (from next : Position) (c : ℕ) → IsPlain from → Some c ≡ first from.rest → next ≡ after_next from → (c ≡ 62 → ⊥)
+    → None ≡ behind_quote_marker (left_of from)
+no_quote_at from next c plain e f other = sym (quote_at from next c plain e f ∙ ap (if_quoted (left_of next)) (ne_eqb c 62 other))
+
+pub quote_marked : (from next after : Position) (c : ℕ) → IsPlain from → Some c ≡ first from.rest → next ≡ after_next from → c ≡ 62
+    → left_of after ≡ skip 1 (left_of next) →
+    Some (left_of after) ≡ behind_quote_marker (left_of from)
+quote_marked from next after c plain e f same g = ap Some g
+    ∙ sym (quote_at from next c plain e f ∙ ap (λ k. if_quoted (left_of next) (k == 62)) same)
+
+-- ---- bullets, and delimiters behind numbers
+
+pub one_cell : (from next : Position) (c : ℕ) → IsPlain from → Some c ≡ first from.rest → next ≡ after_next from
+    → length (left_of from) ≡ suc (length (left_of next))
+one_cell from next c plain e f = ap length (front_cell from next c plain e f)
+
+abbrev if_marker : ListKind → ℕ → Line → Bool → Option ListMarker
+if_marker kind start rest b = elim b [ true ↦ Some (record { kind = kind; start = start; behind = rest }) | false ↦ None ]
+
+pub no_bullet_at_end : (from : Position) → IsPlain from → None ≡ first from.rest → None ≡ bullet_marker (left_of from)
+unfolding bullet_marker
+no_bullet_at_end from plain e = sym (ap bullet_marker (front_end from plain e))
+
+pub bullet_at : (from next : Position) (c : ℕ) (b : Bool) → IsPlain from → Some c ≡ first from.rest → next ≡ after_next from
+    → one_of (codes "-+*") c ≡ b →
+    if_marker (Bullet c) 0 (left_of next) b ≡ bullet_marker (left_of from)
+unfolding bullet_marker
+bullet_at from next c b plain e f g = sym (ap bullet_marker (front_cell from next c plain e f)
+    ∙ ap (if_marker (Bullet c) 0 (left_of next)) g)
+
+pub no_delimiter_at_end : (n : ℕ) (from : Position) → IsPlain from → None ≡ first from.rest → None ≡ ordered_marker n (left_of from)
+unfolding ordered_marker
+no_delimiter_at_end n from plain e = sym (ap (ordered_marker n) (front_end from plain e))
+
+pub delimiter_at : (n : ℕ) (from next : Position) (c : ℕ) (b : Bool) → IsPlain from → Some c ≡ first from.rest → next ≡ after_next from
+    → one_of (codes ".)") c ≡ b →
+    if_marker (Ordered c) n (left_of next) b ≡ ordered_marker n (left_of from)
+unfolding ordered_marker
+delimiter_at n from next c b plain e f g = sym (ap (ordered_marker n) (front_cell from next c plain e f)
+    ∙ ap (if_marker (Ordered c) n (left_of next)) g)
+
+-- ---- digits
+
+digit_is : (c : ℕ) → digit_value c < 10 → is_ascii_digit c ≡ true
+digit_is c h = grind (arith, nat_tests)
+
+no_digit_is : (c : ℕ) → (digit_value c < 10 → ⊥) → is_ascii_digit c ≡ false
+no_digit_is c h = grind (arith, nat_tests)
+
+pub no_digits_at_end : (from : Position) → IsPlain from → None ≡ first from.rest → digits_of (left_of from) ≡ []
+unfolding digits_of
+no_digits_at_end from plain e = ap digits_of (front_end from plain e)
+
+abbrev digits_by : Cell → Line → Bool → Text
+digits_by cell rest b = elim b [ true ↦ cell.char ∷ digits_of rest | false ↦ [] ]
+
+pub no_digit_at : (from : Position) (c : ℕ) → IsPlain from → Some c ≡ first from.rest → (digit_value c < 10 → ⊥)
+    → digits_of (left_of from) ≡ []
+unfolding digits_of
+no_digit_at from c plain e h =
+    ap digits_of (front_cell from (after_next from) c plain e refl)
+    ∙ ap (digits_by (record { char = c; width = width_at c from.column }) (left_of (after_next from))) (no_digit_is c h)
+
+pub digit_at : (from next : Position) (c value : ℕ) → IsPlain from → Some c ≡ first from.rest → next ≡ after_next from → digit_value c < 10
+    → value ≡ digit_value c →
+    TakesDigit (left_of from) (left_of next) value
+digit_at from next c value plain e f h g = record {
+  cell = record { char = c; width = width_at c from.column };
+  split = front_cell from
+      next c plain e f;
+  good = digit_is c h;
+  value_is = g;
+}
+
+-- ---- a number, a digit at a time
+
+-- the first number of more than n digits
+pub tens : ℕ → ℕ
+tens zero = 1
+tens (suc n) = tens n * 10
+
+tens_grow : (n m : ℕ) → tens n ≤ tens (n + m)
+unfolding tens
+tens_grow n zero = let none : n + 0 ≡ n = omega arith in let same : tens (n + 0) ≡ tens n = ap tens none in omega arith
+tens_grow n (suc m) =
+    let more : n + suc m ≡ suc (n + m) = omega arith in
+    let same : tens (n + suc m) ≡ tens (n + m) * 10 = ap tens more in
+    let before : tens n ≤ tens (n + m) = tens_grow n m in
+    omega arith
+
+-- so many digits were read, which write this number, and these cells are left
+pub record HasRead (line rest : Line) (value count : ℕ) : Type 0 where
+  pub all : count + length (digits_of rest) ≡ length (digits_of line)
+  pub few : count ≤ 9
+  pub number_is : fold (λ n c. n * 10 + digit_value c) value (digits_of rest) ≡ number 10 (digits_of line)
+  pub small : value < tens count
+  pub split : rest ≡ drop count line
+  pub size : count + length rest ≡ length line
+
+pub none_read : (line : Line) → HasRead line line 0 0
+unfolding number tens
+none_read line = record { all = omega arith; few = omega arith; number_is = refl; small = omega arith; split = refl; size = omega arith }
+
+one_digit : (line rest : Line) (value : ℕ) → (t : TakesDigit line rest value) → digits_of line ≡ t.cell.char ∷ digits_of rest
+unfolding digits_of
+one_digit line rest value t = ap digits_of t.split ∙ ap (digits_by t.cell rest) t.good
+
+drop_one_more : (n : ℕ) (line rest : Line) (cell : Cell) → cell ∷ rest ≡ drop n line → rest ≡ drop (suc n) line
+drop_one_more zero [] rest cell e = absurd cc
+drop_one_more zero (d ∷ line) rest cell e = cc
+drop_one_more (suc n) [] rest cell e = absurd cc
+drop_one_more (suc n) (d ∷ line) rest cell e = drop_one_more n line rest cell e
+
+pub digit_value_is_small : (line rest : Line) (value : ℕ) → TakesDigit line rest value → value < 10
+digit_value_is_small line rest value t = small t.cell.char value t.good t.value_is
+  where
+    small : (c v : ℕ) → is_ascii_digit c ≡ true → v ≡ digit_value c → v < 10
+    small c v e f = grind (arith, nat_tests)
+
+pub one_more_read : (line now rest : Line) (value count digit : ℕ) → HasRead line now value count → TakesDigit now rest digit → count < 9
+    → HasRead line rest (value * 10 + digit) (count + 1)
+unfolding tens
+one_more_read line now rest value count digit h t more =
+    let one = one_digit now rest digit t in
+    let longer : length (digits_of now) ≡ suc (length (digits_of rest)) = ap length one in
+    let cells : length now ≡ suc (length rest) = ap length t.split in
+    let d : digit < 10 = digit_value_is_small now rest digit t in
+    let v : value < tens count = h.small in
+    let next : count + 1 ≡ suc count = omega arith in
+    let power : tens (count + 1) ≡ tens count * 10 = ap tens next in
+    record {
+      all = omega (arith, h.all, longer);
+      few = omega arith;
+      number_is = ap (λ k. fold (λ n c. n * 10 + digit_value c) (value * 10 + k) (digits_of rest)) t.value_is
+          ∙ sym (ap (fold (λ n c. n * 10 + digit_value c) value) one) ∙ h.number_is;
+      small = omega arith;
+      split = drop_one_more count line rest t.cell (sym t.split ∙ h.split) ∙ ap (λ n. drop n line) (sym next);
+      size = omega (arith, h.size, cells);
+    }
+
+pub too_many_read : (line now rest : Line) (value count digit : ℕ) → HasRead line now value count → TakesDigit now rest digit → 9 ≤ count
+    → 9 < length (digits_of line)
+too_many_read line now rest value count digit h t more =
+    let longer : length (digits_of now) ≡ suc (length (digits_of rest)) = ap length (one_digit now rest digit t) in
+    omega (arith, h.all, longer)
+
+pub read_is_small : (line now : Line) (value count : ℕ) → HasRead line now value count → count < 9 → value < 100000000
+unfolding tens
+read_is_small line now value count h less =
+    let all : count + (8 - count) ≡ 8 = omega arith in
+    let eight : tens (count + (8 - count)) ≡ tens 8 = ap tens all in
+    let most : tens count ≤ tens (count + (8 - count)) = tens_grow count (8 - count) in
+    let v : value < tens count = h.small in
+    omega arith

@@ -1,0 +1,72 @@
+//! The indentation of a line (CommonMark 0.31.2, section 2.2).
+ghost use Rattle.std.specs.Prelude.{◌≡◌, min, chars, not, nat_le, IfSome};
+ghost use Rattle.doc_rules.specs.Columns.{indent, after_indent, is_blank_line, text_of};
+ghost use Rattle.doc_rules.specs.LeafStarts.{marker_text};
+ghost use Rattle.doc_lines.specs.Cursors.{left_of};
+ghost use Rattle.doc_lines.specs.RestSteps.{rest_of};
+ghost use Rattle.doc_blocks_starts.specs.Lines.{line_of, marker_line, IsPlain};
+
+use doc_lines::cursor::Cursor;
+
+/// How many columns of indentation a marker may have before it.
+const MOST: usize = 3;
+
+/// How many columns of spaces and tabs the line begins with, where `most` is enough to know.
+pub fn indent_up_to(line: &Cursor, most: usize) -> usize
+    ensures { result ≡ min most (indent (left_of line.now)) }
+{
+    let mut ahead = line.copy();
+    ahead.skip(most)
+}
+
+/// Whether no more than spaces and tabs are left of the line (section 2.1).
+pub fn is_blank_line(line: &Cursor) -> bool
+    ensures { result ≡ is_blank_line (left_of line.now) }
+{
+    behind_indent(line).peek().is_none()
+}
+
+/// What is left of the line behind its indentation.
+pub fn after_indent<'a>(line: &Cursor<'a>) -> &'a str
+    ensures { chars result.now ≡ text_of (after_indent (left_of line.now)) }
+{
+    behind_indent(line).rest()
+}
+
+/// The same where the indentation has at most 3 columns: so far in may the markers of blocks stand.
+#[tactic(auto, unfolding(doc_rules::specs::LeafStarts::marker_text))]
+pub fn marker_text<'a>(line: &Cursor<'a>) -> Option<&'a str>
+    ensures { rest_of result ≡ marker_text (left_of line.now) }
+{
+    if is_too_far_in(line) {
+        return None;
+    }
+    Some(after_indent(line))
+}
+
+/// The place of that text.
+pub(crate) fn marker_place<'a>(line: &Cursor<'a>) -> Option<Cursor<'a>>
+    ensures line { line_of result ≡ marker_line (left_of line.now) }
+    ensures plain { IfSome result IsPlain }
+{
+    if is_too_far_in(line) {
+        return None;
+    }
+    Some(behind_indent(line))
+}
+
+fn is_too_far_in(line: &Cursor) -> bool
+    ensures { result ≡ not (nat_le (indent (left_of line.now)) 3) }
+{
+    indent_up_to(line, MOST + 1) > MOST
+}
+
+/// The place behind the indentation, which can have more columns than one `skip` takes.
+fn behind_indent<'a>(line: &Cursor<'a>) -> Cursor<'a>
+    ensures line { left_of result ≡ after_indent (left_of line.now) }
+    ensures plain { IsPlain result }
+{
+    let mut ahead = line.copy();
+    'columns: while ahead.skip(usize::MAX) > 0 {}
+    ahead
+}

@@ -1,5 +1,0 @@
-use Rattle.doc_bodies.proofs.LawLemmas.{decided_within}
-use Rattle.doc_bodies.proofs.laws.a_body_is_decided_within_the_limit.Goals as goal
-
-pub returns : goal.returns
-returns c = decided_within

@@ -1,5 +1,0 @@
-use Rattle.doc_bodies.proofs.LawLemmas.{stays_decided}
-use Rattle.doc_bodies.proofs.laws.a_decided_body_stays_decided.Goals as goal
-
-pub returns : goal.returns
-returns c = stays_decided

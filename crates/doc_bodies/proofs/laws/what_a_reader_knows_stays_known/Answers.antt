@@ -1,5 +1,0 @@
-use Rattle.doc_bodies.proofs.LawLemmas.{knows_more}
-use Rattle.doc_bodies.proofs.laws.what_a_reader_knows_stays_known.Goals as goal
-
-pub returns : goal.returns
-returns c = knows_more

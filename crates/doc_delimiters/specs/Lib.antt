@@ -1,6 +1,0 @@
-pub mod OnePass
-pub mod Openers
-pub mod Marks
-pub mod InPlace
-pub mod NumberSteps
-pub mod Laws

@@ -1,4 +1,0 @@
-pub mod Runs
-pub mod Views
-pub mod Texts
-pub mod Steps

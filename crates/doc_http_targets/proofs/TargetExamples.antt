@@ -1,0 +1,160 @@
+-- Targets and written paths, worked.
+use Rattle.std.specs.Prelude.{◌≡◌, ◌++◌, ◌∷◌, Some, None, codes, refl}
+use Rattle.std.specs.Str.{chars, is_utf8}
+use lib.Utf8.{encode}
+use Rattle.percent_encoding.specs.Percent.{percent_decode}
+use Rattle.doc_page.specs.Paths.{is_path}
+use Rattle.doc_http_targets.specs.Targets.{origin_form, page_rest}
+use Rattle.doc_http_targets.specs.WrittenPaths.{path_written}
+
+-- ---- the rest of a page
+
+page : page_rest (codes "/page/a.md") ≡ Some (codes "a.md")
+unfolding page_rest origin_form
+page = refl
+
+page_without_rest : page_rest (codes "/page/") ≡ None
+unfolding page_rest origin_form
+page_without_rest = refl
+
+page_without_slash : page_rest (codes "/page") ≡ None
+unfolding page_rest origin_form
+page_without_slash = refl
+
+page_in_capitals : page_rest (codes "/Page/a.md") ≡ None
+unfolding page_rest origin_form
+page_in_capitals = refl
+
+contents : page_rest (codes "/contents") ≡ None
+unfolding page_rest origin_form
+contents = refl
+
+two_slashes : page_rest (codes "/page//x") ≡ Some (codes "/x")
+unfolding page_rest origin_form
+two_slashes = refl
+
+with_query : page_rest (codes "/page/a.md?x") ≡ Some (codes "a.md")
+unfolding page_rest origin_form
+with_query = refl
+
+empty_before_query : page_rest (codes "/page/?x") ≡ None
+unfolding page_rest origin_form
+empty_before_query = refl
+
+with_fragment : page_rest (codes "/page/a.md#x") ≡ Some (codes "a.md#x")
+unfolding page_rest origin_form
+with_fragment = refl
+
+encoded_rest : page_rest (codes "/page/a%2Fb") ≡ Some (codes "a%2Fb")
+unfolding page_rest origin_form
+encoded_rest = refl
+
+absolute : page_rest (codes "http://h/page/a.md") ≡ Some (codes "a.md")
+unfolding page_rest origin_form
+absolute = refl
+
+absolute_with_port : page_rest (codes "HTTP://docs:80/page/a.md?x") ≡ Some (codes "a.md")
+unfolding page_rest origin_form
+absolute_with_port = refl
+
+no_path_left : page_rest (codes "HTTP://h") ≡ None
+unfolding page_rest origin_form
+no_path_left = refl
+
+slash_for_no_path : origin_form (codes "HTTP://h") ≡ Some (codes "/")
+unfolding origin_form
+slash_for_no_path = refl
+
+query_after_authority : page_rest (codes "http://h?/page/a.md") ≡ None
+unfolding page_rest origin_form
+query_after_authority = refl
+
+slash_before_query : origin_form (codes "http://h?/page/a.md") ≡ Some (codes "/?/page/a.md")
+unfolding origin_form
+slash_before_query = refl
+
+fragment_after_authority : page_rest (codes "http://h#/page/a.md") ≡ None
+unfolding page_rest origin_form
+fragment_after_authority = refl
+
+other_scheme : page_rest (codes "https://h/page/a.md") ≡ None
+unfolding page_rest origin_form
+other_scheme = refl
+
+asterisk : page_rest (codes "*") ≡ None
+unfolding page_rest origin_form
+asterisk = refl
+
+authority_alone : page_rest (codes "docs:80") ≡ None
+unfolding page_rest origin_form
+authority_alone = refl
+
+-- ---- the path that is written
+
+plain : path_written (codes "a.md") ≡ Some (codes "a.md")
+unfolding path_written percent_decode is_utf8 chars is_path encode
+plain = refl
+
+encoded_dots : path_written (codes "%2e%2e") ≡ None
+unfolding path_written percent_decode is_utf8 chars is_path encode
+encoded_dots = refl
+
+encoded_slash : path_written (codes "x%2Fy") ≡ None
+unfolding path_written percent_decode is_utf8 chars is_path encode
+encoded_slash = refl
+
+encoded_slash_at_end : path_written (codes "x%2F") ≡ None
+unfolding path_written percent_decode is_utf8 chars is_path encode
+encoded_slash_at_end = refl
+
+lone_percent : path_written (codes "a%") ≡ None
+unfolding path_written percent_decode is_utf8 chars is_path encode
+lone_percent = refl
+
+encoded_percent : path_written (codes "a%25") ≡ None
+unfolding path_written percent_decode is_utf8 chars is_path encode
+encoded_percent = refl
+
+folder : path_written (codes "guide/") ≡ Some (codes "guide/index.md")
+unfolding path_written percent_decode is_utf8 chars is_path encode
+folder = refl
+
+top_folder : path_written (codes "") ≡ Some (codes "index.md")
+unfolding path_written percent_decode is_utf8 chars is_path encode
+top_folder = refl
+
+slash_alone : path_written (codes "/") ≡ None
+unfolding path_written percent_decode is_utf8 chars is_path encode
+slash_alone = refl
+
+empty_segment : path_written (codes "a//b") ≡ None
+unfolding path_written percent_decode is_utf8 chars is_path encode
+empty_segment = refl
+
+dot_segment : path_written (codes "./a.md") ≡ None
+unfolding path_written percent_decode is_utf8 chars is_path encode
+dot_segment = refl
+
+fragment : path_written (codes "a.md#x") ≡ None
+unfolding path_written percent_decode is_utf8 chars is_path encode
+fragment = refl
+
+two_bytes : path_written (codes "caf%C3%A9.md") ≡ Some (codes "caf" ++ 0xC3 ∷ 0xA9 ∷ codes ".md")
+unfolding path_written percent_decode is_utf8 chars is_path encode
+two_bytes = refl
+
+not_utf8 : path_written (codes "%ff") ≡ None
+unfolding path_written percent_decode is_utf8 chars is_path encode
+not_utf8 = refl
+
+character_across_segments : path_written (codes "%C3/%A9") ≡ None
+unfolding path_written percent_decode is_utf8 chars is_path encode
+character_across_segments = refl
+
+space : path_written (codes "a%20b") ≡ Some (codes "a b")
+unfolding path_written percent_decode is_utf8 chars is_path encode
+space = refl
+
+two_segments : path_written (codes "guide/start.md") ≡ Some (codes "guide/start.md")
+unfolding path_written percent_decode is_utf8 chars is_path encode
+two_segments = refl

@@ -1,0 +1,78 @@
+//! The parts of a request's target.
+
+ghost use Rattle.std.specs.Prelude.{◌≡◌, option_copied};
+ghost use Rattle.doc_http_targets.specs.Targets.{ends_authority, after_authority, after_http, if_rooted, path_part};
+ghost use Rattle.doc_http_targets.specs.TargetSteps.{origin_part, after_slash};
+
+const HTTP: &str = "http://";
+
+/// The target's origin form, where that is a part of the target. `http://docs`, `http://docs?a` and
+/// `http://docs#a` have origin forms that aren't, as `/?a`; no route is lost, since none stands at
+/// a path that begins so.
+#[tactic(auto, unfolding(crate::specs::TargetSteps::origin_part))]
+pub fn origin_part(target: &str) -> Option<&str>
+    ensures { option_copied result ≡ origin_part target.now }
+{
+    let text = match after_http(target) {
+        Some(rest) => after_authority(rest),
+        None => target,
+    };
+    if_rooted(text)
+}
+
+/// The path, without the query.
+pub fn path_part(target: &str) -> &str
+    ensures { result.now ≡ path_part target.now }
+{
+    match target.split_once('?') {
+        Some((path, _)) => path,
+        None => target,
+    }
+}
+
+/// What follows the first `/`.
+pub fn after_slash(text: &str) -> Option<&str>
+    ensures { option_copied result ≡ after_slash text.now }
+{
+    let (_, rest) = text.split_once('/')?;
+    Some(rest)
+}
+
+fn if_rooted(text: &str) -> Option<&str>
+    ensures { option_copied result ≡ if_rooted text.now }
+{
+    if text.starts_with('/') {
+        Some(text)
+    } else {
+        None
+    }
+}
+
+/// What follows `http://`, which is read without case.
+fn after_http(target: &str) -> Option<&str>
+    ensures { option_copied result ≡ after_http target.now }
+{
+    let scheme = target.get(..HTTP.len())?;
+    if scheme.eq_ignore_ascii_case(HTTP) {
+        Some(&target[HTTP.len()..])
+    } else {
+        None
+    }
+}
+
+/// What follows the authority that the text begins with.
+fn after_authority(text: &str) -> &str
+    ensures { result.now ≡ after_authority text.now }
+{
+    let end = text
+        .bytes()
+        .position(|b| ends_authority(b))
+        .unwrap_or(text.len());
+    &text[end..]
+}
+
+fn ends_authority(b: u8) -> bool
+    ensures { result ≡ ends_authority b }
+{
+    matches!(b, b'/' | b'?' | b'#')
+}

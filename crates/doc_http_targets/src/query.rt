@@ -1,0 +1,44 @@
+//! What the query of a target asks for.
+
+ghost use Rattle.std.specs.Prelude.{◌≡◌, IfOk, option_map, string_bytes};
+ghost use Rattle.doc_http_targets.specs.Queries.{parameter, query_of, value_of};
+
+use doc_heap::{Heap, String};
+use doc_page::failure::Memory;
+use doc_page::text::Text;
+
+/// The value of the first pair of this name in a target's query, which is read as a form (URL Standard,
+/// section 5.1): `+` is a space, percent-encoded bytes are decoded, in names too, and what is no UTF-8 then
+/// becomes U+FFFD. Empty where there is none.
+pub fn parameter(heap: Heap, target: &str, name: &str) -> Result<Text, Memory>
+    ensures { IfOk result (λ value. value ≡ parameter target.now name.now) }
+{
+    match value_in(heap, query(target), name)? {
+        Some(value) => Ok(Text::new(value)),
+        None => Ok(Text::new(String::new(heap))),
+    }
+}
+
+fn query(target: &str) -> &str
+    ensures { result.now ≡ query_of target.now }
+{
+    match target.split_once('?') {
+        Some((_, query)) => query,
+        None => "",
+    }
+}
+
+/// The value of the first pair of this name.
+#[tactic(auto, unfolding(crate::specs::Queries::value_of))]
+fn value_in(heap: Heap, query: &str, name: &str) -> Result<Option<String>, Memory>
+    ensures { IfOk result (λ value. option_map string_bytes value ≡ value_of query.now name.now) }
+{
+    'pairs: for (key, encoded) in form_urlencoded::raw_pairs(query.as_bytes()) {
+        let key = form_urlencoded::decode(heap, key)?;
+        if key.as_str() == name {
+            let value = form_urlencoded::decode(heap, encoded)?;
+            return Ok(Some(value.into_owned(heap)?));
+        }
+    }
+    Ok(None)
+}

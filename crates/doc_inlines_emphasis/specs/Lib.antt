@@ -1,0 +1,4 @@
+pub mod RunSteps
+pub mod Views
+pub mod Texts
+pub mod Steps

@@ -1,0 +1,70 @@
+//! Delimiter runs.
+ghost use Rattle.std.specs.Prelude.{◌≡◌, ◌<◌, if◌then◌else◌};
+ghost use Rattle.doc_rules.specs.Emphasis.{matches, strength, span_of};
+ghost use Rattle.doc_inlines_pass.specs.Openers.{closer_kind};
+ghost use Rattle.doc_inlines_marks.specs.Views.{span_shown};
+ghost use Rattle.doc_inlines_emphasis.specs.RunSteps.{run_shown};
+
+use doc_inlines_marks::mark::Span;
+
+/// A run of `*`, where `star` holds, or of `_`. Each delimiter that is left of it has a mark of its own, the leftmost of them at `first`.
+#[derive(Clone, Copy)]
+pub(crate) struct Run {
+    pub(crate) first: usize,
+    pub(crate) left: usize,
+    pub(crate) length: usize,
+    pub(crate) star: bool,
+    pub(crate) opens: bool,
+    pub(crate) closes: bool,
+}
+
+impl Run {
+    /// The number of its kind among closers.
+    #[tactic(auto, using(crate::proofs::RunLaws::kind_is, crate::proofs::RunLaws::kind_is_below))]
+    pub(crate) fn kind(self) -> usize
+        ensures kind { result ≡ closer_kind (run_shown self) }
+        ensures below { result < 12 }
+    {
+        number_if(self.star, 6) + (number_if(self.opens, 3) + self.length % 3)
+    }
+
+    /// Whether it may open for the closer (rules 9 and 10).
+    pub(crate) fn opens_for(self, closer: Run) -> bool
+        ensures { result ≡ matches (run_shown self) (run_shown closer) }
+    {
+        let either = self.opens & self.closes | closer.opens & closer.closes;
+        let sum = (self.length % 3 + closer.length % 3) % 3 == 0;
+        let both = (self.length % 3 == 0) & (closer.length % 3 == 0);
+        (self.star == closer.star) & (self.opens & closer.closes) & (!(either & sum) | both)
+    }
+
+    /// How many delimiters of each run a pair takes: two where both have two left (rules 13 and 14).
+    pub(crate) fn strength(self, closer: Run) -> usize
+        ensures { result ≡ strength (run_shown self) (run_shown closer) }
+    {
+        if self.left >= 2 && closer.left >= 2 {
+            return 2;
+        }
+        1
+    }
+}
+
+fn number_if(so: bool, number: usize) -> usize
+    ensures { result ≡ (if so then number else 0) }
+{
+    if so {
+        return number;
+    }
+    0
+}
+
+/// What so many delimiters make.
+#[tactic(auto, unfolding(doc_inlines_marks::specs::Views::span_shown))]
+pub(crate) fn span(taken: usize) -> Span
+    ensures { span_shown result ≡ span_of taken }
+{
+    if taken == 2 {
+        return Span::Strong;
+    }
+    Span::Emphasis
+}

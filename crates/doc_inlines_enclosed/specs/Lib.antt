@@ -1,0 +1,11 @@
+pub mod AddressSteps
+pub mod CodeSpans
+pub mod CodeSteps
+pub mod Enclosed
+pub mod EndSteps
+pub mod FoundSteps
+pub mod LearnSteps
+pub mod Reads
+pub mod RunSteps
+pub mod Slices
+pub mod ToldSteps

@@ -1,0 +1,46 @@
+//! The tail of a link or an image: what follows its `]` (CommonMark 0.31.2, sections 6.3 and 6.4).
+//!
+//! A tail is read as it stands: code spans and tags in it bind nothing, which is this project's choice.
+#![tactic(auto)]
+
+ghost use Rattle.std.specs.Prelude.{◌≡◌, List, chars, IfOk, IfSome};
+ghost use Rattle.doc_rules.specs.Rests.{IsRest};
+ghost use Rattle.doc_rules.specs.Definitions.{Definition};
+ghost use Rattle.doc_rules.specs.Links.{link_tail};
+ghost use Rattle.doc_refs.specs.Targets.{targets_of};
+ghost use Rattle.doc_inlines_tails.specs.TailSteps.{tail_shown};
+
+mod inline_tail;
+mod label;
+mod reference_tail;
+mod target;
+
+use doc_heap::Heap;
+use doc_lines::entities::Entities;
+use doc_page::failure::Memory;
+use doc_refs::{RefMap, Target};
+use inline_tail::inline_tail;
+use reference_tail::reference_tail;
+use target::read_target;
+
+/// What the tail of a link or an image names, with the text behind the tail; `None` where no tail stands there. `between` is the text
+/// between the brackets, `rest` the text behind the `]`.
+///
+/// An inline tail is tried first; it takes memory only where it stands. Of the text between the brackets, and of a label that follows,
+/// no more is looked at than a label may have.
+#[tactic(auto, unfolding(doc_rules::specs::Links::link_tail))]
+pub fn link_tail<'t>(
+    heap: Heap,
+    entities: &Entities,
+    refs: &RefMap,
+    between: &str,
+    rest: &'t str,
+) -> Result<Option<(Target, &'t str)>, Memory>
+    ensures value { (definitions : List Definition) → refs.now ≡ targets_of definitions → IfOk result (λ found. tail_shown found ≡ link_tail entities.now definitions (chars between.now) (chars rest.now)) }
+    ensures end { IfOk result (λ found. IfSome found (λ tail. IsRest (chars tail.1.now) (chars rest.now))) }
+{
+    match inline_tail(rest) {
+        Some(source) => Ok(Some((read_target(heap, entities, source)?, source.rest))),
+        None => reference_tail(heap, refs, between, rest),
+    }
+}

@@ -1,4 +1,0 @@
-use Rattle.site_trial.proofs.run.Given as goal
-
-abbrev pub ghosts-run_world : goal.ghosts-run_world
-ghosts-run_world g a = record { name = a.blank.name; parts = a.blank.parts }

@@ -1,0 +1,96 @@
+//! Calls of `doc_resolve` that ask the store.
+
+use crate::given::{Trial, reader_of, two, written};
+use crate::stop::Stop;
+use doc_heap::{Heap, String, Vec};
+use doc_page::failure::Memory;
+use doc_page::linker::Linker;
+use doc_page::list::List;
+use doc_page::path::Path;
+use doc_page::rendered::{LinkSpot, Piece, Rendered};
+use doc_page::text::Text;
+use doc_resolve::{SiteLinker, decisions};
+use doc_store::reader::Reader;
+use std::fmt;
+
+/// The pages that the links of a page lead to, which are printed as they are.
+#[derive(Drop)]
+struct Decisions {
+    all: Vec<Option<Path>>,
+}
+
+impl fmt::Debug for Decisions {
+    fn fmt<W: fmt::Write>(&self, f: &mut fmt::Formatter<W>) -> fmt::Result {
+        fmt::Debug::fmt(&self.all, f)
+    }
+}
+
+/// What a call of this name answers, if there is one.
+pub fn called(trial: &Trial, name: &str, given: &str) -> Option<Result<String, Stop>> {
+    match name {
+        "decisions" => Some(decided(trial, given)),
+        "show" => Some(shown(trial, given)),
+        _ => None,
+    }
+}
+
+/// Who reads a page, and its path.
+#[derive(Drop)]
+struct Reading {
+    reader: Reader,
+    page: Path,
+}
+
+/// `READER | PAGE | DESTINATION | ..`: the pages that the links of a page lead to for a reader.
+fn decided(trial: &Trial, given: &str) -> Result<String, Stop> {
+    let (reading, dests) = reading_of(trial.heaps.desk, given)?;
+    let rendered = page_of_links(trial.heaps.desk, dests)?;
+    written(trial.heaps.desk, decisions_of(trial, &reading, &rendered)?)
+}
+
+fn decisions_of<'a>(
+    trial: &'a Trial,
+    reading: &'a Reading,
+    rendered: &'a Rendered,
+) -> Result<Decisions, Memory> {
+    let sight = trial.store.sight(&reading.reader);
+    let all = decisions(trial.heaps.tried, &reading.page, rendered, &sight)?;
+    Ok(Decisions { all })
+}
+
+/// `READER | PAGE | DESTINATION`: how a link of a page is shown to a reader.
+fn shown(trial: &Trial, given: &str) -> Result<String, Stop> {
+    let (reading, dest) = reading_of(trial.heaps.desk, given)?;
+    let sight = trial.store.sight(&reading.reader);
+    let linker = SiteLinker::new(&reading.page, &sight);
+    written(trial.heaps.desk, linker.show(trial.heaps.tried, dest)?)
+}
+
+/// Who reads a page and its path, and what follows them.
+fn reading_of(heap: Heap, given: &str) -> Result<(Reading, &str), Stop> {
+    let (reader, rest) = two(given)?;
+    let (page, rest) = two(rest)?;
+    let page = Path::new(heap, page)?;
+    let reader = reader_of(heap, reader)?;
+    Ok((Reading { reader, page }, rest))
+}
+
+/// A page of links alone, to these destinations.
+fn page_of_links(heap: Heap, dests: &str) -> Result<Rendered, Memory> {
+    let mut pieces = Vec::new(heap);
+    for dest in dests.split(" | ") {
+        pieces.push(link_to(heap, dest)?)?;
+    }
+    Ok(Rendered {
+        pieces: List::new(pieces),
+        headings: List::new(Vec::new(heap)),
+        texts: List::new(Vec::new(heap)),
+    })
+}
+
+fn link_to(heap: Heap, dest: &str) -> Result<Piece, Memory> {
+    Ok(Piece::Link(LinkSpot {
+        dest: Text::copy_of(heap, dest)?,
+        title: None,
+    }))
+}

@@ -1,0 +1,31 @@
+//! Calls of `doc_resolve` that ask no store.
+
+use crate::given::{Heaps, two, written};
+use crate::stop::Stop;
+use doc_heap::String;
+use doc_page::path::Path;
+use doc_resolve::{Reference, classify, resolve};
+
+/// What a call of this name answers, if there is one.
+pub fn called(heaps: Heaps, name: &str, given: &str) -> Option<Result<String, Stop>> {
+    match name {
+        "resolve" => Some(resolved(heaps, given)),
+        "classify" => Some(kind(heaps, given)),
+        _ => None,
+    }
+}
+
+/// `BASE | REFERENCE`: the text of a reference, resolved on a base.
+fn resolved(heaps: Heaps, given: &str) -> Result<String, Stop> {
+    let (base, reference) = two(given)?;
+    let base = Reference::parse(base);
+    let resolved = resolve(heaps.tried, &base, &Reference::parse(reference))?;
+    written(heaps.desk, resolved.text(heaps.tried)?)
+}
+
+/// `PAGE | DESTINATION`: what a destination in a page leads to.
+fn kind(heaps: Heaps, given: &str) -> Result<String, Stop> {
+    let (page, dest) = two(given)?;
+    let page = Path::new(heaps.desk, page)?;
+    written(heaps.desk, classify(heaps.tried, &page, dest)?)
+}
