@@ -16,6 +16,7 @@ set -eu
 cd "$(dirname "$0")/.."
 program=crates/http_bench/out/http_bench
 [ -x "$program" ] || { echo "run 'rt run < stdin' in crates/http_bench first" >&2; exit 1; }
+scripts/measured.sh
 python3 - "$program" <<'PYTHON'
 import os, subprocess, sys, tempfile
 program = sys.argv[1]

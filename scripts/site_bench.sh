@@ -9,6 +9,7 @@ set -eu
 cd "$(dirname "$0")/.."
 program=crates/site_bench/out/site_bench
 [ -x "$program" ] || { echo "run 'rt run' in crates/site_bench first" >&2; exit 1; }
+scripts/measured.sh
 python3 - "$program" <<'PYTHON'
 import os, subprocess, sys
 program = sys.argv[1]
