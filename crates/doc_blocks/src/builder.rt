@@ -1,4 +1,11 @@
-//! A document that is read line by line.
+//! A document that is read line by line: the path of open blocks, and what a line does with it (the crate's head has the plan).
+//!
+//! `depth` is how many containers a line went down, from the outermost, and `line` what is left of it inside them. Whatever begins there
+//! closes all that is open further in, and a line that begins nothing closes nothing by itself: that is what makes a line lazy. A *lazy
+//! line* is one that begins nothing and isn't blank, while a paragraph is open further in than the line went down. It is a line of that
+//! paragraph, and the containers round it stay open. `put_text` decides it, where it asks whether any paragraph is open and not whether
+//! that stands at `depth`. `met` tells both apart for those that care: an underline is never lazy, and an item that may not interrupt a
+//! paragraph of its own containers does begin where the paragraph is open further in.
 ghost use Rattle.std.specs.Prelude.{◌≡◌, ◌+◌, ◌-◌, ℕ, true, false, not, OnOk, IfOk, vec_len};
 ghost use Rattle.std.specs.FinMap as finite;
 ghost use Rattle.doc_rules.specs.Columns.{is_blank_line};
@@ -222,6 +229,7 @@ impl Builder {
             self.levels.set_blank(true);
             return Ok(());
         }
+        // Also where the paragraph is open further in than the line went down: then the line is lazy.
         if self.meets_paragraph() {
             self.leaf.continue_paragraph(line)?;
             return Ok(());

@@ -1,4 +1,5 @@
-//! Open containers: quotes and list items.
+//! Open containers: quotes and list items, and whether a line goes on with one (CommonMark 0.31.2, sections 5.1 and 5.2): with a quote by
+//! its marker, with an item by its columns or by being blank, but for the second line of an item that started blank.
 ghost use Rattle.std.specs.Prelude.{◌≡◌, nat_le, ◌&&◌, ◌||◌, not};
 ghost use Rattle.doc_rules.specs.Columns.{indent, is_blank_line};
 ghost use Rattle.doc_blocks_pass.specs.Paths.{OpenItem, matched_open, gone_on};

@@ -1,4 +1,4 @@
-//! The document of a text.
+//! The document of a text: each of its lines in turn is added to a builder, and at the end all that is still open closes.
 ghost use Rattle.std.specs.Prelude.{◌≡◌, [], chars, IfOk, OnOk};
 ghost use Rattle.doc_rules.specs.Blocks.{document_of};
 ghost use Rattle.doc_rules.specs.Columns.{cells_of};

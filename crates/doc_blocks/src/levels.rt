@@ -1,4 +1,19 @@
 //! The open containers of a document that is read line by line, with the finished blocks of all levels on one stack.
+//!
+//! A *level* is what stands at one depth: its finished blocks, behind them perhaps a list that the next item may go on with, and whether a
+//! blank line stands between two of the blocks (`gap`). There is one level more than open containers: `outer` has each container with the
+//! level that it stands in, and `inner` is the one inside the last. The finished blocks of all levels lie on one stack, `done`:
+//!
+//!     blocks of the outermost level, items of its open list | blocks of the next, items of its open list | .. | blocks of `inner`, ..
+//!     ^ base                         ^ list.base              ^ base
+//!
+//! So what closes takes its own off the end and puts one block there: an open list its items (`finish_list`), a container the blocks of
+//! the level inside it (`leave`). `blank` says that a blank line stands behind the last block of the innermost level: the next block there
+//! makes a gap of it, the next item of the list makes the list loose. An item that closes leaves it to the level round it, a quote that
+//! closes clears it.
+//!
+//! That the bases stand within the stack and ascend (`IsSound`) is asked and ensured by each call that changes it. A call that answers
+//! `Memory` ensures nothing, and may have let blocks go already.
 ghost use Rattle.std.specs.Prelude.{◌≡◌, ◌+◌, ◌<◌, ◌≤◌, ℕ, false, None, OnOk, IfOk, IsTrue, vec_len};
 ghost use Rattle.doc_blocks_starts.specs.Items.{kind_of};
 ghost use Rattle.doc_rules.specs.Blocks.{list_start};

@@ -1,4 +1,7 @@
-//! What was made of a text so far.
+//! What was made of a text so far: the marks, and the brackets among them that are open.
+//!
+//! A link holds no links: once one is made, no bracket that is open then begins one. They are the first so many on the stack, so that is
+//! one number, `dead`. An image may hold links, and a bracket of an image may still begin one.
 ghost use Rattle.std.specs.Prelude.{◌≡◌, ℕ, suc, Bool, true, false, [], ◌∷◌, ◌++◌, chars, reverse, OnOk, IfOk, MatchOption, nat_le, ◌||◌, if◌then◌else◌};
 ghost use Rattle.doc_rules.specs.Inlines.{Delimiters, Open, onto};
 ghost use Rattle.doc_rules.specs.Inlines as images;

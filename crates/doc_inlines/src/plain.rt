@@ -1,4 +1,5 @@
-//! Characters that begin nothing.
+//! Characters that begin nothing: a table of 256 bytes passes over them. Spaces go with them unless a line ends behind, and a `>` or a `"`
+//! is text in a mark of its own, since HTML writes it otherwise.
 ghost use Rattle.std.specs.Prelude.{◌≡◌, ◌==◌, ℕ, true, false, [], ◌∷◌, ◌++◌, chars, OnOk, MatchOption};
 ghost use Rattle.doc_rules.specs.Characters.{last_or};
 ghost use Rattle.doc_rules.specs.Entities.{Table};

@@ -1,4 +1,7 @@
-//! A reader of texts.
+//! A reader of texts: where it stands in a text, and which kind of item begins there.
+//!
+//!     text:  | in marks | passed, and in no mark yet | still to be read |
+//!                       ^ plain                      ^ rest
 ghost use Rattle.std.specs.Prelude.{◌≡◌, ℕ, ◌≤◌, List, true, [], ◌∷◌, ◌++◌, length, chars, OnOk};
 ghost use Rattle.std.specs.List.{list_all};
 ghost use Rattle.doc_rules.specs.Definitions.{Definition};

@@ -1,4 +1,4 @@
-//! Runs of delimiters (CommonMark 0.31.2, section 6.2).
+//! Runs of delimiters, and which may open or close emphasis by the characters beside them (CommonMark 0.31.2, section 6.2).
 ghost use Rattle.std.specs.Prelude.{◌≡◌, ℕ, suc, Some, true, ◌||◌, ◌==◌, ◌∷◌, chars, OnOk};
 ghost use Rattle.doc_rules.specs.Characters.{first_or, last_or};
 ghost use Rattle.doc_rules.specs.Parsers.{before, many};

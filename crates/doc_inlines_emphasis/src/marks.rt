@@ -1,4 +1,4 @@
-//! The marks made so far.
+//! The marks made so far: what the reader of inlines puts behind them, turns into another, and wraps in emphasis.
 ghost use Rattle.std.specs.Prelude.{◌≡◌, ℕ, suc, ◌≤◌, ◌<◌, [], ◌∷◌, ◌++◌, length, take, drop, replicate, chars, slice_set, OnOk};
 ghost use Rattle.doc_rules.specs.Characters as rules;
 ghost use Rattle.doc_rules.specs.Emphasis.{emphasis_of};
