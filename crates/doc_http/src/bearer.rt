@@ -23,7 +23,7 @@ pub fn bearer(request: &Request) -> Option<&str>
     }
 }
 
-// The token of a value of an Authorization field.
+/// The token of a value of an Authorization field.
 fn bearer_in(value: &[u8]) -> Option<&str>
     ensures { option_copied result ≡ bearer_by (Some value.now) }
 {
@@ -34,7 +34,7 @@ fn bearer_in(value: &[u8]) -> Option<&str>
     token_behind(scheme, skip_spaces(rest))
 }
 
-// The token, where it is one and stands behind the scheme of bearer tokens.
+/// The token, where it is one and stands behind the scheme of bearer tokens.
 fn token_behind<'a>(scheme: &[u8], token: &'a [u8]) -> Option<&'a str>
     ensures { option_copied result ≡ token_by scheme.now token.now }
 {
@@ -51,7 +51,7 @@ fn is_bearer(scheme: &[u8]) -> bool
     scheme.eq_ignore_ascii_case(b"bearer")
 }
 
-// A token as text.
+/// A token as text.
 fn text_of(token: &[u8]) -> &str
     requires { IsTrue (token_test token.now) }
     ensures { result.now ≡ token.now }
@@ -74,7 +74,7 @@ fn skip_spaces(bytes: &[u8]) -> &[u8]
     &bytes[count_spaces(bytes)..]
 }
 
-// How many spaces stand at the front.
+/// How many spaces stand at the front.
 fn count_spaces(bytes: &[u8]) -> usize
     ensures count { result ≡ prefix_len (λ b. b == 32) bytes.now }
     ensures within { result ≤ length bytes.now }

@@ -66,7 +66,7 @@ impl Reply {
         Ok(Bytes::new(out))
     }
 
-    // Room for the reply, for which no growth is needed as it is written.
+    /// Room for the reply, for which no growth is needed as it is written.
     fn room(&self, head_only: bool) -> usize {
         let content = if head_only { 0 } else { self.body.get().len() };
         let location = self.location.as_ref().map_or(0, |text| text.get().len());
@@ -76,7 +76,8 @@ impl Reply {
     #[tactic(auto, unfolding(crate::specs::Replies::reply_head))]
     fn push_head(&self, out: &mut String, close: bool) -> Result<(), Memory>
         requires { IsTrue (is_reply_code self.now.code) }
-        ensures { OnOk result (string_bytes out.new ≡ string_bytes out.old ++ reply_head self.now close) }
+        ensures { OnOk result
+            (string_bytes out.new ≡ string_bytes out.old ++ reply_head self.now close) }
     {
         out.push_str("HTTP/1.1 ")?;
         push_status(out, self.code)?;
@@ -88,7 +89,8 @@ impl Reply {
 
     fn push_field_lines(&self, out: &mut String, close: bool) -> Result<(), Memory>
         requires { IsTrue (is_reply_code self.now.code) }
-        ensures { OnOk result (string_bytes out.new ≡ string_bytes out.old ++ field_lines self.now close) }
+        ensures { OnOk result
+            (string_bytes out.new ≡ string_bytes out.old ++ field_lines self.now close) }
     {
         self.push_content_lines(out)?;
         push_location(out, &self.location)?;
@@ -99,7 +101,8 @@ impl Reply {
 
     fn push_content_lines(&self, out: &mut String) -> Result<(), Memory>
         requires { IsTrue (is_reply_code self.now.code) }
-        ensures { OnOk result (string_bytes out.new ≡ string_bytes out.old ++ content_lines self.now) }
+        ensures { OnOk result
+            (string_bytes out.new ≡ string_bytes out.old ++ content_lines self.now) }
     {
         if self.code == 204 {
             return Ok(());
@@ -121,7 +124,7 @@ impl Reply {
 }
 
 impl Allow {
-    // The methods that the resource has.
+    /// The methods that the resource has.
     fn methods(self) -> &'static str
         ensures { result.now ≡ allowed_methods self }
     {
@@ -132,10 +135,11 @@ impl Allow {
     }
 }
 
-// Adds a field line.
+/// Adds a field line.
 #[tactic(auto, unfolding(crate::specs::Replies::field_line))]
 fn push_field(out: &mut String, name: &str, value: &str) -> Result<(), Memory>
-    ensures { OnOk result (string_bytes out.new ≡ string_bytes out.old ++ field_line name.now value.now) }
+    ensures { OnOk result
+        (string_bytes out.new ≡ string_bytes out.old ++ field_line name.now value.now) }
 {
     out.push_str(name)?;
     out.push_str(": ")?;
@@ -146,13 +150,14 @@ fn push_field(out: &mut String, name: &str, value: &str) -> Result<(), Memory>
 
 #[tactic(auto, unfolding(crate::specs::Replies::field_line))]
 fn push_length(out: &mut String, len: usize) -> Result<(), Memory>
-    ensures { OnOk result (string_bytes out.new ≡ string_bytes out.old ++ field_line (codes "Content-Length") (decimal len)) }
+    ensures { OnOk result
+        (string_bytes out.new ≡ string_bytes out.old ++ field_line (codes "Content-Length") (decimal len)) }
 {
     write!(out, "Content-Length: {}\r\n", len)?;
     Ok(())
 }
 
-// Adds the code and its reason.
+/// Adds the code and its reason.
 fn push_status(out: &mut String, code: u16) -> Result<(), Memory>
     ensures { OnOk result (string_bytes out.new ≡ string_bytes out.old ++ status_of code) }
 {
@@ -161,7 +166,8 @@ fn push_status(out: &mut String, code: u16) -> Result<(), Memory>
 }
 
 fn push_location(out: &mut String, location: &Option<Text>) -> Result<(), Memory>
-    ensures { OnOk result (string_bytes out.new ≡ string_bytes out.old ++ location_line location.now) }
+    ensures { OnOk result
+        (string_bytes out.new ≡ string_bytes out.old ++ location_line location.now) }
 {
     match location {
         Some(location) => push_field(out, "Location", location.get()),
@@ -208,7 +214,7 @@ fn content_type(html: bool) -> &'static str
     }
 }
 
-// The reason phrase of a code; empty where a reply has not the code.
+/// The reason phrase of a code; empty where a reply has not the code.
 #[tactic(auto, unfolding(crate::specs::Replies::reason_of))]
 fn reason(code: u16) -> &'static str
     ensures { result.now ≡ reason_of code }

@@ -36,7 +36,6 @@ use Rattle.doc_http_bodies.specs.declared.size_line.SizeLine.{SizeLine}
 use Rattle.doc_http_bodies.specs.declared.size_line.SizeLine.TheVariants.{Unfinished, Malformed, Size}
 use Rattle.doc_http_bodies.specs.Framings.{body_limit}
 use Rattle.doc_http_bodies.specs.Chunks.{
-  line_end,
   size_line,
   trailer_len,
   trailed,
@@ -50,6 +49,7 @@ use Rattle.doc_http_bodies.specs.Chunks.{
   data_in,
   data_of,
 }
+use Rattle.doc_http_bodies.specs.Places.{line_end}
 use Rattle.doc_http_bodies.proofs.PlaceLemmas.{Grows, longer, take_same, drop_grows}
 use Rattle.doc_http_bodies.proofs.ExtentLemmas.{LineFits, line_fits, LineStays, line_grows}
 
