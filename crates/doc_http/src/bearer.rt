@@ -45,6 +45,7 @@ fn token_behind<'a>(scheme: &[u8], token: &'a [u8]) -> Option<&'a str>
     }
 }
 
+/// Whether the scheme is that of bearer tokens.
 fn is_bearer(scheme: &[u8]) -> bool
     ensures { result ≡ str_eq_ignore_ascii_case scheme.now (codes "bearer") }
 {
@@ -62,12 +63,14 @@ fn text_of(token: &[u8]) -> &str
     text
 }
 
+/// The place of the first space.
 fn first_space(bytes: &[u8]) -> Option<usize>
     ensures { result ≡ position (λ b. b == 32) bytes.now }
 {
     bytes.iter().position(|byte| *byte == b' ')
 }
 
+/// The bytes from the first that is no space.
 fn skip_spaces(bytes: &[u8]) -> &[u8]
     ensures { result.now ≡ without_spaces bytes.now }
 {

@@ -70,6 +70,7 @@ fn lists_close(value: &[u8]) -> bool
     value.split(|byte| *byte == b',').any(|part| is_close(part))
 }
 
+/// Whether a part of such a list is `close`, in any case.
 fn is_close(part: &[u8]) -> bool
     ensures { result ≡ close_test part.now }
 {
@@ -84,6 +85,7 @@ fn trim_blanks(text: &[u8]) -> &[u8]
     &text[..text.len() - blanks_at_back(text)]
 }
 
+/// How many spaces and tabs stand at the front.
 fn blanks_at_front(text: &[u8]) -> usize
     ensures count { result ≡ prefix_len ows_test text.now }
     ensures within { result ≤ length text.now }
@@ -91,6 +93,7 @@ fn blanks_at_front(text: &[u8]) -> usize
     text.iter().take_while(|byte| is_blank(**byte)).count()
 }
 
+/// How many spaces and tabs stand at the back.
 fn blanks_at_back(text: &[u8]) -> usize
     ensures count { result ≡ prefix_len ows_test (reverse text.now) }
     ensures within { result ≤ length text.now }
@@ -101,6 +104,7 @@ fn blanks_at_back(text: &[u8]) -> usize
         .count()
 }
 
+/// Whether the byte is a space or a tab.
 fn is_blank(byte: u8) -> bool
     ensures { result ≡ ows_test byte }
 {
