@@ -7,6 +7,7 @@ ghost use Rattle.httparse.specs.Grammar.{trim_ows, is_ows as ows_test};
 ghost use Rattle.httparse.specs.Spans.{IsHeaderWithin, header_bytes};
 ghost use Rattle.doc_http.specs.Fields.{count_named as count_of, value_named as value_of, is_close as close_test, lists_close as list_test, has_good_counts as counts_test, asks_close as close_asked};
 
+use doc_http_bodies::blanks::is_space_or_tab;
 use doc_http_bodies::names::is_named;
 use httparse::spans::HeaderSpan;
 
@@ -90,7 +91,9 @@ fn blanks_at_front(text: &[u8]) -> usize
     ensures count { result ≡ prefix_len ows_test text.now }
     ensures within { result ≤ length text.now }
 {
-    text.iter().take_while(|byte| is_blank(**byte)).count()
+    text.iter()
+        .take_while(|byte| is_space_or_tab(**byte))
+        .count()
 }
 
 /// How many spaces and tabs stand at the back.
@@ -100,13 +103,6 @@ fn blanks_at_back(text: &[u8]) -> usize
 {
     text.iter()
         .rev()
-        .take_while(|byte| is_blank(**byte))
+        .take_while(|byte| is_space_or_tab(**byte))
         .count()
-}
-
-/// Whether the byte is a space or a tab.
-fn is_blank(byte: u8) -> bool
-    ensures { result ≡ ows_test byte }
-{
-    byte == b' ' || byte == b'\t'
 }

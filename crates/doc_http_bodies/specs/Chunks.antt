@@ -28,6 +28,7 @@ use Rattle.std.specs.Prelude.{
 use Rattle.std.specs.List.{starts_with, list_all, prefix_len}
 use Rattle.std.specs.Str.Parse.{digits_value}
 use Rattle.std.specs.Char.{is_ascii_hexdigit}
+use Rattle.doc_page.specs.Lines.{is_space_or_tab}
 use Rattle.doc_http_bodies.specs.declared.extent.Extent.{Extent}
 use Rattle.doc_http_bodies.specs.declared.extent.Extent.TheVariants.{More, Fault, Whole}
 use Rattle.doc_http_bodies.specs.declared.fault.Fault.TheVariants as faults
@@ -40,7 +41,7 @@ use Rattle.doc_http_bodies.specs.Places.{line_end, place_of, lines_len}
 
 -- `;`, space or tab
 abbrev pub begins_extension : ℕ → Bool
-begins_extension b = b == 59 || b == 32 || b == 9
+begins_extension b = b == 59 || is_space_or_tab b
 
 -- what may stand between a size and its CR LF: nothing, or what begins with `;`, space or tab and has neither CR nor LF
 -- (a chunk-ext of section 7.1.1, read widely)

@@ -2,6 +2,7 @@
 //! without a second look at those that came before.
 #![tactic(auto)]
 
+pub mod blanks;
 mod coding;
 mod digits;
 mod extent;

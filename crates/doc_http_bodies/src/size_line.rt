@@ -7,6 +7,7 @@ ghost use Rattle.doc_http_bodies.specs.Chunks.{size_of as size_by, size_line as 
 ghost use Rattle.doc_http_bodies.specs.Places.{line_end, IsSearched};
 ghost use Rattle.doc_http_bodies.specs.StageSteps.{IsLineWithin};
 
+use crate::blanks::is_space_or_tab;
 use crate::digits::hexadecimal;
 use crate::finding::find;
 use crate::slices::front;
@@ -77,7 +78,7 @@ fn is_extension(text: &[u8]) -> bool
 fn begins_extension(byte: u8) -> bool
     ensures { result ≡ begins_by byte }
 {
-    byte == b';' || byte == b' ' || byte == b'\t'
+    byte == b';' || is_space_or_tab(byte)
 }
 
 /// Whether the text has neither CR nor LF.
