@@ -2,7 +2,6 @@
 use Rattle.std.proofs.Common.{
   ◌≡◌,
   ℕ,
-  suc,
   ◌+◌,
   ◌-◌,
   ◌≤◌,

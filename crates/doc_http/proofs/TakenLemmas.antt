@@ -2,16 +2,13 @@
 use Rattle.std.proofs.Common.{
   ◌≡◌,
   ℕ,
-  ◌+◌,
   ◌≤◌,
   ◌==◌,
   List,
   [],
-  ◌∷◌,
   Bool,
   true,
   false,
-  cond,
   length,
   take,
   drop,
@@ -21,11 +18,8 @@ use Rattle.std.proofs.Common.{
   ◌∙◌,
   subst,
   arith,
-  nat_eq,
 }
 use Rattle.std.specs.Prelude.{Option, Some, None, Result, Ok, Err, nat_le, ⊤, if◌then◌else◌}
-use Rattle.std.specs.List.{starts_with}
-use Rattle.std.specs.Option.{option_map}
 use Rattle.httparse.specs.Grammar.{RequestHead}
 use Rattle.doc_http.specs.declared.head.HeadSpan.{HeadSpan}
 use Rattle.doc_http.specs.declared.head.HeadSpan.TheVariants.{Unfinished, TooLong, At}

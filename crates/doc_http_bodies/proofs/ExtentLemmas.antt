@@ -13,14 +13,11 @@ use Rattle.std.proofs.Common.{
   true,
   false,
   List,
-  [],
-  ◌++◌,
   length,
   take,
   drop,
   refl,
   ap,
-  sym,
   ◌∙◌,
   subst,
   arith,
@@ -30,7 +27,7 @@ use Rattle.std.proofs.Common.{
 use Rattle.std.specs.Prelude.{Option, Some, None, nat_le, nat_lt, ⊤, if◌then◌else◌}
 use Rattle.std.specs.List.{starts_with}
 use Rattle.std.proofs.lemmas.Bool.{ltb-false, le-ltb}
-use Rattle.std.proofs.lemmas.List.{take_all, length-take, append-nil}
+use Rattle.std.proofs.lemmas.List.{length-take}
 use Rattle.doc_http_bodies.specs.declared.extent.Extent.{Extent}
 use Rattle.doc_http_bodies.specs.declared.extent.Extent.TheVariants.{More, Fault, Whole}
 use Rattle.doc_http_bodies.specs.declared.fault.Fault.TheVariants as faults
@@ -63,7 +60,6 @@ use Rattle.doc_http_bodies.proofs.PlaceLemmas.{
   Within,
   place_within,
   Stays,
-  behind_stays,
   place_grows,
   take_grows,
 }
