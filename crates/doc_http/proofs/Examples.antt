@@ -9,10 +9,13 @@ use Rattle.doc_http_bodies.specs.Readings.{encoded_limit, reading_of}
 use Rattle.doc_http.specs.declared.head.HeadSpan.TheVariants.{Unfinished, At}
 use Rattle.doc_http.specs.declared.request.Next.TheVariants as next
 use Rattle.doc_http.specs.declared.reply.Allow.TheVariants.{Page, Read}
+use Rattle.doc_http.specs.declared.reply_form.ReplyForm.TheVariants as forms
+use Rattle.doc_http.specs.declared.status.Status.TheVariants as statuses
 use Rattle.doc_http.specs.Bearers.{bearer_in}
 use Rattle.doc_http.specs.Fields.{lists_close}
 use Rattle.doc_http.specs.Heads.{head_limit, head_span_of, has_bare_line_feed}
 use Rattle.doc_http.specs.Replies.{reason_of, field_line, reply_head, reply_bytes}
+use Rattle.doc_http.specs.ReplyForms.{reply_of}
 use Rattle.doc_http.specs.Requests.{next_behind, request_of}
 use Rattle.doc_page.specs.Tokens.{is_token}
 
@@ -503,3 +506,15 @@ moved : reply_bytes (record { code = 301; html = false; allow = None; location =
     ≡ codes "HTTP/1.1 301 Moved Permanently\r\nContent-Type: text/plain; charset=utf-8\r\nContent-Length: 22\r\nLocation: /page/b.md\r\n\r\n301 Moved Permanently\n"
 unfolding computing
 moved = refl
+
+-- ---- replies by their forms
+
+a_full_store : reply_bytes (reply_of (forms.Status statuses.InsufficientStorage)) false false
+    ≡ codes "HTTP/1.1 507 Insufficient Storage\r\nContent-Type: text/plain; charset=utf-8\r\nContent-Length: 25\r\n\r\n507 Insufficient Storage\n"
+unfolding computing
+a_full_store = refl
+
+moved_by_its_head : reply_bytes (reply_of (forms.Moved (codes "/page/b.md"))) true true
+    ≡ codes "HTTP/1.1 301 Moved Permanently\r\nContent-Type: text/plain; charset=utf-8\r\nContent-Length: 22\r\nLocation: /page/b.md\r\nConnection: close\r\n\r\n"
+unfolding computing
+moved_by_its_head = refl

@@ -1,7 +1,8 @@
 -- The laws of what bytes begin with.
 use Rattle.std.proofs.Common.{◌≡◌, ℕ, ◌+◌, ◌-◌, ◌≤◌, List, [], ◌++◌, Bool, true, false, length, drop, slice_range, refl, ap, sym, ◌∙◌}
-use Rattle.std.proofs.Common.{subst, arith, T, length-drop}
+use Rattle.std.proofs.Common.{subst, arith, length-drop}
 use Rattle.std.specs.Prelude.{◌==◌, Option, Some, None, Result, Ok, Err, ⊤, if◌then◌else◌}
+use Rattle.std.proofs.lemmas.Bool.{true≢false}
 use Rattle.std.proofs.lemmas.List.{take-append-le, drop-append-le}
 use Rattle.httparse.specs.Grammar.{RequestHead}
 use Rattle.httparse.proofs.GrammarLemmas.{request_unique}
@@ -17,7 +18,8 @@ use Rattle.doc_http_bodies.proofs.LawLemmas.{stays_decided as body_stays, decide
 use Rattle.doc_http.specs.declared.request.Request.{Request}
 use Rattle.doc_http.specs.declared.request.Next.{Next}
 use Rattle.doc_http.specs.declared.request.Next.TheVariants as next
-use Rattle.doc_http.specs.Fields.{Fields, fields_of}
+use Rattle.doc_http_bodies.specs.Fields.{Fields}
+use Rattle.doc_http.specs.Fields.{fields_of}
 use Rattle.doc_http.specs.Heads.{head_limit, head_span_of, IsRead}
 use Rattle.doc_http.specs.Requests.{is_bad, is_bare, request_with, next_read, next_framed, next_with, next_behind, next_at, request_of}
 use Rattle.doc_http.specs.Requests.{IsReadAt, IsNext, UsesAtMost}
@@ -42,9 +44,6 @@ read_in_one_way bytes a b (x, p, e) (y, q, f) = e ∙ ap (request_of bytes) (rea
 
 -- ---- what stays
 
-true_false : true ≡ false → ⊥
-true_false e = subst (λ b. T b) e tt
-
 -- a request or a fault stays
 abbrev Stays : Next → Next → Type 0
 Stays next.More later = ⊤
@@ -63,7 +62,7 @@ framed_stays request bare end rest more (Ok framing) = by_reading (reading_of fr
     stays : (reading : Reading) → reading_of framing rest ≡ reading → is_wait reading ≡ false
         → next_read request bare end (reading_of framing (rest ++ more)) ≡ next_read request bare end reading
     stays reading is some = ap (next_read request bare end)
-        (body_stays framing rest more (λ wait. true_false (sym (ap is_wait (sym is ∙ wait)) ∙ some)) ∙ is)
+        (body_stays framing rest more (λ wait. true≢false (sym (ap is_wait (sym is ∙ wait)) ∙ some)) ∙ is)
 
     by_reading : (reading : Reading) → reading_of framing rest ≡ reading
         → Stays (next_read request bare end reading) (next_read request bare end (reading_of framing (rest ++ more)))
@@ -161,7 +160,7 @@ at_decides bytes (At start end) read settled inside enough =
 pub decided_within : IsDecidedWithin 2113536
 unfolding head_limit
 decided_within bytes a enough (read, p, e) is =
-    true_false (sym (ap is_more (sym e ∙ is)) ∙ at_decides bytes (head_span_of bytes) read (span_settled bytes (omega (arith, enough)))
+    true≢false (sym (ap is_more (sym e ∙ is)) ∙ at_decides bytes (head_span_of bytes) read (span_settled bytes (omega (arith, enough)))
     (span_in_limit bytes) enough)
 
 -- ---- what is used

@@ -1,7 +1,8 @@
 -- What is known of unread bytes, and what they begin with.
 use Rattle.std.proofs.Common.{◌≡◌, ℕ, ◌==◌, ◌-◌, ◌<◌, ◌≤◌, ◌^◌, true, false, List, [], ◌++◌, Option, Some, None, length, take, drop}
-use Rattle.std.proofs.Common.{slice_range, refl, ap, sym, ◌∙◌, subst, arith, length-drop, length-append, append-nil, T}
-use Rattle.std.specs.Prelude.{Result, Ok, Err, OnErr, if◌then◌else◌}
+use Rattle.std.proofs.Common.{slice_range, refl, ap, sym, ◌∙◌, subst, arith, length-drop, length-append, append-nil}
+use Rattle.std.specs.Prelude.{Ok, if◌then◌else◌}
+use Rattle.std.proofs.lemmas.Bool.{true≢false}
 use Rattle.std.proofs.lemmas.List.{drop-append-le, append_assoc, take_rest}
 use Rattle.httparse.proofs.GrammarLemmas.{request_unique}
 use Rattle.httparse.specs.Grammar.{RequestHead}
@@ -158,11 +159,7 @@ not_bad text head is_head good None is bad = is head is_head
 not_bad text head is_head good (Some other) is bad =
     let same : is_bad text (Some other) ≡ is_bad text (Some head) = ap (λ h. is_bad text (Some h)) (read_again text other head is is_head)
     in
-    subst (λ b. T b) (sym bad ∙ same ∙ good) tt
-
-pub on_err : {X E P : Type 0} (result : Result X E) → P → OnErr result P
-on_err (Ok x) p = tt
-on_err (Err e) p = p
+    true≢false (sym bad ∙ same ∙ good)
 
 -- ---- the unread bytes in their buffer
 

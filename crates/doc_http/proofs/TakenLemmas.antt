@@ -1,9 +1,6 @@
 -- How many bytes a request takes: some, and no more than there are.
-use Rattle.std.proofs.Common.{◌≡◌, ℕ, ◌+◌, ◌≤◌, ◌==◌, List, [], ◌∷◌, Bool, true, false, cond, length, take, drop, slice_range, refl, sym}
-use Rattle.std.proofs.Common.{◌∙◌, subst, arith, nat_eq}
+use Rattle.std.proofs.Common.{◌≡◌, ℕ, ◌≤◌, ◌==◌, List, [], Bool, true, false, length, take, drop, slice_range, refl, sym, ◌∙◌, subst, arith}
 use Rattle.std.specs.Prelude.{Option, Some, None, Result, Ok, Err, nat_le, ⊤, if◌then◌else◌}
-use Rattle.std.specs.List.{starts_with}
-use Rattle.std.specs.Option.{option_map}
 use Rattle.httparse.specs.Grammar.{RequestHead}
 use Rattle.doc_http.specs.declared.head.HeadSpan.{HeadSpan}
 use Rattle.doc_http.specs.declared.head.HeadSpan.TheVariants.{Unfinished, TooLong, At}
@@ -17,27 +14,11 @@ use Rattle.doc_http_bodies.specs.Readings.{reading_of}
 use Rattle.doc_http.specs.declared.request.Next.{Next}
 use Rattle.doc_http.specs.declared.request.Next.TheVariants as next
 use Rattle.doc_http.specs.Fields.{fields_of}
-use Rattle.doc_http.specs.Heads.{head_span_of, head_span_at, head_len, head_end, head_limit, skip_empty_lines}
+use Rattle.doc_http.specs.Heads.{head_span_of, head_span_at, head_limit, skip_empty_lines}
 use Rattle.doc_http.specs.Requests.{is_bad, is_bare, request_with, next_read, next_framed, next_with, next_behind, next_at, request_of}
 use Rattle.doc_http.specs.Laws.{TakesBytes, EmptyIsUndecided}
 use Rattle.doc_http.proofs.LawLemmas.{uses_what_stands}
-
--- a length that was found isn't 0
-abbrev IsSome : Option ℕ → Type 0
-IsSome None = ⊤
-IsSome (Some len) = 1 ≤ len
-
-one_longer : (found : Option ℕ) → IsSome (option_map (λ len. 1 + len) found)
-one_longer None = tt
-one_longer (Some len) = omega arith
-
-some_head : (text : List ℕ) → IsSome (head_len text)
-some_head [] = tt
-some_head (b ∷ rest) = by_test (starts_with nat_eq (b ∷ rest) head_end)
-  where
-    by_test : (t : Bool) → IsSome (cond t (Some 4) (option_map (λ len. 1 + len) (head_len rest)))
-    by_test true = omega arith
-    by_test false = one_longer (head_len rest)
+use Rattle.doc_http.proofs.SpanLemmas.{IsLength, head_within}
 
 -- a head doesn't end before the first byte
 abbrev EndsBehind : HeadSpan → Type 0
@@ -45,16 +26,15 @@ EndsBehind Unfinished = ⊤
 EndsBehind TooLong = ⊤
 EndsBehind (At start end) = 1 ≤ end
 
-behind_at : (full : Bool) (start : ℕ) (found : Option ℕ) → IsSome found → EndsBehind (head_span_at full start found)
-behind_at true start None h = tt
-behind_at false start None h = tt
-behind_at full start (Some len) h = omega arith
+behind_at : (full : Bool) (start n : ℕ) (found : Option ℕ) → IsLength n found → EndsBehind (head_span_at full start found)
+behind_at true start n None h = tt
+behind_at false start n None h = tt
+behind_at full start n (Some len) h = omega arith
 
 span_behind : (bytes : List ℕ) → EndsBehind (head_span_of bytes)
 unfolding head_span_of
 span_behind bytes =
-    behind_at (nat_le head_limit (length bytes)) _ (head_len (skip_empty_lines (take head_limit bytes)))
-    (some_head (skip_empty_lines (take head_limit bytes)))
+    behind_at (nat_le head_limit (length bytes)) _ _ _ (head_within (skip_empty_lines (take head_limit bytes)))
 
 -- a request takes some bytes
 abbrev TakesSome : Next → Type 0

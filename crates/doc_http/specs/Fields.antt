@@ -3,20 +3,13 @@ use Rattle.std.specs.Prelude.{ℕ, ◌==◌, ◌||◌, ◌&&◌, Bool, List, Opt
 use Rattle.std.specs.List.{list_any, slice_split}
 use Rattle.std.specs.Option.{option_map}
 use Rattle.std.specs.Str.{str_eq_ignore_ascii_case}
+use Rattle.doc_http_bodies.specs.Fields.{Fields, is_named}
 use Rattle.httparse.specs.Grammar.{RequestHead, trim_ows}
 use Rattle.httparse.specs.Spans.{name_and_value}
-
--- the names of fields, each with its value (RFC 9112, section 5)
-abbrev pub Fields : Type 0
-Fields = List (List ℕ × List ℕ)
 
 -- a head's fields, each value without the spaces and tabs around it (RFC 9112, section 5.1)
 abbrev pub fields_of : RequestHead → Fields
 fields_of head = map name_and_value head.fields
-
--- whether a field has this name, which is compared without case (RFC 9110, section 5.1)
-abbrev pub is_named : List ℕ → List ℕ × List ℕ → Bool
-is_named name field = str_eq_ignore_ascii_case field.0 name
 
 -- how many fields have the name
 abbrev pub count_named : List ℕ → Fields → ℕ

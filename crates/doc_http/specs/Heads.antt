@@ -2,29 +2,16 @@
 use Rattle.std.specs.Prelude.{ℕ, ◌+◌, ◌-◌, ◌≤◌, ◌==◌, ◌||◌, ◌&&◌, not, Bool, false, List, [], ◌∷◌, Option, Some, None, cond, length, take}
 use Rattle.std.specs.Prelude.{nat_le, nat_eq}
 use Rattle.std.specs.List.{starts_with}
-use Rattle.std.specs.Option.{option_map}
 use Rattle.httparse.specs.Grammar.{RequestHead, ReadsRequest}
+use Rattle.doc_http_bodies.specs.Places.{line_end, lines_len}
 use Rattle.doc_http.specs.declared.head.HeadSpan.{HeadSpan}
 use Rattle.doc_http.specs.declared.head.HeadSpan.TheVariants.{Unfinished, TooLong, At}
-
--- CR LF (RFC 9112, section 2.1)
-abbrev pub line_end : List ℕ
-line_end = 13 ∷ 10 ∷ []
 
 -- the bytes after the empty lines at the front (RFC 9112, section 2.2)
 abbrev pub skip_empty_lines : List ℕ → List ℕ
 skip_empty_lines [] = []
 skip_empty_lines (a ∷ []) = a ∷ []
 skip_empty_lines (a ∷ b ∷ rest) = cond (starts_with nat_eq (a ∷ b ∷ rest) line_end) (skip_empty_lines rest) (a ∷ b ∷ rest)
-
--- CR LF CR LF: the end of a head's last line and the empty line behind it (RFC 9112, section 2.1)
-abbrev pub head_end : List ℕ
-head_end = 13 ∷ 10 ∷ 13 ∷ 10 ∷ []
-
--- the length of the text up to and with the first CR LF CR LF
-abbrev pub head_len : List ℕ → Option ℕ
-head_len [] = None
-head_len (b ∷ rest) = cond (starts_with nat_eq (b ∷ rest) head_end) (Some 4) (option_map (λ len. 1 + len) (head_len rest))
 
 -- how many bytes a head may take, with the empty lines before it; this project's choice
 unfoldable pub head_limit : ℕ
@@ -35,9 +22,10 @@ abbrev pub head_span_at : Bool → ℕ → Option ℕ → HeadSpan
 head_span_at full start (Some len) = At start (start + len)
 head_span_at full start None = cond full TooLong Unfinished
 
--- where the head lies in these bytes, which are as many as it may take, or all that came
+-- where the head lies in these bytes, which are as many as it may take, or all that came: it ends with the first empty line behind it (RFC
+-- 9112, section 2.1)
 abbrev pub head_span_in : List ℕ → Bool → HeadSpan
-head_span_in front full = let text = skip_empty_lines front in head_span_at full (length front - length text) (head_len text)
+head_span_in front full = let text = skip_empty_lines front in head_span_at full (length front - length text) (lines_len text)
 
 -- where the head lies in the unread bytes (RFC 9112, sections 2.1 and 2.2; the limit is this project's choice)
 unfoldable pub head_span_of : List ℕ → HeadSpan

@@ -1,31 +1,23 @@
 -- What is known of the unread bytes of a connection, so that they are not looked at again.
-use Rattle.std.specs.Prelude.{◌≡◌, ◌≤◌, ℕ, ◌+◌, ◌==◌, ◌++◌, List, Option, Some, Ok, false, length, take, drop, slice_range}
-use Rattle.std.specs.Option.{option_map}
+use Rattle.std.specs.Prelude.{◌≡◌, ◌≤◌, ℕ, ◌==◌, ◌++◌, List, Some, Ok, false, length, take, drop, slice_range}
 use Rattle.httparse.specs.Grammar.{RequestHead}
 use Rattle.doc_http_bodies.specs.declared.reader.BodyReader.{BodyReader}
 use Rattle.doc_http_bodies.specs.Framings.{framing_of}
 use Rattle.doc_http_bodies.specs.KnowledgeSteps.{KnowsOf, framing_of as framing_for}
+use Rattle.doc_http_bodies.specs.Places.{blank_line, IsSearched}
 use Rattle.doc_http.specs.declared.head.HeadSearch.{HeadSearch}
 use Rattle.doc_http.specs.declared.head.HeadSpan.TheVariants.{At}
 use Rattle.doc_http.specs.declared.progress.Progress.{Progress}
 use Rattle.doc_http.specs.declared.progress.Progress.TheVariants.{Head, Body}
 use Rattle.doc_http.specs.Fields.{fields_of}
-use Rattle.doc_http.specs.Heads.{skip_empty_lines, head_len, head_limit, head_span_of, IsHead}
+use Rattle.doc_http.specs.Heads.{skip_empty_lines, head_limit, head_span_of, IsHead}
 use Rattle.doc_http.specs.Requests.{is_bad}
-
--- a length, with so many bytes in front
-abbrev pub behind : ℕ → Option ℕ → Option ℕ
-behind count found = option_map (λ len. count + len) found
-
--- no CR LF CR LF begins in the first `searched` bytes of the text
-abbrev pub IsSearched : ℕ → List ℕ → Type 0
-IsSearched searched text = (searched ≤ length text) × (head_len text ≡ behind searched (head_len (drop searched text)))
 
 -- the first `start` bytes are empty lines, and no head ends in the first `searched` bytes behind all empty lines
 abbrev pub CameTo : HeadSearch → List ℕ → Type 0
 CameTo search front =
     (search.start ≤ length front) × (skip_empty_lines front ≡ skip_empty_lines (drop search.start front))
-    × IsSearched search.searched (skip_empty_lines front)
+    × IsSearched blank_line search.searched (skip_empty_lines front)
 
 -- a good head lies there, and the reader is one of the body behind it
 abbrev pub IsAtBody : ℕ → ℕ → BodyReader → List ℕ → Type 0

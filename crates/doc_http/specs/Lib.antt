@@ -6,4 +6,6 @@ pub mod KnowledgeSteps
 pub mod Laws
 pub mod ProgressSteps
 pub mod Replies
+pub mod ReplyForms
+pub mod ReplySteps
 pub mod Requests

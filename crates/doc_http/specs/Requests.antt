@@ -7,6 +7,7 @@ use Rattle.doc_http_bodies.specs.declared.framing.Framing.{Framing}
 use Rattle.doc_http_bodies.specs.declared.reader.Reading.{Reading}
 use Rattle.doc_http_bodies.specs.declared.reader.Reading.TheVariants.{More, Fault, Whole}
 use Rattle.doc_http_bodies.specs.Faults.{code_of}
+use Rattle.doc_http_bodies.specs.Fields.{Fields}
 use Rattle.doc_http_bodies.specs.Framings.{framing_of}
 use Rattle.doc_http_bodies.specs.Readings.{reading_of}
 use Rattle.doc_http.specs.declared.head.HeadSpan.{HeadSpan}
@@ -14,7 +15,7 @@ use Rattle.doc_http.specs.declared.head.HeadSpan.TheVariants.{Unfinished, TooLon
 use Rattle.doc_http.specs.declared.request.Request.{Request}
 use Rattle.doc_http.specs.declared.request.Next.{Next}
 use Rattle.doc_http.specs.declared.request.Next.TheVariants as next
-use Rattle.doc_http.specs.Fields.{Fields, fields_of, value_named, has_good_counts, asks_close}
+use Rattle.doc_http.specs.Fields.{fields_of, value_named, has_good_counts, asks_close}
 use Rattle.doc_http.specs.Heads.{head_span_of, IsRead, has_bare_line_feed}
 
 -- whether the reply to the method is its head alone: HEAD, and no other case of it (RFC 9110, sections 9.1 and 9.3.2)

@@ -23,7 +23,7 @@ pub fn bearer(request: &Request) -> Option<&str>
     }
 }
 
-// The token of a value of an Authorization field.
+/// The token of a value of an Authorization field.
 fn bearer_in(value: &[u8]) -> Option<&str>
     ensures { option_copied result ≡ bearer_by (Some value.now) }
 {
@@ -34,7 +34,7 @@ fn bearer_in(value: &[u8]) -> Option<&str>
     token_behind(scheme, skip_spaces(rest))
 }
 
-// The token, where it is one and stands behind the scheme of bearer tokens.
+/// The token, where it is one and stands behind the scheme of bearer tokens.
 fn token_behind<'a>(scheme: &[u8], token: &'a [u8]) -> Option<&'a str>
     ensures { option_copied result ≡ token_by scheme.now token.now }
 {
@@ -45,13 +45,14 @@ fn token_behind<'a>(scheme: &[u8], token: &'a [u8]) -> Option<&'a str>
     }
 }
 
+/// Whether the scheme is that of bearer tokens.
 fn is_bearer(scheme: &[u8]) -> bool
     ensures { result ≡ str_eq_ignore_ascii_case scheme.now (codes "bearer") }
 {
     scheme.eq_ignore_ascii_case(b"bearer")
 }
 
-// A token as text.
+/// A token as text.
 fn text_of(token: &[u8]) -> &str
     requires { IsTrue (token_test token.now) }
     ensures { result.now ≡ token.now }
@@ -62,19 +63,21 @@ fn text_of(token: &[u8]) -> &str
     text
 }
 
+/// The place of the first space.
 fn first_space(bytes: &[u8]) -> Option<usize>
     ensures { result ≡ position (λ b. b == 32) bytes.now }
 {
     bytes.iter().position(|byte| *byte == b' ')
 }
 
+/// The bytes from the first that is no space.
 fn skip_spaces(bytes: &[u8]) -> &[u8]
     ensures { result.now ≡ without_spaces bytes.now }
 {
     &bytes[count_spaces(bytes)..]
 }
 
-// How many spaces stand at the front.
+/// How many spaces stand at the front.
 fn count_spaces(bytes: &[u8]) -> usize
     ensures count { result ≡ prefix_len (λ b. b == 32) bytes.now }
     ensures within { result ≤ length bytes.now }

@@ -3,8 +3,8 @@
 ghost use Rattle.std.specs.Prelude.{◌≡◌, ◌<◌, ◌+◌, ◌^◌, ◌==◌, length, map, All, IfOk, OnErr, IsUtf8, codes, bytes_eq};
 ghost use Rattle.httparse.specs.Spans.{header_bytes, span_bytes, IsHeaderWithin, IsWithin};
 ghost use Rattle.doc_http_bodies.specs.Framings.{framing_of as framing_by};
-ghost use Rattle.doc_http.specs.Requests.{request_with, next_read as next_by, is_bare as bare_test, IsRequest};
-ghost use Rattle.doc_http.specs.BuildingSteps.{EndsWithin};
+ghost use Rattle.doc_http.specs.Requests.{is_bare as bare_test, IsRequest};
+ghost use Rattle.doc_http.specs.BuildingSteps.{EndsWithin, request_at_spans, next_at_spans};
 
 use crate::fields::{asks_close, value_named};
 use crate::request::{Next, Request};
@@ -54,14 +54,10 @@ pub fn next_read(
     requires target_text { IsUtf8 (span_bytes text.now spans.now.path) }
     requires headers_within { All (IsHeaderWithin (length text.now)) headers.now }
     requires end_fits { EndsWithin end reading }
-    ensures found { IfOk result (λ next. next ≡ next_by
-        (λ body. request_with (span_bytes text.now spans.now.method) (span_bytes text.now spans.now.path) spans.now.version
-        (map (header_bytes text.now) headers.now) body)
-        (bare_test (span_bytes text.now spans.now.method)) end reading) }
-    ensures memory { OnErr result (IsRequest (next_by
-        (λ body. request_with (span_bytes text.now spans.now.method) (span_bytes text.now spans.now.path) spans.now.version
-        (map (header_bytes text.now) headers.now) body)
-        (bare_test (span_bytes text.now spans.now.method)) end reading)) }
+    ensures found { IfOk result
+        (λ next. next ≡ next_at_spans text.now spans.now headers.now end reading) }
+    ensures memory { OnErr result
+        (IsRequest (next_at_spans text.now spans.now headers.now end reading)) }
 {
     match reading {
         Reading::More => Ok(Next::More),
@@ -79,7 +75,7 @@ pub fn next_read(
     }
 }
 
-// The request with this head and this body.
+/// The request with this head and this body.
 fn request_of(
     heap: Heap,
     text: &[u8],
@@ -92,9 +88,8 @@ fn request_of(
     requires method_text { IsUtf8 (span_bytes text.now spans.now.method) }
     requires target_text { IsUtf8 (span_bytes text.now spans.now.path) }
     requires headers_within { All (IsHeaderWithin (length text.now)) headers.now }
-    ensures { IfOk result (λ request. request ≡ request_with
-        (span_bytes text.now spans.now.method) (span_bytes text.now spans.now.path) spans.now.version
-        (map (header_bytes text.now) headers.now) body) }
+    ensures { IfOk result
+        (λ request. request ≡ request_at_spans text.now spans.now headers.now body) }
 {
     let method = text_of(heap, spans.method.of(text))?;
     let target = text_of(heap, spans.path.of(text))?;
@@ -111,7 +106,7 @@ fn request_of(
     })
 }
 
-// The text with these bytes.
+/// The text with these bytes.
 fn text_of(heap: Heap, bytes: &[u8]) -> Result<Text, Memory>
     requires { IsUtf8 bytes.now }
     ensures { IfOk result (λ text. text ≡ bytes.now) }

@@ -5,8 +5,10 @@ ghost use Rattle.std.specs.List.{prefix_len};
 ghost use Rattle.std.specs.Option.{option_copied};
 ghost use Rattle.httparse.specs.Grammar.{trim_ows, is_ows as ows_test};
 ghost use Rattle.httparse.specs.Spans.{IsHeaderWithin, header_bytes};
-ghost use Rattle.doc_http.specs.Fields.{count_named as count_of, value_named as value_of, is_named as name_test, is_close as close_test, lists_close as list_test, has_good_counts as counts_test, asks_close as close_asked};
+ghost use Rattle.doc_http.specs.Fields.{count_named as count_of, value_named as value_of, is_close as close_test, lists_close as list_test, has_good_counts as counts_test, asks_close as close_asked};
 
+use doc_http_bodies::blanks::is_space_or_tab;
+use doc_http_bodies::names::is_named;
 use httparse::spans::HeaderSpan;
 
 /// How many of the fields have the name.
@@ -16,7 +18,7 @@ pub fn count_named(text: &[u8], headers: &[HeaderSpan], name: &[u8]) -> usize
 {
     let mut count = 0;
     'headers: for header in headers {
-        if is_named(text, header, name) {
+        if is_named(header.name.of(text), name) {
             count += 1;
         }
     }
@@ -29,7 +31,7 @@ pub fn value_named<'a>(text: &'a [u8], headers: &[HeaderSpan], name: &[u8]) -> O
     ensures { option_copied result ≡ value_of name.now (map (header_bytes text.now) headers.now) }
 {
     'headers: for header in headers {
-        if is_named(text, header, name) {
+        if is_named(header.name.of(text), name) {
             return Some(header.value.of(text));
         }
     }
@@ -55,35 +57,28 @@ pub fn asks_close(text: &[u8], headers: &[HeaderSpan], minor: u8) -> bool
         return true;
     }
     'headers: for header in headers {
-        if is_named(text, header, b"connection") && lists_close(header.value.of(text)) {
+        if is_named(header.name.of(text), b"connection") && lists_close(header.value.of(text)) {
             return true;
         }
     }
     false
 }
 
-// Whether a field has the name, in any case.
-fn is_named(text: &[u8], header: &HeaderSpan, name: &[u8]) -> bool
-    requires { IsHeaderWithin (length text.now) header.now }
-    ensures { result ≡ name_test name.now (header_bytes text.now header.now) }
-{
-    header.name.of(text).eq_ignore_ascii_case(name)
-}
-
-// Whether a list of connection options has `close`.
+/// Whether a list of connection options has `close`.
 fn lists_close(value: &[u8]) -> bool
     ensures { result ≡ list_test value.now }
 {
     value.split(|byte| *byte == b',').any(|part| is_close(part))
 }
 
+/// Whether a part of such a list is `close`, in any case.
 fn is_close(part: &[u8]) -> bool
     ensures { result ≡ close_test part.now }
 {
     trim_blanks(part).eq_ignore_ascii_case(b"close")
 }
 
-// The text without the spaces and tabs at both ends.
+/// The text without the spaces and tabs at both ends.
 fn trim_blanks(text: &[u8]) -> &[u8]
     ensures { result.now ≡ trim_ows text.now }
 {
@@ -91,25 +86,23 @@ fn trim_blanks(text: &[u8]) -> &[u8]
     &text[..text.len() - blanks_at_back(text)]
 }
 
+/// How many spaces and tabs stand at the front.
 fn blanks_at_front(text: &[u8]) -> usize
     ensures count { result ≡ prefix_len ows_test text.now }
     ensures within { result ≤ length text.now }
 {
-    text.iter().take_while(|byte| is_blank(**byte)).count()
+    text.iter()
+        .take_while(|byte| is_space_or_tab(**byte))
+        .count()
 }
 
+/// How many spaces and tabs stand at the back.
 fn blanks_at_back(text: &[u8]) -> usize
     ensures count { result ≡ prefix_len ows_test (reverse text.now) }
     ensures within { result ≤ length text.now }
 {
     text.iter()
         .rev()
-        .take_while(|byte| is_blank(**byte))
+        .take_while(|byte| is_space_or_tab(**byte))
         .count()
-}
-
-fn is_blank(byte: u8) -> bool
-    ensures { result ≡ ows_test byte }
-{
-    byte == b' ' || byte == b'\t'
 }

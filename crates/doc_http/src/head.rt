@@ -3,12 +3,14 @@
 ghost use Rattle.std.specs.Prelude.{◌≡◌, ◌≤◌, ◌+◌, ◌-◌, ◌++◌, ℕ, List, Option, length, take, drop, IfSome, None, Some, true, false};
 ghost use Rattle.httparse.specs.Grammar.{RequestHead};
 ghost use Rattle.httparse.specs.Spans.{IsRequestAt, IsRequestWithin};
-ghost use Rattle.doc_http.specs.Heads.{head_len, head_limit, head_span_in, head_span_of, skip_empty_lines, IsHead, IsRead, has_bare_line_feed};
-ghost use Rattle.doc_http.specs.KnowledgeSteps.{IsSearched, CameTo};
+ghost use Rattle.doc_http.specs.Heads.{head_limit, head_span_in, head_span_of, skip_empty_lines, IsHead, IsRead, has_bare_line_feed};
+ghost use Rattle.doc_http.specs.KnowledgeSteps.{CameTo};
 ghost use Rattle.doc_http.specs.Requests.{is_bad};
 ghost use Rattle.doc_http.specs.declared.head.HeadSpan.TheVariants as spans;
 
 use crate::fields::has_good_counts;
+use doc_http_bodies::finding::lines_len;
+use doc_http_bodies::slices::front;
 use httparse::Status;
 use httparse::spans::{HeaderSpan, RequestSpans, parse_request};
 
@@ -52,25 +54,23 @@ impl HeadSearch {
 pub fn find_head(bytes: &[u8], search: HeadSearch) -> (HeadSpan, HeadSearch)
     requires { CameTo search (take head_limit bytes.now) }
     ensures span { result.0 ≡ head_span_of bytes.now }
-    ensures search { result.0 ≡ spans.Unfinished → (more : List ℕ) → CameTo result.1 (take head_limit (bytes.now ++ more)) }
+    ensures search { result.0 ≡ spans.Unfinished
+        → (more : List ℕ) → CameTo result.1 (take head_limit (bytes.now ++ more)) }
 {
     let full = bytes.len() >= HEAD_LIMIT;
-    if full {
-        find_in(&bytes[..HEAD_LIMIT], full, search)
-    } else {
-        find_in(bytes, full, search)
-    }
+    find_in(front(bytes, HEAD_LIMIT), full, search)
 }
 
-// The same in the bytes that the head may take, of which all came or not.
+/// The same in the bytes that the head may take, of which all came or not.
 fn find_in(front: &[u8], full: bool, search: HeadSearch) -> (HeadSpan, HeadSearch)
     requires { CameTo search front.now }
     ensures span { result.0 ≡ head_span_in front.now full }
-    ensures search { result.0 ≡ spans.Unfinished → (more : List ℕ) → CameTo result.1 (front.now ++ more) }
+    ensures search { result.0 ≡ spans.Unfinished
+        → (more : List ℕ) → CameTo result.1 (front.now ++ more) }
 {
     let start = empty_lines(front, search.start);
     let text = &front[start..];
-    match find_end(text, search.searched) {
+    match lines_len(text, search.searched) {
         Some(len) => {
             let end = start + len;
             (HeadSpan::At { start, end }, search)
@@ -84,7 +84,7 @@ fn find_in(front: &[u8], full: bool, search: HeadSearch) -> (HeadSpan, HeadSearc
     }
 }
 
-// How many bytes the empty lines at the front take, of which `start` bytes were skipped before.
+/// How many bytes the empty lines at the front take, of which `start` bytes were skipped before.
 fn empty_lines(bytes: &[u8], start: usize) -> usize
     requires within { start ≤ length bytes.now }
     requires skipped { skip_empty_lines bytes.now ≡ skip_empty_lines (drop start bytes.now) }
@@ -96,21 +96,6 @@ fn empty_lines(bytes: &[u8], start: usize) -> usize
         at += 2;
     }
     at
-}
-
-// The length of the text up to and with the first CR LF CR LF, which doesn't begin in its first
-// `searched` bytes.
-fn find_end(text: &[u8], searched: usize) -> Option<usize>
-    requires { IsSearched searched text.now }
-    ensures value { result ≡ head_len text.now }
-    ensures within { IfSome result (λ len. len ≤ length text.now) }
-{
-    'places: for at in searched..text.len() {
-        if text[at..].starts_with(b"\r\n\r\n") {
-            return Some(at + 4);
-        }
-    }
-    None
 }
 
 /// Whether the text has a line feed that no carriage return precedes.
@@ -131,8 +116,9 @@ pub fn has_bare_line_feed(text: &[u8]) -> bool
 pub fn head_spans(text: &[u8], headers: &mut [HeaderSpan]) -> Option<RequestSpans>
     requires { length headers.old ≡ 64 }
     ensures within { IfSome result (IsRequestWithin text.now headers.new) }
-    ensures found { IfSome result
-        (λ spans. (head : RequestHead) × IsHead text.now head × IsRequestAt text.now headers.new spans head) }
+    ensures found { IfSome result (λ spans.
+        (head : RequestHead) × IsHead text.now head
+        × IsRequestAt text.now headers.new spans head) }
     ensures missing { result ≡ None → (head : RequestHead) → ¬ (IsHead text.now head) }
 {
     match parse_request(text, headers) {
@@ -152,10 +138,12 @@ pub fn head_spans(text: &[u8], headers: &mut [HeaderSpan]) -> Option<RequestSpan
 pub fn good_head_spans(text: &[u8], headers: &mut [HeaderSpan]) -> Option<RequestSpans>
     requires { length headers.old ≡ 64 }
     ensures within { IfSome result (IsRequestWithin text.now headers.new) }
-    ensures found { IfSome result
-        (λ spans. (head : RequestHead) × IsHead text.now head × IsRequestAt text.now headers.new spans head
+    ensures found { IfSome result (λ spans.
+        (head : RequestHead) × IsHead text.now head
+        × IsRequestAt text.now headers.new spans head
         × (is_bad text.now (Some head) ≡ false)) }
-    ensures missing { result ≡ None → (read : Option RequestHead) × IsRead text.now read × (is_bad text.now read ≡ true) }
+    ensures missing { result ≡ None
+        → (read : Option RequestHead) × IsRead text.now read × (is_bad text.now read ≡ true) }
 {
     let Some(spans) = head_spans(text, headers) else {
         return None;

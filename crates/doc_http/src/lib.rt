@@ -9,5 +9,8 @@ mod head;
 pub mod laws;
 mod progress;
 pub mod reply;
+pub mod reply_form;
+mod reply_parts;
 pub mod request;
+pub mod status;
 pub mod unread;

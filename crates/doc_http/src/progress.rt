@@ -53,7 +53,7 @@ impl Progress {
         }
     }
 
-    // The same where no head ended.
+    /// The same where no head ended.
     fn from_head(&mut self, heap: Heap, bytes: &[u8], search: HeadSearch) -> Result<Next, Memory>
         requires came { CameTo search (take head_limit bytes.now) }
         requires knows { Knows self.old bytes.now }
@@ -72,7 +72,7 @@ impl Progress {
         }
     }
 
-    // The same where the head lies there.
+    /// The same where the head lies there.
     fn at_head(
         &mut self,
         heap: Heap,
@@ -106,7 +106,7 @@ impl Progress {
         }
     }
 
-    // The same where the head was read.
+    /// The same where the head was read.
     fn from_body(
         &mut self,
         heap: Heap,
@@ -131,14 +131,14 @@ impl Progress {
     }
 }
 
-// A fault of bytes whose head can't be read.
+/// A fault of bytes whose head can't be read.
 fn no_head(code: u16) -> Next
     ensures { result ≡ nexts.Fault code false }
 {
     Next::Fault { code, bare: false }
 }
 
-// What bytes begin with whose good head lies there, by what the bytes behind it came to.
+/// What bytes begin with whose good head lies there, by what the bytes behind it came to.
 fn finish(
     heap: Heap,
     bytes: &[u8],

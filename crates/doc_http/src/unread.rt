@@ -32,7 +32,8 @@ impl Model for Unread {
 
     ghost view = { λ u. drop u.taken u.buffer.items };
 
-    ghost invariant = { λ u. (u.taken ≤ length u.buffer.items) × Knows u.progress (drop u.taken u.buffer.items) };
+    ghost invariant = { λ u.
+        (u.taken ≤ length u.buffer.items) × Knows u.progress (drop u.taken u.buffer.items) };
 }
 
 impl Unread {
@@ -95,7 +96,7 @@ impl Unread {
         self.progress = Progress::new();
     }
 
-    // Moves the unread bytes to the buffer's front, where they are no more than the taken ones.
+    /// Moves the unread bytes to the buffer's front, where they are no more than the taken ones.
     fn compact(&mut self)
         ensures { self.new ≡ self.old }
     {

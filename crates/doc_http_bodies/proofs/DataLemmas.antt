@@ -10,8 +10,9 @@ use Rattle.doc_http_bodies.specs.declared.fault.Fault.TheVariants as faults
 use Rattle.doc_http_bodies.specs.declared.size_line.SizeLine.{SizeLine}
 use Rattle.doc_http_bodies.specs.declared.size_line.SizeLine.TheVariants.{Unfinished, Malformed, Size}
 use Rattle.doc_http_bodies.specs.Framings.{body_limit}
-use Rattle.doc_http_bodies.specs.Chunks.{line_end, size_line, trailer_len, trailed, Onward, after_data, after_size, after_line, extent_in}
-use Rattle.doc_http_bodies.specs.Chunks.{extent_of, data_after, data_in, data_of}
+use Rattle.doc_http_bodies.specs.Chunks.{size_line, trailer_len, trailed, Onward, after_data, after_size, after_line, extent_in, extent_of}
+use Rattle.doc_http_bodies.specs.Chunks.{data_after, data_in, data_of}
+use Rattle.doc_http_bodies.specs.Places.{line_end}
 use Rattle.doc_http_bodies.proofs.PlaceLemmas.{Grows, longer, take_same, drop_grows}
 use Rattle.doc_http_bodies.proofs.ExtentLemmas.{LineFits, line_fits, LineStays, line_grows}
 

@@ -1,21 +1,21 @@
 -- How far an encoded body reaches: one step, and what more bytes don't change.
-use Rattle.std.proofs.Common.{◌≡◌, ℕ, zero, suc, ◌+◌, ◌-◌, ◌<◌, ◌≤◌, ◌==◌, Bool, true, false, List, [], ◌++◌, length, take, drop, refl, ap}
-use Rattle.std.proofs.Common.{sym, ◌∙◌, subst, arith, nat_eq, length-drop}
+use Rattle.std.proofs.Common.{◌≡◌, ℕ, zero, suc, ◌+◌, ◌-◌, ◌<◌, ◌≤◌, ◌==◌, Bool, true, false, List, length, take, drop, refl, ap, ◌∙◌}
+use Rattle.std.proofs.Common.{subst, arith, nat_eq, length-drop}
 use Rattle.std.specs.Prelude.{Option, Some, None, nat_le, nat_lt, ⊤, if◌then◌else◌}
 use Rattle.std.specs.List.{starts_with}
 use Rattle.std.proofs.lemmas.Bool.{ltb-false, le-ltb}
-use Rattle.std.proofs.lemmas.List.{take_all, length-take, append-nil}
-use Rattle.std.proofs.Math.Seq.{take-append-add}
+use Rattle.std.proofs.lemmas.List.{length-take}
 use Rattle.doc_http_bodies.specs.declared.extent.Extent.{Extent}
 use Rattle.doc_http_bodies.specs.declared.extent.Extent.TheVariants.{More, Fault, Whole}
 use Rattle.doc_http_bodies.specs.declared.fault.Fault.TheVariants as faults
 use Rattle.doc_http_bodies.specs.declared.size_line.SizeLine.{SizeLine}
 use Rattle.doc_http_bodies.specs.declared.size_line.SizeLine.TheVariants.{Unfinished, Malformed, Size}
 use Rattle.doc_http_bodies.specs.Framings.{body_limit}
-use Rattle.doc_http_bodies.specs.Chunks.{line_end, blank_line, place_of, behind, size_of, line_by, line_in, size_line, trailer_len, trailed}
-use Rattle.doc_http_bodies.specs.Chunks.{Onward, after_data, after_size, after_line, extent_in, extent_from, extent_of}
+use Rattle.doc_http_bodies.specs.Chunks.{size_of, line_by, line_in, size_line, trailer_len, trailed, Onward, after_data, after_size}
+use Rattle.doc_http_bodies.specs.Chunks.{after_line, extent_in, extent_from, extent_of}
+use Rattle.doc_http_bodies.specs.Places.{line_end, blank_line, place_of, behind}
 use Rattle.doc_http_bodies.proofs.PlaceLemmas.{Grows, longer, take_same, drop_grows, starts_same, at_least, Within, place_within, Stays}
-use Rattle.doc_http_bodies.proofs.PlaceLemmas.{place_grows}
+use Rattle.doc_http_bodies.proofs.PlaceLemmas.{place_grows, take_grows}
 
 -- ---- size lines
 
@@ -57,16 +57,6 @@ same_line : (line : SizeLine) → LineStays line line
 same_line Unfinished = tt
 same_line Malformed = refl
 same_line (Size len size) = refl
-
-pub take_grows : (n : ℕ) (x y : List ℕ) → Grows x y → Grows (take n x) (take n y)
-take_grows n x y (m, e) = by_test (nat_le n (length x)) refl
-  where
-    by_test : (t : Bool) → nat_le n (length x) ≡ t → Grows (take n x) (take n y)
-    by_test true is = ([], take_same n x y (grind (arith)) (m, e) ∙ sym (append-nil (take n x)))
-    by_test false is =
-        let le : length x ≤ n = grind (arith) in
-        let split : n ≡ length x + (n - length x) = omega arith in
-        (take (n - length x) m, rw (e, take_all n x le) (ap (λ k. take k (x ++ m)) split ∙ take-append-add x m (n - length x)))
 
 line_on : (x y : List ℕ) (o : Option ℕ) → Grows x y → place_of line_end (take 256 x) ≡ o → Stays o (place_of line_end (take 256 y))
     → LineStays (line_in (take 256 x) o) (line_in (take 256 y) (place_of line_end (take 256 y)))
@@ -154,10 +144,6 @@ ExtentStays (Whole used len) later = later ≡ Whole used len
 trailed_stays : (used total : ℕ) (o p : Option ℕ) → Stays o p → ExtentStays (trailed used total o) (trailed used total p)
 trailed_stays used total None p h = tt
 trailed_stays used total (Some n) p h = ap (trailed used total) h
-
-behind_stays : (n : ℕ) (o p : Option ℕ) → Stays o p → Stays (behind n o) (behind n p)
-behind_stays n None p h = tt
-behind_stays n (Some k) p h = ap (behind n) h
 
 pub trailer_grows : (x y : List ℕ) → Grows x y → Stays (trailer_len x) (trailer_len y)
 trailer_grows x y g = by_test (starts_with nat_eq x line_end) refl

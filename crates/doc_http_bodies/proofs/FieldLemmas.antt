@@ -4,7 +4,7 @@ use Rattle.std.specs.Prelude.{filter}
 use Rattle.std.specs.Str.{str_eq_ignore_ascii_case}
 use Rattle.std.proofs.lemmas.List.{append-nil}
 use Rattle.std.proofs.lemmas.List.Elements.{filter-append}
-use Rattle.doc_http_bodies.specs.Framings.{Fields, values_named}
+use Rattle.doc_http_bodies.specs.Fields.{Fields, values_named}
 
 -- a field of another name changes nothing
 pub other_name : (name other value : List ℕ) (fields : Fields) → str_eq_ignore_ascii_case other name ≡ false

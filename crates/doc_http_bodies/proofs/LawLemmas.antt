@@ -1,9 +1,9 @@
 -- The laws of what bytes behind a head come to.
 use Rattle.std.proofs.Common.{◌≡◌, ℕ, zero, suc, ◌+◌, ◌≤◌, ◌==◌, Bool, true, false, List, [], ◌∷◌, ◌++◌, length, take, drop, refl, ap, sym}
-use Rattle.std.proofs.Common.{◌∙◌, subst, arith, nat_eq, length-drop, T, codes}
+use Rattle.std.proofs.Common.{◌∙◌, subst, arith, nat_eq, length-drop, codes}
 use Rattle.std.specs.Prelude.{Option, Some, None, Result, Ok, Err, nat_le, nat_lt, ⊤, if◌then◌else◌}
 use Rattle.std.specs.List.{starts_with}
-use Rattle.std.proofs.lemmas.Bool.{ltb-false, le-ltb, le-leb}
+use Rattle.std.proofs.lemmas.Bool.{ltb-false, le-ltb, le-leb, true≢false}
 use Rattle.std.proofs.lemmas.List.{length-take}
 use Rattle.doc_http_bodies.specs.declared.extent.Extent.{Extent}
 use Rattle.doc_http_bodies.specs.declared.extent.Extent.TheVariants as extent
@@ -19,18 +19,20 @@ use Rattle.doc_http_bodies.specs.declared.reader.Reading.{Reading}
 use Rattle.doc_http_bodies.specs.declared.reader.Reading.TheVariants.{More, Fault, Whole}
 use Rattle.doc_http_bodies.specs.declared.size_line.SizeLine.{SizeLine}
 use Rattle.doc_http_bodies.specs.declared.size_line.SizeLine.TheVariants as line
-use Rattle.doc_http_bodies.specs.Chunks.{line_end, blank_line, size_line, behind, place_of, trailer_len, trailed, Onward, after_data}
-use Rattle.doc_http_bodies.specs.Chunks.{after_size, after_line, extent_in, extent_of, data_of}
+use Rattle.doc_http_bodies.specs.Chunks.{size_line, trailer_len, trailed, Onward, after_data, after_size, after_line, extent_in, extent_of}
+use Rattle.doc_http_bodies.specs.Chunks.{data_of}
+use Rattle.doc_http_bodies.specs.Places.{line_end, blank_line, behind, place_of}
 use Rattle.doc_http_bodies.specs.Framings.{body_limit, allowed, length_by, length_in, is_number, length_of, coding_of, sized_by, chunked_by}
-use Rattle.doc_http_bodies.specs.Framings.{framing_by, framing_of, values_named}
+use Rattle.doc_http_bodies.specs.Framings.{framing_by, framing_of}
+use Rattle.doc_http_bodies.specs.Fields.{values_named}
 use Rattle.std.specs.Str.Parse.{digits_value}
 use Rattle.doc_http_bodies.specs.KnowledgeSteps.{KnowsOf}
 use Rattle.doc_http_bodies.specs.Laws.{StaysDecided, IsDecidedWithin, TakesBytes, StaysKnown}
 use Rattle.doc_http_bodies.specs.Readings.{encoded_limit, reading_by, reading_of}
 use Rattle.doc_http_bodies.proofs.DataLemmas.{DataStay, data_stay}
-use Rattle.doc_http_bodies.proofs.ExtentLemmas.{ExtentStays, extent_grows, take_grows, LineFits, line_fits}
+use Rattle.doc_http_bodies.proofs.ExtentLemmas.{ExtentStays, extent_grows, LineFits, line_fits}
 use Rattle.doc_http_bodies.proofs.StageLemmas.{knows_grows}
-use Rattle.doc_http_bodies.proofs.PlaceLemmas.{Grows, longer, take_same, Within, place_within, at_least}
+use Rattle.doc_http_bodies.proofs.PlaceLemmas.{Grows, longer, take_same, take_grows, Within, place_within, at_least}
 
 -- ---- what stays
 
@@ -169,15 +171,12 @@ reading_decides Chunked bytes fits enough =
     ap (λ t. is_more (reading_by (take encoded_limit bytes) t (extent_of (take encoded_limit bytes)))) h
     ∙ full_decides (take encoded_limit bytes) (extent_of (take encoded_limit bytes))
 
-true_false : true ≡ false → ⊥
-true_false e = subst (λ b. T b) e tt
-
 pub decided_within : IsDecidedWithin 2097152
 unfolding framing_of encoded_limit
 decided_within is_old fields framing is bytes enough more =
     let fits : Fits framing = subst AnswerFits is (framing_fits is_old (coding_of (values_named (codes "transfer-encoding") fields))
     (length_of (values_named (codes "content-length") fields)) (length_fits (values_named (codes "content-length") fields))) in
-    true_false (sym (ap is_more more) ∙ reading_decides framing bytes fits enough)
+    true≢false (sym (ap is_more more) ∙ reading_decides framing bytes fits enough)
 
 -- ---- what is used
 

@@ -14,9 +14,11 @@ use Rattle.doc_http_bodies.specs.declared.reader.Reading.{Reading}
 use Rattle.doc_http_bodies.specs.declared.reader.Reading.TheVariants.{More, Fault, Whole}
 use Rattle.doc_http_bodies.specs.declared.size_line.SizeLine.{SizeLine}
 use Rattle.doc_http_bodies.specs.declared.size_line.SizeLine.TheVariants as line
-use Rattle.doc_http_bodies.specs.Framings.{body_limit, coding_of, length_of, framing_of, values_named}
-use Rattle.doc_http_bodies.specs.Chunks.{line_end, size_line, trailer_len, trailed, Onward, after_data, after_size, after_line, extent_in}
-use Rattle.doc_http_bodies.specs.Chunks.{extent_of, data_after, data_in, data_of}
+use Rattle.doc_http_bodies.specs.Framings.{body_limit, coding_of, length_of, framing_of}
+use Rattle.doc_http_bodies.specs.Fields.{values_named}
+use Rattle.doc_http_bodies.specs.Chunks.{size_line, trailer_len, trailed, Onward, after_data, after_size, after_line, extent_in, extent_of}
+use Rattle.doc_http_bodies.specs.Chunks.{data_after, data_in, data_of}
+use Rattle.doc_http_bodies.specs.Places.{line_end}
 use Rattle.doc_http_bodies.specs.Laws.{IsNoLongerThan}
 use Rattle.doc_http_bodies.specs.Readings.{encoded_limit, reading_by, reading_of}
 use Rattle.doc_http_bodies.proofs.LawLemmas.{Fits, AnswerFits, framing_fits, length_fits}

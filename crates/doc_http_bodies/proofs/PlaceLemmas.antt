@@ -1,13 +1,13 @@
 -- Where a text first has a needle.
 use Rattle.std.proofs.Common.{◌≡◌, ℕ, suc, zero, ◌+◌, ◌-◌, ◌<◌, ◌≤◌, Bool, true, false, List, [], ◌∷◌, ◌++◌, Option, Some, None, cond}
 use Rattle.std.proofs.Common.{length, take, drop, get_or, refl, sym, ap, subst, ◌∙◌, arith, nat_eq}
-use Rattle.std.specs.Prelude.{⊤}
+use Rattle.std.specs.Prelude.{⊤, nat_le}
 use Rattle.std.specs.Cmp.Lexicographic.{pointwise}
 use Rattle.std.specs.List.{starts_with}
 use Rattle.std.proofs.lemmas.Bool.{and_parts}
-use Rattle.std.proofs.lemmas.List.{drop_more, length-append, take-append-le, drop-append-le}
-use Rattle.doc_http_bodies.specs.Chunks.{place_of, behind}
-use Rattle.doc_http_bodies.specs.KnowledgeSteps.{IsSearched}
+use Rattle.std.proofs.Math.Seq.{take-append-add}
+use Rattle.std.proofs.lemmas.List.{drop_more, length-append, take-append-le, drop-append-le, take_all, append-nil}
+use Rattle.doc_http_bodies.specs.Places.{blank_line, place_of, behind, lines_len, IsSearched}
 
 miss_at : (needle : List ℕ) (b : ℕ) (rest : List ℕ) → starts_with nat_eq (b ∷ rest) needle ≡ false
     → place_of needle (b ∷ rest) ≡ behind 1 (place_of needle rest)
@@ -58,6 +58,16 @@ longer x y (m, e) = rw e (omega (arith, length-append x m))
 pub take_same : (n : ℕ) (x y : List ℕ) → n ≤ length x → Grows x y → take n y ≡ take n x
 take_same n x y le (m, e) = rw e (take-append-le n x m le)
 
+pub take_grows : (n : ℕ) (x y : List ℕ) → Grows x y → Grows (take n x) (take n y)
+take_grows n x y (m, e) = by_test (nat_le n (length x)) refl
+  where
+    by_test : (t : Bool) → nat_le n (length x) ≡ t → Grows (take n x) (take n y)
+    by_test true is = ([], take_same n x y (grind (arith)) (m, e) ∙ sym (append-nil (take n x)))
+    by_test false is =
+        let le : length x ≤ n = grind (arith) in
+        let split : n ≡ length x + (n - length x) = omega arith in
+        (take (n - length x) m, rw (e, take_all n x le) (ap (λ k. take k (x ++ m)) split ∙ take-append-add x m (n - length x)))
+
 pub drop_grows : (n : ℕ) (x y : List ℕ) → n ≤ length x → Grows x y → Grows (drop n x) (drop n y)
 drop_grows n x y le (m, e) = (m, rw e (drop-append-le n x m le))
 
@@ -87,6 +97,10 @@ abbrev pub Stays : Option ℕ → Option ℕ → Type 0
 Stays None y = ⊤
 Stays (Some n) y = y ≡ Some n
 
+pub behind_stays : (n : ℕ) (o p : Option ℕ) → Stays o p → Stays (behind n o) (behind n p)
+behind_stays n None p h = tt
+behind_stays n (Some k) p h = ap (behind n) h
+
 pub place_stays : (needle x m : List ℕ) → Stays (place_of needle x) (place_of needle (x ++ m))
 place_stays needle [] m = tt
 place_stays needle (b ∷ rest) m = by_test (place_stays needle rest m) (starts_with nat_eq (b ∷ rest) needle) refl
@@ -106,12 +120,15 @@ place_stays needle (b ∷ rest) m = by_test (place_stays needle rest m) (starts_
         (starts_same needle (b ∷ rest) (b ∷ (rest ++ m)) (at_least needle (b ∷ rest) hit) (m, refl) ∙ hit)
     by_test h false miss = on (place_of needle rest) refl miss h
 
+pub lines_stay : (x more : List ℕ) → Stays (lines_len x) (lines_len (x ++ more))
+lines_stay x more = behind_stays 4 (place_of blank_line x) (place_of blank_line (x ++ more)) (place_stays blank_line x more)
+
 pub place_grows : (needle x y : List ℕ) → Grows x y → Stays (place_of needle x) (place_of needle y)
 place_grows needle x y (m, e) = subst (λ z. Stays (place_of needle x) (place_of needle z)) (sym e) (place_stays needle x m)
 
-behind_none : (o : Option ℕ) → behind 1 o ≡ None → o ≡ None
-behind_none None h = refl
-behind_none (Some n) h = absurd cc
+pub behind_none : (k : ℕ) (o : Option ℕ) → behind k o ≡ None → o ≡ None
+behind_none k None h = refl
+behind_none k (Some n) h = absurd cc
 
 -- where none was found, the first bytes were searched, whatever follows
 pub searched_more : (needle text more : List ℕ) (k : ℕ) → place_of needle text ≡ None → k ≤ length text + 1 - length needle
@@ -133,7 +150,7 @@ searched_more needle (b ∷ rest) more (suc k) none fits inside = by_test (start
         → (place_of needle rest ≡ None → IsSearched needle k (rest ++ more)) → IsSearched needle (suc k) (b ∷ (rest ++ more))
     by_test true hit absent further = absurd cc
     by_test false miss absent further =
-        let left : IsSearched needle k (rest ++ more) = further (behind_none (place_of needle rest) absent) in
+        let left : IsSearched needle k (rest ++ more) = further (behind_none 1 (place_of needle rest) absent) in
         let still = starts_same needle (b ∷ rest) (b ∷ (rest ++ more)) (omega arith) (more, refl) ∙ miss in
         (omega (arith, left.0), miss_at needle b (rest ++ more) still ∙ ap (behind 1) left.1 ∙ behind_swap _)
 

@@ -6,7 +6,8 @@ use Rattle.std.specs.List.{list_all, prefix_len}
 use Rattle.std.proofs.lemmas.Bool.{lt-leb, and_from}
 use Rattle.std.proofs.lemmas.List.{length-take}
 use Rattle.doc_http_bodies.specs.declared.size_line.SizeLine.TheVariants.{Unfinished, Malformed}
-use Rattle.doc_http_bodies.specs.Chunks.{line_end, place_of, line_in, size_line}
+use Rattle.doc_http_bodies.specs.Chunks.{line_in, size_line}
+use Rattle.doc_http_bodies.specs.Places.{line_end, place_of}
 
 -- what stands before the first that fails, passes
 pub all_passed : (p : ℕ → Bool) (xs : List ℕ) → list_all p (take (prefix_len p xs) xs) ≡ true

@@ -13,12 +13,14 @@ use Rattle.doc_http_bodies.specs.declared.stage.Stage.{Stage}
 use Rattle.doc_http_bodies.specs.declared.stage.Stage.TheVariants.{Line, Data, Trailer}
 use Rattle.doc_http_bodies.specs.declared.stage.Step.TheVariants.{On, Waiting, Ended}
 use Rattle.doc_http_bodies.specs.Framings.{body_limit}
-use Rattle.doc_http_bodies.specs.Chunks.{line_end, blank_line, place_of, behind, size_of, line_by, line_in, size_line, trailer_len, trailed}
-use Rattle.doc_http_bodies.specs.Chunks.{after_data, after_size, after_line, extent_from, extent_of}
-use Rattle.doc_http_bodies.specs.KnowledgeSteps.{IsSearched, IsInside, LeadsOn, Knows}
+use Rattle.doc_http_bodies.specs.Chunks.{size_of, line_by, line_in, size_line, trailer_len, trailed, after_data, after_size, after_line}
+use Rattle.doc_http_bodies.specs.Chunks.{extent_from, extent_of}
+use Rattle.doc_http_bodies.specs.Places.{line_end, blank_line, place_of, behind, IsSearched}
+use Rattle.doc_http_bodies.specs.KnowledgeSteps.{IsInside, LeadsOn, Knows}
 use Rattle.doc_http_bodies.specs.StageSteps.{IsStep, step_behind_line}
-use Rattle.doc_http_bodies.proofs.PlaceLemmas.{Grows, longer, drop_grows, starts_same, searched_more, searched_none}
-use Rattle.doc_http_bodies.proofs.ExtentLemmas.{take_grows, LineFits, LineStays, line_fits, line_grows, one_line}
+use Rattle.doc_http_bodies.proofs.PlaceLemmas.{Grows, longer, take_grows, drop_grows, starts_same, behind_none, searched_more}
+use Rattle.doc_http_bodies.proofs.PlaceLemmas.{searched_none}
+use Rattle.doc_http_bodies.proofs.ExtentLemmas.{LineFits, LineStays, line_fits, line_grows, one_line}
 
 -- ---- with more bytes
 
@@ -210,13 +212,9 @@ trailer_ends start searched total len window known is =
 no_trailer : (text : List ℕ) → trailer_len text ≡ None → place_of blank_line text ≡ None
 no_trailer text none = by_test (starts_with nat_eq text line_end) none
   where
-    by_place : (o : Option ℕ) → behind 4 o ≡ None → o ≡ None
-    by_place None e = refl
-    by_place (Some n) e = absurd cc
-
     by_test : (t : Bool) → (if t then Some 2 else behind 4 (place_of blank_line text)) ≡ None → place_of blank_line text ≡ None
     by_test true e = absurd cc
-    by_test false e = by_place (place_of blank_line text) e
+    by_test false e = behind_none 4 (place_of blank_line text) e
 
 pub trailer_waits : (start searched total : ℕ) (window : List ℕ) → Knows (Trailer start searched total) window
     → trailer_len (drop start window) ≡ None

@@ -1,39 +1,23 @@
 -- The chunked coding (RFC 9112, section 7.1).
 use Rattle.std.specs.Prelude.{ℕ, zero, suc, ◌+◌, ◌||◌, ◌&&◌, ◌==◌, not, Bool, true, nat_lt, nat_le, nat_eq, List, [], ◌∷◌, ◌++◌, length}
-use Rattle.std.specs.Prelude.{take, drop, cond, Option, Some, None, if◌then◌else◌}
+use Rattle.std.specs.Prelude.{take, drop, Option, Some, None, if◌then◌else◌}
 use Rattle.std.specs.List.{starts_with, list_all, prefix_len}
-use Rattle.std.specs.Option.{option_map}
 use Rattle.std.specs.Str.Parse.{digits_value}
 use Rattle.std.specs.Char.{is_ascii_hexdigit}
+use Rattle.doc_page.specs.Lines.{is_space_or_tab}
 use Rattle.doc_http_bodies.specs.declared.extent.Extent.{Extent}
 use Rattle.doc_http_bodies.specs.declared.extent.Extent.TheVariants.{More, Fault, Whole}
 use Rattle.doc_http_bodies.specs.declared.fault.Fault.TheVariants as faults
 use Rattle.doc_http_bodies.specs.declared.size_line.SizeLine.{SizeLine}
 use Rattle.doc_http_bodies.specs.declared.size_line.SizeLine.TheVariants.{Unfinished, Malformed, Size}
 use Rattle.doc_http_bodies.specs.Framings.{body_limit}
-
--- CR LF (RFC 9112, section 2.1)
-abbrev pub line_end : List ℕ
-line_end = 13 ∷ 10 ∷ []
-
--- the end of a line and the empty line behind it
-abbrev pub blank_line : List ℕ
-blank_line = 13 ∷ 10 ∷ 13 ∷ 10 ∷ []
-
--- a number, with so many in front
-abbrev pub behind : ℕ → Option ℕ → Option ℕ
-behind count found = option_map (λ place. count + place) found
-
--- where the text first has the needle
-abbrev pub place_of : List ℕ → List ℕ → Option ℕ
-place_of needle [] = None
-place_of needle (b ∷ rest) = cond (starts_with nat_eq (b ∷ rest) needle) (Some 0) (behind 1 (place_of needle rest))
+use Rattle.doc_http_bodies.specs.Places.{line_end, place_of, lines_len}
 
 -- ---- sizes
 
 -- `;`, space or tab
 abbrev pub begins_extension : ℕ → Bool
-begins_extension b = b == 59 || b == 32 || b == 9
+begins_extension b = b == 59 || is_space_or_tab b
 
 -- what may stand between a size and its CR LF: nothing, or what begins with `;`, space or tab and has neither CR nor LF
 -- (a chunk-ext of section 7.1.1, read widely)
@@ -69,7 +53,7 @@ size_line text = line_in (take 256 text) (place_of line_end (take 256 text))
 
 -- the trailer's length: its lines up to the first empty one, which are not read (RFC 9112, section 7.1.2)
 abbrev pub trailer_len : List ℕ → Option ℕ
-trailer_len text = if starts_with nat_eq text line_end then Some 2 else behind 4 (place_of blank_line text)
+trailer_len text = if starts_with nat_eq text line_end then Some 2 else lines_len text
 
 abbrev pub trailed : ℕ → ℕ → Option ℕ → Extent
 trailed used total None = More

@@ -1,10 +1,11 @@
 -- How a head frames the body behind it (RFC 9112, section 6).
-use Rattle.std.specs.Prelude.{◌≡◌, ℕ, ◌&&◌, ◌==◌, not, Bool, false, List, [], ◌∷◌, Option, Some, None, Result, Ok, Err, length, map, filter}
-use Rattle.std.specs.Prelude.{nat_lt, codes, if◌then◌else◌}
+use Rattle.std.specs.Prelude.{◌≡◌, ℕ, ◌&&◌, ◌==◌, not, Bool, false, List, [], ◌∷◌, Option, Some, None, Result, Ok, Err, length, nat_lt}
+use Rattle.std.specs.Prelude.{codes, if◌then◌else◌}
 use Rattle.std.specs.List.{list_all}
 use Rattle.std.specs.Char.{is_ascii_digit}
 use Rattle.std.specs.Str.{str_eq_ignore_ascii_case}
 use Rattle.std.specs.Str.Parse.{digits_value}
+use Rattle.doc_http_bodies.specs.Fields.{Fields, values_named}
 use Rattle.doc_http_bodies.specs.declared.fault.Fault.{Fault}
 use Rattle.doc_http_bodies.specs.declared.fault.Fault.TheVariants as faults
 use Rattle.doc_http_bodies.specs.declared.fields.FramingFields.{FramingFields}
@@ -14,14 +15,6 @@ use Rattle.doc_http_bodies.specs.declared.framing.Framing.{Framing}
 use Rattle.doc_http_bodies.specs.declared.framing.Framing.TheVariants as framing
 use Rattle.doc_http_bodies.specs.declared.length.Length.{Length}
 use Rattle.doc_http_bodies.specs.declared.length.Length.TheVariants as length_says
-
--- the names of fields, each with its value
-abbrev pub Fields : Type 0
-Fields = List (List ℕ × List ℕ)
-
--- the values of the fields of a name, which is compared without case (RFC 9110, section 5.1)
-abbrev pub values_named : List ℕ → Fields → List (List ℕ)
-values_named name fields = map (λ field. field.1) (filter (λ field. str_eq_ignore_ascii_case field.0 name) fields)
 
 -- what one Transfer-Encoding field says; coding names have no case (RFC 9112, section 7)
 abbrev pub coding_in : List ℕ → Coding

@@ -5,13 +5,9 @@ use Rattle.doc_http_bodies.specs.declared.reader.BodyReader.{BodyReader}
 use Rattle.doc_http_bodies.specs.declared.stage.Stage.{Stage}
 use Rattle.doc_http_bodies.specs.declared.stage.Stage.TheVariants.{Line, Data, Trailer}
 use Rattle.doc_http_bodies.specs.Framings.{body_limit}
-use Rattle.doc_http_bodies.specs.Chunks.{place_of, behind, line_end, blank_line, extent_of, extent_from, after_data, trailed, trailer_len}
+use Rattle.doc_http_bodies.specs.Chunks.{extent_of, extent_from, after_data, trailed, trailer_len}
+use Rattle.doc_http_bodies.specs.Places.{line_end, blank_line, IsSearched}
 use Rattle.doc_http_bodies.specs.Readings.{encoded_limit}
-
--- the needle does not begin in the first `searched` bytes of the text
-abbrev pub IsSearched : List ℕ → ℕ → List ℕ → Type 0
-IsSearched needle searched text =
-    (searched ≤ length text) × (place_of needle text ≡ behind searched (place_of needle (drop searched text)))
 
 -- a stage lies in so many bytes, and the sizes so far are allowed
 abbrev pub IsInside : ℕ → Stage → Type 0

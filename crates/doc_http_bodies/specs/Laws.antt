@@ -3,7 +3,8 @@ use Rattle.std.specs.Prelude.{◌≡◌, ◌≤◌, ℕ, Bool, List, ◌++◌, l
 use Rattle.doc_http_bodies.specs.declared.framing.Framing.{Framing}
 use Rattle.doc_http_bodies.specs.declared.reader.BodyReader.{BodyReader}
 use Rattle.doc_http_bodies.specs.declared.reader.Reading.TheVariants.{More, Whole}
-use Rattle.doc_http_bodies.specs.Framings.{Fields, framing_of}
+use Rattle.doc_http_bodies.specs.Fields.{Fields}
+use Rattle.doc_http_bodies.specs.Framings.{framing_of}
 use Rattle.doc_http_bodies.specs.KnowledgeSteps.{KnowsOf}
 use Rattle.doc_http_bodies.specs.Readings.{reading_of}
 

@@ -1,7 +1,9 @@
 pub mod Chunks
 pub mod Faults
+pub mod Fields
 pub mod Framings
 pub mod KnowledgeSteps
 pub mod Laws
+pub mod Places
 pub mod Readings
 pub mod StageSteps

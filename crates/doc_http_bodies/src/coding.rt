@@ -1,7 +1,8 @@
 //! What the Transfer-Encoding fields of a head say.
 
 ghost use Rattle.std.specs.Prelude.{◌≡◌, ◌++◌, ◌∷◌, [], List, ℕ, codes};
-ghost use Rattle.doc_http_bodies.specs.Framings.{coding_of, coding_in, values_named, Fields};
+ghost use Rattle.doc_http_bodies.specs.Framings.{coding_of, coding_in};
+ghost use Rattle.doc_http_bodies.specs.Fields.{values_named, Fields};
 
 use crate::names::is_named;
 
@@ -17,8 +18,10 @@ pub enum Coding {
 impl Coding {
     /// What the fields say, with one more field.
     pub fn see(self, name: &[u8], value: &[u8]) -> Coding
-        ensures { (fields : Fields) → self ≡ coding_of (values_named (codes "transfer-encoding") fields)
-            → result ≡ coding_of (values_named (codes "transfer-encoding") (fields ++ (name.now, value.now) ∷ [])) }
+        ensures { (fields : Fields)
+            → self ≡ coding_of (values_named (codes "transfer-encoding") fields)
+            → result ≡ coding_of
+            (values_named (codes "transfer-encoding") (fields ++ (name.now, value.now) ∷ [])) }
     {
         if is_named(name, b"transfer-encoding") {
             self.with(value)
@@ -27,9 +30,10 @@ impl Coding {
         }
     }
 
-    // The same, with one more of these fields.
+    /// The same, with one more of these fields.
     fn with(self, value: &[u8]) -> Coding
-        ensures { (values : List (List ℕ)) → self ≡ coding_of values → result ≡ coding_of (values ++ value.now ∷ []) }
+        ensures { (values : List (List ℕ)) → self ≡ coding_of values
+            → result ≡ coding_of (values ++ value.now ∷ []) }
     {
         match self {
             Coding::Absent => coding_in(value),
@@ -38,7 +42,7 @@ impl Coding {
     }
 }
 
-// What one Transfer-Encoding field says.
+/// What one Transfer-Encoding field says.
 fn coding_in(value: &[u8]) -> Coding
     ensures { result ≡ coding_in value.now }
 {

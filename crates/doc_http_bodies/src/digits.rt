@@ -37,7 +37,7 @@ pub fn hexadecimal(digits: &[u8]) -> usize
     number
 }
 
-// The value of a hexadecimal digit.
+/// The value of a hexadecimal digit.
 fn digit_value(digit: u8) -> usize
     requires { is_ascii_hexdigit digit ≡ true }
     ensures value { result ≡ digit_value digit }

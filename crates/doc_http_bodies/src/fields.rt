@@ -1,7 +1,8 @@
 //! The fields of a head that frame its body.
 
 ghost use Rattle.std.specs.Prelude.{◌≡◌, ◌++◌, ◌∷◌, [], List, ℕ};
-ghost use Rattle.doc_http_bodies.specs.Framings.{framing_of, framing_by, sized_by, Fields, Saw};
+ghost use Rattle.doc_http_bodies.specs.Framings.{framing_of, framing_by, sized_by, Saw};
+ghost use Rattle.doc_http_bodies.specs.Fields.{Fields};
 
 use crate::coding::Coding;
 use crate::fault::Fault;
@@ -30,7 +31,8 @@ impl FramingFields {
     /// Takes in the next field: its name, in any case, and its value without the blanks around it.
     #[tactic(auto, unfolding(crate::specs::Framings::Saw))]
     pub fn see(&mut self, name: &[u8], value: &[u8])
-        ensures { (fields : Fields) → Saw self.old fields → Saw self.new (fields ++ (name.now, value.now) ∷ []) }
+        ensures { (fields : Fields) → Saw self.old fields
+            → Saw self.new (fields ++ (name.now, value.now) ∷ []) }
     {
         self.coding = self.coding.see(name, value);
         self.length = self.length.see(name, value);
@@ -49,7 +51,7 @@ impl FramingFields {
     }
 }
 
-// How the body is framed, by what the fields say and by whether the request is of HTTP/1.0.
+/// How the body is framed, by what the fields say and by whether the request is of HTTP/1.0.
 fn framing_by(is_old: bool, coding: Coding, length: Length) -> Result<Framing, Fault>
     ensures { result ≡ framing_by is_old coding length }
 {
@@ -64,7 +66,7 @@ fn framing_by(is_old: bool, coding: Coding, length: Length) -> Result<Framing, F
     }
 }
 
-// The framing without a transfer coding.
+/// The framing without a transfer coding.
 fn sized_by(length: Length) -> Result<Framing, Fault>
     ensures { result ≡ sized_by length }
 {

@@ -22,9 +22,11 @@ pub fn gather(heap: Heap, encoded: &[u8], len: usize) -> Result<Bytes, Memory>
     Ok(joined)
 }
 
-// The data of the first chunk, and the bytes behind the chunk: none where the last chunk stands there.
+/// The data of the first chunk, and the bytes behind the chunk: none where the last chunk stands there.
 fn first_chunk(text: &[u8]) -> Option<(&[u8], &[u8])>
-    ensures found { IfSome result (λ found. (data_of text.now ≡ found.0.now ++ data_of found.1.now) × (length found.1.now < length text.now)) }
+    ensures found { IfSome result (λ found.
+        (data_of text.now ≡ found.0.now ++ data_of found.1.now)
+        × (length found.1.now < length text.now)) }
     ensures last { result ≡ None → data_of text.now ≡ [] }
 {
     let SizeLine::Size { len, size } = size_line(text, 0) else {

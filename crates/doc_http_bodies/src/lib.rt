@@ -2,19 +2,20 @@
 //! without a second look at those that came before.
 #![tactic(auto)]
 
+pub mod blanks;
 mod coding;
 mod digits;
 mod extent;
 pub mod fault;
 pub mod fields;
-mod finding;
+pub mod finding;
 pub mod framing;
 mod gathering;
 pub mod laws;
 mod length;
-mod names;
+pub mod names;
 pub mod reader;
 mod size_line;
-mod slices;
+pub mod slices;
 mod stage;
 mod trailer;

@@ -65,7 +65,8 @@ impl BodyReader {
     /// alone; where there is none, the reader stays as it was, and the call may be made again.
     pub fn read(&mut self, heap: Heap, bytes: &[u8]) -> Result<Reading, Memory>
         requires { KnowsOf self.old bytes.now }
-        ensures found { IfOk result (λ reading. reading ≡ reading_of (framing_of self.old) bytes.now) }
+        ensures found { IfOk result
+            (λ reading. reading ≡ reading_of (framing_of self.old) bytes.now) }
         ensures framing { framing_of self.new ≡ framing_of self.old }
         ensures knows { KnowsOf self.new bytes.now }
         ensures memory { OnErr result (IsWhole (reading_of (framing_of self.old) bytes.now)) }
@@ -77,7 +78,7 @@ impl BodyReader {
         }
     }
 
-    // The same where the body is chunked.
+    /// The same where the body is chunked.
     fn read_chunks(&mut self, heap: Heap, bytes: &[u8]) -> Result<Reading, Memory>
         requires { KnowsOf self.old bytes.now }
         ensures found { IfOk result (λ reading. reading ≡ reading_of framings.Chunked bytes.now) }
@@ -95,7 +96,7 @@ impl BodyReader {
     }
 }
 
-// What the bytes come to, where so many are the body.
+/// What the bytes come to, where so many are the body.
 #[tactic(auto, unfolding(crate::specs::Readings::reading_of))]
 fn read_sized(heap: Heap, bytes: &[u8], size: usize) -> Result<Reading, Memory>
     ensures found { IfOk result (λ reading. reading ≡ reading_of (framings.Sized size) bytes.now) }
@@ -110,7 +111,7 @@ fn read_sized(heap: Heap, bytes: &[u8], size: usize) -> Result<Reading, Memory>
     })
 }
 
-// What the bytes come to that an encoded body may take, of which all came or not.
+/// What the bytes come to that an encoded body may take, of which all came or not.
 fn reading_by(heap: Heap, window: &[u8], is_full: bool, extent: Extent) -> Result<Reading, Memory>
     ensures found { IfOk result (λ reading. reading ≡ by_extent window.now is_full extent) }
     ensures memory { OnErr result (IsWhole (by_extent window.now is_full extent)) }

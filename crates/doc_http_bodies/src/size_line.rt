@@ -3,10 +3,11 @@
 ghost use Rattle.std.specs.Prelude.{◌≡◌, ◌<◌, ◌≤◌, ◌+◌, take, drop, length, true, IfSome, not, ◌||◌, ◌==◌};
 ghost use Rattle.std.specs.List.{list_all, prefix_len};
 ghost use Rattle.std.specs.Char.{is_ascii_hexdigit};
-ghost use Rattle.doc_http_bodies.specs.Chunks.{line_end, size_of as size_by, size_line as line_at, is_extension as extension_test, begins_extension as begins_by};
-ghost use Rattle.doc_http_bodies.specs.KnowledgeSteps.{IsSearched};
+ghost use Rattle.doc_http_bodies.specs.Chunks.{size_of as size_by, size_line as line_at, is_extension as extension_test, begins_extension as begins_by};
+ghost use Rattle.doc_http_bodies.specs.Places.{line_end, IsSearched};
 ghost use Rattle.doc_http_bodies.specs.StageSteps.{IsLineWithin};
 
+use crate::blanks::is_space_or_tab;
 use crate::digits::hexadecimal;
 use crate::finding::find;
 use crate::slices::front;
@@ -41,7 +42,7 @@ pub fn size_line(text: &[u8], searched: usize) -> SizeLine
     }
 }
 
-// The size that a line says, which stands without its CR LF.
+/// The size that a line says, which stands without its CR LF.
 fn size_of(line: &[u8]) -> Option<usize>
     ensures size { result ≡ size_by line.now }
     ensures bound { IfSome result (λ size. size < 4294967296) }
@@ -53,6 +54,7 @@ fn size_of(line: &[u8]) -> Option<usize>
     Some(hexadecimal(&line[..count]))
 }
 
+/// How many hexadecimal digits stand at the front.
 fn digits_at_front(line: &[u8]) -> usize
     ensures count { result ≡ prefix_len is_ascii_hexdigit line.now }
     ensures within { result ≤ length line.now }
@@ -62,7 +64,7 @@ fn digits_at_front(line: &[u8]) -> usize
         .count()
 }
 
-// Whether what stands behind a size is an extension, or nothing.
+/// Whether what stands behind a size is an extension, or nothing.
 fn is_extension(text: &[u8]) -> bool
     ensures { result ≡ extension_test text.now }
 {
@@ -72,12 +74,14 @@ fn is_extension(text: &[u8]) -> bool
     begins_extension(*first) && has_no_line_end(rest)
 }
 
+/// Whether the byte may begin an extension: `;`, space or tab.
 fn begins_extension(byte: u8) -> bool
     ensures { result ≡ begins_by byte }
 {
-    byte == b';' || byte == b' ' || byte == b'\t'
+    byte == b';' || is_space_or_tab(byte)
 }
 
+/// Whether the text has neither CR nor LF.
 fn has_no_line_end(text: &[u8]) -> bool
     ensures { result ≡ list_all (λ byte. not (byte == 13 || byte == 10)) text.now }
 {

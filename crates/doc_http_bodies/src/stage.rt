@@ -37,12 +37,12 @@ pub enum Stage {
     },
 }
 
-// What a stage comes to.
+/// What a stage comes to.
 #[derive(Clone, Copy)]
 enum Step {
-    // The next stage.
+    /// The next stage.
     On(Stage),
-    // More bytes are needed; meanwhile as much is known.
+    /// More bytes are needed; meanwhile as much is known.
     Waiting(Stage),
     Ended(Extent),
 }
@@ -68,6 +68,7 @@ pub fn advance(first: Stage, window: &[u8]) -> (Stage, Extent)
     }
 }
 
+/// What the stage comes to.
 fn step_from(stage: Stage, window: &[u8]) -> Step
     requires { Knows stage window.now }
     ensures { IsStep window.now stage result }
@@ -87,7 +88,7 @@ fn step_from(stage: Stage, window: &[u8]) -> Step
     }
 }
 
-// What a size line comes to.
+/// What a size line comes to.
 fn at_line(start: usize, searched: usize, total: usize, window: &[u8]) -> Step
     requires { Knows (stages.Line start searched total) window.now }
     ensures { IsStep window.now (stages.Line start searched total) result }
@@ -104,7 +105,7 @@ fn at_line(start: usize, searched: usize, total: usize, window: &[u8]) -> Step
     }
 }
 
-// What stands behind a size line.
+/// What stands behind a size line.
 #[tactic(auto, unfolding(crate::specs::Framings::body_limit))]
 fn behind_line(start: usize, size: usize, total: usize) -> Step
     requires { total + size < 2 ^ 64 }
@@ -124,7 +125,7 @@ fn behind_line(start: usize, size: usize, total: usize) -> Step
     Step::On(Stage::Data { start, size, total })
 }
 
-// What a chunk's data, and the two bytes behind them, come to.
+/// What a chunk's data, and the two bytes behind them, come to.
 #[tactic(auto, unfolding(crate::specs::Framings::body_limit))]
 fn at_data(start: usize, size: usize, total: usize, window: &[u8]) -> Step
     requires { Knows (stages.Data start size total) window.now }
@@ -145,7 +146,7 @@ fn at_data(start: usize, size: usize, total: usize, window: &[u8]) -> Step
     }
 }
 
-// What the trailer comes to.
+/// What the trailer comes to.
 fn at_trailer(start: usize, searched: usize, total: usize, window: &[u8]) -> Step
     requires { Knows (stages.Trailer start searched total) window.now }
     ensures { IsStep window.now (stages.Trailer start searched total) result }

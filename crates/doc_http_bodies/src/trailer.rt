@@ -1,10 +1,10 @@
 //! The trailer behind the last chunk.
 
 ghost use Rattle.std.specs.Prelude.{◌≡◌, ◌≤◌, length, IfSome};
-ghost use Rattle.doc_http_bodies.specs.Chunks.{blank_line, trailer_len as len_of};
-ghost use Rattle.doc_http_bodies.specs.KnowledgeSteps.{IsSearched};
+ghost use Rattle.doc_http_bodies.specs.Chunks.{trailer_len as len_of};
+ghost use Rattle.doc_http_bodies.specs.Places.{blank_line, IsSearched};
 
-use crate::finding::find;
+use crate::finding::lines_len;
 
 /// The length of the trailer at the front of the text, with the empty line that ends it, where no CR LF CR LF begins
 /// in the first `searched` bytes.
@@ -16,6 +16,5 @@ pub fn trailer_len(text: &[u8], searched: usize) -> Option<usize>
     if text.starts_with(b"\r\n") {
         return Some(2);
     }
-    let place = find(b"\r\n\r\n", text, searched)?;
-    Some(place + 4)
+    lines_len(text, searched)
 }

@@ -1,7 +1,7 @@
 use Rattle.std.proofs.Common.{◌≡◌, ◌-◌, true, false, drop, length, sym, ◌∙◌, arith, nat_eq, length-drop}
 use Rattle.std.proofs.lemmas.List.{take_all}
 use Rattle.std.specs.List.{starts_with}
-use Rattle.doc_http.specs.Heads.{line_end}
+use Rattle.doc_http_bodies.specs.Places.{line_end}
 use Rattle.doc_http.proofs.HeadLemmas.{no_empty_line, empty_line_at}
 use Rattle.doc_http.proofs.head.empty_lines.Goals as goal
 

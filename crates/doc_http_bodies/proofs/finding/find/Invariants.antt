@@ -1,4 +1,4 @@
-use Rattle.doc_http_bodies.specs.KnowledgeSteps.{IsSearched}
+use Rattle.doc_http_bodies.specs.Places.{IsSearched}
 use Rattle.doc_http_bodies.proofs.finding.find.Given as goal
 
 abbrev pub invariant-places : goal.invariant-places

@@ -1,5 +1,5 @@
 use Rattle.std.proofs.Common.{take}
-use Rattle.doc_http_bodies.specs.Chunks.{line_end}
+use Rattle.doc_http_bodies.specs.Places.{line_end}
 use Rattle.doc_http_bodies.proofs.DataLemmas.{no_chunk, last_chunk, first_chunk}
 use Rattle.doc_http_bodies.proofs.PlaceLemmas.{searched_none}
 use Rattle.doc_http_bodies.proofs.gathering.first_chunk.Goals as goal

@@ -2,9 +2,9 @@ use Rattle.std.proofs.Common.{◌≡◌, ◌-◌, arith, ap, sym, subst, ◌∙�
 use Rattle.doc_http_bodies.specs.declared.size_line.SizeLine.TheVariants.{Unfinished}
 use Rattle.doc_http_bodies.specs.declared.stage.Stage.TheVariants.{Line}
 use Rattle.doc_http_bodies.specs.declared.stage.Step.TheVariants.{Waiting}
-use Rattle.doc_http_bodies.specs.Chunks.{line_end, size_line}
+use Rattle.doc_http_bodies.specs.Chunks.{size_line}
+use Rattle.doc_http_bodies.specs.Places.{line_end, IsSearched}
 use Rattle.doc_http_bodies.specs.Framings.{body_limit}
-use Rattle.doc_http_bodies.specs.KnowledgeSteps.{IsSearched}
 use Rattle.doc_http_bodies.specs.StageSteps.{IsStep}
 use Rattle.doc_http_bodies.proofs.StageLemmas.{searched_line, line_waits, line_breaks, line_leads}
 use Rattle.doc_http_bodies.proofs.stage.at_line.Goals as goal

@@ -2,8 +2,8 @@ use Rattle.std.proofs.Common.{◌≡◌, ◌-◌, ap, sym, subst, ◌∙◌, len
 use Rattle.std.specs.Prelude.{None}
 use Rattle.doc_http_bodies.specs.declared.stage.Stage.TheVariants.{Trailer}
 use Rattle.doc_http_bodies.specs.declared.stage.Step.TheVariants.{Waiting}
-use Rattle.doc_http_bodies.specs.Chunks.{blank_line, trailer_len}
-use Rattle.doc_http_bodies.specs.KnowledgeSteps.{IsSearched}
+use Rattle.doc_http_bodies.specs.Chunks.{trailer_len}
+use Rattle.doc_http_bodies.specs.Places.{blank_line, IsSearched}
 use Rattle.doc_http_bodies.specs.StageSteps.{IsStep}
 use Rattle.doc_http_bodies.proofs.StageLemmas.{searched_trailer, trailer_ends, trailer_waits}
 use Rattle.doc_http_bodies.proofs.stage.at_trailer.Goals as goal

@@ -1,8 +1,9 @@
 use Rattle.std.proofs.Common.{Ok, slice_range, sym, ap, ◌∙◌, subst, arith}
 use Rattle.std.proofs.lemmas.Result.{IfOk-weaker, on_err_weaker}
-use Rattle.doc_http.specs.Requests.{IsNext, IsRequest}
+use Rattle.doc_http_bodies.proofs.ReaderLemmas.{on_err}
+use Rattle.doc_http.specs.Requests.{IsNext, IsRequest, BeginsWithRequest}
 use Rattle.doc_http.proofs.ProgressLemmas.{bad_head, good_head, whole_begins, reading_found, reading_begins, ends_within, knows_body}
-use Rattle.doc_http.proofs.ProgressLemmas.{at_rest, whole_rest, knows_rest, on_err}
+use Rattle.doc_http.proofs.ProgressLemmas.{at_rest, whole_rest, knows_rest}
 use Rattle.doc_http.proofs.ReadLemmas.{method_text, framed_by_parts, with_fault, read_by_parts}
 use Rattle.doc_http.proofs.SpanLemmas.{places}
 use Rattle.doc_http.proofs.progress.Progress.at_head.Goals as goal
@@ -36,7 +37,7 @@ returns-in_err-reading-in-Ok-clause-memory c =
     let text = slice_range bytes c.args.start c.args.end in
     let framed = framed_by_parts text c.good_head_spans.new.headers c.in-Some.spans found.0 found.2 ∙ sym c.framing_of.ensures
     ∙ c.in-Ok.is in
-    on_err c.from_residual.result
+    on_err c.from_residual.result (BeginsWithRequest bytes)
     (whole_begins bytes c.args.start c.args.end c.requires.lies found.0 found.1 found.3 c.in-Ok.framing framed
     (whole_rest bytes c.args.end _ c.in-Ok.framing c.new-reader.ensures.framing c.in_err-reading-in-Ok.ensures.memory))
 

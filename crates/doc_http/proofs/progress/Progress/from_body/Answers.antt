@@ -1,7 +1,9 @@
 use Rattle.std.proofs.Common.{Ok, refl, sym, ap, ◌∙◌, arith}
 use Rattle.doc_http_bodies.specs.KnowledgeSteps.{framing_of as framing_for}
+use Rattle.doc_http_bodies.proofs.ReaderLemmas.{on_err}
+use Rattle.doc_http.specs.Requests.{BeginsWithRequest}
 use Rattle.doc_http.specs.declared.request.Next.TheVariants as next
-use Rattle.doc_http.proofs.ProgressLemmas.{whole_begins, reading_found, knows_body, at_rest, whole_rest, knows_rest, on_err}
+use Rattle.doc_http.proofs.ProgressLemmas.{whole_begins, reading_found, knows_body, at_rest, whole_rest, knows_rest}
 use Rattle.doc_http.proofs.SpanLemmas.{places}
 use Rattle.doc_http.proofs.progress.Progress.from_body.Goals as goal
 
@@ -14,7 +16,7 @@ slice_bounds-read-start c = omega (arith, places c.args.bytes.now c.args.start c
 pub returns-in_err-reading-clause-memory : goal.returns-in_err-reading-clause-memory
 returns-in_err-reading-clause-memory c =
     let at = c.requires.at in
-    on_err c.from_residual.result
+    on_err c.from_residual.result (BeginsWithRequest c.args.bytes.now)
     (whole_begins c.args.bytes.now c.args.start c.args.end at.1 at.0 at.2 at.3 (framing_for c.args.reader) at.4
     (whole_rest c.args.bytes.now c.args.end _ (framing_for c.args.reader) refl c.in_err-reading.ensures.memory))
 
