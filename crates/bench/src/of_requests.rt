@@ -4,7 +4,8 @@
 //!   PIECE bytes with a reading after each. The count is of bytes that the requests take.
 //! - `chunks SIZE PIECE ROUNDS CHUNK` does so where the body is given in chunks of CHUNK bytes, SIZE / CHUNK of them.
 //! - `pipelined COUNT ROUNDS` takes COUNT requests off one buffer, ROUNDS times. The count is of requests.
-//! - `steps PAGES COUNT` makes COUNT steps of a hub with PAGES pages of 4 kB, each of a GET of one of them. The count is of the replies' bytes.
+//! - `steps PAGES COUNT` makes COUNT steps of a hub with PAGES pages of 4 kB, each of a GET of one of them. The count is of the replies'
+//!   bytes.
 //! - `growths PAGES COUNT` does so. The count is of the steps' growths.
 //! - `more-growths PAGES COUNT` does so. The count is of the growths beyond those of as many steps of a hub with 3 pages.
 
