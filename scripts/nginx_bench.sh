@@ -6,6 +6,7 @@
 set -eu
 scratch=$(mktemp -d)
 trap 'rm -r "$scratch"' EXIT
+"$(dirname "$0")/measured.sh"
 python3 - "${NGINX:-nginx}" "$scratch" <<'PYTHON'
 import os, signal, socket, subprocess, sys, time
 program, scratch = sys.argv[1:]

@@ -6,6 +6,7 @@ set -eu
 cd "$(dirname "$0")/.."
 program=crates/docs_server/out/docs_server
 [ -x "$program" ] || { echo "run 'rt run' in crates/docs_server first" >&2; exit 1; }
+scripts/measured.sh
 scratch=$(mktemp -d)
 trap 'rm -r "$scratch"' EXIT
 python3 - "$program" "$scratch" <<'PYTHON'

@@ -67,6 +67,7 @@ int main(int count, char **words) {
 }
 C
 cc -O1 -o "$scratch/run" "$scratch/run.c"
+"$(dirname "$0")/measured.sh"
 
 python3 - "$tools" "$product" "$peers" "$spec" "$scratch" <<'PYTHON'
 import math, os, shutil, subprocess, sys

@@ -1,4 +1,5 @@
-//! Open containers: quotes and list items.
+//! Open containers: quotes and list items, and whether a line goes on with one (CommonMark 0.31.2, sections 5.1 and 5.2): with a quote by
+//! its marker, with an item by its columns or by being blank, but for the second line of an item that started blank.
 ghost use Rattle.std.specs.Prelude.{◌≡◌, nat_le, ◌&&◌, ◌||◌, not};
 ghost use Rattle.doc_rules.specs.Columns.{indent, is_blank_line};
 ghost use Rattle.doc_blocks_pass.specs.Paths.{OpenItem, matched_open, gone_on};
@@ -59,7 +60,9 @@ fn matched_item<'a>(line: &Cursor<'a>, columns: usize, is_empty: bool) -> Option
 
 /// Whether a line is indented far enough to go on with an item, or blank, and then not the second line of an item that started blank.
 fn goes_on_in(line: &Cursor, columns: usize, is_empty: bool) -> bool
-    ensures { result ≡ (nat_le columns (indent (left_of line.now)) && not (is_blank_line (left_of line.now))) || (is_blank_line (left_of line.now) && not is_empty) }
+    ensures { result ≡ (nat_le columns (indent (left_of line.now))
+        && not (is_blank_line (left_of line.now)))
+        || (is_blank_line (left_of line.now) && not is_empty) }
 {
     if is_blank_line(line) {
         return !is_empty;

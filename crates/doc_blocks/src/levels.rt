@@ -1,4 +1,19 @@
 //! The open containers of a document that is read line by line, with the finished blocks of all levels on one stack.
+//!
+//! A *level* is what stands at one depth: its finished blocks, behind them perhaps a list that the next item may go on with, and whether a
+//! blank line stands between two of the blocks (`gap`). There is one level more than open containers: `outer` has each container with the
+//! level that it stands in, and `inner` is the one inside the last. The finished blocks of all levels lie on one stack, `done`:
+//!
+//!     blocks of the outermost level, items of its open list | blocks of the next, items of its open list | .. | blocks of `inner`, ..
+//!     ^ base                         ^ list.base              ^ base
+//!
+//! So what closes takes its own off the end and puts one block there: an open list its items (`finish_list`), a container the blocks of
+//! the level inside it (`leave`). `blank` says that a blank line stands behind the last block of the innermost level: the next block there
+//! makes a gap of it, the next item of the list makes the list loose. An item that closes leaves it to the level round it, a quote that
+//! closes clears it.
+//!
+//! That the bases stand within the stack and ascend (`IsSound`) is asked and ensured by each call that changes it. A call that answers
+//! `Memory` ensures nothing, and may have let blocks go already.
 ghost use Rattle.std.specs.Prelude.{◌≡◌, ◌+◌, ◌<◌, ◌≤◌, ℕ, false, None, OnOk, IfOk, IsTrue, vec_len};
 ghost use Rattle.doc_blocks_starts.specs.Items.{kind_of};
 ghost use Rattle.doc_rules.specs.Blocks.{list_start};
@@ -84,7 +99,8 @@ impl Levels {
     /// The list that is open at the innermost level becomes a block.
     fn finish_list(&mut self) -> Result<(), Memory>
         requires { IsSound self.old }
-        ensures stack { OnOk result (stack_of self.new ≡ with_inner_blocks (stack_of self.old) (finished (stack_of self.old).inner)) }
+        ensures stack { OnOk result (stack_of self.new
+            ≡ with_inner_blocks (stack_of self.old) (finished (stack_of self.old).inner)) }
         ensures sound { OnOk result (IsSound self.new) }
         ensures bare { OnOk result (self.new.inner.list ≡ None) }
         ensures outer { OnOk result (self.new.outer ≡ self.old.outer) }
@@ -106,7 +122,9 @@ impl Levels {
     #[tactic(auto, unfolding(doc_blocks_leaves::specs::Views::with_block))]
     pub(crate) fn put(&mut self, block: Option<Block>) -> Result<(), Memory>
         requires { IsSound self.old }
-        ensures stack { OnOk result (stack_of self.new ≡ with_inner_blocks (stack_of self.old) (with_block block (finished (stack_of self.old).inner))) }
+        ensures stack { OnOk result (stack_of self.new
+            ≡ with_inner_blocks (stack_of self.old)
+            (with_block block (finished (stack_of self.old).inner))) }
         ensures sound { OnOk result (IsSound self.new) }
         ensures outer { OnOk result (self.new.outer ≡ self.old.outer) }
     {
@@ -134,7 +152,8 @@ impl Levels {
     /// An item begins at the innermost level.
     pub(crate) fn begin_item(&mut self, kind: ListKind, start: u32) -> Result<(), Memory>
         requires { IsSound self.old }
-        ensures stack { OnOk result (stack_of self.new ≡ item_begun (stack_of self.old) (kind_of kind) start) }
+        ensures stack { OnOk result (stack_of self.new
+            ≡ item_begun (stack_of self.old) (kind_of kind) start) }
         ensures sound { OnOk result (IsSound self.new) }
         ensures outer { OnOk result (self.new.outer ≡ self.old.outer) }
     {
@@ -155,8 +174,10 @@ impl Levels {
     /// list loose.
     fn goes_on_with(&mut self, kind: ListKind) -> bool
         requires { IsSound self.old }
-        ensures yes { IsTrue result → (start : ℕ) → stack_of self.new ≡ item_begun (stack_of self.old) (kind_of kind) start }
-        ensures no { result ≡ false → (self.new ≡ self.old) × IsNotOf (kind_of kind) (stack_of self.old).inner.list }
+        ensures yes { IsTrue result → (start : ℕ)
+            → stack_of self.new ≡ item_begun (stack_of self.old) (kind_of kind) start }
+        ensures no { result ≡ false → (self.new ≡ self.old)
+            × IsNotOf (kind_of kind) (stack_of self.old).inner.list }
         ensures sound { IsSound self.new }
         ensures outer { self.new.outer ≡ self.old.outer }
     {
@@ -174,7 +195,8 @@ impl Levels {
     /// A container opens at the innermost level.
     pub(crate) fn open(&mut self, container: Container) -> Result<(), Memory>
         requires { IsSound self.old }
-        ensures stack { OnOk result (stack_of self.new ≡ container_opened (stack_of self.old) (container_shown container)) }
+        ensures stack { OnOk result (stack_of self.new
+            ≡ container_opened (stack_of self.old) (container_shown container)) }
         ensures sound { OnOk result (IsSound self.new) }
         ensures depth { OnOk result (vec_len self.new.outer ≡ vec_len self.old.outer + 1) }
     {
@@ -232,7 +254,8 @@ impl Levels {
     /// A quote of these blocks comes behind the blocks of the innermost level.
     fn put_quote(&mut self, blocks: Vec<Block>) -> Result<(), Memory>
         requires { IsSound self.old }
-        ensures stack { OnOk result (stack_of self.new ≡ quote_put (stack_of self.old) (blocks_shown blocks.entry.items)) }
+        ensures stack { OnOk result (stack_of self.new
+            ≡ quote_put (stack_of self.old) (blocks_shown blocks.entry.items)) }
         ensures sound { OnOk result (IsSound self.new) }
         ensures outer { OnOk result (self.new.outer ≡ self.old.outer) }
     {
@@ -244,7 +267,8 @@ impl Levels {
     /// An item with these blocks comes behind the items of the open list. A blank line between two of its blocks makes the list loose.
     fn put_item(&mut self, blocks: Vec<Block>, gap: bool) -> Result<(), Memory>
         requires { IsSound self.old }
-        ensures stack { OnOk result (stack_of self.new ≡ item_put (stack_of self.old) gap (blocks_shown blocks.entry.items)) }
+        ensures stack { OnOk result (stack_of self.new
+            ≡ item_put (stack_of self.old) gap (blocks_shown blocks.entry.items)) }
         ensures sound { OnOk result (IsSound self.new) }
         ensures outer { OnOk result (self.new.outer ≡ self.old.outer) }
     {
@@ -291,7 +315,8 @@ impl Levels {
     /// A line goes down the open containers that it goes on with. The answer is how many there are, and the line inside them.
     pub(crate) fn go_down<'a>(&mut self, line: &Cursor<'a>) -> (usize, Cursor<'a>)
         requires { IsSound self.old }
-        ensures goes { GoesDown (stack_of self.old) (left_of line.now) (stack_of self.new) result.0 (left_of result.1) }
+        ensures goes { GoesDown (stack_of self.old) (left_of line.now) (stack_of self.new) result.0
+            (left_of result.1) }
         ensures sound { IsSound self.new }
         ensures depth { result.0 ≤ vec_len self.new.outer }
     {
@@ -320,7 +345,8 @@ impl Levels {
     /// The blocks of the innermost level, whose list closes.
     pub(crate) fn into_blocks(mut self) -> Result<Vec<Block>, Memory>
         requires { IsSound self }
-        ensures { IfOk result (λ blocks. blocks_shown blocks.items ≡ finished (stack_of self).inner) }
+        ensures { IfOk result (λ blocks. blocks_shown blocks.items
+            ≡ finished (stack_of self).inner) }
     {
         self.finish_list()?;
         let base = self.inner.base;
@@ -332,7 +358,8 @@ impl Levels {
     fn go_on_at(&mut self, place: usize)
         requires sound { IsSound self.old }
         requires within { place < vec_len self.old.outer }
-        ensures stack { stack_of self.new ≡ record (stack_of self.old) { outer = gone_on_at place (stack_of self.old).outer } }
+        ensures stack { stack_of self.new ≡ record
+            (stack_of self.old) { outer = gone_on_at place (stack_of self.old).outer } }
         ensures sound { IsSound self.new }
         ensures depth { vec_len self.new.outer ≡ vec_len self.old.outer }
     {

@@ -1,4 +1,5 @@
-//! Brackets that are open.
+//! Brackets that are open: where one stands among the marks, so that its mark can become a start, and in the text, so that what stands
+//! between it and its `]` is a slice.
 
 use doc_inlines_emphasis::Place;
 

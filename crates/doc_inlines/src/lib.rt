@@ -1,6 +1,18 @@
 //! The inlines of a text, in one pass (CommonMark 0.31.2, section 6).
 //!
-//! A [`Reader`] keeps its room from text to text; [`inlines`] is one call of one.
+//! A [`Reader`] keeps its room from text to text; [`inlines`] is one call of one. It goes over the text item by item, and an item is told
+//! by its first character (`Reader::item`):
+//!
+//! 1. plain text is passed over by a table of bytes, and gets one mark when the next one is put (`Reader::flush`);
+//! 2. escapes, references, code spans, autolinks, raw HTML and breaks are read whole, so they bind before brackets;
+//! 3. a run of `*` or `_` gets a mark for each delimiter, and is kept among the runs (`doc_inlines_emphasis`);
+//! 4. a `[` or `![` is put as text and kept on a stack of open brackets (`draft`). At a `]` the last one leaves the stack: with a tail
+//!    behind the `]`, what stands between is wrapped in emphasis, and the bracket's mark becomes the start of a link or an image; else
+//!    both stay text. So brackets bind before emphasis;
+//! 5. at the end of the text all that is left is wrapped in emphasis.
+//!
+//! Each search that may run to the end of the text in vain leaves a note, so that it isn't made again (`doc_inlines_enclosed`), and a label
+//! is looked at up to 1,000 characters. Where a call answers `Memory`, nothing is known of the marks.
 #![tactic(auto)]
 
 ghost use Rattle.std.specs.Prelude.{◌≡◌, List, chars, IfOk};
@@ -36,7 +48,9 @@ pub fn inlines<'t>(
     refs: &RefMap,
     entities: &Entities,
 ) -> Result<Vec<Mark<'t>>, Memory>
-    ensures inlines { (definitions : List Definition) → refs.now ≡ targets_of definitions → IfOk result (λ marks. inlines_shown marks.items ≡ inlines_of entities.now definitions (chars text.now)) }
+    ensures inlines { (definitions : List Definition) → refs.now ≡ targets_of definitions
+        → IfOk result (λ marks. inlines_shown marks.items
+        ≡ inlines_of entities.now definitions (chars text.now)) }
     ensures slices { IfOk result (λ marks. AreSlices (chars text.now) marks.items) }
     ensures cut { IfOk result (λ marks. AreCut marks.items) }
 {
@@ -50,7 +64,9 @@ pub fn inlines_counted<'t>(
     refs: &RefMap,
     entities: &Entities,
 ) -> Result<(Vec<Mark<'t>>, u64), Memory>
-    ensures inlines { (definitions : List Definition) → refs.now ≡ targets_of definitions → IfOk result (λ marks. inlines_shown marks.0.items ≡ inlines_of entities.now definitions (chars text.now)) }
+    ensures inlines { (definitions : List Definition) → refs.now ≡ targets_of definitions
+        → IfOk result (λ marks. inlines_shown marks.0.items
+        ≡ inlines_of entities.now definitions (chars text.now)) }
     ensures slices { IfOk result (λ marks. AreSlices (chars text.now) marks.0.items) }
     ensures cut { IfOk result (λ marks. AreCut marks.0.items) }
 {

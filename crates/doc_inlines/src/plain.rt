@@ -1,4 +1,5 @@
-//! Characters that begin nothing.
+//! Characters that begin nothing: a table of 256 bytes passes over them. Spaces go with them unless a line ends behind, and a `>` or a `"`
+//! is text in a mark of its own, since HTML writes it otherwise.
 ghost use Rattle.std.specs.Prelude.{◌≡◌, ◌==◌, ℕ, true, false, [], ◌∷◌, ◌++◌, chars, OnOk, MatchOption};
 ghost use Rattle.doc_rules.specs.Characters.{last_or};
 ghost use Rattle.doc_rules.specs.Entities.{Table};
@@ -22,7 +23,9 @@ impl<'t> Reader<'t> {
     pub(crate) fn alone(&mut self, c: char, behind: &'t str) -> Result<(), Memory>
         requires sound { IsReader self.old }
         requires first { chars self.old.rest.now ≡ c ∷ chars behind.now }
-        ensures { OnOk result ((table : Table) (targets : Targets) → ReadsAs table targets self.old c (chars behind.now) (Literal c ∷ state_made self.old) 0 → GoesOn table targets self.old self.new) }
+        ensures { OnOk result ((table : Table) (targets : Targets)
+            → ReadsAs table targets self.old c (chars behind.now) (Literal c ∷ state_made self.old)
+            0 → GoesOn table targets self.old self.new) }
     {
         let own = front(self.rest, behind);
         self.put(Mark::Text(own), behind)?;
@@ -34,7 +37,8 @@ impl<'t> Reader<'t> {
         requires sound { IsReader self.old }
         requires first { chars self.old.rest.now ≡ c ∷ chars behind.now }
         requires other { kind_in kinds c ≡ Other }
-        ensures { OnOk result ((table : Table) (targets : Targets) → GoesOn table targets self.old self.new) }
+        ensures { OnOk result ((table : Table) (targets : Targets)
+            → GoesOn table targets self.old self.new) }
     {
         self.alone(c, behind)?;
         Ok(())
@@ -56,7 +60,9 @@ impl<'t> Reader<'t> {
         requires sound { IsReader self.old }
         requires first { chars self.old.rest.now ≡ c ∷ chars behind.now }
         requires uncut { is_uncut c ≡ true }
-        ensures { (table : Table) (targets : Targets) → ReadsAs table targets self.old c (chars behind.now) (Literal c ∷ state_made self.old) 0 → GoesOn table targets self.old self.new }
+        ensures { (table : Table) (targets : Targets)
+            → ReadsAs table targets self.old c (chars behind.now) (Literal c ∷ state_made self.old)
+            0 → GoesOn table targets self.old self.new }
     {
         self.pass(behind);
     }
@@ -121,7 +127,8 @@ fn without_spaces(text: &str) -> &str
 
 /// The text before a space at its end.
 fn before_space(text: &str) -> Option<&str>
-    ensures { MatchOption result ((last_or 0 (chars text.now) == 32) ≡ false) (λ before. chars text.now ≡ chars before.now ++ (32 ∷ [])) }
+    ensures { MatchOption result ((last_or 0 (chars text.now) == 32) ≡ false)
+        (λ before. chars text.now ≡ chars before.now ++ (32 ∷ [])) }
 {
     let Some((before, c)) = last_char(text) else {
         return None;
