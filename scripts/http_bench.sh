@@ -11,14 +11,14 @@
 # 16,384 and in one chunk or few is only copied, three times; copies within the processor's caches are faster than past them, so the ratio
 # there is that of memory (a program in C that makes the same copies had 3.5 and 2.7). What a run takes to start and to make its input is
 # measured apart and taken off. `scripts/nginx_bench.sh` has the time of nginx for such a page. Needs python3, and the program, which
-# `rt run < stdin` in crates/http_bench builds.
+# `rt run < stdin -- tasks` in crates/bench builds.
 set -eu
 cd "$(dirname "$0")/.."
-program=crates/http_bench/out/http_bench
-[ -x "$program" ] || { echo "run 'rt run < stdin' in crates/http_bench first" >&2; exit 1; }
+program=crates/bench/out/bench
+[ -x "$program" ] || { echo "run 'rt run < stdin -- tasks' in crates/bench first" >&2; exit 1; }
 scripts/measured.sh
 python3 - "$program" <<'PYTHON'
-import os, subprocess, sys, tempfile
+import os, subprocess, sys
 program = sys.argv[1]
 KIB = 1024
 
@@ -27,11 +27,8 @@ def least(task):
     """The least processor time of five runs, in microseconds, and what the program printed."""
     times, printed = [], set()
     for _ in range(5):
-        with tempfile.TemporaryFile() as stdin:
-            stdin.write(task.encode())
-            stdin.seek(0)
-            child = subprocess.Popen([program], stdin=stdin, stdout=subprocess.PIPE, text=True)
-            printed.add(child.stdout.read().strip())
+        child = subprocess.Popen([program, *task.split()], stdout=subprocess.PIPE, text=True)
+        printed.add(child.stdout.read().strip())
         _, status, used = os.wait4(child.pid, 0)
         child.returncode = status
         if status:

@@ -1,18 +1,8 @@
-//! Targets, for printing.
-
-use doc_refs::Target;
+//! Targets of links, for printing.
 
 /// What a label names.
 #[derive(Clone, Copy, Debug)]
 pub struct Leads<'a> {
-    dest: &'a str,
-    title: Option<&'a str>,
-}
-
-/// A target, for printing.
-pub fn shown_target(target: &Target) -> Leads {
-    Leads {
-        dest: target.dest.get(),
-        title: target.title.as_ref().map(|title| title.get()),
-    }
+    pub dest: &'a str,
+    pub title: Option<&'a str>,
 }

@@ -13,7 +13,7 @@ pub fn text_of(heap: Heap, written: &str) -> Result<Option<String>, Memory> {
         if rest.is_empty() {
             break;
         }
-        match push_part(&mut out, rest)? {
+        match push_part(heap, &mut out, rest)? {
             Some(behind) => rest = behind,
             None => return Ok(None),
         }
@@ -22,27 +22,55 @@ pub fn text_of(heap: Heap, written: &str) -> Result<Option<String>, Memory> {
 }
 
 /// Adds what the front of a text is written for, and answers the text behind it.
-fn push_part<'a>(out: &mut String, written: &'a str) -> Result<Option<&'a str>, Memory> {
+fn push_part<'a>(
+    heap: Heap,
+    out: &mut String,
+    written: &'a str,
+) -> Result<Option<&'a str>, Memory> {
     match written.strip_prefix("\\{") {
-        Some(repeated) => push_repetition(out, repeated),
+        Some(repeated) => push_repetition(heap, out, repeated),
         None => push_one(out, written, 0),
     }
 }
 
 /// Adds a repetition, which stands here from its count on.
-fn push_repetition<'a>(out: &mut String, written: &'a str) -> Result<Option<&'a str>, Memory> {
+fn push_repetition<'a>(
+    heap: Heap,
+    out: &mut String,
+    written: &'a str,
+) -> Result<Option<&'a str>, Memory> {
     let Some((count, rest)) = number_and_text(written) else {
         return Ok(None);
     };
     let Some((repeated, behind)) = rest.split_once('}') else {
         return Ok(None);
     };
+    let is_added = if repeated.contains("\\#") {
+        push_numbered(out, repeated, count)?
+    } else {
+        push_equal(heap, out, repeated, count)?
+    };
+    Ok(if is_added { Some(behind) } else { None })
+}
+
+/// Adds a text so many times, each time with its number, and answers whether it is written so.
+fn push_numbered(out: &mut String, written: &str, count: usize) -> Result<bool, Memory> {
     for number in 0..count {
-        if !push_all(out, repeated, number)? {
-            return Ok(None);
+        if !push_all(out, written, number)? {
+            return Ok(false);
         }
     }
-    Ok(Some(behind))
+    Ok(true)
+}
+
+/// Adds a text without a number so many times, and answers whether it is written so.
+fn push_equal(heap: Heap, out: &mut String, written: &str, count: usize) -> Result<bool, Memory> {
+    let mut text = String::new(heap);
+    let is_written = count == 0 || push_all(&mut text, written, 0)?;
+    for _ in 0..count {
+        out.push_str(&text)?;
+    }
+    Ok(is_written)
 }
 
 /// Adds a text without repetitions, and answers whether it is written so.

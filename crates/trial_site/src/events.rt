@@ -1,61 +1,91 @@
-//! Events as a line writes them.
+//! Events, as a line writes them: `connect`, `push ID BYTES`, `step ID`, `disconnect ID`, `put PATH | GROUPS | TEXT`, `remove PATH`,
+//! `move FROM | TO`, `reader TOKEN | READER`, where the reader is `owner` or has these groups, and `unreader TOKEN`.
 
-use crate::given::Given;
+use crate::given::{connection, id_and_bytes, reader_of, text_of, two};
 use crate::stop::Stop;
+use doc_heap::{Heap, Vec};
 use doc_hub::event::Event;
 use doc_page::bytes::Bytes;
-use doc_store::reader::Reader;
+use doc_page::path::Path;
+use doc_store::groups::Groups;
 
-/// The event that is written: `connect`, `push ID BYTES`, `step ID`, `disconnect ID`,
-/// `put PATH GROUPS TEXT`, `remove PATH`, `move FROM TO`, `reader TOKEN owner|plain GROUPS` or
-/// `unreader TOKEN`.
-pub fn event_of(given: Given<'_>) -> Result<Event, Stop> {
-    let (name, rest) = given.split();
-    match name.line {
+/// Events with ` ; ` between two.
+pub fn events_of(desk: Heap, given: &str) -> Result<Vec<Event>, Stop> {
+    let mut events = Vec::new(desk);
+    for line in given.split(" ; ") {
+        events.push(event_in(desk, line)?)?;
+    }
+    Ok(events)
+}
+
+fn event_in(desk: Heap, line: &str) -> Result<Event, Stop> {
+    let (name, given) = line.split_once(' ').unwrap_or((line, ""));
+    event_of(desk, name, given)
+}
+
+/// The event of this name.
+pub fn event_of(desk: Heap, name: &str, given: &str) -> Result<Event, Stop> {
+    match name {
         "connect" => Ok(Event::Connect),
-        "push" => push(rest),
-        "step" => Ok(Event::Step(rest.id()?)),
-        "disconnect" => Ok(Event::Disconnect(rest.id()?)),
-        _ => edit_of(name.line, rest),
+        "push" => push(desk, given),
+        "step" => step(given),
+        "disconnect" => disconnect(given),
+        _ => edit_of(desk, name, given),
     }
 }
 
-/// The same of an event that changes pages or readers.
-fn edit_of(name: &str, given: Given<'_>) -> Result<Event, Stop> {
+/// The event of this name that changes pages or readers.
+fn edit_of(desk: Heap, name: &str, given: &str) -> Result<Event, Stop> {
     match name {
-        "put" => put(given),
-        "remove" => Ok(Event::Remove(given.path()?)),
-        "move" => move_page(given),
-        "reader" => set_reader(given),
-        "unreader" => Ok(Event::RemoveReader(given.text()?)),
+        "put" => put(desk, given),
+        "remove" => remove(desk, given),
+        "move" => move_page(desk, given),
+        "reader" => set_reader(desk, given),
+        "unreader" => remove_reader(desk, given),
         _ => Err(Stop::NoCall),
     }
 }
 
-fn push(given: Given<'_>) -> Result<Event, Stop> {
-    let (id, bytes) = given.split();
-    Ok(Event::Push(id.id()?, Bytes::new(bytes.bytes()?)))
+fn push(desk: Heap, given: &str) -> Result<Event, Stop> {
+    let (id, bytes) = id_and_bytes(desk, given)?;
+    Ok(Event::Push(id, Bytes::new(bytes)))
 }
 
-fn put(given: Given<'_>) -> Result<Event, Stop> {
-    let (path, rest) = given.split();
-    let (groups, text) = rest.split();
-    let path = path.path()?;
-    let groups = groups.groups()?;
-    Ok(Event::Put(path, groups, text.text()?))
+fn step(given: &str) -> Result<Event, Stop> {
+    Ok(Event::Step(connection(given)?))
 }
 
-fn move_page(given: Given<'_>) -> Result<Event, Stop> {
-    let (from, to) = given.split();
-    let from = from.path()?;
-    Ok(Event::MovePage(from, to.path()?))
+fn disconnect(given: &str) -> Result<Event, Stop> {
+    Ok(Event::Disconnect(connection(given)?))
 }
 
-fn set_reader(given: Given<'_>) -> Result<Event, Stop> {
-    let (token, rest) = given.split();
-    let (kind, groups) = rest.split();
-    let token = token.text()?;
-    let groups = groups.groups()?;
-    let owner = kind.line == "owner";
-    Ok(Event::SetReader(token, Reader { owner, groups }))
+fn put(desk: Heap, given: &str) -> Result<Event, Stop> {
+    let (path, rest) = two(given)?;
+    let (groups, text) = two(rest)?;
+    put_at(desk, Path::new(desk, path)?, groups, text)
+}
+
+fn put_at(desk: Heap, path: Path, groups: &str, text: &str) -> Result<Event, Stop> {
+    let groups = Groups::new(desk, groups)?;
+    Ok(Event::Put(path, groups, text_of(desk, text)?))
+}
+
+fn remove(desk: Heap, given: &str) -> Result<Event, Stop> {
+    Ok(Event::Remove(Path::new(desk, given)?))
+}
+
+fn move_page(desk: Heap, given: &str) -> Result<Event, Stop> {
+    let (from, to) = two(given)?;
+    let from = Path::new(desk, from)?;
+    Ok(Event::MovePage(from, Path::new(desk, to)?))
+}
+
+fn set_reader(desk: Heap, given: &str) -> Result<Event, Stop> {
+    let (token, reader) = two(given)?;
+    let token = text_of(desk, token)?;
+    Ok(Event::SetReader(token, reader_of(desk, reader)?))
+}
+
+fn remove_reader(desk: Heap, given: &str) -> Result<Event, Stop> {
+    Ok(Event::RemoveReader(text_of(desk, given)?))
 }

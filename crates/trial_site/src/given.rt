@@ -1,90 +1,71 @@
-//! What a call is given.
+//! What calls are given.
 
-use crate::decoding::decoded;
 use crate::stop::Stop;
 use doc_heap::{Heap, Vec};
 use doc_hub::event::ConnId;
-use doc_page::path::Path;
 use doc_page::text::Text;
 use doc_store::groups::Groups;
-use std::str::from_utf8;
+use doc_store::reader::Reader;
+use trial::answer::{number_and_text, two_texts};
 
-/// A part of a line, in a round. What is made of it stands on the desk.
-#[derive(Clone, Copy)]
-pub struct Given<'a> {
-    pub desk: Heap,
-    pub line: &'a str,
-    pub round: u64,
+/// Two texts that a call is given, or one and further ones.
+pub fn two(given: &str) -> Result<(&str, &str), Stop> {
+    two_texts(given).ok_or(Stop::NoCall)
 }
 
-impl<'a> Given<'a> {
-    /// A line in the first round.
-    pub fn new(desk: Heap, line: &'a str) -> Given<'a> {
-        Given {
-            desk,
-            line,
-            round: 0,
-        }
-    }
-
-    /// The same of another part.
-    pub fn at(self, line: &'a str) -> Given<'a> {
-        Given {
-            desk: self.desk,
-            line,
-            round: self.round,
-        }
-    }
-
-    /// What stands before the first space, and what stands behind it.
-    pub fn split(self) -> (Given<'a>, Given<'a>) {
-        let (word, rest) = first_word(self.line);
-        (self.at(word), self.at(rest))
-    }
-
-    /// The bytes that it stands for.
-    pub fn bytes(self) -> Result<Vec<u8>, Stop> {
-        decoded(self.desk, self.line.as_bytes(), self.round)
-    }
-
-    pub fn text(self) -> Result<Text, Stop> {
-        match from_utf8(&self.bytes()?) {
-            Ok(text) => Ok(Text::copy_of(self.desk, text)?),
-            Err(_) => Err(Stop::NoCall),
-        }
-    }
-
-    pub fn path(self) -> Result<Path, Stop> {
-        Ok(Path::new(self.desk, self.text()?.get())?)
-    }
-
-    /// Groups, where `-` is none.
-    pub fn groups(self) -> Result<Groups, Stop> {
-        let names = if self.line == "-" { "" } else { self.line };
-        Ok(Groups::new(self.desk, names)?)
-    }
-
-    pub fn number(self) -> Result<u64, Stop> {
-        number_of(self.line)
-    }
-
-    pub fn id(self) -> Result<ConnId, Stop> {
-        Ok(ConnId(self.number()?))
+/// A number, and the text behind its space.
+pub fn number_first(given: &str) -> Result<(u64, &str), Stop> {
+    match number_and_text(given) {
+        Some((number, text)) => Ok((number as u64, text)),
+        None => Err(Stop::NoCall),
     }
 }
 
-/// The text before the first space, and what stands behind that.
-pub fn first_word(text: &str) -> (&str, &str) {
-    match text.split_once(' ') {
-        Some((word, rest)) => (word, rest),
-        None => (text, ""),
-    }
-}
-
-/// The number that decimal digits write.
-pub fn number_of(digits: &str) -> Result<u64, Stop> {
+/// The connection of a number.
+pub fn connection(digits: &str) -> Result<ConnId, Stop> {
     match digits.parse::<u64>() {
-        Ok(number) => Ok(number),
+        Ok(number) => Ok(ConnId(number)),
         Err(_) => Err(Stop::NoCall),
     }
+}
+
+/// `ID BYTES`.
+pub fn id_and_bytes(desk: Heap, given: &str) -> Result<(ConnId, Vec<u8>), Stop> {
+    let (id, text) = number_first(given)?;
+    Ok((ConnId(id), bytes_of(desk, text)?))
+}
+
+pub fn text_of(desk: Heap, given: &str) -> Result<Text, Stop> {
+    Ok(Text::copy_of(desk, given)?)
+}
+
+/// The reader that a text names: `owner`, or a reader of groups.
+pub fn reader_of(desk: Heap, text: &str) -> Result<Reader, Stop> {
+    let owner = text == "owner";
+    let groups = Groups::new(desk, if owner { "" } else { text })?;
+    Ok(Reader { owner, groups })
+}
+
+/// The bytes of a text, in which `\xff` is one of that hexadecimal number.
+pub fn bytes_of(desk: Heap, text: &str) -> Result<Vec<u8>, Stop> {
+    let mut bytes = Vec::with_capacity(desk, text.len())?;
+    let mut parts = text.split("\\x");
+    bytes.extend_from_slice(parts.next().unwrap_or("").as_bytes())?;
+    for part in parts {
+        push_numbered(&mut bytes, part)?;
+    }
+    Ok(bytes)
+}
+
+/// Adds the byte of the two hexadecimal digits that a text begins with, and the rest of the text.
+fn push_numbered(bytes: &mut Vec<u8>, text: &str) -> Result<(), Stop> {
+    let Some((digits, rest)) = text.split_at_checked(2) else {
+        return Err(Stop::NoCall);
+    };
+    let Ok(byte) = u8::from_str_radix(digits, 16) else {
+        return Err(Stop::NoCall);
+    };
+    bytes.push(byte)?;
+    bytes.extend_from_slice(rest.as_bytes())?;
+    Ok(())
 }

@@ -1,32 +1,40 @@
-//! `hub`: the hub of the world.
+//! Calls of the hub of the world.
 
-use crate::answer::Answer;
-use crate::events::event_of;
-use crate::given::Given;
-use crate::outcomes::{is_memory, push_outcome};
-use crate::stop::Stop;
+use crate::events::{event_of, events_of};
+use crate::given::id_and_bytes;
+use crate::outcomes::{all_said, one_said};
+use crate::stop::{Answer, Stop};
 use crate::world::{World, asked, set_witness};
-use doc_heap::{Heap, String, Vec};
+use doc_heap::Heap;
 use doc_hub::event::Event;
 use doc_hub::hub::Hub;
 use doc_hub::outcome::Outcome;
 use doc_page::renderer::Renderer;
 
-/// What a call answers: that of an event, or of one of these.
-pub fn called<R: Renderer + Drop>(world: &mut World<R>, given: Given<'_>) -> Result<Answer, Stop> {
-    let (name, rest) = given.split();
-    match name.line {
-        "ask" => ask(&mut world.hub, rest),
-        "run" => run(&mut world.hub, rest),
-        "witness" => set_witness(world, rest),
-        _ => call(&mut world.hub, given),
+/// What a call of this name answers: that of an event, or of one of these.
+pub fn called<R: Renderer + Drop>(
+    world: &mut World<R>,
+    name: &str,
+    given: &str,
+) -> Result<Answer, Stop> {
+    let desk = world.heaps.desk;
+    match name {
+        "ask" => ask(desk, &mut world.hub, given),
+        "run" => run(desk, &mut world.hub, given),
+        "witness" => set_witness(world, given),
+        _ => call(desk, &mut world.hub, name, given),
     }
 }
 
 /// The call of an event.
-fn call<R: Renderer + Drop>(hub: &mut Hub<R>, given: Given<'_>) -> Result<Answer, Stop> {
-    let event = event_of(given)?;
-    written(given.desk, &[happened(hub, &event)])
+fn call<R: Renderer + Drop>(
+    desk: Heap,
+    hub: &mut Hub<R>,
+    name: &str,
+    given: &str,
+) -> Result<Answer, Stop> {
+    let event = event_of(desk, name, given)?;
+    one_said(desk, &happened(hub, &event))
 }
 
 /// What comes of the call of an event.
@@ -45,40 +53,24 @@ fn happened<R: Renderer + Drop>(hub: &mut Hub<R>, event: &Event) -> Outcome {
 }
 
 /// `ID BYTES`: a push and a step.
-fn ask<R: Renderer + Drop>(hub: &mut Hub<R>, given: Given<'_>) -> Result<Answer, Stop> {
-    let (id, bytes) = given.split();
-    let id = id.id()?;
-    let bytes = bytes.bytes()?;
-    written(given.desk, &[asked(hub, id, &bytes)])
+fn ask<R: Renderer + Drop>(desk: Heap, hub: &mut Hub<R>, given: &str) -> Result<Answer, Stop> {
+    let (id, bytes) = id_and_bytes(desk, given)?;
+    one_said(desk, &asked(hub, id, &bytes))
 }
 
-/// `EVENT | EVENT ..`: a run of these events.
-fn run<R: Renderer + Drop>(hub: &mut Hub<R>, given: Given<'_>) -> Result<Answer, Stop> {
-    let events = events_of(given)?;
-    match hub.run(&events) {
-        Ok(outcomes) => written(given.desk, outcomes.get()),
-        Err(_) => Answer::memory(given.desk),
-    }
+/// `EVENT ; EVENT ..`: a run of these events.
+fn run<R: Renderer + Drop>(desk: Heap, hub: &mut Hub<R>, given: &str) -> Result<Answer, Stop> {
+    let events = events_of(desk, given)?;
+    run_of(desk, hub, &events)
 }
 
-fn events_of(given: Given<'_>) -> Result<Vec<Event>, Stop> {
-    let mut events = Vec::new(given.desk);
-    for line in given.line.split(" | ") {
-        events.push(event_of(given.at(line))?)?;
+fn run_of<R: Renderer + Drop>(
+    desk: Heap,
+    hub: &mut Hub<R>,
+    events: &[Event],
+) -> Result<Answer, Stop> {
+    match hub.run(events) {
+        Ok(outcomes) => all_said(desk, outcomes.get()),
+        Err(_) => Answer::memory(desk),
     }
-    Ok(events)
-}
-
-/// The outcomes, and whether memory ran out in one of them.
-fn written(desk: Heap, outcomes: &[Outcome]) -> Result<Answer, Stop> {
-    let mut text = String::new(desk);
-    let mut memory = false;
-    for outcome in outcomes {
-        if !text.is_empty() {
-            text.push_str(" | ")?;
-        }
-        push_outcome(&mut text, outcome)?;
-        memory = memory || is_memory(outcome);
-    }
-    Ok(Answer { text, memory })
 }

@@ -1,31 +1,19 @@
-//! Cases of the site's crates, as data: `stdin` has calls, and `stdout` repeats each line and says, behind four
-//! spaces, what its call answers: a word with what the call gave, or `refused: ` with what the refusal prints. What
-//! stands in `stdout` is written from public standards and from this repository's docs, as the lines that begin with
-//! `#` say, and never taken from the program.
+//! Tries the calls of `doc_http` and of `doc_hub`, as `trial` says, in worlds: a line `world` begins a new one.
 //!
-//! A line is blank, a comment `# ..`, or one of
+//! - `world keep CACHE READERS` makes a hub with the readers of a TOML text, and `world close CACHE READERS` one that keeps no connection
+//!   alive. It answers `()`, or what refuses it; then no calls follow.
+//! - `next BYTES` and `drip BYTES` (`requests`), an event (`events`), and `ask ID BYTES`, `run EVENT ; EVENT ..` and `witness ID BYTES`
+//!   (`hubs`) are the calls.
+//! - `times N CALL` makes a call N times, and `only N CALL` with one growth refused; a call whose name begins with `grow_` is made with
+//!   each of its growths refused (`rounds`).
 //!
-//! - `world keep CACHE READERS`, which begins a new world: a hub with the readers of a TOML text. `world close ..`
-//!   keeps no connection alive. Only a world that is refused answers.
-//! - `hub EVENT`, the call of an event as `events` says it; `hub run EVENT | EVENT ..`; `hub ask ID BYTES`, a push and a
-//!   step; `hub witness ID BYTES`, which asks now, and after each refused growth.
-//! - `http next BYTES`, what the bytes begin with; `http drip BYTES`, the same where they come one by one, behind
-//!   the number of bytes that decide it.
-//! - `demo WAY ROOM BYTES`, the command `demo` (`demos`).
-//! - `times N ..`, `growths N ..` or `only N ..` before a call (`rounds`).
-//!
-//! The words of a call stand behind one space each, and the last takes the rest of the line. Bytes and texts are those of the
-//! line, where `\n`, `\r`, `\t`, `\s` (a space) and `\xHH` are one byte, a backslash before any other character is that
-//! character, `{N*TEXT}` is TEXT N times (only such escapes stand in TEXT; `{0*x}` is nothing), and `#` is the
-//! number of the round, also for N. Answers are written in the same way, with each byte that is no printable ASCII
-//! as an escape, and 32 and more equal bytes as a repetition.
+//! Bytes are those of a text, in which `\xff` is the byte with that hexadecimal number: so `\\xff` in a line. An answer is a word with what
+//! the call gave, or `refused: ` with what the refusal prints. Bytes are written in it as in a line, but those that are no printable ASCII
+//! as `\xff`, and 32 and more equal ones as `{999*a}`.
 #![tactic(auto)]
 
 ghost use Rattle.std.specs.Prelude.{◌≡◌, ◌<◌};
 
-mod answer;
-mod decoding;
-mod demos;
 mod events;
 mod given;
 mod hubs;
@@ -36,97 +24,79 @@ mod stop;
 mod world;
 mod written;
 
-use anyhow::Result;
-use doc_heap::{Heap, Vec, heap};
+use doc_heap::{Heap, String, heap};
+use doc_page::failure::Memory;
 use doc_page::plain::PlainRenderer;
 use doc_page::renderer::Renderer;
-use doc_server::input::read_whole;
-use rounds::answer_line;
+use rounds::answer;
+use std::alloc::AllocError;
+use std::io;
 use std::marker::Brand;
-use std::str::from_utf8;
 use std::sync::ledger::{Blank, Ledger};
+use stop::said;
+use trial::answer::no_call;
+use trial::line::{Line, read_line};
 use world::{Heaps, World, new_world};
 
-/// How many bytes of cases are read at most.
-const LIMIT: usize = 1_048_576;
-
-fn main(rt: HostRuntime) -> Result<()> {
-    run(&rt)
+fn main(rt: HostRuntime) -> io::Result<()> {
+    let desk = heap(rt.alloc(), u64::MAX)?;
+    let text = io::read_to_string(rt.alloc(), rt.reader())?;
+    run(&rt, desk, &text)
 }
 
-/// Makes the calls of each world.
-fn run<R: AllocGlobal + Input + Print>(rt: &R) -> Result<()> {
-    let desk = heap(rt.alloc(), u64::MAX)?;
-    let cases = read_whole(desk, "-", &mut rt.reader(), LIMIT)?;
-    let lines = lines_of(desk, &cases)?;
-    for (at, line) in lines.iter().enumerate() {
-        if line.starts_with("world ") {
-            let tried = heap(rt.alloc(), u64::MAX)?;
-            run_world::<Brand, R>(rt, Heaps { tried, desk }, Blank::new(1), &lines[at..])?;
-        }
+/// Prints what the lines of each world answer, behind the comments in front of the first one.
+fn run<R: AllocGlobal + Print>(rt: &R, desk: Heap, text: &str) -> io::Result<()> {
+    let (comments, worlds) = text.split_once("\nworld ").unwrap_or((text, ""));
+    println!(rt; "{comments}")?;
+    for lines in worlds.split("\nworld ") {
+        let heaps = new_heaps(rt, desk)?;
+        run_world::<Brand, R>(rt, heaps, Blank::new(1), lines)?;
     }
     Ok(())
 }
 
-/// The lines; one that is no text is empty.
-fn lines_of<'a>(desk: Heap, cases: &'a [u8]) -> Result<Vec<&'a str>> {
-    let mut lines = Vec::new(desk);
-    for line in cases.split(|byte| *byte == b'\n') {
-        lines.push(from_utf8(line).unwrap_or(""))?;
-    }
-    Ok(lines)
+/// The heaps of one world.
+fn new_heaps<R: AllocGlobal>(rt: &R, desk: Heap) -> Result<Heaps, AllocError> {
+    let tried = heap(rt.alloc(), u64::MAX)?;
+    Ok(Heaps { tried, desk })
 }
 
-/// Makes a world as the first line says, and the calls of the lines up to the next world.
-fn run_world<L: Ledger, P: Print>(rt: &P, heaps: Heaps, blank: Blank, lines: &[&str]) -> Result<()>
+/// Makes a world as the first line says, and the calls of the other lines.
+fn run_world<L: Ledger, P: Print>(rt: &P, heaps: Heaps, blank: Blank, lines: &str) -> io::Result<()>
     requires name { blank.name ≡ L.name }
     requires parts { blank.parts ≡ L.parts }
     requires some { 0 < L.parts }
 {
     let renderer: PlainRenderer<L> = PlainRenderer::new(blank);
-    let Some((line, rest)) = lines.split_first() else {
-        return Ok(());
-    };
-    println!(rt; "{line}")?;
+    let (line, calls) = lines.split_once('\n').unwrap_or((lines, ""));
     match new_world(heaps, renderer, line) {
-        Ok(mut world) => run_calls(rt, &mut world, rest),
-        Err(stop) => {
-            println!(rt; "    {stop}")?;
-            Ok(())
-        }
+        Ok(mut world) => run_calls(rt, &mut world, calls),
+        Err(stop) => println!(rt; "{stop}"),
     }
 }
 
-/// Makes the calls up to the next world.
+/// Prints what a world's line and each of its calls answer.
 fn run_calls<R: Renderer + Drop, P: Print>(
     rt: &P,
     world: &mut World<R>,
-    lines: &[&str],
-) -> Result<()> {
-    for line in lines {
-        if line.starts_with("world ") {
-            return Ok(());
+    calls: &str,
+) -> io::Result<()> {
+    println!(rt; "()")?;
+    for line in calls.lines() {
+        match answer_of(world, line) {
+            Ok(answer) => println!(rt; "{answer}")?,
+            Err(Memory) => println!(rt; "no memory for the line")?,
         }
-        run_line(rt, world, line)?;
     }
     Ok(())
 }
 
-/// Prints a line, and behind it what its call answers, if it has one.
-fn run_line<R: Renderer + Drop, P: Print>(rt: &P, world: &mut World<R>, line: &str) -> Result<()> {
-    if line.is_empty() {
-        return Ok(());
+/// What is printed for a line.
+fn answer_of<R: Renderer + Drop>(world: &mut World<R>, line: &str) -> Result<String, Memory> {
+    let desk = world.heaps.desk;
+    match read_line(desk, line)? {
+        Line::Comment => Ok(String::from_str(desk, line)?),
+        Line::Call { name, given } => said(desk, answer(world, name, &given)),
+        Line::Wrong => no_call(desk),
     }
-    println!(rt; "{line}")?;
-    if line.starts_with('#') {
-        return Ok(());
-    }
-    match answer_line(world, line) {
-        Ok(answer) => {
-            let text = answer.text.as_str();
-            println!(rt; "    {text}")?;
-        }
-        Err(stop) => println!(rt; "    {stop}")?,
-    }
-    Ok(())
 }

@@ -1,48 +1,54 @@
-//! `http`: what bytes begin with.
+//! Calls of `doc_http`: what bytes begin with.
 
-use crate::answer::Answer;
-use crate::given::Given;
-use crate::stop::Stop;
+use crate::given::bytes_of;
+use crate::stop::{Answer, Stop};
 use crate::world::Heaps;
-use crate::written::{push_bytes, push_said};
-use doc_heap::String;
+use crate::written::Written;
 use doc_http::request::{Next, Request, next_request};
 use doc_http::unread::Unread;
-use std::fmt::Write;
+use doc_page::failure::Memory;
+use std::fmt;
 
-/// What a call answers.
-pub fn called(heaps: Heaps, given: Given<'_>) -> Result<Answer, Stop> {
-    let (name, bytes) = given.split();
-    match name.line {
-        "next" => next(heaps, bytes),
-        "drip" => drip(heaps, bytes),
-        _ => Err(Stop::NoCall),
+/// What a call of this name answers, if there is one.
+pub fn called(heaps: Heaps, name: &str, given: &str) -> Option<Result<Answer, Stop>> {
+    match name {
+        "next" => Some(next(heaps, given)),
+        "drip" => Some(drip(heaps, given)),
+        _ => None,
     }
 }
 
 /// `BYTES`: what they begin with.
-fn next(heaps: Heaps, given: Given<'_>) -> Result<Answer, Stop> {
-    let bytes = given.bytes()?;
+fn next(heaps: Heaps, given: &str) -> Result<Answer, Stop> {
+    let bytes = bytes_of(heaps.desk, given)?;
     match next_request(heaps.tried, &bytes) {
-        Ok(next) => decided(String::new(heaps.desk), &next),
-        Err(_) => Answer::memory(heaps.desk),
+        Ok(next) => found(heaps, &next),
+        Err(Memory) => Answer::memory(heaps.desk),
     }
 }
 
+fn found(heaps: Heaps, next: &Next) -> Result<Answer, Stop> {
+    let said = Said { next };
+    Ok(Answer::of(format!(in heaps.desk; "{said}")?))
+}
+
 /// `BYTES`: how many of them decide what they begin with, and what that is, where they come one by one.
-fn drip(heaps: Heaps, given: Given<'_>) -> Result<Answer, Stop> {
-    let bytes = given.bytes()?;
+fn drip(heaps: Heaps, given: &str) -> Result<Answer, Stop> {
+    let bytes = bytes_of(heaps.desk, given)?;
     let mut unread = Unread::new(heaps.tried);
     let next = next_of_bytes(&mut unread, &bytes)?;
-    let count = unread.get().len();
-    decided(format!(in heaps.desk; "{count}: ")?, &next)
+    found_behind(heaps, unread.get().len(), &next)
+}
+
+fn found_behind(heaps: Heaps, count: usize, next: &Next) -> Result<Answer, Stop> {
+    let said = Said { next };
+    Ok(Answer::of(format!(in heaps.desk; "{count}: {said}")?))
 }
 
 /// What bytes come to that are pushed one by one, until that is decided.
-fn next_of_bytes(unread: &mut Unread, bytes: &[u8]) -> Result<Next, Stop> {
+fn next_of_bytes(unread: &mut Unread, bytes: &[u8]) -> Result<Next, Memory> {
     for byte in bytes {
-        unread.push(&[*byte])?;
-        match unread.next_request()? {
+        match next_with(unread, *byte)? {
             Next::More => {}
             decided => return Ok(decided),
         }
@@ -50,41 +56,53 @@ fn next_of_bytes(unread: &mut Unread, bytes: &[u8]) -> Result<Next, Stop> {
     Ok(Next::More)
 }
 
-/// What was found, behind a text.
-fn decided(front: String, next: &Next) -> Result<Answer, Stop> {
-    let mut text = front;
-    push_next(&mut text, next)?;
-    Ok(Answer::of(text))
+fn next_with(unread: &mut Unread, byte: u8) -> Result<Next, Memory> {
+    unread.push(&[byte])?;
+    unread.next_request()
 }
 
-fn push_next(out: &mut String, next: &Next) -> Result<(), Stop> {
-    match next {
-        Next::More => out.push_str("more")?,
-        Next::Fault { code, bare } if *bare => write!(out, "bare fault {code}")?,
-        Next::Fault { code, .. } => write!(out, "fault {code}")?,
-        Next::Request { used, request } => push_request(out, *used, request)?,
-    }
-    Ok(())
+/// What bytes begin with, for printing.
+#[derive(Clone, Copy)]
+struct Said<'a> {
+    next: &'a Next,
 }
 
-/// How many bytes a request takes, its method and target, and where it has them the value of its
-/// Authorization, that it closes, and its body.
-fn push_request(out: &mut String, used: usize, request: &Request) -> Result<(), Stop> {
-    let method = request.method.get();
-    write!(out, "request {used} {method} ")?;
-    push_bytes(out, request.target.get().as_bytes())?;
-    if let Some(value) = &request.authorization {
-        push_said(out, " by", value.get())?;
+impl fmt::Display for Said<'_> {
+    fn fmt<W: fmt::Write>(&self, f: &mut fmt::Formatter<W>) -> fmt::Result {
+        match self.next {
+            Next::More => f.write_str("more"),
+            Next::Fault { code, bare: true } => write!(f, "bare fault {code}"),
+            Next::Fault { code, bare: false } => write!(f, "fault {code}"),
+            Next::Request { used, request } => {
+                let parts = Parts { request };
+                write!(f, "request {used} {parts}")
+            }
+        }
     }
-    push_end(out, request.close, request.body.get())
 }
 
-fn push_end(out: &mut String, closes: bool, body: &[u8]) -> Result<(), Stop> {
-    if closes {
-        out.push_str(" closes")?;
+/// A request, for printing: its method and target, and where it has them the value of its Authorization, that it closes, and its body.
+#[derive(Clone, Copy)]
+struct Parts<'a> {
+    request: &'a Request,
+}
+
+impl fmt::Display for Parts<'_> {
+    fn fmt<W: fmt::Write>(&self, f: &mut fmt::Formatter<W>) -> fmt::Result {
+        let method = self.request.method.get();
+        let target = Written::new(self.request.target.get().as_bytes());
+        write!(f, "{method} {target}")?;
+        if let Some(value) = &self.request.authorization {
+            write!(f, " by {}", Written::new(value.get()))?;
+        }
+        f.write_str(if self.request.close { " closes" } else { "" })?;
+        write_body(f, self.request.body.get())
     }
+}
+
+fn write_body<W: fmt::Write>(f: &mut fmt::Formatter<W>, body: &[u8]) -> fmt::Result {
     if body.is_empty() {
         return Ok(());
     }
-    push_said(out, " with", body)
+    write!(f, " with {}", Written::new(body))
 }

@@ -1,122 +1,167 @@
 //! Calls that are made many times, and with refused growths.
 
-use crate::answer::Answer;
-use crate::given::{Given, first_word, number_of};
-use crate::stop::Stop;
+use crate::given::number_first;
+use crate::stop::{Answer, Stop};
 use crate::world::{World, witnessed};
-use crate::{demos, hubs, requests};
+use crate::{hubs, requests};
 use doc_heap::String;
 use doc_page::renderer::Renderer;
+use trial::growths::Refusal;
 
 /// More growths than a call takes.
 const MOST: u64 = 100_000;
 
-/// What a line answers: that of its call, or of one of these.
+/// The name of a call, and what it is given.
+#[derive(Clone, Copy)]
+struct Call<'a> {
+    name: &'a str,
+    given: &'a str,
+}
+
+impl<'a> Call<'a> {
+    /// The call that a text is.
+    fn read(text: &'a str) -> Call<'a> {
+        let (name, given) = text.split_once(' ').unwrap_or((text, ""));
+        Call { name, given }
+    }
+}
+
+/// What a call answers, or one of these.
 ///
-/// `times N CALL`: the last answer of N calls, which take the numbers 0 to N - 1 for `#`.
-/// `growths N CALL`: N such calls. Each growth of each is refused, alone and with all that follow:
-/// both times memory runs out in the call, and the witness is answered as before. Then the call is
-/// answered: the last answer stands behind `Memory each time` or, where none took memory, `no growth`.
+/// `times N CALL`: the last answer of N calls, in which `#` is the number of the call, from 0.
 /// `only N CALL`: the call with the growth after N others refused, and no other.
-pub fn answer_line<R: Renderer + Drop>(world: &mut World<R>, line: &str) -> Result<Answer, Stop> {
-    let (first, rest) = first_word(line);
-    let (count, call) = first_word(rest);
-    match first {
-        "times" => times(world, number_of(count)?, call),
-        "growths" => growths(world, number_of(count)?, call),
-        "only" => only(world, number_of(count)?, call),
-        _ => called(world, line, 0),
-    }
-}
-
-/// What a call answers in a round.
-fn called<R: Renderer + Drop>(
+/// `grow_CALL`: each growth of the call is refused, alone and with all that follow: both times memory runs out in the call, and the
+/// witness is answered as before. Then the call is answered, behind `Memory each time` or, where it took no memory, `no growth`.
+/// `grow_times N CALL`: the same of N calls, one after another; the last answer stands behind `Memory each time` where one took memory.
+pub fn answer<R: Renderer + Drop>(
     world: &mut World<R>,
-    line: &str,
-    round: u64,
+    name: &str,
+    given: &str,
 ) -> Result<Answer, Stop> {
-    let desk = world.heaps.desk;
-    let (family, call) = Given { desk, line, round }.split();
-    match family.line {
-        "hub" => hubs::called(world, call),
-        "http" => requests::called(world.heaps, call),
-        "demo" => demos::called(world.heaps, call),
-        _ => Err(Stop::NoCall),
+    match name {
+        "times" => times(world, given),
+        "only" => only(world, given),
+        "grow_times" => grow_times(world, given),
+        _ => match name.strip_prefix("grow_") {
+            Some(name) => grow(world, 1, Call { name, given }),
+            None => called(world, Call { name, given }),
+        },
     }
 }
 
-fn times<R: Renderer + Drop>(world: &mut World<R>, count: u64, call: &str) -> Result<Answer, Stop> {
+fn called<R: Renderer + Drop>(world: &mut World<R>, call: Call) -> Result<Answer, Stop> {
+    match requests::called(world.heaps, call.name, call.given) {
+        Some(answer) => answer,
+        None => hubs::called(world, call.name, call.given),
+    }
+}
+
+fn times<R: Renderer + Drop>(world: &mut World<R>, given: &str) -> Result<Answer, Stop> {
+    let (count, text) = number_first(given)?;
     let mut last = Answer::of(String::new(world.heaps.desk));
-    for round in 0..count {
-        last = called(world, call, round)?;
+    for number in 0..count {
+        last = called_in_round(world, text, number)?;
     }
     Ok(last)
 }
 
-fn only<R: Renderer + Drop>(world: &mut World<R>, growth: u64, call: &str) -> Result<Answer, Stop> {
-    world.heaps.tried.refuse_only(growth);
-    let answer = called(world, call, 0);
-    world.heaps.tried.refuse_after(u64::MAX);
+fn called_in_round<R: Renderer + Drop>(
+    world: &mut World<R>,
+    text: &str,
+    number: u64,
+) -> Result<Answer, Stop> {
+    let number = format!(in world.heaps.desk; "{number}")?;
+    let text = text.replace(world.heaps.desk, '#', &number)?;
+    called(world, Call::read(&text))
+}
+
+fn only<R: Renderer + Drop>(world: &mut World<R>, given: &str) -> Result<Answer, Stop> {
+    let (growth, text) = number_first(given)?;
+    refused(world, Call::read(text), Refusal::Only(growth))
+}
+
+/// The answer with growths refused.
+fn refused<R: Renderer + Drop>(
+    world: &mut World<R>,
+    call: Call,
+    refusal: Refusal,
+) -> Result<Answer, Stop> {
+    let tried = world.heaps.tried;
+    refusal.begin(tried);
+    let answer = called(world, call);
+    tried.refuse_after(u64::MAX);
     answer
 }
 
-fn growths<R: Renderer + Drop>(
-    world: &mut World<R>,
-    count: u64,
-    call: &str,
-) -> Result<Answer, Stop> {
+fn grow_times<R: Renderer + Drop>(world: &mut World<R>, given: &str) -> Result<Answer, Stop> {
+    let (count, text) = number_first(given)?;
+    grow(world, count, Call::read(text))
+}
+
+/// Makes so many calls with their growths refused, and writes what came of them before the last answer.
+fn grow<R: Renderer + Drop>(world: &mut World<R>, count: u64, call: Call) -> Result<Answer, Stop> {
     let mut grew = false;
     let mut last = Answer::of(String::new(world.heaps.desk));
-    for round in 0..count {
-        let (grows, answer) = grown(world, call, round)?;
+    for _ in 0..count {
+        let (grows, answer) = grown(world, call)?;
         grew = grew || grows;
         last = answer;
     }
-    let said = if grew {
+    told(world, grew, &last)
+}
+
+fn told<R: Renderer + Drop>(world: &World<R>, grew: bool, last: &Answer) -> Result<Answer, Stop> {
+    let told = if grew {
         "Memory each time"
     } else {
         "no growth"
     };
     let text = last.text.as_str();
-    Ok(Answer::of(format!(in world.heaps.desk; "{said}; {text}")?))
+    Ok(Answer::of(format!(in world.heaps.desk; "{told}; {text}")?))
 }
 
-/// Whether a call takes memory, and its answer once each of its growths was refused. A refused call
-/// may leave room, so that the next one takes fewer growths.
-fn grown<R: Renderer + Drop>(
-    world: &mut World<R>,
-    call: &str,
-    round: u64,
-) -> Result<(bool, Answer), Stop> {
+/// Whether a call takes memory, and its answer once each of its growths was refused. A refused call may leave room, so that the next
+/// takes fewer growths.
+fn grown<R: Renderer + Drop>(world: &mut World<R>, call: Call) -> Result<(bool, Answer), Stop> {
     let before = witnessed(world)?;
     for growth in 0..MOST {
-        let alone = refused_alone(world, call, round, growth)?;
-        if !alone.memory {
-            return Ok((growth > 0, alone));
+        if let Some(answer) = refused_twice(world, call, growth, &before)? {
+            return Ok(answer);
         }
-        is_left(world, &before)?;
-        let all = refused_from(world, call, round, growth)?;
-        if !all.memory {
-            return Ok((true, all));
-        }
-        is_left(world, &before)?;
     }
     Err(Stop::Failed("the growths have no end"))
+}
+
+/// Refuses one growth of a call, alone and with all that follow, and answers what [`grown`] does where it isn't asked for.
+fn refused_twice<R: Renderer + Drop>(
+    world: &mut World<R>,
+    call: Call,
+    growth: u64,
+    before: &str,
+) -> Result<Option<(bool, Answer)>, Stop> {
+    let alone = refused_alone(world, call, growth)?;
+    if !alone.memory {
+        return Ok(Some((growth > 0, alone)));
+    }
+    is_left(world, before)?;
+    refused_from(world, call, growth, before)
 }
 
 /// The answer with one growth refused. Where that growth is asked for, memory runs out.
 fn refused_alone<R: Renderer + Drop>(
     world: &mut World<R>,
-    call: &str,
-    round: u64,
+    call: Call,
     growth: u64,
 ) -> Result<Answer, Stop> {
     let tried = world.heaps.tried;
     tried.refuse_only(growth);
-    let answer = called(world, call, round);
+    let answer = called(world, call);
     let was_asked = tried.left() == u64::MAX;
     tried.refuse_after(u64::MAX);
-    let answer = answer?;
+    if_memory(answer?, was_asked)
+}
+
+fn if_memory(answer: Answer, was_asked: bool) -> Result<Answer, Stop> {
     if answer.memory == was_asked {
         Ok(answer)
     } else {
@@ -124,17 +169,19 @@ fn refused_alone<R: Renderer + Drop>(
     }
 }
 
-/// The answer with this growth and all that follow refused.
+/// Refuses this growth and all that follow, and answers where memory doesn't run out then.
 fn refused_from<R: Renderer + Drop>(
     world: &mut World<R>,
-    call: &str,
-    round: u64,
+    call: Call,
     growth: u64,
-) -> Result<Answer, Stop> {
-    world.heaps.tried.refuse_after(growth);
-    let answer = called(world, call, round);
-    world.heaps.tried.refuse_after(u64::MAX);
-    answer
+    before: &str,
+) -> Result<Option<(bool, Answer)>, Stop> {
+    let all = refused(world, call, Refusal::After(growth))?;
+    if !all.memory {
+        return Ok(Some((true, all)));
+    }
+    is_left(world, before)?;
+    Ok(None)
 }
 
 /// That the witness is answered as before.

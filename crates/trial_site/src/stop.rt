@@ -1,5 +1,6 @@
-//! Why a line has no answer.
+//! What a call answers, or why it has no answer.
 
+use doc_heap::{Heap, String};
 use doc_hub::refusal::HubError;
 use doc_page::failure::Memory;
 use doc_page::path::PathError;
@@ -7,6 +8,37 @@ use doc_store::groups::GroupsError;
 use doc_store::readers::ReadersError;
 use std::alloc::{AllocError, AllocFailed};
 use std::fmt;
+
+/// What is printed for a call, and whether memory ran out in it.
+#[derive(Drop)]
+pub struct Answer {
+    pub text: String,
+    pub memory: bool,
+}
+
+impl Answer {
+    pub fn of(text: String) -> Answer {
+        Answer {
+            text,
+            memory: false,
+        }
+    }
+
+    pub fn memory(desk: Heap) -> Result<Answer, Stop> {
+        Ok(Answer {
+            text: String::from_str(desk, "refused: out of memory")?,
+            memory: true,
+        })
+    }
+}
+
+/// What is printed for a call.
+pub fn said(desk: Heap, answer: Result<Answer, Stop>) -> Result<String, Memory> {
+    match answer {
+        Ok(answer) => Ok(answer.text),
+        Err(stop) => Ok(format!(in desk; "{stop}")?),
+    }
+}
 
 /// Why a line has no answer.
 #[derive(Clone, Copy, Debug, PartialEq, Eq)]

@@ -1,9 +1,8 @@
 //! What the calls of one world share.
 
-use crate::answer::Answer;
-use crate::given::Given;
-use crate::outcomes::push_outcome;
-use crate::stop::Stop;
+use crate::given::{id_and_bytes, number_first};
+use crate::outcomes::text_of;
+use crate::stop::{Answer, Stop};
 use doc_heap::{Heap, String, Vec};
 use doc_hub::event::ConnId;
 use doc_hub::hub::Hub;
@@ -34,31 +33,43 @@ pub struct World<R: Renderer + Drop> {
     pub witness: Option<Witness>,
 }
 
-/// The world of `world keep CACHE READERS`, or `world close ..` where no connection is kept alive.
+/// The world of a line `keep CACHE READERS`, or `close CACHE READERS` where no connection is kept alive.
 pub fn new_world<R: Renderer + Drop>(
     heaps: Heaps,
     renderer: R,
     line: &str,
 ) -> Result<World<R>, Stop> {
-    let (name, given) = Given::new(heaps.desk, line).split().1.split();
-    let (cache, readers) = given.split();
-    let cache = cache.number()? as usize;
-    let readers = Readers::from_toml(heaps.tried, readers.text()?.get())?;
+    let Some(given) = trial::written::text_of(heaps.desk, line)? else {
+        return Err(Stop::NoCall);
+    };
+    let (kind, rest) = given.split_once(' ').unwrap_or((&given, ""));
     Ok(World {
         heaps,
-        hub: Hub::new(heaps.tried, renderer, readers, name.line == "keep", cache)?,
+        hub: new_hub(heaps.tried, renderer, kind == "keep", rest)?,
         witness: None,
     })
 }
 
+fn new_hub<R: Renderer + Drop>(
+    tried: Heap,
+    renderer: R,
+    keep_alive: bool,
+    given: &str,
+) -> Result<Hub<R>, Stop> {
+    let (cache, readers) = number_first(given)?;
+    let readers = Readers::from_toml(tried, readers)?;
+    Ok(Hub::new(tried, renderer, readers, keep_alive, cache as usize)?)
+}
+
 /// What comes of the witness's request, with ample memory; empty where there is no witness.
 pub fn witnessed<R: Renderer + Drop>(world: &mut World<R>) -> Result<String, Stop> {
-    let mut out = String::new(world.heaps.desk);
-    if let Some(witness) = &world.witness {
-        let outcome = asked(&mut world.hub, witness.id, &witness.request);
-        push_outcome(&mut out, &outcome)?;
+    match &world.witness {
+        Some(witness) => text_of(
+            world.heaps.desk,
+            &asked(&mut world.hub, witness.id, &witness.request),
+        ),
+        None => Ok(String::new(world.heaps.desk)),
     }
-    Ok(out)
 }
 
 /// What comes of a step on a connection once these bytes are pushed.
@@ -70,14 +81,8 @@ pub fn asked<R: Renderer + Drop>(hub: &mut Hub<R>, id: ConnId, bytes: &[u8]) -> 
 }
 
 /// `ID BYTES`: has a connection make this request now, and after each refused growth from now on.
-pub fn set_witness<R: Renderer + Drop>(
-    world: &mut World<R>,
-    given: Given<'_>,
-) -> Result<Answer, Stop> {
-    let (id, request) = given.split();
-    world.witness = Some(Witness {
-        id: id.id()?,
-        request: request.bytes()?,
-    });
+pub fn set_witness<R: Renderer + Drop>(world: &mut World<R>, given: &str) -> Result<Answer, Stop> {
+    let (id, request) = id_and_bytes(world.heaps.desk, given)?;
+    world.witness = Some(Witness { id, request });
     Ok(Answer::of(witnessed(world)?))
 }

@@ -1,11 +1,39 @@
 //! How bytes are written in answers.
 
-use crate::stop::Stop;
-use doc_heap::String;
-use std::fmt::Write;
+use std::fmt;
 
 /// Runs of as many equal bytes are written as a repetition.
 const LONG_RUN: u64 = 32;
+
+/// Bytes, for printing.
+#[derive(Clone, Copy)]
+pub struct Written<'a> {
+    bytes: &'a [u8],
+}
+
+impl<'a> Written<'a> {
+    pub fn new(bytes: &'a [u8]) -> Written<'a> {
+        Written { bytes }
+    }
+}
+
+impl fmt::Display for Written<'_> {
+    fn fmt<W: fmt::Write>(&self, f: &mut fmt::Formatter<W>) -> fmt::Result {
+        let mut run = Run { byte: 0, count: 0 };
+        for byte in self.bytes {
+            if *byte == run.byte {
+                run.count = run.count.wrapping_add(1);
+            } else {
+                write!(f, "{run}")?;
+                run = Run {
+                    byte: *byte,
+                    count: 1,
+                };
+            }
+        }
+        write!(f, "{run}")
+    }
+}
 
 /// A byte that stands some times in a row.
 #[derive(Clone, Copy)]
@@ -14,63 +42,36 @@ struct Run {
     count: u64,
 }
 
-/// Adds a word, and these bytes behind a space.
-pub fn push_said(out: &mut String, said: &str, bytes: &[u8]) -> Result<(), Stop> {
-    out.push_str(said)?;
-    out.push(' ')?;
-    push_bytes(out, bytes)
-}
-
-/// Adds the bytes as an answer writes them.
-pub fn push_bytes(out: &mut String, bytes: &[u8]) -> Result<(), Stop> {
-    let mut run = Run { byte: 0, count: 0 };
-    for byte in bytes {
-        if *byte == run.byte {
-            run.count = run.count.wrapping_add(1);
-        } else {
-            push_run(out, run)?;
-            run = Run {
-                byte: *byte,
-                count: 1,
-            };
+impl fmt::Display for Run {
+    fn fmt<W: fmt::Write>(&self, f: &mut fmt::Formatter<W>) -> fmt::Result {
+        let count = self.count;
+        let one = One { byte: self.byte };
+        if count >= LONG_RUN {
+            return write!(f, "{{{count}*{one}}}");
         }
+        for _ in 0..count {
+            write!(f, "{one}")?;
+        }
+        Ok(())
     }
-    push_run(out, run)
 }
 
-fn push_run(out: &mut String, run: Run) -> Result<(), Stop> {
-    if run.count >= LONG_RUN {
-        return push_repetition(out, run);
-    }
-    for _ in 0..run.count {
-        push_byte(out, run.byte)?;
-    }
-    Ok(())
+/// A byte.
+#[derive(Clone, Copy)]
+struct One {
+    byte: u8,
 }
 
-fn push_repetition(out: &mut String, run: Run) -> Result<(), Stop> {
-    let count = run.count;
-    write!(out, "{{{count}*")?;
-    push_byte(out, run.byte)?;
-    out.push('}')?;
-    Ok(())
-}
-
-fn push_byte(out: &mut String, byte: u8) -> Result<(), Stop> {
-    match byte {
-        b'\n' | b'\r' | b'\t' | b'\\' => out.push_str(escape_of(byte))?,
-        b'{' | b'}' | 0..=31 | 127..=255 => write!(out, "\\x{byte:02x}")?,
-        _ => out.push(char::from(byte))?,
-    }
-    Ok(())
-}
-
-/// The escape of a byte that has one of its own.
-fn escape_of(byte: u8) -> &'static str {
-    match byte {
-        b'\n' => "\\n",
-        b'\r' => "\\r",
-        b'\t' => "\\t",
-        _ => "\\\\",
+impl fmt::Display for One {
+    fn fmt<W: fmt::Write>(&self, f: &mut fmt::Formatter<W>) -> fmt::Result {
+        let byte = self.byte;
+        match byte {
+            b'\n' => f.write_str("\\n"),
+            b'\r' => f.write_str("\\r"),
+            b'\t' => f.write_str("\\t"),
+            b'\\' => f.write_str("\\\\"),
+            b'{' | b'}' | 0..=31 | 127..=255 => write!(f, "\\x{byte:02x}"),
+            _ => f.write_char(char::from(byte)),
+        }
     }
 }

@@ -4,10 +4,11 @@ use doc_heap::{Heap, String};
 use doc_lines::entities::Entities;
 use doc_page::failure::Memory;
 use doc_refs::{
-    RefMap, destination, destination_value, normalize_label, take_definitions, title, title_value,
+    RefMap, Target, destination, destination_value, normalize_label, take_definitions, title,
+    title_value,
 };
 use trial::answer::{no_call, shown, two_texts};
-use trial::leads::shown_target;
+use trial::leads::Leads;
 
 /// What a call of this name answers, if there is one.
 pub fn called(heap: Heap, name: &str, given: &str) -> Option<Result<String, Memory>> {
@@ -72,4 +73,12 @@ fn joined(heap: Heap, given: &str) -> Result<String, Memory> {
 pub fn refs_of(heap: Heap, text: &str) -> Result<RefMap, Memory> {
     let (refs, _taken) = take_definitions(heap, text, &Entities::built_in())?;
     Ok(refs)
+}
+
+/// A target, for printing.
+fn shown_target(target: &Target) -> Leads {
+    Leads {
+        dest: target.dest.get(),
+        title: target.title.as_ref().map(|title| title.get()),
+    }
 }

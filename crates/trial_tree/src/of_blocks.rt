@@ -4,11 +4,11 @@ use doc_blocks::{Block, blocks};
 use doc_heap::{Heap, String, Vec};
 use doc_lines::entities::Entities;
 use doc_page::failure::Memory;
-use doc_refs::normalize_label;
+use doc_refs::{Target, normalize_label};
 use std::fmt;
 use trial::answer::{no_call, shown, two_texts};
 use trial::growths::{Refusal, refused_each};
-use trial::leads::shown_target;
+use trial::leads::Leads;
 
 /// The blocks of a document, which are printed as they are.
 #[derive(PartialEq, Drop)]
@@ -57,6 +57,14 @@ fn target(heap: Heap, given: &str) -> Result<String, Memory> {
     let document = blocks(heap, text, &Entities::built_in())?;
     let label = normalize_label(heap, label)?;
     shown(heap, document.refs.find(label.get()).map(shown_target))
+}
+
+/// A target, for printing.
+fn shown_target(target: &Target) -> Leads {
+    Leads {
+        dest: target.dest.get(),
+        title: target.title.as_ref().map(|title| title.get()),
+    }
 }
 
 fn grown(heap: Heap, text: &str, refusal: Refusal) -> Result<Tree, Memory> {

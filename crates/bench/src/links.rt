@@ -19,13 +19,13 @@ const PAGES: u64 = 1000;
 
 /// How many times a link was decided or shown to lead to a page, where one page of so many links is gone through again and again. Of
 /// 2,000 links side by side half lead to a page.
-pub fn count(heap: Heap, links: u64) -> Result<u64, Fault> {
+pub fn count(heap: Heap, links: u64) -> Result<usize, Fault> {
     let store = put(heap, PAGES)?;
     let owner = owner(heap);
     let page = path(heap, "start", 0)?;
     let rendered = page_of_links(heap, links)?;
-    let mut count = 0u64;
-    for _ in 0..LINKS.checked_div(links).ok_or(Fault)? {
+    let mut count = 0usize;
+    for _ in 0..LINKS.checked_div(links).ok_or(Fault::Refused)? {
         count = count.wrapping_add(gone_through(heap, &page, &rendered, &store.sight(&owner))?);
     }
     Ok(count)
@@ -37,14 +37,14 @@ fn gone_through<S: Sight>(
     page: &Path,
     rendered: &Rendered,
     sight: &S,
-) -> Result<u64, Fault> {
-    let mut count = 0u64;
+) -> Result<usize, Fault> {
+    let mut count = 0usize;
     for goal in decisions(heap, page, rendered, sight)?.iter() {
-        count = count.wrapping_add(u64::from(goal.is_some()));
+        count = count.wrapping_add(usize::from(goal.is_some()));
     }
     let linker = SiteLinker::new(page, sight);
     for piece in rendered.pieces.get() {
-        count = count.wrapping_add(u64::from(leads(heap, &linker, piece)?));
+        count = count.wrapping_add(usize::from(leads(heap, &linker, piece)?));
     }
     Ok(count)
 }

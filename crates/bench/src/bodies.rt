@@ -41,5 +41,5 @@ fn read_once(heap: Heap, text: &[u8], piece: usize) -> Result<usize, Fault> {
             return Ok(used);
         }
     }
-    Err(Fault)
+    Err(Fault::Refused)
 }

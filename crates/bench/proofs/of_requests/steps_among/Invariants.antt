@@ -1,4 +1,4 @@
-use Rattle.http_bench.proofs.steps_among.Given as goal
+use Rattle.bench.proofs.of_requests.steps_among.Given as goal
 
 abbrev pub ghosts-make : goal.ghosts-make
 ghosts-make a = record { name = a.blank.name; parts = a.blank.parts }

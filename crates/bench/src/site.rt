@@ -33,6 +33,6 @@ pub fn owner(heap: Heap) -> Reader {
 }
 
 /// How many puts and moves were accepted.
-pub fn stamps(store: &Store) -> u64 {
-    store.next_stamp().unwrap_or(0)
+pub fn stamps(store: &Store) -> usize {
+    store.next_stamp().unwrap_or(0) as usize
 }

@@ -18,9 +18,9 @@ pub fn moved(heap: Heap, pages: u64) -> Result<Store, Fault> {
 }
 
 /// Moves one page of such a store to its alias and back, again and again.
-pub fn to_and_fro(heap: Heap, pages: u64) -> Result<u64, Fault> {
+pub fn to_and_fro(heap: Heap, pages: u64) -> Result<usize, Fault> {
     let mut store = moved(heap, pages)?;
-    for _ in 0..ALIASES.checked_div(pages).ok_or(Fault)? / 2 {
+    for _ in 0..ALIASES.checked_div(pages).ok_or(Fault::Refused)? / 2 {
         move_page(heap, &mut store, "book", "guide", 0)?;
         move_page(heap, &mut store, "guide", "book", 0)?;
     }

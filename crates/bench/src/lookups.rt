@@ -14,27 +14,27 @@ const LOOKUPS: u32 = 200_000;
 const STEP: usize = 7919;
 
 /// How many times a page was found by `get`, `goal` and `sees`, of paths spread over a site of so many pages.
-pub fn count(heap: Heap, store: &Store, pages: u64) -> Result<u64, Fault> {
+pub fn count(heap: Heap, store: &Store, pages: u64) -> Result<usize, Fault> {
     let paths = paths(heap, pages)?;
-    let mut found = 0u64;
+    let mut found = 0usize;
     let mut place = 0usize;
     for _ in 0..LOOKUPS {
         place = place
             .wrapping_add(STEP)
             .checked_rem(paths.len())
-            .ok_or(Fault)?;
-        found = found.wrapping_add(found_at(heap, store, paths.get(place).ok_or(Fault)?));
+            .ok_or(Fault::Refused)?;
+        found = found.wrapping_add(found_at(heap, store, paths.get(place).ok_or(Fault::Refused)?));
     }
     Ok(found)
 }
 
 /// How many of the three calls find a page at this path.
-fn found_at(heap: Heap, store: &Store, path: &Path) -> u64 {
+fn found_at(heap: Heap, store: &Store, path: &Path) -> usize {
     let owner = owner(heap);
     let sight = store.sight(&owner);
-    u64::from(store.get(path).is_some())
-        .wrapping_add(u64::from(sight.goal(path).is_some()))
-        .wrapping_add(u64::from(sight.sees(path)))
+    usize::from(store.get(path).is_some())
+        .wrapping_add(usize::from(sight.goal(path).is_some()))
+        .wrapping_add(usize::from(sight.sees(path)))
 }
 
 /// The paths of so many pages.

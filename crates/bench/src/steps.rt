@@ -92,8 +92,8 @@ fn step_through<R: Renderer + Drop>(
         place = place
             .wrapping_add(STEP)
             .checked_rem(requests.len())
-            .ok_or(Fault)?;
-        let one = step(heap, hub, id, requests.get(place).ok_or(Fault)?)?;
+            .ok_or(Fault::Refused)?;
+        let one = step(heap, hub, id, requests.get(place).ok_or(Fault::Refused)?)?;
         totals.bytes = totals.bytes.wrapping_add(one.bytes);
         totals.growths = totals.growths.wrapping_add(one.growths);
     }
@@ -117,6 +117,6 @@ fn step<R: Renderer + Drop>(
             bytes: reply.get().len(),
             growths,
         }),
-        _ => Err(Fault),
+        _ => Err(Fault::Refused),
     }
 }
