@@ -28,18 +28,18 @@ module _ (store : StoreState) (reader : Reader) where
   -- ---- what an owner asks for
 
   page_can : (path : List ℕ) (groups : List (List ℕ)) (text : List ℕ) (code : ℕ) (room : Bool) → reader.owner ≡ true → is_utf8 text ≡ true
-      → has_room (view_of store.site (Some reader)) (puts_left store) path text ≡ room
+      → has_room (view_of store.site (Some reader)) (puts_left store.puts) path text ≡ room
       → Can text (if room then edited code (edits.Put path groups) else refused 507)
   page_can path groups text code true owns utf8 is = (utf8, owner_fits store reader path text owns is)
   page_can path groups text code false owns utf8 is = tt
 
   text_can : (path : List ℕ) (groups : List (List ℕ)) (text : List ℕ) (utf8 : Bool) → reader.owner ≡ true → is_utf8 text ≡ utf8
-      → Can text (if utf8 then put_page (view_of store.site (Some reader)) (puts_left store) path groups text else refused 400)
+      → Can text (if utf8 then put_page (view_of store.site (Some reader)) (puts_left store.puts) path groups text else refused 400)
   text_can path groups text true owns is = page_can path groups text _ _ owns is refl
   text_can path groups text false owns is = tt
 
   put_can : (path : Option (List ℕ)) (groups : Result (List (List ℕ)) GroupsError) (text : List ℕ) → reader.owner ≡ true
-      → Can text (put_at (view_of store.site (Some reader)) (puts_left store) path groups text)
+      → Can text (put_at (view_of store.site (Some reader)) (puts_left store.puts) path groups text)
   put_can None groups text owns = tt
   put_can (Some path) (Err e) text owns = tt
   put_can (Some path) (Ok groups) text owns = text_can path groups text _ owns refl
@@ -57,7 +57,7 @@ module _ (store : StoreState) (reader : Reader) where
   -- ---- what any reader asks for
 
   put_if : (rest : List ℕ) (request : Request) (owner : Bool) → reader.owner ≡ owner
-      → Can request.body (if owner then put_by (view_of store.site (Some reader)) (puts_left store) rest request else refused 403)
+      → Can request.body (if owner then put_by (view_of store.site (Some reader)) (puts_left store.puts) rest request else refused 403)
   put_if rest request true owns = put_can (path_written rest) (groups_of (parameter request.target (codes "groups"))) request.body owns
   put_if rest request false owns = tt
 
@@ -67,7 +67,7 @@ module _ (store : StoreState) (reader : Reader) where
   delete_if rest request false owns = tt
 
   method_can : (render : Renders) (rest : List ℕ) (request : Request) (method : Method)
-      → Can request.body (by_method render (view_of store.site (Some reader)) reader.owner (puts_left store) rest request method)
+      → Can request.body (by_method render (view_of store.site (Some reader)) reader.owner (puts_left store.puts) rest request method)
   method_can render rest request Get = tt
   method_can render rest request Head = tt
   method_can render rest request Put = put_if rest request reader.owner refl
@@ -75,24 +75,24 @@ module _ (store : StoreState) (reader : Reader) where
   method_can render rest request Other = tt
 
   route_can : (render : Renders) (rest : Option (List ℕ)) (request : Request)
-      → Can request.body (on_route render (view_of store.site (Some reader)) reader.owner (puts_left store) rest request)
+      → Can request.body (on_route render (view_of store.site (Some reader)) reader.owner (puts_left store.puts) rest request)
   route_can render None request = tt
   route_can render (Some rest) request = method_can render rest request (method_of request.method)
 
 response_can : (render : Renders) (store : StoreState) (reader : Option Reader) (request : Request)
-    → CanBeMade store request.body (response_to render (view_of store.site reader) reader (puts_left store) request).edit
+    → CanBeMade store request.body (response_to render (view_of store.site reader) reader (puts_left store.puts) request).edit
 response_can render store None request = tt
 response_can render store (Some reader) request = route_can store reader render (page_rest request.target) request
 
 pub answer_can_be_made : (render : Renders) (store : StoreState) (reader : Option Reader) (keep_alive : Bool) (request : Request)
-    → CanBeMade store request.body (answer_of render (view_of store.site reader) reader (puts_left store) keep_alive request).edit
+    → CanBeMade store request.body (answer_of render (view_of store.site reader) reader (puts_left store.puts) keep_alive request).edit
 unfolding answer_of
 answer_can_be_made render store reader keep_alive request = response_can render store reader request
 
 -- the same of an answer and a text that are known by equations
 pub edit_can_be_made : (render : Renders) (store : StoreState) (reader : Option Reader) (keep_alive : Bool) (request : Request)
     (text : List ℕ) (answer : Answer)
-    → text ≡ request.body → answer ≡ answer_of render (view_of store.site reader) reader (puts_left store) keep_alive request
+    → text ≡ request.body → answer ≡ answer_of render (view_of store.site reader) reader (puts_left store.puts) keep_alive request
     → CanBeMade store text answer.edit
 edit_can_be_made render store reader keep_alive request text answer same is =
     subst (λ t. CanBeMade store t answer.edit) (sym same) (subst (λ (a : Answer). CanBeMade store request.body a.edit) (sym is)

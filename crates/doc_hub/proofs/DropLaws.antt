@@ -7,7 +7,8 @@ use Rattle.std.proofs.lemmas.Cmp.{nat_cmp_total}
 use Rattle.doc_hub.specs.Connections.{pushed_at}
 use Rattle.doc_hub.specs.declared.connection.Connection.{Connection}
 use Rattle.doc_hub.specs.Worlds.{World, StepsAt, disconnected}
-use Rattle.doc_hub.specs.Laws.{DroppedIsGone, connection}
+use Rattle.doc_hub.specs.ConnectionLaws.{DroppedIsGone}
+use Rattle.doc_hub.specs.StepLaws.{connection}
 
 gone : (w : World) (id : ℕ) → connection id (disconnected w id).0 ≡ None
 gone w id =

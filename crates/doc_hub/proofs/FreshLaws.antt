@@ -1,31 +1,123 @@
 -- In any run, each reply is that of a fresh server, while puts are left.
-use Rattle.std.proofs.Common.{◌≡◌, ℕ, List, ap, sym, ◌∙◌, subst}
-use Rattle.std.specs.Prelude.{Option, Some, Result, Ok, Err}
+use Rattle.std.proofs.Common.{◌≡◌, ◌≤◌, ◌+◌, ℕ, List, length, suc, true, cond, refl, ap, sym, ◌∙◌, subst, arith}
+use Rattle.std.specs.Prelude.{nat_lt, Option, Some, None, option_and_then, Result, Ok, Err, All}
 use Rattle.std.specs.FinMap as map
+use Rattle.std.specs.Cmp.{eq_by_cmp_equiv}
+use Rattle.std.specs.Cmp.Lexicographic.{slice_cmp}
+use Rattle.std.specs.Ordering.{nat_cmp}
+use Rattle.std.proofs.lemmas.Bool.Decides.{nat_tests}
+use Rattle.std.proofs.lemmas.Cmp.{nat_cmp_total, nat_list_cmp_total}
 use Rattle.std.proofs.lemmas.List.Elements.{All-nil, All-cons}
+use Rattle.doc_store.specs.declared.reader.Reader.{Reader}
+use Rattle.doc_store.specs.Readers.{ReaderTable}
+use Rattle.doc_store.specs.Sites.{visible_to}
+use Rattle.doc_store.specs.Store.{put_limit}
+use Rattle.doc_store.proofs.ViewLaw.{view_of_view}
+use Rattle.doc_http.specs.Bearers.{bearer_of}
 use Rattle.doc_http.specs.Requests.{IsNext}
+use Rattle.doc_http.specs.declared.request.Request.{Request}
 use Rattle.doc_http.specs.declared.request.Next.{Next}
+use Rattle.doc_http.specs.declared.request.Next.TheVariants as nexts
 use Rattle.doc_http.proofs.LawLemmas.{read_in_one_way}
-use Rattle.doc_hub.specs.declared.connection.Connection.{Connection}
-use Rattle.doc_hub.specs.declared.event.Step.{Step}
-use Rattle.doc_hub.specs.declared.refusal.StepError.{StepError}
-use Rattle.doc_hub.specs.Replies.{Renders}
-use Rattle.doc_hub.specs.Worlds.{World, StepsAt, stepped_by}
-use Rattle.doc_hub.specs.Runs.{Leaves, nothing, first}
+use Rattle.doc_hub.specs.Connections.{Connections}
+use Rattle.doc_hub.specs.Edits.{puts_left}
 use Rattle.doc_hub.specs.Events.{stepping, step_refusal}
+use Rattle.doc_hub.specs.FreshLaws.{LeavesPut, NewRepliesAsFresh, PutsAreLeft, RepliesAsFresh, SendsAsFresh, SendsAsFreshAlways, StepSays}
+use Rattle.doc_hub.specs.FreshLaws.{first_connection, fresh, fresh_for, only_reader}
+use Rattle.doc_hub.specs.Replies.{Renders}
+use Rattle.doc_hub.specs.Runs.{Happened, Leaves, Runs, nothing, first}
+use Rattle.doc_hub.specs.StepLaws.{Agree, AgreeOn, connection, is_owners_put, open_with, site_seen}
+use Rattle.doc_hub.specs.Worlds.{World, Answers, StepsAt, new_world, reader_of, stepped_by}
+use Rattle.doc_hub.specs.declared.connection.Connection.{Connection}
+use Rattle.doc_hub.specs.declared.event.ConnId.{ConnId}
 use Rattle.doc_hub.specs.declared.event.Event.{Event}
+use Rattle.doc_hub.specs.declared.event.Step.{Step}
 use Rattle.doc_hub.specs.declared.outcome.Outcome.{Outcome}
 use Rattle.doc_hub.specs.declared.outcome.Outcome.TheVariants as outcomes
 use Rattle.doc_hub.specs.declared.refusal.Refusal.{Refusal}
-use Rattle.doc_hub.specs.Laws.{SendsAsFresh, RepliesAsFresh, open_with}
-use Rattle.doc_hub.proofs.StepLaws.{as_fresh}
+use Rattle.doc_hub.specs.declared.refusal.StepError.{StepError}
+use Rattle.doc_hub.specs.declared.refusal.StepError.TheVariants as step_errors
+use Rattle.doc_hub.proofs.PutCounts.{counted, puts_are_counted}
+use Rattle.doc_hub.proofs.StepLaws.{said_alike, said_of}
 
--- what an open connection's step answered is the definition's, by whatever its bytes begin with
-said_by : (render : Renders) (w v : World) (c : ℕ) (unread : List ℕ) (next : Next) (said : Step) → IsNext unread next
-    → StepsAt render w c v (Ok said) (Some (open_with unread)) → (stepped_by render w c (open_with unread) next).1 ≡ Ok said
-said_by render w v c unread next said is (other, also, gives) =
-    ap (λ n. (stepped_by render w c (open_with unread) n).1) (read_in_one_way unread next other is also)
-    ∙ ap (λ (p : World × Result Step StepError). p.1) gives
+-- ---- the fresh server
+
+-- it has the reader's entry under the same token
+found_again : (token : List ℕ) (o : Option Reader) → o ≡ map.get (only_reader (Some token) o) token
+found_again token None = sym (map.get-empty (slice_cmp nat_cmp) token)
+found_again token (Some reader) =
+    let empty : ReaderTable = map.empty in
+    sym (map.get-insert nat_list_cmp_total empty token reader token
+    ∙ ap (λ b. cond b (Some reader) (map.get empty token)) ((eq_by_cmp_equiv nat_list_cmp_total).refl token))
+
+reader_again : (readers : ReaderTable) (token : Option (List ℕ))
+    → option_and_then (map.get readers) token ≡ option_and_then (map.get (only_reader token (option_and_then (map.get readers) token)))
+    token
+reader_again readers None = refl
+reader_again readers (Some token) = found_again token (map.get readers token)
+
+-- a world is alike for a request with its fresh server, where both have a put left or no owner puts a page
+fresh_agrees : (puts : ℕ) (w : World) (request : Request) (unread : List ℕ)
+    → (is_owners_put (reader_of w request) request ≡ true → puts_left w.puts ≡ true) → puts_left puts ≡ true
+    → Agree w (fresh puts (site_seen w request) (bearer_of request) (reader_of w request) w.keep_alive unread) request
+fresh_agrees puts w request unread room also =
+    let v : World = fresh puts (site_seen w request) (bearer_of request) (reader_of w request) w.keep_alive unread in
+    let reader : reader_of w request ≡ reader_of v request = reader_again w.readers (bearer_of request) in
+    record {
+      keep_alive = refl;
+      reader = reader;
+      sites = sym (view_of_view w.site (reader_of w request)) ∙ ap (visible_to v.site) reader;
+      puts = λ owns. room owns ∙ sym also;
+    }
+
+fresh_agrees_on : (puts : ℕ) (w : World) (unread : List ℕ) (next : Next) → LeavesPut w next → puts_left puts ≡ true
+    → AgreeOn w (fresh_for puts w unread next) next
+fresh_agrees_on puts w unread nexts.More room also = tt
+fresh_agrees_on puts w unread (nexts.Fault code bare) room also = tt
+fresh_agrees_on puts w unread (nexts.Request used request) room also = fresh_agrees puts w request unread room also
+
+one_stands : (k : Connection) → map.get (map.insert {R = nat_cmp} map.empty 1 k) 1 ≡ Some k
+one_stands k =
+    let empty : Connections = map.empty in
+    map.get-insert nat_cmp_total empty 1 k 1 ∙ ap (λ b. cond b (Some k) (map.get empty 1)) ((eq_by_cmp_equiv nat_cmp_total).refl 1)
+
+fresh_stands : (puts : ℕ) (w : World) (unread : List ℕ) (next : Next)
+    → connection 1 (fresh_for puts w unread next) ≡ Some (open_with unread)
+fresh_stands puts w unread nexts.More = one_stands (open_with unread)
+fresh_stands puts w unread (nexts.Fault code bare) = one_stands (open_with unread)
+fresh_stands puts w unread (nexts.Request used request) = one_stands (open_with unread)
+
+-- ---- what a step says
+
+module _ (render : Renders) (w : World) (c : ConnId) (unread : List ℕ) (next : Next) (said : Step)
+    (stands : connection c.0 w ≡ Some (open_with unread)) (begins : IsNext unread next)
+    (says : (stepped_by render w c.0 (open_with unread) next).1 ≡ Ok said) where
+  world_left : World
+  world_left = (stepped_by render w c.0 (open_with unread) next).0
+
+  by_definition : (v : World) (other : Result Step StepError) (found : Next) → IsNext unread found
+      → ◌≡◌ {A = World × Result Step StepError} (stepped_by render w c.0 (open_with unread) found) (v, other) → other ≡ Ok said
+  by_definition v other found is e =
+      sym (ap (λ (q : World × Result Step StepError). q.1) e)
+      ∙ ap (λ n. (stepped_by render w c.0 (open_with unread) n).1) (read_in_one_way unread found next is begins) ∙ says
+
+  nothing_else : (v : World) (other : Result Step StepError) → ¬ (other ≡ Err step_errors.Memory)
+      → Answers render w c.0 v other (open_with unread) → other ≡ Ok said
+  nothing_else v (Ok x) enough (found, is, e) = by_definition v (Ok x) found is e
+  nothing_else v (Err step_errors.NoConnection) enough (found, is, e) = by_definition v (Err step_errors.NoConnection) found is e
+  nothing_else v (Err step_errors.Memory) enough h = absurd (enough refl)
+
+  pub step_says : StepSays render w c said
+  unfolding world_left
+  step_says =
+      let P : World → Result Step StepError → Option Connection → Type 0 = λ v other k. StepsAt render w c.0 v other k in
+      record {
+        left = world_left;
+        happens = subst (P world_left (Ok said)) (sym stands) (next, begins, (λ i. (world_left, says i)));
+        alone = λ v other steps enough. nothing_else v other enough (subst (P v other) stands steps);
+      }
+
+-- ---- each event of a run
 
 -- a step that is told as this one is this one
 stepped_so : (r : Result Step StepError) (said : Step) → stepping r ≡ outcomes.Stepped said → r ≡ Ok said
@@ -40,17 +132,58 @@ stepped_so (Err error) said e = absurd (refused (step_refusal error) e)
 
 sends_as_fresh : (render : Renders) (w v : World) (event : Event) (outcome : Outcome) → Leaves render w event v outcome
     → SendsAsFresh render (record { world = w; event = event; outcome = outcome })
-sends_as_fresh render w v event outcome leaves c unread next said is_step opened is answered left =
+sends_as_fresh render w v event outcome leaves unread next said is room puts also =
+    let c = is.c in
     let P : Event → Type 0 = λ e. Leaves render w e v outcome in
-    let (r, steps, told) = subst P is_step leaves in
-    let Q : Result Step StepError → Type 0 = λ x. StepsAt render w c v x (map.get w.connections c) in
-    let R : Option Connection → Type 0 = λ k. StepsAt render w c v (Ok said) k in
-    let here : StepsAt render w c v (Ok said) (Some (open_with unread)) = subst R opened
-    (subst Q (stepped_so r said (sym told ∙ answered)) steps) in
-    sym (as_fresh render w c (open_with unread) unread next left) ∙ said_by render w v c unread next said is here
+    let (r, steps, told) = subst P is.event leaves in
+    let Q : Result Step StepError → Type 0 = λ x. StepsAt render w c.0 v x (map.get w.connections c.0) in
+    let here = said_of render w v c.0 unread next said is.stands is.begins (subst Q (stepped_so r said (sym told ∙ is.told)) steps) in
+    let there = said_alike render w (fresh_for puts w unread next) c.0 1 (open_with unread) (open_with unread) next
+    (fresh_agrees_on puts w unread next room also) in
+    step_says render (fresh_for puts w unread next) first_connection unread next said (fresh_stands puts w unread next) is.begins
+    (sym there ∙ here)
 
 pub replies_as_fresh : RepliesAsFresh
 replies_as_fresh render w v run (nothing x) = All-nil (SendsAsFresh render)
 replies_as_fresh render w v run (first x y z event outcome rest leaves runs) =
     All-cons (SendsAsFresh render) (record { world = x; event = event; outcome = outcome }) rest
     (sends_as_fresh render x y event outcome leaves) (replies_as_fresh render y z rest runs)
+
+-- ---- from a new server
+
+no_less : (a b n : ℕ) → a ≤ b → nat_lt b n ≡ true → nat_lt a n ≡ true
+no_less a b n le lt = grind (arith, nat_tests)
+
+always_left : (w : World) (next : Next) → puts_left w.puts ≡ true → LeavesPut w next
+always_left w nexts.More room = tt
+always_left w (nexts.Fault code bare) room = tt
+always_left w (nexts.Request used request) room = λ owns. room
+
+at_first : (a n : ℕ) → a ≤ a + n
+at_first a n = omega arith
+
+then_more : (a b n : ℕ) → b ≤ a + 1 → b + n ≤ a + suc n
+then_more a b n le = omega arith
+
+always_as_fresh : (render : Renders) (w v : World) (run : List Happened) → Runs render w run v
+    → nat_lt (w.puts + length run) put_limit ≡ true → All (SendsAsFreshAlways render) run
+always_as_fresh render w v run (nothing x) few = All-nil (SendsAsFreshAlways render)
+always_as_fresh render w v run (first x y z event outcome rest leaves runs) few =
+    let n = length rest in
+    All-cons (SendsAsFreshAlways render) (record { world = x; event = event; outcome = outcome }) rest
+    (λ unread next said is. sends_as_fresh render x y event outcome leaves unread next said is
+    (always_left x next (no_less x.puts (x.puts + suc n) put_limit (at_first x.puts (suc n)) few)))
+    (always_as_fresh render y z rest runs (no_less (y.puts + n) (x.puts + suc n) put_limit
+    (then_more x.puts y.puts n (counted render x y event outcome leaves)) few))
+
+none_before : (n : ℕ) → 0 + n ≡ n
+none_before n = omega arith
+
+pub new_replies_as_fresh : NewRepliesAsFresh
+new_replies_as_fresh render readers keep_alive v run runs few =
+    always_as_fresh render (new_world readers keep_alive) v run runs (ap (λ n. nat_lt n put_limit) (none_before (length run)) ∙ few)
+
+pub puts_are_left : PutsAreLeft
+puts_are_left render readers keep_alive v run runs few =
+    no_less v.puts (length run) put_limit
+    (subst (λ n. v.puts ≤ n) (none_before (length run)) (puts_are_counted render (new_world readers keep_alive) v run runs)) few

@@ -14,7 +14,8 @@ use Rattle.doc_http.specs.declared.request.Next.{Next as Front}
 use Rattle.doc_http.specs.declared.request.Next.TheVariants as nexts
 use Rattle.doc_hub.specs.Connections.{new_connection, pushed_at, pushed_onto, with_pushed, finished}
 use Rattle.doc_hub.specs.Events.{Said}
-use Rattle.doc_hub.specs.Laws.{NumbersAreGivenOnce, connection}
+use Rattle.doc_hub.specs.ConnectionLaws.{NumbersAreGivenOnce}
+use Rattle.doc_hub.specs.StepLaws.{connection}
 use Rattle.doc_hub.specs.Replies.{Renders}
 use Rattle.doc_hub.specs.Runs.{Happens, Happened, Runs, nothing, first}
 use Rattle.doc_hub.specs.Worlds.{World, connected, world_pushed, world_put, world_moved, world_reader_set, answer_in, world_after}

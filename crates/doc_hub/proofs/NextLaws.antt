@@ -1,11 +1,8 @@
--- Events where memory sufficed: what they leave and answer, as one equation; edits leave the connections alone.
+-- Events of connections where memory sufficed: what they leave and answer, as one equation.
 use Rattle.std.proofs.Common.{◌≡◌, ℕ, List, Bool, true, false, refl, ap, sym, ◌∙◌, subst}
 use Rattle.std.specs.Prelude.{Option, Some, None, Result, Ok, Err, MatchBool, nat_lt, if◌then◌else◌, ⊤}
 use Rattle.std.specs.FinMap as map
 use Rattle.doc_page.specs.Refusals.{Gives}
-use Rattle.doc_store.specs.declared.moving.MoveError.TheVariants as move_errors
-use Rattle.doc_store.specs.declared.readers.ReaderError.TheVariants as reader_errors
-use Rattle.doc_store.specs.declared.store.EditError.TheVariants as edit_errors
 use Rattle.doc_http.specs.Requests.{IsNext}
 use Rattle.doc_http.specs.declared.request.Next.{Next as Front}
 use Rattle.doc_hub.specs.Connections.{Connections, pushed_at, with_pushed}
@@ -25,8 +22,7 @@ use Rattle.doc_hub.specs.declared.refusal.PushError.TheVariants as push_errors
 use Rattle.doc_hub.specs.declared.refusal.StepError.{StepError}
 use Rattle.doc_hub.specs.declared.refusal.StepError.TheVariants as step_errors
 use Rattle.doc_hub.specs.Replies.{Renders}
-use Rattle.doc_hub.specs.Worlds.{World, connected, world_pushed, disconnected, world_put, world_moved, world_reader_set, stepped_by, Stays}
-use Rattle.doc_hub.specs.Worlds.{Answers, StepsAt, last_id}
+use Rattle.doc_hub.specs.Worlds.{World, connected, world_pushed, disconnected, stepped_by, Stays, Answers, StepsAt, last_id}
 use Rattle.doc_hub.specs.Runs.{Leaves, IsOutOfMemory}
 
 -- the state is as before, where the call was refused
@@ -80,7 +76,7 @@ Next render w events.Connect v o = Is (shown connecting (connected w)) v o
 Next render w (events.Push id bytes) v o = Is (shown pushing (world_pushed w id.0 bytes)) v o
 Next render w (events.Step id) v o = NextStep render w id.0 (map.get w.connections id.0) v o
 Next render w (events.Disconnect id) v o = Is (shown outcomes.Disconnected (disconnected w id.0)) v o
-Next render w edit v o = v.connections ≡ w.connections
+Next render w edit v o = ⊤
 
 unchanged : (w v : World) (said r : Result Step StepError) → Stays w said v r → Is (w, stepping said) v (stepping r)
 unchanged w v said r h = λ i. (sym h.0 i, stepping (sym h.1 i))
@@ -110,12 +106,6 @@ told : {S : Type 0} (as_outcome : S → Outcome) (given : World × S) (v : World
     → o ≡ as_outcome said → Is (shown as_outcome given) v o
 told as_outcome given v said o e is = ap (shown as_outcome) e ∙ ap (λ x. (v, x)) (sym is)
 
--- an edit leaves the connections, refused or not
-edited : {X E : Type 0} (memory : E) (given : World × Result X E) (w v : World) (r : Result X E) → given.0.connections ≡ w.connections
-    → Gives memory given w v r → v.connections ≡ w.connections
-edited {X = X} {E = E} memory given w v (Ok x) same gives = sym (ap (λ (q : World × Result X E). q.0.connections) gives) ∙ same
-edited memory given w v (Err e) same gives = ap (λ (x : World). x.connections) gives.1
-
 pub next_of : (render : Renders) (w : World) (event : Event) (v : World) (outcome : Outcome) → ¬ (IsOutOfMemory outcome)
     → Leaves render w event v outcome → Next render w event v outcome
 next_of render w events.Connect v o enough (said, h, is) =
@@ -131,10 +121,8 @@ next_of render w (events.Step id) v o enough (said, h, is) =
     subst (λ x. NextStep render w id.0 (map.get w.connections id.0) v x) (sym is)
     (step_next render w id.0 (map.get w.connections id.0) v said (λ m. enough (is ∙ ap stepping m)) h)
 next_of render w (events.Disconnect id) v o enough (said, h, is) = told outcomes.Disconnected (disconnected w id.0) v said o h is
-next_of render w (events.Put path groups text) v o enough (said, h, is) = edited edit_errors.Memory (world_put w path groups text) w v said
-    refl h
-next_of render w (events.Remove path) v o enough (said, h, is) = sym (ap (λ (q : World × Bool). q.0.connections) h)
-next_of render w (events.MovePage from to) v o enough (said, h, is) = edited move_errors.Memory (world_moved w from to) w v said refl h
-next_of render w (events.SetReader token reader) v o enough (said, h, is) = edited reader_errors.Memory (world_reader_set w token reader) w
-    v said refl h
-next_of render w (events.RemoveReader token) v o enough (said, h, is) = sym (ap (λ (q : World × Bool). q.0.connections) h)
+next_of render w (events.Put path groups text) v o enough leaves = tt
+next_of render w (events.Remove path) v o enough leaves = tt
+next_of render w (events.MovePage from to) v o enough leaves = tt
+next_of render w (events.SetReader token reader) v o enough leaves = tt
+next_of render w (events.RemoveReader token) v o enough leaves = tt

@@ -74,10 +74,10 @@ room_fits pages stands puts text =
 
 -- an owner's view has room for a text where the store has
 pub owner_room : (store : StoreState) (reader : Reader) (path text : List ℕ) → reader.owner ≡ true
-    → has_room (view_of store.site (Some reader)) (puts_left store) path text ≡ is_ok (fits_in store path text)
+    → has_room (view_of store.site (Some reader)) (puts_left store.puts) path text ≡ is_ok (fits_in store path text)
 owner_room store reader path text owns =
     (λ i. nat_le (length text) text_limit && (owner_stands store.site reader path owns i || nat_lt (owner_pages store.site reader owns i)
-    page_limit) && puts_left store)
+    page_limit) && puts_left store.puts)
     ∙ room_fits (map.len store.site.pages) (map.contains_key store.site.pages path) store.puts text
 
 -- where a put fits, its answer is this one
@@ -89,5 +89,5 @@ fits_where_ok (Err e) is = absurd (no is)
     no h = cc
 
 pub owner_fits : (store : StoreState) (reader : Reader) (path text : List ℕ) → reader.owner ≡ true
-    → has_room (view_of store.site (Some reader)) (puts_left store) path text ≡ true → fits_in store path text ≡ Ok tt
+    → has_room (view_of store.site (Some reader)) (puts_left store.puts) path text ≡ true → fits_in store path text ≡ Ok tt
 owner_fits store reader path text owns room = fits_where_ok (fits_in store path text) (sym (owner_room store reader path text owns) ∙ room)

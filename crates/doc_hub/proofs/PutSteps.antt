@@ -21,7 +21,7 @@ module _ (store : StoreState) (reader : Reader) (path : List ℕ) (owns : reader
 
   -- a put that the store takes
   pub put_fits : (groups : List (List ℕ)) (text : List ℕ) (code : ℕ) → code ≡ cond (map.contains_key store.site.pages path) 204 201
-      → fits_in store path text ≡ Ok tt → edited code (edits.Put path groups) ≡ put_page view (puts_left store) path groups text
+      → fits_in store path text ≡ Ok tt → edited code (edits.Put path groups) ≡ put_page view (puts_left store.puts) path groups text
   put_fits groups text code is fine =
       ap (λ n. edited n (edits.Put path groups)) (is ∙ ap (λ b. cond b 204 201) (sym (owner_stands store.site reader path owns)))
       ∙ sym (ap (λ b. cond b (edited (cond (is_some (page_at view.pages path)) 204 201) (edits.Put path groups)) (refused 507))
@@ -29,7 +29,7 @@ module _ (store : StoreState) (reader : Reader) (path : List ℕ) (owns : reader
 
   -- and one that it doesn't
   pub put_is_full : (groups : List (List ℕ)) (text : List ℕ) (e : EditError) → fits_in store path text ≡ Err e
-      → refused 507 ≡ put_page view (puts_left store) path groups text
+      → refused 507 ≡ put_page view (puts_left store.puts) path groups text
   put_is_full groups text e full =
       sym (ap (λ b. cond b (edited (cond (is_some (page_at view.pages path)) 204 201) (edits.Put path groups)) (refused 507))
       (owner_room store reader path text owns ∙ ap is_ok full))

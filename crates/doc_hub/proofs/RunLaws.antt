@@ -6,6 +6,10 @@ use Rattle.std.specs.Cmp.{unsigned_tied}
 use Rattle.std.proofs.lemmas.Cmp.{nat_cmp_total}
 use Rattle.std.proofs.Math.Facts.{eqb_yes}
 use Rattle.std.proofs.lemmas.List.Elements.{All-head, All-tail}
+use Rattle.doc_page.specs.Refusals.{Gives}
+use Rattle.doc_store.specs.declared.moving.MoveError.TheVariants as move_errors
+use Rattle.doc_store.specs.declared.readers.ReaderError.TheVariants as reader_errors
+use Rattle.doc_store.specs.declared.store.EditError.TheVariants as edit_errors
 use Rattle.doc_http.specs.Requests.{IsNext}
 use Rattle.doc_http.specs.declared.request.Next.{Next as Front}
 use Rattle.doc_http.specs.declared.request.Next.TheVariants as nexts
@@ -14,21 +18,26 @@ use Rattle.doc_hub.specs.Connections.{new_connection, pushed_onto, with_pushed, 
 use Rattle.doc_hub.specs.declared.answer.Answer.{Answer}
 use Rattle.doc_hub.specs.declared.connection.Connection.{Connection}
 use Rattle.doc_hub.specs.declared.event.ConnId.{ConnId}
+use Rattle.doc_hub.specs.declared.event.Step.{Step}
 use Rattle.doc_hub.specs.declared.event.Step.TheVariants as steps
 use Rattle.doc_hub.specs.declared.refusal.ConnectError.{ConnectError}
 use Rattle.doc_hub.specs.declared.refusal.ConnectError.TheVariants as connect_errors
 use Rattle.doc_hub.specs.declared.refusal.PushError.{PushError}
+use Rattle.doc_hub.specs.declared.refusal.PushError.TheVariants as push_errors
+use Rattle.doc_hub.specs.declared.refusal.StepError.{StepError}
 use Rattle.doc_hub.specs.declared.refusal.StepError.TheVariants as step_errors
 use Rattle.doc_hub.specs.Replies.{Renders}
-use Rattle.doc_hub.specs.Worlds.{World, world_pushed, disconnected, answer_in, world_after, step_said, stepped_by, last_id}
+use Rattle.doc_hub.specs.Worlds.{World, Answers, Stays, StepsAt, answer_in, disconnected, last_id, step_said, stepped_by, world_after}
+use Rattle.doc_hub.specs.Worlds.{world_moved, world_pushed, world_put, world_reader_removed, world_reader_set, world_removed}
 use Rattle.doc_hub.specs.declared.event.Event.{Event}
 use Rattle.doc_hub.specs.declared.event.Event.TheVariants as events
 use Rattle.doc_hub.specs.declared.outcome.Outcome.{Outcome}
 use Rattle.doc_hub.specs.declared.outcome.Outcome.TheVariants as outcomes
-use Rattle.doc_hub.specs.Events.{connecting, pushing, stepping}
-use Rattle.doc_hub.specs.Runs.{IsOutOfMemory, Happened, Runs, nothing, first, sent_by, is_on_by, is_on, events_on}
-use Rattle.doc_hub.specs.Laws.{AgreeOn, AgreeAt, Matched, RunsAlike, connection}
-use Rattle.doc_hub.proofs.StepLaws.{same_answer}
+use Rattle.doc_hub.specs.Events.{Said, connecting, outcome_of, pushing, stepping}
+use Rattle.doc_hub.specs.Runs.{IsOutOfMemory, Happened, Happens, Leaves, Runs, nothing, first, sent_by, is_on_by, is_on, events_on}
+use Rattle.doc_hub.specs.RunLaws.{AgreeAt, Matched, RunsAlike}
+use Rattle.doc_hub.specs.StepLaws.{AgreeOn, connection}
+use Rattle.doc_hub.proofs.StepLaws.{answers_alike}
 use Rattle.doc_hub.proofs.NextLaws.{Is, shown, Next, NextStep, next_of}
 
 -- one connection changes
@@ -41,9 +50,6 @@ put_at w id k c b e =
 gone_at : (w : World) (id : ℕ) (c : ℕ) (b : Bool) → (c == id) ≡ b → map.get (map.remove w.connections id) c ≡ cond b None (connection c w)
 gone_at w id c b e =
     map.get-remove nat_cmp_total w.connections id c ∙ ap (λ t. cond t None (connection c w)) (unsigned_tied c id ∙ e)
-
-first_is : (x : World × Outcome) (v : World) (o : Outcome) (P : World → Type 0) → x ≡ (v, o) → P x.0 → P v
-first_is x v o P is p = subst P (ap (λ (q : World × Outcome). q.0) is) p
 
 module _ (render : Renders) (c : ℕ) where
   abbrev connected_if : World → Bool → World × Result ConnId ConnectError
@@ -68,16 +74,30 @@ module _ (render : Renders) (c : ℕ) where
   front_elsewhere w id k (nexts.Request used request) off =
       let a = answer_in render w request in put_at (world_after w request a) id (finished k used a.closes) c false off
 
-  open_elsewhere : (w v : World) (o : Outcome) (id : ℕ) (k : Connection) (t : Bool) → (c == id) ≡ false
-      → MatchBool t (Is (w, stepping (Ok steps.Closed)) v o) ((f : Front) × IsNext k.unread f
-      × Is (shown stepping (stepped_by render w id k f)) v o) → Kept w v
-  open_elsewhere w v o id k true off h = first_is (w, stepping (Ok steps.Closed)) v o (Kept w) h refl
-  open_elsewhere w v o id k false off (f, is, h) = first_is (shown stepping (stepped_by render w id k f)) v o (Kept w) h
-      (front_elsewhere w id k f off)
+  -- through the equation of what is left and answered
+  kept_by : {S : Type 0} (w v : World) (given : World × S) (said : S) → ◌≡◌ {A = World × S} given (v, said) → Kept w given.0 → Kept w v
+  kept_by {S = S} w v given said is kept = subst (λ (q : World × S). Kept w q.0) is kept
 
-  step_elsewhere : (w v : World) (o : Outcome) (id : ℕ) (k : Option Connection) → (c == id) ≡ false → NextStep render w id k v o → Kept w v
-  step_elsewhere w v o id None off h = first_is (w, stepping (Err step_errors.NoConnection)) v o (Kept w) h refl
-  step_elsewhere w v o id (Some k) off h = open_elsewhere w v o id k k.closed off h
+  -- what is refused leaves the world
+  kept_where_refused : (w v : World) → v ≡ w → Kept w v
+  kept_where_refused w v is = ap (connection c) is
+
+  answer_elsewhere : (w v : World) (id : ℕ) (k : Connection) (r : Result Step StepError) → (c == id) ≡ false → Answers render w id v r k
+      → Kept w v
+  answer_elsewhere w v id k (Ok said) off (f, is, e) = kept_by w v (stepped_by render w id k f) (Ok said) e (front_elsewhere w id k f off)
+  answer_elsewhere w v id k (Err step_errors.NoConnection) off (f, is, e) =
+      kept_by w v (stepped_by render w id k f) (Err step_errors.NoConnection) e (front_elsewhere w id k f off)
+  answer_elsewhere w v id k (Err step_errors.Memory) off h = kept_where_refused w v h.0
+
+  open_elsewhere : (w v : World) (id : ℕ) (k : Connection) (r : Result Step StepError) (t : Bool) → (c == id) ≡ false
+      → MatchBool t (Stays w (Ok steps.Closed) v r) (Answers render w id v r k) → Kept w v
+  open_elsewhere w v id k r true off h = kept_where_refused w v h.0
+  open_elsewhere w v id k r false off h = answer_elsewhere w v id k r off h
+
+  step_elsewhere : (w v : World) (id : ℕ) (k : Option Connection) (r : Result Step StepError) → (c == id) ≡ false
+      → StepsAt render w id v r k → Kept w v
+  step_elsewhere w v id None r off h = kept_where_refused w v h.0
+  step_elsewhere w v id (Some k) r off h = open_elsewhere w v id k r k.closed off h
 
   connect_elsewhere : (w : World) (t : Bool) → is_on_by c events.Connect (connecting (connected_if w t).1) ≡ false
       → Kept w (connected_if w t).0
@@ -94,18 +114,34 @@ module _ (render : Renders) (c : ℕ) where
   push_elsewhere w id bytes None off = refl
   push_elsewhere w id bytes (Some k) off = with_pushed_elsewhere w id _ _ off
 
-  elsewhere : (w : World) (e : Event) (v : World) (o : Outcome) → is_on_by c e o ≡ false → Next render w e v o → Kept w v
-  elsewhere w events.Connect v o off h =
+  -- a call elsewhere keeps the connection, refused or not
+  kept_given : {X E : Type 0} (memory : E) (w v : World) (given : World × Result X E) (r : Result X E) → Gives memory given w v r
+      → (given.1 ≡ r → Kept w given.0) → Kept w v
+  kept_given {X = X} {E = E} memory w v given (Ok x) gives kept =
+      kept_by w v given (Ok x) gives (kept (ap (λ (q : World × Result X E). q.1) gives))
+  kept_given memory w v given (Err e) gives kept = kept_where_refused w v gives.1
+
+  elsewhere : (w : World) (e : Event) (v : World) (said : Said e) → is_on_by c e (outcome_of e said) ≡ false → Happens render w e v said
+      → Kept w v
+  elsewhere w events.Connect v said off h =
       let t = nat_lt w.given last_id in
-      first_is _ v o (Kept w) h (connect_elsewhere w t (on_given (shown connecting (connected_if w t)) v events.Connect o false h off))
-  elsewhere w (events.Push id bytes) v o off h = first_is _ v o (Kept w) h (push_elsewhere w id.0 bytes (map.get w.connections id.0) off)
-  elsewhere w (events.Step id) v o off h = step_elsewhere w v o id.0 (map.get w.connections id.0) off h
-  elsewhere w (events.Disconnect id) v o off h = first_is _ v o (Kept w) h (gone_at w id.0 c false off)
-  elsewhere w (events.Put path groups text) v o off h = ap (λ cs. map.get cs c) h
-  elsewhere w (events.Remove path) v o off h = ap (λ cs. map.get cs c) h
-  elsewhere w (events.MovePage from to) v o off h = ap (λ cs. map.get cs c) h
-  elsewhere w (events.SetReader token reader) v o off h = ap (λ cs. map.get cs c) h
-  elsewhere w (events.RemoveReader token) v o off h = ap (λ cs. map.get cs c) h
+      kept_given connect_errors.Memory w v (connected_if w t) said h (λ is. connect_elsewhere w t
+      (ap (λ r. is_on_by c events.Connect (connecting r)) is ∙ off))
+  elsewhere w (events.Push id bytes) v said off h =
+      kept_given push_errors.Memory w v (world_pushed w id.0 bytes) said h (λ is. push_elsewhere w id.0 bytes
+      (map.get w.connections id.0) off)
+  elsewhere w (events.Step id) v said off h = step_elsewhere w v id.0 (map.get w.connections id.0) said off h
+  elsewhere w (events.Disconnect id) v said off h = kept_by w v (disconnected w id.0) said h (gone_at w id.0 c false off)
+  elsewhere w (events.Put path groups text) v said off h =
+      kept_given edit_errors.Memory w v (world_put w path groups text) said h (λ is. refl)
+  elsewhere w (events.Remove path) v said off h = kept_by w v (world_removed w path) said h refl
+  elsewhere w (events.MovePage from to) v said off h = kept_given move_errors.Memory w v (world_moved w from to) said h (λ is. refl)
+  elsewhere w (events.SetReader token reader) v said off h =
+      kept_given reader_errors.Memory w v (world_reader_set w token reader) said h (λ is. refl)
+  elsewhere w (events.RemoveReader token) v said off h = kept_by w v (world_reader_removed w token) said h refl
+
+  leaves_elsewhere : (w : World) (e : Event) (v : World) (o : Outcome) → is_on_by c e o ≡ false → Leaves render w e v o → Kept w v
+  leaves_elsewhere w e v o off (said, h, told) = elsewhere w e v said (ap (is_on_by c e) (sym told) ∙ off) h
 
   -- ---- the events of c, each with the connection as it finds it
 
@@ -117,18 +153,24 @@ module _ (render : Renders) (c : ℕ) where
   abbrev Enough : Happened → Type 0
   Enough h = ¬ (IsOutOfMemory h.outcome)
 
-  chain_of : (w : World) (run : List Happened) (u : World) → Runs render w run u → All Enough run → Chain (connection c w) (events_on c run)
+  chain_of : (w : World) (run : List Happened) (u : World) → Runs render w run u → All Enough (events_on c run)
+      → Chain (connection c w) (events_on c run)
   chain_of w run u (nothing x) enough = tt
   chain_of w run u (first x v y e o rest happens runs) enough =
-      let next : Next render x e v o = next_of render x e v o (All-head Enough (record { world = x; event = e; outcome = o }) rest enough)
-      happens in
-      either next (chain_of v rest y runs (All-tail Enough (record { world = x; event = e; outcome = o }) rest enough)) (is_on_by c e o)
-      refl
+      either (λ more. chain_of v rest y runs more) (is_on_by c e o) refl enough
     where
-      either : Next render x e v o → Chain (connection c v) (events_on c rest) → (t : Bool) → is_on_by c e o ≡ t
+      either : (All Enough (events_on c rest) → Chain (connection c v) (events_on c rest)) → (t : Bool) → is_on_by c e o ≡ t
+          → All Enough (cond t (record { world = x; event = e; outcome = o } ∷ events_on c rest) (events_on c rest))
           → Chain (connection c x) (cond t (record { world = x; event = e; outcome = o } ∷ events_on c rest) (events_on c rest))
-      either next chain true on = (v, on, refl, next, chain)
-      either next chain false off = subst (λ k. Chain k (events_on c rest)) (elsewhere x e v o off next) chain
+      either chain true on enough =
+          let h : Happened = record { world = x; event = e; outcome = o } in (
+            v,
+            on,
+            refl,
+            next_of render x e v o (All-head Enough h (events_on c rest) enough) happens,
+            chain (All-tail Enough h (events_on c rest) enough),
+          )
+      either chain false off enough = subst (λ k. Chain k (events_on c rest)) (leaves_elsewhere x e v o off happens) (chain enough)
 
   -- ---- one event of c, in two worlds
 
@@ -174,7 +216,7 @@ module _ (render : Renders) (c : ℕ) where
   front_same w v k (nexts.Request used request) on alike agree =
       let a = answer_in render w request in
       let b = answer_in render v request in
-      let same : answer_in render w request ≡ answer_in render v request = same_answer render w v request agree in (
+      let same : answer_in render w request ≡ answer_in render v request = answers_alike render w v request agree in (
         ap (λ (x : Answer). sent_by (stepping (Ok (step_said x.closes x.bytes)))) same,
         put_at (world_after w request a) c (finished k used a.closes) c true on
             ∙ ap (λ (x : Answer). Some (finished k used x.closes)) same

@@ -16,11 +16,11 @@ leaves_so render w event same v outcome said is happens told = subst (λ e. Leav
 pub no_event : (render : Renders) (w : World) (outcomes : List Outcome) → outcomes ≡ [] → RunsAll render [] w w outcomes
 no_event render w outcomes none = record { run = []; runs = nothing w; all = refl; told = sym none }
 
-abbrev happened : World → Event → Outcome → Happened
+abbrev pub happened : World → Event → Outcome → Happened
 happened w event outcome = record { world = w; event = event; outcome = outcome }
 
 -- one event more at the end of a run
-runs_more : (render : Renders) (w u v : World) (run : List Happened) (event : Event) (outcome : Outcome) → Runs render w run u
+pub runs_more : (render : Renders) (w u v : World) (run : List Happened) (event : Event) (outcome : Outcome) → Runs render w run u
     → Leaves render u event v outcome → Runs render w (run ++ happened u event outcome ∷ []) v
 runs_more render w u v run event outcome (nothing x) leaves = first x v v event outcome [] leaves (nothing v)
 runs_more render w u v run event outcome (first x y z e o rest here runs) leaves =

@@ -20,8 +20,8 @@ use Rattle.doc_hub.specs.Edits.{CanBeMade, store_after}
 use Rattle.doc_hub.specs.Events.{Said, moving, outcome_of, putting, stepping}
 use Rattle.doc_hub.specs.Replies.{Renders}
 use Rattle.doc_hub.specs.Runs.{Happens, Leaves, nothing, first}
-use Rattle.doc_hub.specs.Worlds.{World, Answers, Stays, StepsAt, answer_in, connected, last_id, reader_of, stepped_by, world_moved}
-use Rattle.doc_hub.specs.Worlds.{world_pushed, world_put, world_reader_set}
+use Rattle.doc_hub.specs.Worlds.{World, Answers, Stays, StepsAt, answer_in, connected, last_id, reader_of, stepped_by, store_of}
+use Rattle.doc_hub.specs.Worlds.{world_moved, world_pushed, world_put, world_reader_set}
 use Rattle.doc_hub.specs.declared.connection.Connection.{Connection}
 use Rattle.doc_hub.specs.declared.event.ConnId.{ConnId}
 use Rattle.doc_hub.specs.declared.event.Event.{Event}
@@ -79,16 +79,16 @@ moved_site store from to (Err e) is = absurd (err_ok e tt is)
 -- the event makes an edit, and leaves the site that the edit makes
 abbrev Edits : Renders → World → World → Event → Outcome → Type 0
 Edits render w v event outcome = (edit : Option SiteEdit) × Makes render w event outcome edit
-    × (v.store.site ≡ site_after w.store.site edit)
+    × (v.site ≡ site_after w.site edit)
 
 abbrev SameSite : World → World → Type 0
-SameSite v w = v.store.site ≡ w.store.site
+SameSite v w = v.site ≡ w.site
 
 -- the site is as before, where the call leaves it or is refused
 kept : {X E : Type 0} (memory : E) (given : World × Result X E) (w v : World) (r : Result X E) → SameSite given.0 w
     → Gives memory given w v r → SameSite v w
-kept {X = X} {E = E} memory given w v (Ok x) same gives = sym (ap (λ (q : World × Result X E). q.0.store.site) gives) ∙ same
-kept memory given w v (Err e) same gives = ap (λ (x : World). x.store.site) gives.1
+kept {X = X} {E = E} memory given w v (Ok x) same gives = sym (ap (λ (q : World × Result X E). q.0.site) gives) ∙ same
+kept memory given w v (Err e) same gives = ap (λ (x : World). x.site) gives.1
 
 connect_keeps : (w v : World) (id : ConnId) (t : Bool) → SameSite v w
     → SameSite (let r : World × Result ConnId ConnectError = if t then (v, Ok id) else (w, Err connect_errors.NoIds) in r.0) w
@@ -99,24 +99,24 @@ module _ (render : Renders) where
   -- ---- a step
 
   next_site : (w : World) (n : ℕ) (c : Connection) (next : Next)
-      → (stepped_by render w n c next).0.store.site ≡ site_after w.store.site (edit_by render w next)
+      → (stepped_by render w n c next).0.site ≡ site_after w.site (edit_by render w next)
   next_site w n c nexts.More = refl
   next_site w n c (nexts.Fault code bare) = refl
   next_site w n c (nexts.Request used request) =
-      made_site w.store request.body (answer_in render w request).edit
-      (answer_can_be_made render w.store (reader_of w request) w.keep_alive request)
+      made_site (store_of w) request.body (answer_in render w request).edit
+      (answer_can_be_made render (store_of w) (reader_of w request) w.keep_alive request)
 
   open_edits : (w v : World) (n : ℕ) (c : Connection) (said : Step) (closed : Bool)
       → MatchBool closed (Stays w (Ok steps.Closed) v (Ok said)) (Answers render w n v (Ok said) c)
       → (edit : Option SiteEdit) × MatchBool closed (edit ≡ None) ((next : Next) × IsNext c.unread next × (edit ≡ edit_by render w next))
-      × (v.store.site ≡ site_after w.store.site edit)
-  open_edits w v n c said true h = (None, refl, ap (λ (x : World). x.store.site) h.0)
+      × (v.site ≡ site_after w.site edit)
+  open_edits w v n c said true h = (None, refl, ap (λ (x : World). x.site) h.0)
   open_edits w v n c said false (next, is, e) =
-      (edit_by render w next, (next, is, refl), sym (ap (λ (q : World × Result Step StepError). q.0.store.site) e) ∙ next_site w n c next)
+      (edit_by render w next, (next, is, refl), sym (ap (λ (q : World × Result Step StepError). q.0.site) e) ∙ next_site w n c next)
 
   step_edits : (w v : World) (n : ℕ) (said : Step) (k : Option Connection) → StepsAt render w n v (Ok said) k
-      → (edit : Option SiteEdit) × StepMakes render w k edit × (v.store.site ≡ site_after w.store.site edit)
-  step_edits w v n said None h = (None, refl, ap (λ (x : World). x.store.site) h.0)
+      → (edit : Option SiteEdit) × StepMakes render w k edit × (v.site ≡ site_after w.site edit)
+  step_edits w v n said None h = (None, refl, ap (λ (x : World). x.site) h.0)
   step_edits w v n said (Some c) h = open_edits w v n c said c.closed h
 
   -- a refused step leaves the site
@@ -126,17 +126,17 @@ module _ (render : Renders) where
   never_refused w n c (nexts.Request used request) e is = ok_err _ e is
 
   refused_answer : (w v : World) (n : ℕ) (c : Connection) (e : StepError) → Answers render w n v (Err e) c → SameSite v w
-  refused_answer w v n c step_errors.Memory h = ap (λ (x : World). x.store.site) h.0
+  refused_answer w v n c step_errors.Memory h = ap (λ (x : World). x.site) h.0
   refused_answer w v n c step_errors.NoConnection (next, is, e) =
       absurd (never_refused w n c next step_errors.NoConnection (ap (λ (q : World × Result Step StepError). q.1) e))
 
   refused_open : (w v : World) (n : ℕ) (c : Connection) (e : StepError) (closed : Bool)
       → MatchBool closed (Stays w (Ok steps.Closed) v (Err e)) (Answers render w n v (Err e) c) → SameSite v w
-  refused_open w v n c e true h = ap (λ (x : World). x.store.site) h.0
+  refused_open w v n c e true h = ap (λ (x : World). x.site) h.0
   refused_open w v n c e false h = refused_answer w v n c e h
 
   refused_step : (w v : World) (n : ℕ) (e : StepError) (k : Option Connection) → StepsAt render w n v (Err e) k → SameSite v w
-  refused_step w v n e None h = ap (λ (x : World). x.store.site) h.0
+  refused_step w v n e None h = ap (λ (x : World). x.site) h.0
   refused_step w v n e (Some c) h = refused_open w v n c e c.closed h
 
   stepping_edits : (w v : World) (id : ConnId) (r : Result Step StepError) → StepsAt render w id.0 v r (map.get w.connections id.0)
@@ -152,21 +152,21 @@ module _ (render : Renders) where
       let page : Page = record { groups = groups; text = text } in (
         Some (set_page path page),
         refl,
-        sym (ap (λ (q : World × Result Put EditError). q.0.store.site) gives)
-            ∙ put_site w.store path page (map.contains_key w.store.site.pages path) (fits_in w.store path text) done
+        sym (ap (λ (q : World × Result Put EditError). q.0.site) gives)
+            ∙ put_site (store_of w) path page (map.contains_key w.site.pages path) (fits_in (store_of w) path text) done
             (ap (λ (q : World × Result Put EditError). q.1) gives),
       )
-  put_edits w v path groups text (Err e) gives = (None, refl, ap (λ (x : World). x.store.site) gives.1)
+  put_edits w v path groups text (Err e) gives = (None, refl, ap (λ (x : World). x.site) gives.1)
 
   move_edits : (w v : World) (from to : List ℕ) (r : Result (Unit {0}) MoveError) → Gives move_errors.Memory (world_moved w from to) w v r
       → Edits render w v (events.MovePage from to) (moving r)
   move_edits w v from to (Ok done) gives = (
     Some (move_page from to),
     refl,
-    sym (ap (λ (q : World × Result (Unit {0}) MoveError). q.0.store.site) gives)
-        ∙ moved_site w.store from to (may_move w.store from to) (ap (λ (q : World × Result (Unit {0}) MoveError). q.1) gives),
+    sym (ap (λ (q : World × Result (Unit {0}) MoveError). q.0.site) gives)
+        ∙ moved_site (store_of w) from to (may_move (store_of w) from to) (ap (λ (q : World × Result (Unit {0}) MoveError). q.1) gives),
   )
-  move_edits w v from to (Err e) gives = (None, refl, ap (λ (x : World). x.store.site) gives.1)
+  move_edits w v from to (Err e) gives = (None, refl, ap (λ (x : World). x.site) gives.1)
 
   -- ---- each event
 
@@ -176,13 +176,13 @@ module _ (render : Renders) where
       (None, refl, kept connect_errors.Memory (connected w) w v said (connect_keeps w _ _ (nat_lt w.given last_id) refl) h)
   event_edits w v (events.Push id bytes) said h = (None, refl, kept push_errors.Memory (world_pushed w id.0 bytes) w v said refl h)
   event_edits w v (events.Step id) said h = stepping_edits w v id said h
-  event_edits w v (events.Disconnect id) said h = (None, refl, sym (ap (λ (q : World × Bool). q.0.store.site) h))
+  event_edits w v (events.Disconnect id) said h = (None, refl, sym (ap (λ (q : World × Bool). q.0.site) h))
   event_edits w v (events.Put path groups text) said h = put_edits w v path groups text said h
   event_edits w v (events.Remove path) said h = (
     removed_if said path,
     refl,
-    sym (ap (λ (q : World × Bool). q.0.store.site) h)
-        ∙ removed_site w.store path said (ap (λ (q : World × Bool). q.1) h),
+    sym (ap (λ (q : World × Bool). q.0.site) h)
+        ∙ removed_site (store_of w) path said (ap (λ (q : World × Bool). q.1) h),
   )
   event_edits w v (events.MovePage from to) said h = move_edits w v from to said h
   event_edits w v (events.SetReader token reader) said h = (
@@ -191,7 +191,7 @@ module _ (render : Renders) where
     kept reader_errors.Memory (world_reader_set w token reader) w v
         said refl h,
   )
-  event_edits w v (events.RemoveReader token) said h = (None, refl, sym (ap (λ (q : World × Bool). q.0.store.site) h))
+  event_edits w v (events.RemoveReader token) said h = (None, refl, sym (ap (λ (q : World × Bool). q.0.site) h))
 
   leaves_edits : (w v : World) (event : Event) (outcome : Outcome) → Leaves render w event v outcome → Edits render w v event outcome
   leaves_edits w v event outcome (said, h, told) = subst (λ o. Edits render w v event o) (sym told) (event_edits w v event said h)

@@ -1,75 +1,130 @@
--- Step noninterference, and a step beside that of a fresh server.
-use Rattle.std.proofs.Common.{◌≡◌, ℕ, List, true, cond, refl, ap, sym, ◌∙◌}
-use Rattle.std.specs.Prelude.{nat_lt, Option, Some, None, option_and_then, Ok}
+-- Step noninterference, and what a step of an open connection answers.
+use Rattle.std.proofs.Common.{◌≡◌, ℕ, List, Bool, true, false, bytes_eq, codes, refl, ap, sym, ◌∙◌, subst}
+use Rattle.std.specs.Prelude.{not, ◌&&◌, ◌||◌, Option, Some, None, Result, Ok, if◌then◌else◌}
 use Rattle.std.specs.FinMap as map
-use Rattle.std.specs.Cmp.{eq_by_cmp_equiv}
-use Rattle.std.specs.Cmp.Lexicographic.{slice_cmp}
-use Rattle.std.specs.Ordering.{nat_cmp}
-use Rattle.std.proofs.lemmas.Cmp.{nat_list_cmp_total}
 use Rattle.doc_store.specs.declared.reader.Reader.{Reader}
-use Rattle.doc_store.specs.Sites.{visible_to}
-use Rattle.doc_store.specs.Readers.{ReaderTable}
-use Rattle.doc_store.specs.Store.{put_limit}
-use Rattle.doc_store.proofs.ViewLaw.{view_of_view}
-use Rattle.doc_http.specs.Bearers.{bearer_of}
+use Rattle.doc_store.specs.Sites.{View, view_of}
+use Rattle.doc_http.specs.Requests.{IsNext, is_bare}
 use Rattle.doc_http.specs.declared.request.Request.{Request}
 use Rattle.doc_http.specs.declared.request.Next.{Next}
 use Rattle.doc_http.specs.declared.request.Next.TheVariants as nexts
+use Rattle.doc_http.proofs.LawLemmas.{read_in_one_way}
+use Rattle.doc_http.specs.Replies.{reply_bytes}
+use Rattle.doc_http_targets.specs.Targets.{page_rest}
 use Rattle.doc_hub.specs.declared.answer.Answer.{Answer}
 use Rattle.doc_hub.specs.declared.connection.Connection.{Connection}
+use Rattle.doc_hub.specs.declared.event.Step.{Step}
+use Rattle.doc_hub.specs.declared.method.Method.{Method}
+use Rattle.doc_hub.specs.declared.method.Method.TheVariants.{Get, Head, Put, Delete, Other}
+use Rattle.doc_hub.specs.declared.refusal.StepError.{StepError}
+use Rattle.doc_hub.specs.declared.response.Response.{Response}
 use Rattle.doc_hub.specs.Edits.{puts_left}
-use Rattle.doc_hub.specs.Replies.{Renders, answer_of}
-use Rattle.doc_hub.specs.Worlds.{World, reader_of, answer_in, stepped_by, step_said}
-use Rattle.doc_hub.specs.Laws.{Agree, StepsAlike, site_seen, only_reader, open_with, fresh, fresh_for}
+use Rattle.doc_hub.specs.Replies.{Renders, answer_of, by_method, method_of, on_route, put_by, refused, response_to}
+use Rattle.doc_hub.specs.StepLaws.{AgreeOn, AnswersAlike, StepsAlike, connection, is_owners_put, open_with}
+use Rattle.doc_hub.specs.Worlds.{World, Steps, StepsAt, reader_of, stepped_by, step_said}
 
-pub same_answer : (render : Renders) (w v : World) (request : Request) → Agree w v request
-    → answer_in render w request ≡ answer_in render v request
-same_answer render w v request agree =
-    λ i. answer_of render (record { pages = map.entries (agree.sites i).pages; aliases = map.entries (agree.sites i).aliases })
-    (agree.reader i) (agree.puts i) (agree.keep_alive i) request
+-- ---- a PUT of an owner alone asks whether a put is left
+
+by_name : (get head put delete : Bool)
+    → ◌≡◌ {A = Method} (if get then Get else (if head then Head else (if put then Put else (if delete then Delete else Other)))) Put
+    → put ≡ true
+by_name true head put delete is = absurd (unlike is)
+  where
+    unlike : Get ≡ Put → ⊥
+    unlike e = cc
+by_name false true put delete is = absurd (unlike is)
+  where
+    unlike : Head ≡ Put → ⊥
+    unlike e = cc
+by_name false false true delete is = refl
+by_name false false false true is = absurd (unlike is)
+  where
+    unlike : Delete ≡ Put → ⊥
+    unlike e = cc
+by_name false false false false is = absurd (unlike is)
+  where
+    unlike : Other ≡ Put → ⊥
+    unlike e = cc
+
+put_is_named : (name : List ℕ) → method_of name ≡ Put → bytes_eq name (codes "PUT") ≡ true
+put_is_named name is =
+    by_name (bytes_eq name (codes "GET")) (bytes_eq name (codes "HEAD")) (bytes_eq name (codes "PUT")) (bytes_eq name (codes "DELETE")) is
+
+module _ (render : Renders) (view : View) (left other : Bool) (request : Request) where
+  same_put : (owner : Bool) (rest : List ℕ) → (owner ≡ true → left ≡ other)
+      → ◌≡◌ {A = Response} (if owner then put_by view left rest request else refused 403)
+      (if owner then put_by view other rest request else refused 403)
+  same_put true rest same = ap (λ l. put_by view l rest request) (same refl)
+  same_put false rest same = refl
+
+  same_method : (owner : Bool) (rest : List ℕ) (method : Method) → (method ≡ Put → owner ≡ true → left ≡ other)
+      → by_method render view owner left rest request method ≡ by_method render view owner other rest request method
+  same_method owner rest Get same = refl
+  same_method owner rest Head same = refl
+  same_method owner rest Put same = same_put owner rest (same refl)
+  same_method owner rest Delete same = refl
+  same_method owner rest Other same = refl
+
+  same_route : (owner : Bool) (rest : Option (List ℕ)) → (method_of request.method ≡ Put → owner ≡ true → left ≡ other)
+      → on_route render view owner left rest request ≡ on_route render view owner other rest request
+  same_route owner None same = refl
+  same_route owner (Some rest) same = same_method owner rest (method_of request.method) same
+
+  same_response : (reader : Option Reader) → (is_owners_put reader request ≡ true → left ≡ other)
+      → response_to render view reader left request ≡ response_to render view reader other request
+  same_response None same = refl
+  same_response (Some reader) same =
+      same_route reader.owner (page_rest request.target)
+      (λ puts owns. same (ap (λ b. b && bytes_eq request.method (codes "PUT")) owns ∙ put_is_named request.method puts))
+
+  asks_of_puts : (reader : Option Reader) (keep_alive : Bool) → (is_owners_put reader request ≡ true → left ≡ other)
+      → answer_of render view reader left keep_alive request ≡ answer_of render view reader other keep_alive request
+  unfolding answer_of
+  asks_of_puts reader keep_alive same =
+      λ i. record {
+        bytes = reply_bytes (same_response reader same i).reply (is_bare request.method) (request.close || not keep_alive);
+        closes = request.close || not keep_alive;
+        edit = (same_response reader same i).edit;
+      }
+
+-- ---- answers and steps
+
+pub answers_alike : AnswersAlike
+answers_alike render w v request agree =
+    asks_of_puts render (view_of w.site (reader_of w request)) (puts_left w.puts) (puts_left v.puts) request
+    (reader_of w request) w.keep_alive
+    agree.puts
+    ∙ (λ i. answer_of render (record { pages = map.entries (agree.sites i).pages; aliases = map.entries (agree.sites i).aliases })
+    (agree.reader i) (puts_left v.puts) (agree.keep_alive i) request)
+
+-- what a step answers, by what the unread bytes begin with
+pub said_alike : (render : Renders) (w v : World) (c d : ℕ) (one other : Connection) (next : Next) → AgreeOn w v next
+    → (stepped_by render w c one next).1 ≡ (stepped_by render v d other next).1
+said_alike render w v c d one other nexts.More agree = refl
+said_alike render w v c d one other (nexts.Fault code bare) agree = refl
+said_alike render w v c d one other (nexts.Request used request) agree =
+    ap (λ (a : Answer). Ok (step_said a.closes a.bytes)) (answers_alike render w v request agree)
+
+-- what an open connection's step answered is the definition's, by whatever its bytes begin with
+said_by : (render : Renders) (w v : World) (c : ℕ) (unread : List ℕ) (next : Next) (said : Step) → IsNext unread next
+    → StepsAt render w c v (Ok said) (Some (open_with unread)) → (stepped_by render w c (open_with unread) next).1 ≡ Ok said
+said_by render w v c unread next said is (other, also, gives) =
+    ap (λ n. (stepped_by render w c (open_with unread) n).1) (read_in_one_way unread next other is also)
+    ∙ ap (λ (p : World × Result Step StepError). p.1) gives
+
+pub said_of : (render : Renders) (w v : World) (c : ℕ) (unread : List ℕ) (next : Next) (said : Step)
+    → connection c w ≡ Some (open_with unread) → IsNext unread next → Steps render w c v (Ok said)
+    → (stepped_by render w c (open_with unread) next).1 ≡ Ok said
+said_of render w v c unread next said stands is steps =
+    let P : Option Connection → Type 0 = λ k. StepsAt render w c v (Ok said) k in
+    said_by render w v c unread next said is (subst P stands steps)
+
+same_ok : {X E : Type 0} (x y : X) → ◌≡◌ {A = Result X E} (Ok x) (Ok y) → x ≡ y
+same_ok x y e = cc
 
 pub steps_alike : StepsAlike
-steps_alike render w v c d one other nexts.More agree = refl
-steps_alike render w v c d one other (nexts.Fault code bare) agree = refl
-steps_alike render w v c d one other (nexts.Request used request) agree =
-    ap (λ (a : Answer). Ok (step_said a.closes a.bytes)) (same_answer render w v request agree)
-
--- the fresh server has the reader's entry under the same token
-found_again : (token : List ℕ) (o : Option Reader) → o ≡ map.get (only_reader (Some token) o) token
-found_again token None = sym (map.get-empty (slice_cmp nat_cmp) token)
-found_again token (Some reader) =
-    let empty : ReaderTable = map.empty in
-    sym (map.get-insert nat_list_cmp_total empty token reader token
-    ∙ ap (λ b. cond b (Some reader) (map.get empty token)) ((eq_by_cmp_equiv nat_list_cmp_total).refl token))
-
-reader_again : (readers : ReaderTable) (token : Option (List ℕ))
-    → option_and_then (map.get readers) token ≡ option_and_then (map.get (only_reader token (option_and_then (map.get readers) token)))
-    token
-reader_again readers None = refl
-reader_again readers (Some token) = found_again token (map.get readers token)
-
--- a server that made no put has some left
-none_made : nat_lt 0 put_limit ≡ true
-unfolding put_limit
-none_made = refl
-
--- a world in which puts are left and its fresh server are alike for the request
-pub fresh_agrees : (w : World) (request : Request) (unread : List ℕ) → puts_left w.store ≡ true
-    → Agree w (fresh (site_seen w request) (bearer_of request) (reader_of w request) w.keep_alive unread) request
-fresh_agrees w request unread left =
-    let v : World = fresh (site_seen w request) (bearer_of request) (reader_of w request) w.keep_alive unread in
-    let reader : reader_of w request ≡ reader_of v request = reader_again w.readers (bearer_of request) in
-    record {
-      keep_alive = refl;
-      reader = reader;
-      sites = sym (view_of_view w.store.site (reader_of w request)) ∙ ap (visible_to v.store.site) reader;
-      puts = left ∙ sym none_made;
-    }
-
-pub as_fresh : (render : Renders) (w : World) (c : ℕ) (one : Connection) (unread : List ℕ) (next : Next) → puts_left w.store ≡ true
-    → (stepped_by render w c one next).1 ≡ (stepped_by render (fresh_for w unread next) 1 (open_with unread) next).1
-as_fresh render w c one unread nexts.More left = refl
-as_fresh render w c one unread (nexts.Fault code bare) left = refl
-as_fresh render w c one unread (nexts.Request used request) left =
-    steps_alike render w (fresh_for w unread (nexts.Request used request)) c 1 one (open_with unread) (nexts.Request used request)
-    (fresh_agrees w request unread left)
+steps_alike render w v w' v' c d next said told one other agree here there =
+    same_ok said told (
+    sym (said_of render w w' c.0 one.unread next said one.stands one.begins here)
+    ∙ said_alike render w v c.0 d.0 (open_with one.unread) (open_with other.unread) next agree
+    ∙ said_of render v v' d.0 other.unread next told other.stands other.begins there)

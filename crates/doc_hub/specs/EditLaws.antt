@@ -66,4 +66,4 @@ AllMake render (h ∷ hs) (edit ∷ rest) = Makes render h.world h.event h.outco
 abbrev pub SiteIsOfEdits : Type 0
 SiteIsOfEdits =
     (render : Renders) (w v : World) (run : List Happened) → Runs render w run v
-    → (made : List (Option SiteEdit)) × AllMake render run made × (v.store.site ≡ site_after_all w.store.site made)
+    → (made : List (Option SiteEdit)) × AllMake render run made × (v.site ≡ site_after_all w.site made)

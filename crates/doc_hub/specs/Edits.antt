@@ -1,5 +1,5 @@
 -- Edits of the site that requests ask for.
-use Rattle.std.specs.Prelude.{◌≡◌, ℕ, List, Bool, true, nat_lt, Option, Some, None, Result, Ok, ⊤}
+use Rattle.std.specs.Prelude.{◌≡◌, ℕ, List, Bool, true, nat_lt, Option, Some, None, Ok, ⊤}
 use Rattle.std.specs.FinMap as map
 use Rattle.std.specs.Str.{is_utf8}
 use Rattle.doc_store.specs.Store.{StoreState, fits_in, put_limit, with_page, without_page}
@@ -7,8 +7,8 @@ use Rattle.doc_hub.specs.declared.response.Edit.{Edit}
 use Rattle.doc_hub.specs.declared.response.Edit.TheVariants as edits
 
 -- whether a put is left: fewer than 2^64 - 1 puts and moves were accepted
-abbrev pub puts_left : StoreState → Bool
-puts_left store = nat_lt store.puts put_limit
+abbrev pub puts_left : ℕ → Bool
+puts_left puts = nat_lt puts put_limit
 
 -- the store after the edit of a request, whose body is the page's text
 abbrev pub store_after : StoreState → List ℕ → Option Edit → StoreState

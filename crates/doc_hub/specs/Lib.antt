@@ -1,8 +1,13 @@
+pub mod ConnectionLaws
 pub mod Connections
+pub mod CutLaws
 pub mod EditLaws
 pub mod Edits
 pub mod Events
-pub mod Laws
+pub mod FreshLaws
+pub mod MadeLaws
 pub mod Replies
+pub mod RunLaws
 pub mod Runs
+pub mod StepLaws
 pub mod Worlds

@@ -19,6 +19,7 @@ use Rattle.doc_http.specs.declared.reply.Allow.TheVariants.{Page as page_methods
 use Rattle.doc_http.specs.declared.reply.Reply.{Reply}
 use Rattle.doc_http.specs.declared.request.Request.{Request}
 use Rattle.doc_http.specs.Replies.{reply_bytes}
+use Rattle.doc_http.specs.Requests.{is_bare}
 use Rattle.doc_http_targets.specs.Queries.{parameter}
 use Rattle.doc_http_targets.specs.Targets.{page_rest}
 use Rattle.doc_http_targets.specs.WrittenPaths.{path_written}
@@ -133,13 +134,12 @@ abbrev pub response_to : Renders → View → Option Reader → Bool → Request
 response_to render view None puts_left request = refused 401
 response_to render view (Some reader) puts_left request = on_route render view reader.owner puts_left (page_rest request.target) request
 
--- The bytes that are sent, whether the connection closes after them, and the edit that is made. A reply to HEAD has no body (RFC 9110,
--- section 9.3.2).
+-- The bytes that are sent, whether the connection closes after them, and the edit that is made.
 unfoldable pub answer_of : Renders → View → Option Reader → Bool → Bool → Request → Answer
 answer_of render view reader puts_left keep_alive request =
     let response = response_to render view reader puts_left request in
     let close = request.close || not keep_alive in
-    record { bytes = reply_bytes response.reply (bytes_eq request.method (codes "HEAD")) close; closes = close; edit = response.edit }
+    record { bytes = reply_bytes response.reply (is_bare request.method) close; closes = close; edit = response.edit }
 
 -- the bytes for what is no request; the connection closes after them
 abbrev pub fault_bytes : ℕ → Bool → List ℕ

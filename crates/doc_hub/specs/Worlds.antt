@@ -4,9 +4,9 @@ use Rattle.std.specs.Prelude.{Result, Ok, Err, if◌then◌else◌, refl}
 use Rattle.std.specs.Coded.{Coded, code_by, coded×, coded_ℕ, coded_bool}
 use Rattle.std.specs.FinMap as map
 use Rattle.doc_store.specs.declared.reader.Reader.{Reader}
-use Rattle.doc_store.specs.Sites.{view_of}
+use Rattle.doc_store.specs.Sites.{Site, empty_site, site_code, view_of}
 use Rattle.doc_store.specs.Readers.{ReaderTable, set_reader}
-use Rattle.doc_store.specs.Store.{StoreState, empty_store, put_into, without_page, moved_in}
+use Rattle.doc_store.specs.Store.{StoreState, put_into, without_page, moved_in}
 use Rattle.doc_store.specs.declared.moving.MoveError.{MoveError}
 use Rattle.doc_store.specs.declared.readers.ReaderError.{ReaderError}
 use Rattle.doc_store.specs.declared.readers.Set.{Set}
@@ -33,27 +33,36 @@ use Rattle.doc_hub.specs.declared.refusal.PushError.{PushError}
 use Rattle.doc_hub.specs.declared.refusal.StepError.{StepError}
 use Rattle.doc_hub.specs.declared.refusal.StepError.TheVariants as step_errors
 
--- the site with the number of accepted puts, the readers, whether connections are kept alive, the
--- number of connections given, and the connections by number
+-- the site, how many puts and moves were accepted, the readers, whether connections are kept alive, the
+-- number of connections given, and the connections by number; no reply knows the stamp of a page
 pub record World : Type 0 where
-  pub store : StoreState
+  pub site : Site
+  pub puts : ℕ
   pub readers : ReaderTable
   pub keep_alive : Bool
   pub given : ℕ
   pub connections : Connections
 
 -- a world as its parts, which tell worlds apart
-abbrev pub world_code : Coded StoreState → Coded ReaderTable → Coded Connection → Coded World
-world_code store readers one =
-    code_by (StoreState × (ReaderTable × (Bool × (ℕ × Connections))))
-    (coded× store (coded× readers (coded× coded_bool (coded× coded_ℕ (map.code coded_ℕ one)))))
-    (λ w. (w.store, (w.readers, (w.keep_alive, (w.given, w.connections)))))
-    (λ p. record { store = p.0; readers = p.1.0; keep_alive = p.1.1.0; given = p.1.1.1.0; connections = p.1.1.1.1 }) (λ _. refl)
+abbrev pub world_code : Coded ReaderTable → Coded Connection → Coded World
+world_code readers one =
+    code_by (Site × (ℕ × (ReaderTable × (Bool × (ℕ × Connections)))))
+    (coded× site_code (coded× coded_ℕ (coded× readers (coded× coded_bool (coded× coded_ℕ (map.code coded_ℕ one))))))
+    (λ w. (w.site, (w.puts, (w.readers, (w.keep_alive, (w.given, w.connections))))))
+    (λ p. record {
+      site = p.0;
+      puts = p.1.0;
+      readers = p.1.1.0;
+      keep_alive = p.1.1.1.0;
+      given = p.1.1.1.1.0;
+      connections = p.1.1.1.1.1;
+    }) (λ _. refl)
 
 -- a server without pages and connections
 abbrev pub new_world : ReaderTable → Bool → World
 new_world readers keep_alive = record {
-  store = empty_store;
+  site = empty_site;
+  puts = 0;
   readers = readers;
   keep_alive = keep_alive;
   given = 0;
@@ -98,11 +107,18 @@ reader_of w request = option_and_then (map.get w.readers) (bearer_of request)
 -- the answer to a request, from what its reader may see
 abbrev pub answer_in : Renders → World → Request → Answer
 answer_in render w request =
-    answer_of render (view_of w.store.site (reader_of w request)) (reader_of w request) (puts_left w.store) w.keep_alive request
+    answer_of render (view_of w.site (reader_of w request)) (reader_of w request) (puts_left w.puts) w.keep_alive request
+
+-- the world's site and puts as a store's, whose edits are the world's: which stamps its pages have changes nothing else, so they have none
+abbrev pub store_of : World → StoreState
+store_of w = record { site = w.site; stamps = map.empty; puts = w.puts }
+
+abbrev pub with_store : World → StoreState → World
+with_store w store = record w { site = store.site; puts = store.puts }
 
 -- the world after the edit of a request
 abbrev pub world_after : World → Request → Answer → World
-world_after w request a = record w { store = store_after w.store request.body a.edit }
+world_after w request a = with_store w (store_after (store_of w) request.body a.edit)
 
 abbrev pub step_said : Bool → List ℕ → Step
 step_said closes bytes = if closes then steps.Last bytes else steps.Sent bytes
@@ -142,15 +158,15 @@ Steps render old id new result = StepsAt render old id new result (map.get old.c
 
 -- a put of a page with these groups and this text under a path
 abbrev pub world_put : World → List ℕ → List (List ℕ) → List ℕ → World × Result Put EditError
-world_put w path groups text = let r = put_into w.store path groups text in (record w { store = r.0 }, r.1)
+world_put w path groups text = let r = put_into (store_of w) path groups text in (with_store w r.0, r.1)
 
 -- the page of a path is removed, and whether one stood there
 abbrev pub world_removed : World → List ℕ → World × Bool
-world_removed w path = (record w { store = without_page w.store path }, map.contains_key w.store.site.pages path)
+world_removed w path = (with_store w (without_page (store_of w) path), map.contains_key w.site.pages path)
 
 -- a move of the page of one path to another
 abbrev pub world_moved : World → List ℕ → List ℕ → World × Result (Unit {0}) MoveError
-world_moved w from to = let r = moved_in w.store from to in (record w { store = r.0 }, r.1)
+world_moved w from to = let r = moved_in (store_of w) from to in (with_store w r.0, r.1)
 
 -- the reader of a token is set
 abbrev pub world_reader_set : World → List ℕ → Reader → World × Result Set ReaderError

@@ -46,7 +46,7 @@ pub fn answer_to<R: Renderer>(
     request: &Request,
 ) -> Result<Answer, Memory>
     ensures answer { IfOk result (λ a. let reader = option_and_then (map.get readers.now) (bearer_of request.now) in
-        a ≡ answer_of (R.page renderer.old) (view_of store.now.site reader) reader (puts_left store.now) keep_alive request.now) }
+        a ≡ answer_of (R.page renderer.old) (view_of store.now.site reader) reader (puts_left store.now.puts) keep_alive request.now) }
     ensures same { R.page renderer.new ≡ R.page renderer.old }
 {
     let reader = reader_of(readers, request);
@@ -96,7 +96,7 @@ fn response_to<R: Renderer>(
     reader: Option<&Reader>,
     request: &Request,
 ) -> Result<Response, Memory>
-    ensures response { IfOk result (λ r. r ≡ response_to (R.page renderer.old) (view_of store.now.site (option_copied reader.entry)) (option_copied reader.entry) (puts_left store.now) request.now) }
+    ensures response { IfOk result (λ r. r ≡ response_to (R.page renderer.old) (view_of store.now.site (option_copied reader.entry)) (option_copied reader.entry) (puts_left store.now.puts) request.now) }
     ensures same { R.page renderer.new ≡ R.page renderer.old }
 {
     let Some(reader) = reader else {
@@ -117,7 +117,7 @@ fn by_method<R: Renderer>(
     rest: &str,
     request: &Request,
 ) -> Result<Response, Memory>
-    ensures response { IfOk result (λ r. r ≡ by_method (R.page renderer.old) (view_of store.now.site (Some reader.now)) reader.now.owner (puts_left store.now) rest.now request.now (method_of request.now.method)) }
+    ensures response { IfOk result (λ r. r ≡ by_method (R.page renderer.old) (view_of store.now.site (Some reader.now)) reader.now.owner (puts_left store.now.puts) rest.now request.now (method_of request.now.method)) }
     ensures same { R.page renderer.new ≡ R.page renderer.old }
 {
     match Method::of(request.method.get()) {

@@ -34,7 +34,7 @@ pub fn response_to_put(
     request: &Request,
 ) -> Result<Response, Memory>
     requires { reader.now.owner ≡ true }
-    ensures { IfOk result (λ r. r ≡ put_by (view_of store.now.site (Some reader.now)) (puts_left store.now) rest.now request.now) }
+    ensures { IfOk result (λ r. r ≡ put_by (view_of store.now.site (Some reader.now)) (puts_left store.now.puts) rest.now request.now) }
 {
     let Some(path) = written_path(heap, rest)? else {
         return Ok(Response::refused(heap, 400));
@@ -58,7 +58,7 @@ fn response_with(
     text: &str,
 ) -> Response
     requires { reader.now.owner ≡ true }
-    ensures { result ≡ put_page (view_of store.now.site (Some reader.now)) (puts_left store.now) path groups text.now }
+    ensures { result ≡ put_page (view_of store.now.site (Some reader.now)) (puts_left store.now.puts) path groups text.now }
 {
     let code = put_code(store, &path);
     match store.fits(&path, text) {

@@ -1,4 +1,14 @@
 //! The hub: pages, readers and connections, and what each call does to them.
+//!
+//! A call looks first, then takes the memory that it needs, and changes the hub last: so a refused call
+//! leaves the world as it was. A step goes so:
+//!
+//! 1. The unread bytes begin with a request, with a fault, or with neither yet.
+//! 2. The reply to a request is written whole, from what the request's reader may see, and says which
+//!    edit goes with it. It stands before the edit, since an edit that was made could not be taken back
+//!    where the reply then found no memory.
+//! 3. The edit is made. Where it finds no memory the reply is dropped, and the request waits.
+//! 4. The bytes of the request are taken, and the connection closes or not; that takes no memory.
 
 ghost use Rattle.std.specs.Prelude.{◌≡◌, IfOk};
 ghost use Rattle.std.specs.FinMap as map;
@@ -51,13 +61,22 @@ impl<R: Renderer + Drop> Model for Hub<R> {
     ghost use Rattle.doc_hub.specs.Worlds.{World, world_code};
     ghost use Rattle.doc_hub.specs.contracts.connection.Connection as one;
     ghost use Rattle.doc_store.specs.contracts.readers.Readers as reader_table;
-    ghost use Rattle.doc_store.specs.contracts.store.Store as stored;
 
     ghost Value = { R × World };
 
-    ghost coded = { coded× R.code (world_code stored.the_row.coded reader_table.the_row.coded one.the_row.coded) };
+    ghost coded = { coded× R.code (world_code reader_table.the_row.coded one.the_row.coded) };
 
-    ghost view = { λ h. (h.renderer, record { store = h.store; readers = h.readers; keep_alive = h.keep_alive; given = h.given; connections = h.connections }) };
+    ghost view = { λ h. (
+      h.renderer,
+      record {
+        site = h.store.site;
+        puts = h.store.puts;
+        readers = h.readers;
+        keep_alive = h.keep_alive;
+        given = h.given;
+        connections = h.connections;
+      },
+    ) };
 
     ghost invariant = { λ h. HaveGivenNumbers h.given h.connections };
 }

@@ -1,27 +1,88 @@
 //! Noninterference and other laws of runs, as contracts of functions that do nothing. They speak of the
 //! relation `Happens` between two worlds, which the contracts of the hub's calls promise of each call.
 
+ghost use Rattle.doc_hub.specs.ConnectionLaws.{DroppedIsGone, NumbersAreGivenOnce, PushesJoin};
+ghost use Rattle.doc_hub.specs.CutLaws.{DecisionsOfCut};
 ghost use Rattle.doc_hub.specs.EditLaws.{SiteIsOfEdits};
-ghost use Rattle.doc_hub.specs.Laws.{StepsAlike, RepliesAsFresh, RunsAlike, DroppedIsGone, NumbersAreGivenOnce};
+ghost use Rattle.doc_hub.specs.FreshLaws.{NewRepliesAsFresh, PutsAreCounted, PutsAreLeft, RepliesAsFresh};
+ghost use Rattle.doc_hub.specs.MadeLaws.{FreshIsMade, MadeReplies};
+ghost use Rattle.doc_hub.specs.RunLaws.{RunsAlike};
+ghost use Rattle.doc_hub.specs.StepLaws.{AnswersAlike, StepsAlike};
 
-/// Step noninterference: a request is answered alike in two worlds with one keep-alive setting, one
-/// entry for its token, and one view for its reader.
-#[tactic(auto, using(crate::proofs::StepLaws::steps_alike))]
+/// A request has one answer, with one edit, in two worlds with one keep-alive setting, one entry for its
+/// token, and one view for its reader; and, where it is a PUT of an owner, a put left in both or in
+/// neither. Nothing else of the worlds matters.
+#[tactic(auto, using(crate::proofs::StepLaws::answers_alike))]
+pub fn answers_are_noninterfering()
+    ensures { AnswersAlike }
+{}
+
+/// Step noninterference. Two steps send equal bytes and do the same where their connections are open,
+/// their unread bytes begin with the same thing, both are answered (memory sufficed for both), and,
+/// where that is a request, the worlds have one keep-alive setting, one entry for its token, and one
+/// view for its reader; and, where it is a PUT of an owner, a put left in both or in neither.
 pub fn steps_are_noninterfering()
     ensures { StepsAlike }
 {}
 
-/// In any run, each reply is that of a fresh server that holds only what its reader may see.
-#[tactic(auto, using(crate::proofs::FreshLaws::replies_as_fresh))]
+/// In any run, from any world, what a step answers is what the step of a fresh server answers, and
+/// nothing else but where memory runs out there: one that holds only what the request's reader may see
+/// at that step, and that reader's entry. The one premise is that a put is left at that step, where the
+/// request is a PUT of an owner. A step that answered that memory ran out sent nothing, and nothing is
+/// said of it.
 pub fn replies_are_a_fresh_servers()
     ensures { RepliesAsFresh }
 {}
 
-/// Run noninterference: what runs send on a connection is alike where its own events and what its
-/// readers may see are alike.
+/// The same for a run from a new hub, whose one premise is that it has fewer than 2^64 - 1 events.
+pub fn replies_of_a_new_hub_are_a_fresh_servers()
+    ensures { NewRepliesAsFresh }
+{}
+
+/// The fresh server is a world that a hub can be in: from a new hub with that reader alone, puts and
+/// moves, as many as the site has pages and aliases, then one connection and the push of its unread
+/// bytes leave it, and a put is left. The premises: each alias of the site leads to a page and is the
+/// path of none, at most 10,000 pages and as many aliases stand, no text has more than 1,048,576 bytes,
+/// and at most 4,194,304 bytes are unread.
+#[tactic(auto, using(crate::proofs::MadeLaws::fresh_is_made))]
+pub fn a_hub_can_be_a_fresh_server()
+    ensures { FreshIsMade }
+{}
+
+/// Noninterference by hubs alone. In a run of fewer than 2^64 - 1 events from a new hub, what a step
+/// answers to a request is what a hub answers that was new with that request's reader alone (or none),
+/// in which the pages of the view were put, its aliases made by moves, one connection made and its
+/// unread bytes pushed, and nothing else was done. The length of the run is the one premise.
+pub fn replies_are_those_of_a_hub_of_the_view()
+    ensures { MadeReplies }
+{}
+
+/// Run noninterference. Two runs send equal bytes on a connection where it is alike in the worlds that
+/// they begin in (or in neither), its own events are the same in the same order, the one that makes it
+/// among them, none of these answered that memory ran out, and before each of its steps the worlds are
+/// alike for what its unread bytes begin with, as `steps_are_noninterfering` has it. Nothing is asked
+/// of other events, nor of memory elsewhere.
 #[tactic(auto, using(crate::proofs::RunLaws::runs_alike))]
 pub fn runs_are_noninterfering()
     ensures { RunsAlike }
+{}
+
+/// No event makes more than one put or move.
+#[tactic(auto, using(crate::proofs::PutCounts::puts_are_counted))]
+pub fn an_event_puts_at_most_once()
+    ensures { PutsAreCounted }
+{}
+
+/// A run of fewer than 2^64 - 1 events from a new hub leaves a put.
+#[tactic(auto, using(crate::proofs::FreshLaws::puts_are_left))]
+pub fn short_runs_leave_a_put()
+    ensures { PutsAreLeft }
+{}
+
+/// How bytes are cut does not matter: where two pushes on a connection are accepted, one after the
+/// other, the push of the joined bytes is, and leaves the same world.
+pub fn two_pushes_are_one()
+    ensures { PushesJoin }
 {}
 
 /// A dropped connection is gone: pushes and steps on its number answer that there is none.
@@ -41,4 +102,12 @@ pub fn no_number_is_given_again()
 #[tactic(auto, using(crate::proofs::SiteLaws::site_is_of_edits))]
 pub fn the_site_is_the_effect_of_the_edits()
     ensures { SiteIsOfEdits }
+{}
+
+/// The law of the cut for decisions: the pages that a page's links lead to for a reader are the same on
+/// the whole site and on what the reader sees of it, taken as a site. It holds of every site, reader,
+/// page and rendering, without a premise.
+#[tactic(auto, using(crate::proofs::CutLaws::decisions_of_cut))]
+pub fn decisions_on_a_site_are_those_on_its_cut()
+    ensures { DecisionsOfCut }
 {}

@@ -17,7 +17,7 @@ use Rattle.doc_store.specs.declared.store.EditError.{EditError}
 use Rattle.doc_store.specs.declared.store.EditError.TheVariants.{TooLong, StoreFull}
 use Rattle.doc_store.specs.declared.store.Put.TheVariants.{Created, Replaced}
 use Rattle.doc_store.specs.Store.{text_limit, page_limit, put_limit, fits, put_by}
-use Rattle.doc_hub.specs.Worlds.{World}
+use Rattle.doc_hub.specs.Worlds.{World, store_of}
 use Rattle.doc_server.specs.DemoSite.{demo_readers, demo_world, site_of_none, site_of_one, site_of_two, with_page, IsAccepted}
 
 -- ---- the readers
@@ -98,7 +98,7 @@ fits_few pages puts stands text few little short =
 
 -- at most n pages and puts
 abbrev IsSmall : ℕ → World → Type 0
-IsSmall n w = (map.len w.store.site.pages ≤ n) × (w.store.puts ≤ n)
+IsSmall n w = (map.len w.site.pages ≤ n) × (w.puts ≤ n)
 
 one_more : (b : Bool) (k n : ℕ) → k ≤ n → cond b k (k + 1) ≤ n + 1
 one_more true k n le = omega arith
@@ -108,14 +108,14 @@ accepted : (n : ℕ) (w : World) (path group text : List ℕ) → n ≤ 2 → Is
     → IsAccepted w path group text × IsSmall (n + 1) (with_page w path group text)
 accepted n w path group text le (few, little) short =
     let page : Page = record { groups = group ∷ []; text = text } in
-    let stands = map.contains_key w.store.site.pages path in
-    let fine : fits (map.len w.store.site.pages) stands w.store.puts text
-    ≡ Ok tt = fits_few (map.len w.store.site.pages) w.store.puts stands text (omega arith) (omega arith) short in
-    let put = ap (put_by w.store path page stands) fine in (
+    let stands = map.contains_key w.site.pages path in
+    let fine : fits (map.len w.site.pages) stands w.puts text
+    ≡ Ok tt = fits_few (map.len w.site.pages) w.puts stands text (omega arith) (omega arith) short in
+    let put = ap (put_by (store_of w) path page stands) fine in (
       ((if stands then Replaced else Created), ap (λ r. r.1) put),
       subst (λ store. (map.len store.site.pages ≤ n + 1) × (store.puts ≤ n + 1)) (sym (ap (λ r. r.0) put)) (
-        subst (λ k. k ≤ n + 1) (sym (map.len-insert nat_list_cmp_total w.store.site.pages path page))
-            (one_more stands (map.len w.store.site.pages) n few),
+        subst (λ k. k ≤ n + 1) (sym (map.len-insert nat_list_cmp_total w.site.pages path page))
+            (one_more stands (map.len w.site.pages) n few),
         omega arith,
       ),
     )

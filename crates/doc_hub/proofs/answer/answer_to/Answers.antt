@@ -8,22 +8,22 @@ pub write-requires-clause-known : goal.write-requires-clause-known
 write-requires-clause-known g c =
     let reader = option_copied c.reader_of-reader.result in
     (good_response c.in_ok-response.response (g.R.Renderer.page c.args.renderer.now) (view_of c.args.store.now.site reader) reader
-    (puts_left c.args.store.now) c.args.request.now c.in_ok-response.ensures.response).known
+    (puts_left c.args.store.now.puts) c.args.request.now c.in_ok-response.ensures.response).known
 
 pub write-requires-clause-allowed : goal.write-requires-clause-allowed
 write-requires-clause-allowed g c =
     let reader = option_copied c.reader_of-reader.result in
     (good_response c.in_ok-response.response (g.R.Renderer.page c.args.renderer.now) (view_of c.args.store.now.site reader) reader
-    (puts_left c.args.store.now) c.args.request.now c.in_ok-response.ensures.response).allowed
+    (puts_left c.args.store.now.puts) c.args.request.now c.in_ok-response.ensures.response).allowed
 
 pub write-requires-clause-located : goal.write-requires-clause-located
 write-requires-clause-located g c =
     let reader = option_copied c.reader_of-reader.result in
     (good_response c.in_ok-response.response (g.R.Renderer.page c.args.renderer.now) (view_of c.args.store.now.site reader) reader
-    (puts_left c.args.store.now) c.args.request.now c.in_ok-response.ensures.response).located
+    (puts_left c.args.store.now.puts) c.args.request.now c.in_ok-response.ensures.response).located
 
 pub write-requires-clause-content : goal.write-requires-clause-content
 write-requires-clause-content g c =
     let reader = option_copied c.reader_of-reader.result in
     (good_response c.in_ok-response.response (g.R.Renderer.page c.args.renderer.now) (view_of c.args.store.now.site reader) reader
-    (puts_left c.args.store.now) c.args.request.now c.in_ok-response.ensures.response).content
+    (puts_left c.args.store.now.puts) c.args.request.now c.in_ok-response.ensures.response).content

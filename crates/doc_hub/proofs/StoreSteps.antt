@@ -1,0 +1,160 @@
+-- Edits of a store are edits of the world that it stands in: stamps change nothing else.
+use Rattle.std.proofs.Common.{◌≡◌, ℕ, List, Bool, true, false, refl, ap, sym, ◌∙◌, subst}
+use Rattle.std.specs.Prelude.{MatchBool, Option, Some, None, Result, Ok, Err, if◌then◌else◌}
+use Rattle.std.specs.FinMap as map
+use Rattle.doc_page.specs.Refusals.{Gives, IsAnswer}
+use Rattle.doc_store.specs.Pages.{Page}
+use Rattle.doc_store.specs.Store.{StoreState, fits_in, may_move, moved_by, moved_in, put_by, put_into, without_page}
+use Rattle.doc_store.specs.declared.moving.MoveError.{MoveError}
+use Rattle.doc_store.specs.declared.moving.MoveError.TheVariants as move_errors
+use Rattle.doc_store.specs.declared.store.EditError.{EditError}
+use Rattle.doc_store.specs.declared.store.EditError.TheVariants as edit_errors
+use Rattle.doc_store.specs.declared.store.Put.{Put}
+use Rattle.doc_store.proofs.StoreSteps.{taken_out}
+use Rattle.doc_store.specs.Readers.{ReaderTable}
+use Rattle.doc_http.specs.Requests.{IsNext}
+use Rattle.doc_http.specs.declared.request.Request.{Request}
+use Rattle.doc_http.specs.declared.request.Next.TheVariants as nexts
+use Rattle.doc_hub.specs.Connections.{Connections, finished}
+use Rattle.doc_hub.specs.Edits.{store_after}
+use Rattle.doc_hub.specs.Replies.{Renders}
+use Rattle.doc_hub.specs.Worlds.{Answers, Stays, Steps, StepsAt, World, answer_in, step_said, stepped_by, with_finished, with_store}
+use Rattle.doc_hub.specs.Worlds.{world_after, world_moved, world_put, world_removed}
+use Rattle.doc_hub.specs.declared.answer.Answer.{Answer}
+use Rattle.doc_hub.specs.declared.connection.Connection.{Connection}
+use Rattle.doc_hub.specs.declared.event.Step.{Step}
+use Rattle.doc_hub.specs.declared.event.Step.TheVariants as steps
+use Rattle.doc_hub.specs.declared.refusal.StepError.{StepError}
+use Rattle.doc_hub.specs.declared.response.Edit.{Edit}
+use Rattle.doc_hub.specs.declared.response.Edit.TheVariants as edits
+
+-- without stamps
+abbrev bare : StoreState → StoreState
+bare store = record { site = store.site; stamps = map.empty; puts = store.puts }
+
+-- two states with one site and as many puts
+abbrev Alike : StoreState → StoreState → Type 0
+Alike one other = bare one ≡ bare other
+
+module _ (store : StoreState) where
+  put_alike : (path : List ℕ) (page : Page) (stands : Bool) (said : Result (Unit {0}) EditError)
+      → bare (put_by (bare store) path page stands said).0 ≡ bare (put_by store path page stands said).0
+  put_alike path page stands (Ok fine) = refl
+  put_alike path page stands (Err e) = refl
+
+  put_answer : (path : List ℕ) (page : Page) (stands : Bool) (said : Result (Unit {0}) EditError)
+      → (put_by (bare store) path page stands said).1 ≡ (put_by store path page stands said).1
+  put_answer path page stands (Ok fine) = refl
+  put_answer path page stands (Err e) = refl
+
+  move_alike : (from to : List ℕ) (said : Result (Unit {0}) MoveError)
+      → bare (moved_by (bare store) from to said).0 ≡ bare (moved_by store from to said).0
+  move_alike from to (Ok fine) = refl
+  move_alike from to (Err e) = refl
+
+  move_answer : (from to : List ℕ) (said : Result (Unit {0}) MoveError)
+      → (moved_by (bare store) from to said).1 ≡ (moved_by store from to said).1
+  move_answer from to (Ok fine) = refl
+  move_answer from to (Err e) = refl
+
+  removed_alike_by : (path : List ℕ) (stands : Bool)
+      → bare (if stands then taken_out (bare store) path else bare store) ≡ bare (if stands then taken_out store path else store)
+  removed_alike_by path true = refl
+  removed_alike_by path false = refl
+
+  removed_alike : (path : List ℕ) → bare (without_page (bare store) path) ≡ bare (without_page store path)
+  removed_alike path = removed_alike_by path (map.contains_key store.site.pages path)
+
+  pub after_alike : (text : List ℕ) (edit : Option Edit) → bare (store_after (bare store) text edit) ≡ bare (store_after store text edit)
+  after_alike text None = refl
+  after_alike text (Some (edits.Put path groups)) = refl
+  after_alike text (Some (edits.Remove path)) = removed_alike path
+
+-- what a call gives of a store, it gives of the world
+gives_so : {X E : Type 0} (memory : E) (w : World) (given bare_given : StoreState × Result X E) (store new : StoreState) (r : Result X E)
+    → Alike bare_given.0 given.0 → bare_given.1 ≡ given.1 → Gives memory given store new r
+    → Gives memory (with_store w bare_given.0, bare_given.1) (with_store w store) (with_store w new) r
+gives_so {X = X} {E = E} memory w given bare_given store new (Ok x) alike answer gives =
+    (λ i. (with_store w (alike i), answer i)) ∙ ap (λ (q : StoreState × Result X E). (with_store w q.0, q.1)) gives
+gives_so memory w given bare_given store new (Err e) alike answer gives =
+    (subst (λ said. IsAnswer memory said (Err e)) (sym answer) gives.0, ap (with_store w) gives.1)
+
+-- the world of a hub with this store
+abbrev pub world_of : StoreState → ReaderTable → Bool → ℕ → Connections → World
+world_of store readers keep_alive given connections =
+    record { site = store.site; puts = store.puts; readers = readers; keep_alive = keep_alive; given = given; connections = connections }
+
+module _ (readers : ReaderTable) (keep_alive : Bool) (given : ℕ) (connections : Connections) (store new : StoreState) (w : World)
+    (view_is : world_of store readers keep_alive given connections ≡ w) where
+  abbrev before : World
+  before = world_of store readers keep_alive given connections
+
+  abbrev after : World
+  after = world_of new readers keep_alive given connections
+
+  pub put_so : (path : List ℕ) (groups : List (List ℕ)) (text : List ℕ) (r : Result Put EditError)
+      → Gives edit_errors.Memory (put_into store path groups text) store new r
+      → Gives edit_errors.Memory (world_put w path groups text) w after r
+  put_so path groups text r gives =
+      let page : Page = record { groups = groups; text = text } in
+      let stands = map.contains_key store.site.pages path in
+      let said = fits_in store path text in
+      subst (λ v. Gives edit_errors.Memory (world_put v path groups text) v after r) view_is
+      (gives_so edit_errors.Memory before (put_into store path groups text) (put_into (bare store) path groups text) store new r
+      (put_alike store path page stands said) (put_answer store path page stands said) gives)
+
+  pub move_so : (from to : List ℕ) (r : Result (Unit {0}) MoveError) → Gives move_errors.Memory (moved_in store from to) store new r
+      → Gives move_errors.Memory (world_moved w from to) w after r
+  move_so from to r gives =
+      let said = may_move store from to in
+      subst (λ v. Gives move_errors.Memory (world_moved v from to) v after r) view_is
+      (gives_so move_errors.Memory before (moved_in store from to) (moved_in (bare store) from to) store new r
+      (move_alike store from to said) (move_answer store from to said) gives)
+
+  pub remove_so : (path : List ℕ) (r : Bool) → r ≡ map.contains_key store.site.pages path → new ≡ without_page store path
+      → ◌≡◌ {A = World × Bool} (world_removed w path) (after, r)
+  remove_so path r answer is =
+      subst (λ v. ◌≡◌ {A = World × Bool} (world_removed v path) (after, r)) view_is
+      (λ i. (with_store before ((removed_alike store path ∙ ap bare (sym is)) i), sym answer i))
+
+-- ---- a step that answers a request
+
+module _ (render : Renders) (readers : ReaderTable) (keep_alive : Bool) (given : ℕ) (connections after : Connections)
+    (store new : StoreState)
+    (w : World) (view_is : world_of store readers keep_alive given connections ≡ w) (id : ℕ) (c : Connection)
+    (found : Some c ≡ map.get connections id) (is_open : c.closed ≡ false) (used : ℕ) (request : Request)
+    (begins : IsNext c.unread (nexts.Request used request)) (answer : Answer)
+    (answer_is : answer ≡ answer_in render (world_of store readers keep_alive given connections) request)
+    (text : List ℕ) (text_is : text ≡ request.body) (made : new ≡ store_after store text answer.edit)
+    (set : after ≡ map.insert connections id (finished c used answer.closes)) where
+  abbrev left_by : World
+  left_by = world_of new readers keep_alive given after
+
+  edited : bare (store_after (bare store) request.body answer.edit) ≡ bare new
+  edited = after_alike store request.body answer.edit ∙ ap bare (ap (λ t. store_after store t answer.edit) (sym text_is) ∙ sym made)
+
+  stepped : ◌≡◌ {A = World × Result Step StepError}
+      (stepped_by render (world_of store readers keep_alive given connections) id c (nexts.Request used request))
+      (left_by, Ok (step_said answer.closes answer.bytes))
+  stepped =
+      let old = world_of store readers keep_alive given connections in
+      ap (λ (a : Answer). (with_finished (world_after old request a) id c used a.closes, Ok (step_said a.closes a.bytes))) (sym answer_is)
+      ∙ (λ i. (world_of (edited i) readers keep_alive given (sym set i), Ok (step_said answer.closes answer.bytes)))
+
+  pub request_answered : (shown : Renders) → render ≡ shown → (said : Step) → said ≡ step_said answer.closes answer.bytes
+      → Steps shown w id left_by (Ok said)
+  request_answered shown same said said_is =
+      let old = world_of store readers keep_alive given connections in
+      let Of : Bool → Type 0 = λ closed. MatchBool closed (Stays old (Ok steps.Closed) left_by (Ok said))
+      (Answers render old id left_by (Ok said) c) in
+      subst (λ (r : Renders). Steps r w id left_by (Ok said)) same (
+      subst (λ (v : World). Steps render v id left_by (Ok said)) view_is
+      (subst (StepsAt render old id left_by (Ok said)) found
+      (subst Of (sym is_open) (nexts.Request used request, begins, stepped ∙ (λ i. (left_by, Ok (sym said_is i)))))))
+
+-- the step that a reply is
+pub is_last : (said : Step) (closes : Bool) (bytes : List ℕ) → closes ≡ true → said ≡ steps.Last bytes → said ≡ step_said closes bytes
+is_last said closes bytes on is = is ∙ ap (λ b. step_said b bytes) (sym on)
+
+pub is_sent : (said : Step) (closes : Bool) (bytes : List ℕ) → closes ≡ false → said ≡ steps.Sent bytes → said ≡ step_said closes bytes
+is_sent said closes bytes off is = is ∙ ap (λ b. step_said b bytes) (sym off)

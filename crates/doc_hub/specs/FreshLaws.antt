@@ -1,0 +1,111 @@
+-- Noninterference, one reply after another: each is that of a fresh server which holds only what its reader may see.
+use Rattle.std.specs.Prelude.{◌≡◌, ◌≤◌, ◌+◌, ℕ, All, Bool, List, length, nat_lt, true, Option, Some, None, Result, Ok, Err, ⊤}
+use Rattle.std.specs.FinMap as map
+use Rattle.doc_store.specs.declared.reader.Reader.{Reader}
+use Rattle.doc_store.specs.Sites.{Site, empty_site}
+use Rattle.doc_store.specs.Store.{put_limit}
+use Rattle.doc_store.specs.Readers.{ReaderTable}
+use Rattle.doc_http.specs.Bearers.{bearer_of}
+use Rattle.doc_http.specs.Requests.{IsNext}
+use Rattle.doc_http.specs.declared.request.Next.{Next}
+use Rattle.doc_http.specs.declared.request.Next.TheVariants as nexts
+use Rattle.doc_hub.specs.declared.event.ConnId.{ConnId}
+use Rattle.doc_hub.specs.declared.event.Event.TheVariants as events
+use Rattle.doc_hub.specs.declared.event.Step.{Step}
+use Rattle.doc_hub.specs.declared.outcome.Outcome.TheVariants as outcomes
+use Rattle.doc_hub.specs.declared.refusal.StepError.{StepError}
+use Rattle.doc_hub.specs.declared.refusal.StepError.TheVariants as step_errors
+use Rattle.doc_hub.specs.Edits.{puts_left}
+use Rattle.doc_hub.specs.Replies.{Renders}
+use Rattle.doc_hub.specs.Runs.{Happens, Happened, Runs}
+use Rattle.doc_hub.specs.StepLaws.{connection, is_owners_put, open_with, site_seen}
+use Rattle.doc_hub.specs.Worlds.{World, new_world, reader_of}
+
+-- ---- the fresh server
+
+-- that reader's entry alone, or none
+abbrev pub only_reader : Option (List ℕ) → Option Reader → ReaderTable
+only_reader (Some token) (Some reader) = map.insert map.empty token reader
+only_reader token reader = map.empty
+
+-- a server that holds only this site, after so many puts and moves, and this reader, with one connection
+abbrev pub fresh : ℕ → Site → Option (List ℕ) → Option Reader → Bool → List ℕ → World
+fresh puts site token reader keep_alive unread =
+    record {
+      site = site;
+      puts = puts;
+      readers = only_reader token reader;
+      keep_alive = keep_alive;
+      given = 1;
+      connections = map.insert map.empty 1 (open_with unread);
+    }
+
+-- the fresh server for a request, of what its reader may see in this world; where there is no request, any will do
+abbrev pub fresh_for : ℕ → World → List ℕ → Next → World
+fresh_for puts w unread (nexts.Request used request) =
+    fresh puts (site_seen w request) (bearer_of request) (reader_of w request) w.keep_alive unread
+fresh_for puts w unread next = fresh puts empty_site None None w.keep_alive unread
+
+abbrev pub first_connection : ConnId
+first_connection = record { 0 = 1 }
+
+-- ---- what a step answers
+
+-- A step of the connection answers so: it may, and it answers nothing else, but where memory runs out.
+pub record StepSays (render : Renders) (w : World) (c : ConnId) (said : Step) : Type 0 where
+  pub left : World
+  pub happens : Happens render w (events.Step c) left (Ok said)
+  pub alone : (v : World) (other : Result Step StepError) → Happens render w (events.Step c) v other → ¬ (other ≡ Err step_errors.Memory)
+      → other ≡ Ok said
+
+-- a step of an open connection with these unread bytes, which begin so, that was answered
+pub record IsAnswered (h : Happened) (unread : List ℕ) (next : Next) (said : Step) : Type 0 where
+  pub c : ConnId
+  pub event : h.event ≡ events.Step c
+  pub stands : connection c.0 h.world ≡ Some (open_with unread)
+  pub begins : IsNext unread next
+  pub told : h.outcome ≡ outcomes.Stepped said
+
+-- where the unread bytes begin with a PUT of an owner, a put is left
+abbrev pub LeavesPut : World → Next → Type 0
+LeavesPut w (nexts.Request used request) = is_owners_put (reader_of w request) request ≡ true → puts_left w.puts ≡ true
+LeavesPut w next = ⊤
+
+-- a fresh server, however many puts and moves made it what it is, answers so
+abbrev pub FreshAnswers : Renders → World → List ℕ → Next → Step → Type 0
+FreshAnswers render w unread next said =
+    (puts : ℕ) → puts_left puts ≡ true → StepSays render (fresh_for puts w unread next) first_connection said
+
+-- what a step answered, where no put was missing, is what the step of that fresh server answers
+abbrev pub SendsAsFresh : Renders → Happened → Type 0
+SendsAsFresh render h =
+    (unread : List ℕ) (next : Next) (said : Step) → IsAnswered h unread next said → LeavesPut h.world next
+    → FreshAnswers render h.world unread next said
+
+-- Noninterference: in any run, whatever other connections did and whatever growths were refused, each reply is that of a fresh server
+-- that holds only what its reader may see at that step; that of a PUT of an owner, as long as a put is left.
+abbrev pub RepliesAsFresh : Type 0
+RepliesAsFresh = (render : Renders) (w v : World) (run : List Happened) → Runs render w run v → All (SendsAsFresh render) run
+
+-- ---- from a new server
+
+-- no event makes more than one put or move
+abbrev pub PutsAreCounted : Type 0
+PutsAreCounted = (render : Renders) (w v : World) (run : List Happened) → Runs render w run v → v.puts ≤ w.puts + length run
+
+-- a run of fewer than 2^64 - 1 events from a new server leaves a put
+abbrev pub PutsAreLeft : Type 0
+PutsAreLeft =
+    (render : Renders) (readers : ReaderTable) (keep_alive : Bool) (v : World) (run : List Happened)
+    → Runs render (new_world readers keep_alive) run v → nat_lt (length run) put_limit ≡ true → puts_left v.puts ≡ true
+
+-- the same, whether or not a put is left
+abbrev pub SendsAsFreshAlways : Renders → Happened → Type 0
+SendsAsFreshAlways render h =
+    (unread : List ℕ) (next : Next) (said : Step) → IsAnswered h unread next said → FreshAnswers render h.world unread next said
+
+-- Noninterference from a new server, in a run of fewer than 2^64 - 1 events: nothing is asked of puts.
+abbrev pub NewRepliesAsFresh : Type 0
+NewRepliesAsFresh =
+    (render : Renders) (readers : ReaderTable) (keep_alive : Bool) (v : World) (run : List Happened)
+    → Runs render (new_world readers keep_alive) run v → nat_lt (length run) put_limit ≡ true → All (SendsAsFreshAlways render) run

@@ -1,0 +1,66 @@
+-- Step noninterference: an answer depends on the site only by what its reader may see of it.
+use Rattle.std.specs.Prelude.{◌≡◌, ℕ, List, Bool, true, false, ◌&&◌, bytes_eq, codes, Option, Some, None, Ok, ⊤}
+use Rattle.std.specs.FinMap as map
+use Rattle.doc_store.specs.declared.reader.Reader.{Reader}
+use Rattle.doc_store.specs.Sites.{Site, visible_to}
+use Rattle.doc_http.specs.Requests.{IsNext}
+use Rattle.doc_http.specs.declared.request.Request.{Request}
+use Rattle.doc_http.specs.declared.request.Next.{Next}
+use Rattle.doc_http.specs.declared.request.Next.TheVariants as nexts
+use Rattle.doc_hub.specs.declared.connection.Connection.{Connection}
+use Rattle.doc_hub.specs.declared.event.ConnId.{ConnId}
+use Rattle.doc_hub.specs.declared.event.Event.TheVariants as events
+use Rattle.doc_hub.specs.declared.event.Step.{Step}
+use Rattle.doc_hub.specs.Edits.{puts_left}
+use Rattle.doc_hub.specs.Replies.{Renders}
+use Rattle.doc_hub.specs.Runs.{Happens}
+use Rattle.doc_hub.specs.Worlds.{World, answer_in, reader_of}
+
+-- what the reader of a request may see of a world's site
+abbrev pub site_seen : World → Request → Site
+site_seen w request = visible_to w.site (reader_of w request)
+
+-- whether the request is a PUT of an owner, the one whose answer knows whether a put is left
+abbrev pub is_owners_put : Option Reader → Request → Bool
+is_owners_put None request = false
+is_owners_put (Some reader) request = reader.owner && bytes_eq request.method (codes "PUT")
+
+-- two worlds are alike for a request: one keep-alive setting, one reader's entry and one view; and where an owner puts a page, a put is
+-- left in both or in neither
+pub record Agree (w v : World) (request : Request) : Type 0 where
+  pub keep_alive : w.keep_alive ≡ v.keep_alive
+  pub reader : reader_of w request ≡ reader_of v request
+  pub sites : site_seen w request ≡ site_seen v request
+  pub puts : is_owners_put (reader_of w request) request ≡ true → puts_left w.puts ≡ puts_left v.puts
+
+-- alike for what the unread bytes begin with: a fault, and what is no request yet, ask for nothing
+abbrev pub AgreeOn : World → World → Next → Type 0
+AgreeOn w v (nexts.Request used request) = Agree w v request
+AgreeOn w v next = ⊤
+
+-- worlds that are alike for a request answer it alike, with the same edit
+abbrev pub AnswersAlike : Type 0
+AnswersAlike = (render : Renders) (w v : World) (request : Request) → Agree w v request
+    → answer_in render w request ≡ answer_in render v request
+
+abbrev pub connection : ℕ → World → Option Connection
+connection c w = map.get w.connections c
+
+-- an open connection with these unread bytes
+abbrev pub open_with : List ℕ → Connection
+open_with unread = record { unread = unread; closed = false }
+
+-- the connection is open, and its unread bytes begin so
+pub record Begins (w : World) (c : ConnId) (next : Next) : Type 0 where
+  pub unread : List ℕ
+  pub stands : connection c.0 w ≡ Some (open_with unread)
+  pub begins : IsNext unread next
+
+-- Step noninterference: steps of open connections whose unread bytes begin alike, in worlds that are alike for that, do the same and
+-- send equal bytes, where both are answered.
+abbrev pub StepsAlike : Type 0
+StepsAlike =
+    (render : Renders) (w v w' v' : World) (c d : ConnId) (next : Next) (said told : Step)
+    → Begins w c next → Begins v d next → AgreeOn w v next
+    → Happens render w (events.Step c) w' (Ok said) → Happens render v (events.Step d) v' (Ok told)
+    → said ≡ told
