@@ -90,7 +90,8 @@ impl<'a> ReplyParts<'a> {
     fn push_head(&self, out: &mut String, close: bool) -> Result<(), Memory>
         requires { IsTrue (is_reply_code self.now.code) }
         ensures { OnOk result
-            (string_bytes out.new ≡ string_bytes out.old ++ reply_head (reply_with self.now) close) }
+            (string_bytes out.new
+            ≡ string_bytes out.old ++ reply_head (reply_with self.now) close) }
     {
         out.push_str("HTTP/1.1 ")?;
         push_status(out, self.code)?;
@@ -104,7 +105,8 @@ impl<'a> ReplyParts<'a> {
     fn push_field_lines(&self, out: &mut String, close: bool) -> Result<(), Memory>
         requires { IsTrue (is_reply_code self.now.code) }
         ensures { OnOk result
-            (string_bytes out.new ≡ string_bytes out.old ++ field_lines (reply_with self.now) close) }
+            (string_bytes out.new
+            ≡ string_bytes out.old ++ field_lines (reply_with self.now) close) }
     {
         self.push_content_lines(out)?;
         push_location(out, self.location)?;

@@ -1,6 +1,6 @@
 -- How far an encoded body reaches: one step, and what more bytes don't change.
-use Rattle.std.proofs.Common.{◌≡◌, ℕ, zero, suc, ◌+◌, ◌-◌, ◌<◌, ◌≤◌, ◌==◌, Bool, true, false, List, length, take, drop, refl, ap, ◌∙◌}
-use Rattle.std.proofs.Common.{subst, arith, nat_eq, length-drop}
+use Rattle.std.proofs.Common.{◌≡◌, ℕ, zero, suc, ◌+◌, ◌<◌, ◌≤◌, ◌==◌, Bool, true, false, List, length, take, drop, refl, ap, ◌∙◌, subst}
+use Rattle.std.proofs.Common.{arith, nat_eq, length-drop}
 use Rattle.std.specs.Prelude.{Option, Some, None, nat_le, nat_lt, ⊤, if◌then◌else◌}
 use Rattle.std.specs.List.{starts_with}
 use Rattle.std.proofs.lemmas.Bool.{ltb-false, le-ltb}
