@@ -1,15 +1,19 @@
 mod Examples
 mod StoreExamples
 pub mod AliasSteps
+pub mod CutLaw
 pub mod EntrySteps
+pub mod FilterSteps
 pub mod GroupLaws
 pub mod GroupSteps
 pub mod KeySteps
 pub mod MapSteps
 pub mod MapValues
+pub mod NamesLaw
 pub mod PageSteps
 pub mod ReaderSteps
 pub mod MeetSteps
+pub mod SeenLaw
 pub mod SightSteps
 pub mod SortedSteps
 pub mod StampLaw

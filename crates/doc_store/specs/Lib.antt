@@ -2,6 +2,7 @@ pub mod Groups
 pub mod Laws
 pub mod Maps
 pub mod MoveSteps
+pub mod Names
 pub mod Pages
 pub mod Readers
 pub mod Sites
