@@ -1,27 +1,10 @@
 -- The names of a page are the paths that lead to it.
-use Rattle.std.proofs.Common.{
-  ◌≡◌,
-  ℕ,
-  List,
-  [],
-  ◌∷◌,
-  Bool,
-  true,
-  false,
-  cond,
-  ◌||◌,
-  bytes_eq,
-  is_some,
-  refl,
-  ap,
-  sym,
-  subst,
-  ◌∙◌,
-}
-use Rattle.std.specs.Prelude.{Option, Some, None, option_and_then, if◌then◌else◌}
+use Rattle.std.proofs.Common.{◌≡◌, ℕ, List, [], ◌∷◌, Bool, true, false, cond, ◌||◌, bytes_eq, is_some, refl, ap, sym, subst, ◌∙◌}
+use Rattle.std.specs.Prelude.{Option, Some, None, option_and_then, option_map, Result, Ok, Err, IfOk, OnOk, if◌then◌else◌}
 use Rattle.std.specs.FinMap as map
 use Rattle.std.specs.FinMap.Entries.{find, is_some-find}
 use Rattle.std.specs.List.{AllByRecursion, IsDistinct, filter, list_any}
+use Rattle.std.specs.List.Sorted.{IsStrictlySortedBy}
 use Rattle.std.specs.Map.{keys_of}
 use Rattle.std.specs.Cmp.Lexicographic.{slice_cmp}
 use Rattle.std.specs.Ordering.{nat_cmp, eq_by_cmp}
@@ -30,16 +13,17 @@ use Rattle.std.proofs.lemmas.Map.Entries.{option_filter}
 use Rattle.std.proofs.lemmas.Map.Keys.{IsDistinct-cons, IsDistinct-from_sorted}
 use Rattle.std.proofs.lemmas.Map.Lookups.{exact_bytes}
 use Rattle.doc_store.proofs.FilterSteps.{keys_in_order, some_in_order}
-use Rattle.doc_store.proofs.KeySteps.{bytes_eq_is, same_from}
-use Rattle.doc_store.proofs.MapSteps.{get_filtered}
+use Rattle.doc_store.proofs.KeySteps.{bytes_eq_is, same_from, some_is}
+use Rattle.doc_store.proofs.MapSteps.{entries_in_order, get_filtered}
+use Rattle.doc_store.proofs.MapValues.{contains-map_values}
 use Rattle.doc_store.proofs.ViewLaw.{get-visible_aliases, get-visible_pages, goals_of_views}
 use Rattle.doc_store.specs.declared.reader.Reader.{Reader}
 use Rattle.doc_store.specs.Laws.{NamesOfPages}
 use Rattle.doc_store.specs.Maps.{TextMap}
 use Rattle.doc_store.specs.Names.{aliases_of, names_of}
-use Rattle.doc_store.specs.Pages.{Page}
+use Rattle.doc_store.specs.Pages.{Page, StampedPage}
 use Rattle.doc_store.specs.Sites.{Site, IsSite, goal_by, goal_in, goal_of, may_see_at, view_of}
-use Rattle.doc_store.specs.Store.{is_goal}
+use Rattle.doc_store.specs.Store.{StoreState, is_goal, state_of}
 
 clash : {A : Type 0} (b : Bool) → b ≡ true → b ≡ false → A
 clash true e f = cc
@@ -203,3 +187,46 @@ names_lead site path is = record {
   in_site = record { all = all_in_site site is path; once = names_once site is path };
   in_view = λ reader sees. record { all = all_in_view site is path reader sees; once = names_once site is path };
 }
+
+-- ---- the names as they are found
+
+-- sorted entries that lead to a path
+pub names_in_order : (entries : List (List ℕ × List ℕ)) (aliases : TextMap (List ℕ)) (path : List ℕ)
+    → IsStrictlySortedBy (slice_cmp nat_cmp) (keys_of entries) → map.from_entries entries ≡ aliases
+    → keys_of (filter (λ entry. bytes_eq entry.1 path) entries) ≡ aliases_of aliases path
+names_in_order entries aliases path sorted is =
+    ap (λ es. keys_of (filter (λ entry. bytes_eq entry.1 path) es)) (sym (entries_in_order nat_list_cmp_total exact_bytes entries sorted))
+    ∙ ap (λ m. aliases_of m path) is
+
+-- an answer that is the same list said otherwise
+pub found_instead : {X E : Type 0} (result : Result X E) (shown : X → List (List ℕ)) (names others : List (List ℕ)) → names ≡ others
+    → IfOk result (λ x. shown x ≡ names) → IfOk result (λ x. shown x ≡ others)
+found_instead (Ok x) shown names others same is = is ∙ same
+found_instead (Err e) shown names others same is = is
+
+module _ (pages : TextMap StampedPage) (aliases : TextMap (List ℕ)) (puts : ℕ) (old : StoreState) (path : List ℕ)
+    (view_is : state_of pages aliases puts ≡ old) where
+  names_by : (b : Bool) → map.contains_key pages path ≡ b
+      → (if b then path ∷ aliases_of aliases path else []) ≡ names_of old.site path
+  names_by b e =
+      ap (λ t. if t then path ∷ aliases_of aliases path else []) (sym (contains-map_values (λ p. p.page) pages path ∙ e))
+      ∙ ap (λ s. names_of s.site path) view_is
+
+  pub names_of_none : None ≡ map.get pages path → [] ≡ names_of old.site path
+  names_of_none none = names_by false (ap is_some (sym none))
+
+  pub names_of_page : (name : List ℕ) (page : StampedPage) → Some name ≡ option_map (λ _. path) (map.get pages path)
+      → Some page ≡ map.get pages path → name ∷ aliases_of aliases name ≡ names_of old.site path
+  names_of_page name page is there =
+      ap (λ p. p ∷ aliases_of aliases p) (some_is name path (is ∙ ap (option_map (λ _. path)) (sym there)))
+      ∙ names_by true (ap is_some (sym there))
+
+-- the names that were found among the entries of a map, whose order the search tells where it ends well
+pub names_said : {X E : Type 0} (result : Result X E) (shown : X → List (List ℕ)) (entries : List (List ℕ × List ℕ))
+    (aliases : TextMap (List ℕ)) (path : List ℕ) → map.from_entries entries ≡ aliases
+    → OnOk result (IsStrictlySortedBy (slice_cmp nat_cmp) (keys_of entries))
+    → IfOk result (λ x. shown x ≡ path ∷ keys_of (filter (λ entry. bytes_eq entry.1 path) entries))
+    → IfOk result (λ x. shown x ≡ path ∷ aliases_of aliases path)
+names_said (Ok x) shown entries aliases path is sorted found =
+    found ∙ ap (λ names. path ∷ names) (names_in_order entries aliases path sorted is)
+names_said (Err e) shown entries aliases path is sorted found = found

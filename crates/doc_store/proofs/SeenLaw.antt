@@ -1,22 +1,29 @@
 -- What a reader's sight sees stands in the reader's view.
-use Rattle.std.proofs.Common.{◌≡◌, ℕ, List, [], ◌∷◌, Bool, true, false, cond, T, is_some, map as mapped, refl, ap, sym, ◌∙◌}
-use Rattle.std.specs.Prelude.{Option, Some, None}
+use Rattle.std.proofs.Common.{◌≡◌, ℕ, suc, List, [], ◌∷◌, Bool, true, false, cond, T, is_some, length, map as mapped, refl, ap, sym, ◌∙◌}
+use Rattle.std.specs.Prelude.{Option, Some, None, option_map}
 use Rattle.std.specs.FinMap as map
 use Rattle.std.specs.FinMap.Entries.{find-where_key, is_sorted, is_sorted-where_key}
 use Rattle.std.specs.List.{filter}
+use Rattle.std.specs.List.Sorted.{IsStrictlySortedBy}
+use Rattle.std.specs.Map.{keys_of, values_of}
 use Rattle.std.specs.Cmp.Lexicographic.{slice_cmp}
 use Rattle.std.specs.Ordering.{nat_cmp}
 use Rattle.std.specs.declared.cmp.Ordering.TheVariants.{Equal}
 use Rattle.std.proofs.lemmas.Cmp.{nat_list_cmp_total}
+use Rattle.std.proofs.lemmas.Map.Entries.{option_filter}
 use Rattle.std.proofs.lemmas.Map.Lookups.{exact_bytes}
 use Rattle.doc_page.specs.Sights.{leads_to_itself, seen}
+use Rattle.doc_store.proofs.FilterSteps.{keys_in_order, some_in_order}
+use Rattle.doc_store.proofs.MapSteps.{entries_in_order, get_filtered, len-sorted}
+use Rattle.doc_store.proofs.MapValues.{get-map_values, len-map_values}
 use Rattle.doc_store.proofs.SightSteps.{itself_is}
-use Rattle.doc_store.proofs.ViewLaw.{page_at-view_of}
+use Rattle.doc_store.proofs.ViewLaw.{get-visible_pages, page_at-view_of}
 use Rattle.doc_store.specs.declared.reader.Reader.{Reader}
 use Rattle.doc_store.specs.Laws.{WhatIsSeen}
-use Rattle.doc_store.specs.Maps.{TextMap}
-use Rattle.doc_store.specs.Pages.{Page}
-use Rattle.doc_store.specs.Sites.{Site, IsSite, View, goal_in, may_see_at, view_of, visible_to}
+use Rattle.doc_store.specs.Maps.{TextMap, map_values}
+use Rattle.doc_store.specs.Pages.{Page, StampedPage}
+use Rattle.doc_store.specs.Sites.{Site, IsSite, View, goal_in, may_see, may_see_at, view_of, visible_to}
+use Rattle.doc_store.specs.Store.{site_with}
 
 -- the entries of a map with some keys alone are those entries of the map
 pub entries-retain_keys : {X : Type 0} (m : TextMap X) (p : List ℕ → Bool)
@@ -89,3 +96,55 @@ sees_the_view site reader is = record {
     by true None e = sym e
     by true (Some page) e = refl
     by false o e = refl
+
+-- ---- how many pages are seen
+
+values_kept : (p : StampedPage → Bool) (entries : List (List ℕ × StampedPage))
+    → length (filter p (values_of entries)) ≡ length (filter (λ entry. p entry.1) entries)
+values_kept p [] = refl
+values_kept p (entry ∷ rest) = by (p entry.1) (filter p (values_of rest)) (filter (λ e. p e.1) rest) (values_kept p rest)
+  where
+    by : (b : Bool) (some : List StampedPage) (others : List (List ℕ × StampedPage)) → length some ≡ length others
+        → length (cond b (entry.1 ∷ some) some) ≡ length (cond b (entry ∷ others) others)
+    by true some others e = ap (λ n. suc n) e
+    by false some others e = e
+
+-- the values of sorted entries are those of the map that they make
+pub values_seen : (reader : Option Reader) (entries : List (List ℕ × StampedPage)) (pages : TextMap StampedPage)
+    → IsStrictlySortedBy (slice_cmp nat_cmp) (keys_of entries) → map.from_entries entries ≡ pages
+    → length (filter (λ page. may_see reader page.page) (values_of entries))
+    ≡ length (filter (λ page. may_see reader page.page) (map.values pages))
+values_seen reader entries pages sorted is =
+    ap (λ es. length (filter (λ page. may_see reader page.page) (values_of es)))
+    (sym (entries_in_order nat_list_cmp_total exact_bytes entries sorted))
+    ∙ ap (λ m. length (filter (λ page. may_see reader page.page) (map.values m))) is
+
+pub count_of_seen : (reader : Option Reader) (pages : TextMap StampedPage) (aliases : TextMap (List ℕ))
+    → length (filter (λ page. may_see reader page.page) (map.values pages)) ≡ length (view_of (site_with pages aliases) reader).pages
+count_of_seen reader pages aliases =
+    let some : List (List ℕ × StampedPage) = filter (λ entry. may_see reader entry.1.page) (map.entries pages) in
+    let sorted : IsStrictlySortedBy (slice_cmp nat_cmp) (keys_of (map.entries pages))
+    = keys_in_order (slice_cmp nat_cmp) (map.entries pages) (map.entries_sorted pages) in
+    values_kept (λ page. may_see reader page.page) (map.entries pages)
+    ∙ len-sorted nat_list_cmp_total exact_bytes some
+    (some_in_order (slice_cmp nat_cmp) (λ entry. may_see reader entry.1.page) (map.entries pages) sorted)
+    ∙ sym (len-map_values (λ p. p.page) (map.from_entries some))
+    ∙ ap map.len (map.same_map nat_list_cmp_total exact_bytes (map_values (λ p. p.page) (map.from_entries some))
+    (visible_to (site_with pages aliases) reader).pages (λ q.
+    get-map_values (λ p. p.page) (map.from_entries some) q
+    ∙ ap (option_map (λ p. p.page)) (get_filtered nat_list_cmp_total exact_bytes (λ page. may_see reader page.page) (map.entries pages) q sorted
+    ∙ ap (option_filter (λ page. may_see reader page.page)) (map.get-from_entries nat_list_cmp_total (map.entries pages) q
+    ∙ sym (map.get-entries pages q)))
+    ∙ by (map.get pages q)
+    ∙ ap (λ o. cond (may_see_at reader o) o None) (sym (get-map_values (λ p. p.page) pages q))
+    ∙ sym (get-visible_pages (site_with pages aliases) reader q)))
+    ∙ map.len-entries (visible_to (site_with pages aliases) reader).pages
+  where
+    by_page : (b : Bool) (page : StampedPage) → option_map (λ p. p.page) (cond b (Some page) None) ≡ cond b (Some page.page) None
+    by_page true page = refl
+    by_page false page = refl
+
+    by : (o : Option StampedPage) → option_map (λ p. p.page) (option_filter (λ page. may_see reader page.page) o)
+        ≡ cond (may_see_at reader (option_map (λ p. p.page) o)) (option_map (λ p. p.page) o) None
+    by None = refl
+    by (Some page) = by_page (may_see reader page.page) page

@@ -1,15 +1,18 @@
 //! The aliases of a site.
 
-ghost use Rattle.std.specs.Prelude.{◌≡◌, ◌+◌, ◌<◌, ◌^◌, bytes_eq, IfOk, OnOk, OnErr, option_copied};
+ghost use Rattle.std.specs.Prelude.{◌≡◌, ◌+◌, ◌<◌, ◌∷◌, ◌^◌, bytes_eq, IfOk, OnOk, OnErr, option_copied};
 ghost use Rattle.std.specs.FinMap as map;
 ghost use Rattle.std.specs.BTreeMap.{IsOrdered};
 ghost use Rattle.std.specs.Cmp.Lexicographic.{slice_cmp};
-ghost use Rattle.std.specs.List.{list_any};
+ghost use Rattle.std.specs.List.{filter, list_any};
+ghost use Rattle.std.specs.Map.{keys_of};
 ghost use Rattle.std.specs.Ordering.{nat_cmp};
+ghost use Rattle.doc_store.specs.Groups.{texts_of};
 ghost use Rattle.doc_store.specs.MoveSteps.{with_moved};
+ghost use Rattle.doc_store.specs.Names.{aliases_of};
 ghost use Rattle.doc_store.specs.Store.{aliases_after, goal_after, without_goal};
 
-use doc_heap::{BTreeMap, Heap};
+use doc_heap::{BTreeMap, Heap, Vec};
 use doc_page::failure::Memory;
 use doc_page::path::Path;
 use std::marker::Model;
@@ -71,6 +74,13 @@ impl Aliases {
         self.len() + 1
     }
 
+    /// The names of a page whose path stands in the site: its path, then the aliases that lead to it.
+    pub fn names<'a>(&'a self, heap: Heap, path: &'a Path) -> Result<Vec<&'a Path>, Memory>
+        ensures { IfOk result (λ names. texts_of names.items ≡ path.now ∷ aliases_of self.now path.now) }
+    {
+        names_among(heap, &self.entries, path)
+    }
+
     /// Whether an alias leads to the path.
     pub fn has_goal(&self, path: &Path) -> bool
         ensures { result ≡ list_any (λ goal. bytes_eq goal path.now) (map.values self.now) }
@@ -109,6 +119,25 @@ impl Aliases {
         after.insert(from.copy(heap)?, to.copy(heap)?)?;
         Ok(after)
     }
+}
+
+/// A path, then the aliases of some entries that lead to it.
+fn names_among<'a>(
+    heap: Heap,
+    entries: &'a BTreeMap<Path, Path>,
+    path: &'a Path,
+) -> Result<Vec<&'a Path>, Memory>
+    ensures names { IfOk result (λ names. texts_of names.items ≡ path.now ∷ keys_of (filter (λ e. bytes_eq e.1 path.now) entries.now.entries)) }
+    ensures ordered { OnOk result (IsOrdered (slice_cmp nat_cmp) entries.now) }
+{
+    let mut names = Vec::new(heap);
+    names.push(path)?;
+    for (alias, goal) in entries.iter() {
+        if goal == path {
+            names.push(alias)?;
+        }
+    }
+    Ok(names)
 }
 
 /// The aliases of some entries after a move, but for the old path.

@@ -1,10 +1,13 @@
 //! The pages of a site by their paths.
 
-ghost use Rattle.std.specs.Prelude.{◌≡◌, ◌<◌, ◌^◌, Some, IsTrue, IfOk, OnOk, OnErr, option_copied, option_map, if◌then◌else◌};
+ghost use Rattle.std.specs.Prelude.{◌≡◌, ◌<◌, ◌^◌, Some, IsTrue, IfOk, OnOk, OnErr, length, option_copied, option_map, if◌then◌else◌};
 ghost use Rattle.std.specs.FinMap as map;
+ghost use Rattle.std.specs.List.{filter};
 ghost use Rattle.doc_store.specs.MoveSteps.{with_stamped};
+ghost use Rattle.doc_store.specs.Sites.{may_see};
 
 use crate::page::Page;
+use crate::reader::Reader;
 use crate::store::Put;
 use doc_heap::{BTreeMap, Heap};
 use doc_page::failure::Memory;
@@ -57,6 +60,16 @@ impl Pages {
         ensures page { option_map (λ entry. entry.1.now) result ≡ map.get self.now path.now }
     {
         self.entries.get_key_value(path)
+    }
+
+    /// How many of the pages a reader may see.
+    pub fn count_seen(&self, reader: &Reader) -> usize
+        ensures { result ≡ length (filter (λ page. may_see (Some reader.now) page.page) (map.values self.now)) }
+    {
+        self.entries
+            .values()
+            .filter(|page| reader.may_see(*page))
+            .count()
     }
 
     pub fn contains(&self, path: &Path) -> bool
