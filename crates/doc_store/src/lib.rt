@@ -14,3 +14,4 @@ pub mod reader;
 pub mod readers;
 pub mod site_sight;
 pub mod store;
+pub mod tables;
