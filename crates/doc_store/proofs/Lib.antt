@@ -14,6 +14,7 @@ pub mod PageSteps
 pub mod ReaderSteps
 pub mod MeetSteps
 pub mod SeenLaw
+pub mod SetSteps
 pub mod SightSteps
 pub mod SortedSteps
 pub mod StampLaw

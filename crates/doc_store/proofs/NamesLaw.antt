@@ -1,10 +1,9 @@
 -- The names of a page are the paths that lead to it.
 use Rattle.std.proofs.Common.{◌≡◌, ℕ, List, [], ◌∷◌, Bool, true, false, cond, ◌||◌, bytes_eq, is_some, refl, ap, sym, subst, ◌∙◌}
-use Rattle.std.specs.Prelude.{Option, Some, None, option_and_then, option_map, Result, Ok, Err, IfOk, OnOk, if◌then◌else◌}
+use Rattle.std.specs.Prelude.{Option, Some, None, option_and_then, option_map, Result, Ok, Err, IfOk, if◌then◌else◌}
 use Rattle.std.specs.FinMap as map
 use Rattle.std.specs.FinMap.Entries.{find, is_some-find}
 use Rattle.std.specs.List.{AllByRecursion, IsDistinct, filter, list_any}
-use Rattle.std.specs.List.Sorted.{IsStrictlySortedBy}
 use Rattle.std.specs.Map.{keys_of}
 use Rattle.std.specs.Cmp.Lexicographic.{slice_cmp}
 use Rattle.std.specs.Ordering.{nat_cmp, eq_by_cmp}
@@ -14,7 +13,7 @@ use Rattle.std.proofs.lemmas.Map.Keys.{IsDistinct-cons, IsDistinct-from_sorted}
 use Rattle.std.proofs.lemmas.Map.Lookups.{exact_bytes}
 use Rattle.doc_store.proofs.FilterSteps.{keys_in_order, some_in_order}
 use Rattle.doc_store.proofs.KeySteps.{bytes_eq_is, same_from, some_is}
-use Rattle.doc_store.proofs.MapSteps.{entries_in_order, get_filtered}
+use Rattle.doc_store.proofs.MapSteps.{get_filtered}
 use Rattle.doc_store.proofs.MapValues.{contains-map_values}
 use Rattle.doc_store.proofs.ViewLaw.{get-visible_aliases, get-visible_pages, goals_of_views}
 use Rattle.doc_store.specs.declared.reader.Reader.{Reader}
@@ -32,6 +31,12 @@ clash false e f = cc
 same_bytes : (x y : List ℕ) → bytes_eq x y ≡ true → x ≡ y
 same_bytes x y e = same_from x y (sym (bytes_eq_is x y) ∙ e)
 
+-- paths among others, by their bytes and by their order
+pub by_bytes : (name : List ℕ) (names : List (List ℕ))
+    → list_any (bytes_eq name) names ≡ list_any (eq_by_cmp (slice_cmp nat_cmp) name) names
+by_bytes name [] = refl
+by_bytes name (other ∷ rest) = λ i. bytes_eq_is name other i || by_bytes name rest i
+
 -- ---- the aliases that lead to a path
 
 module _ (aliases : TextMap (List ℕ)) (path : List ℕ) where
@@ -46,13 +51,9 @@ module _ (aliases : TextMap (List ℕ)) (path : List ℕ) where
       ∙ ap (option_filter (λ goal. bytes_eq goal path)) (map.get-from_entries nat_list_cmp_total (map.entries aliases) name
       ∙ sym (map.get-entries aliases name))
 
-  among : (name : List ℕ) (names : List (List ℕ)) → list_any (bytes_eq name) names ≡ list_any (eq_by_cmp (slice_cmp nat_cmp) name) names
-  among name [] = refl
-  among name (other ∷ rest) = λ i. bytes_eq_is name other i || among name rest i
-
   pub alias_leads : (name : List ℕ) → list_any (bytes_eq name) (aliases_of aliases path) ≡ is_goal path (map.get aliases name)
   alias_leads name =
-      among name (aliases_of aliases path) ∙ sym (is_some-find (slice_cmp nat_cmp) name leading) ∙ ap is_some (found name)
+      by_bytes name (aliases_of aliases path) ∙ sym (is_some-find (slice_cmp nat_cmp) name leading) ∙ ap is_some (found name)
       ∙ by (map.get aliases name)
     where
       by_goal : (b : Bool) (goal : List ℕ) → is_some (cond b (Some goal) None) ≡ b
@@ -190,14 +191,6 @@ names_lead site path is = record {
 
 -- ---- the names as they are found
 
--- sorted entries that lead to a path
-pub names_in_order : (entries : List (List ℕ × List ℕ)) (aliases : TextMap (List ℕ)) (path : List ℕ)
-    → IsStrictlySortedBy (slice_cmp nat_cmp) (keys_of entries) → map.from_entries entries ≡ aliases
-    → keys_of (filter (λ entry. bytes_eq entry.1 path) entries) ≡ aliases_of aliases path
-names_in_order entries aliases path sorted is =
-    ap (λ es. keys_of (filter (λ entry. bytes_eq entry.1 path) es)) (sym (entries_in_order nat_list_cmp_total exact_bytes entries sorted))
-    ∙ ap (λ m. aliases_of m path) is
-
 -- an answer that is the same list said otherwise
 pub found_instead : {X E : Type 0} (result : Result X E) (shown : X → List (List ℕ)) (names others : List (List ℕ)) → names ≡ others
     → IfOk result (λ x. shown x ≡ names) → IfOk result (λ x. shown x ≡ others)
@@ -220,13 +213,3 @@ module _ (pages : TextMap StampedPage) (aliases : TextMap (List ℕ)) (puts : �
   names_of_page name page is there =
       ap (λ p. p ∷ aliases_of aliases p) (some_is name path (is ∙ ap (option_map (λ _. path)) (sym there)))
       ∙ names_by true (ap is_some (sym there))
-
--- the names that were found among the entries of a map, whose order the search tells where it ends well
-pub names_said : {X E : Type 0} (result : Result X E) (shown : X → List (List ℕ)) (entries : List (List ℕ × List ℕ))
-    (aliases : TextMap (List ℕ)) (path : List ℕ) → map.from_entries entries ≡ aliases
-    → OnOk result (IsStrictlySortedBy (slice_cmp nat_cmp) (keys_of entries))
-    → IfOk result (λ x. shown x ≡ path ∷ keys_of (filter (λ entry. bytes_eq entry.1 path) entries))
-    → IfOk result (λ x. shown x ≡ path ∷ aliases_of aliases path)
-names_said (Ok x) shown entries aliases path is sorted found =
-    found ∙ ap (λ names. path ∷ names) (names_in_order entries aliases path sorted is)
-names_said (Err e) shown entries aliases path is sorted found = found

@@ -1,3 +1,4 @@
+pub mod AliasSteps
 pub mod Groups
 pub mod Laws
 pub mod Maps

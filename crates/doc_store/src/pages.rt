@@ -3,7 +3,7 @@
 ghost use Rattle.std.specs.Prelude.{◌≡◌, ◌<◌, ◌^◌, Some, IsTrue, IfOk, OnOk, OnErr, length, option_copied, option_map, if◌then◌else◌};
 ghost use Rattle.std.specs.FinMap as map;
 ghost use Rattle.std.specs.List.{filter};
-ghost use Rattle.doc_store.specs.MoveSteps.{with_stamped};
+ghost use Rattle.doc_store.specs.MoveSteps.{empty_page, with_stamped};
 ghost use Rattle.doc_store.specs.Sites.{may_see};
 
 use crate::page::Page;
@@ -119,17 +119,22 @@ impl Pages {
         self.entries.remove(path)
     }
 
-    /// Takes the page of one path to another, which has none, with another stamp.
-    pub fn rename(&mut self, heap: Heap, from: &Path, to: &Path, stamp: u64) -> Result<(), Memory>
-        requires stands { IsTrue (map.contains_key self.old from.now) }
-        requires free { map.get self.old to.now ≡ None }
-        ensures ok { OnOk result (self.new ≡ with_stamped self.old from.now to.now stamp) }
+    /// Makes room for a page under a path that has none.
+    pub fn make_room(&mut self, heap: Heap, path: &Path) -> Result<(), Memory>
+        ensures ok { OnOk result (self.new ≡ map.insert self.old path.now empty_page) }
         ensures err { OnErr result (self.new ≡ self.old) }
     {
-        self.insert(to.copy(heap)?, Page::empty(heap))?;
+        self.insert(path.copy(heap)?, Page::empty(heap))
+    }
+
+    /// Takes the page of one path into the room under another, with another stamp. It takes no memory.
+    pub fn rename(&mut self, from: &Path, to: &Path, stamp: u64)
+        requires stands { IsTrue (map.contains_key self.old from.now) }
+        requires room { IsTrue (map.contains_key (map.remove self.old from.now) to.now) }
+        ensures { self.new ≡ with_stamped self.old from.now to.now stamp }
+    {
         if let Some(page) = self.take(from) {
             self.replace(to, page.stamped(stamp));
         }
-        Ok(())
     }
 }
