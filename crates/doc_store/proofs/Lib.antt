@@ -1,7 +1,6 @@
 mod Examples
 mod StoreExamples
 pub mod AliasSteps
-pub mod CutLaw
 pub mod EntrySteps
 pub mod FilterSteps
 pub mod GroupLaws
@@ -9,13 +8,14 @@ pub mod GroupSteps
 pub mod KeySteps
 pub mod MapSteps
 pub mod MapValues
+pub mod MeetSteps
 pub mod NamesLaw
 pub mod PageSteps
 pub mod ReaderSteps
-pub mod MeetSteps
 pub mod SeenLaw
 pub mod SetSteps
 pub mod SightSteps
+pub mod SitesOfViews
 pub mod SortedSteps
 pub mod StampLaw
 pub mod StateSteps

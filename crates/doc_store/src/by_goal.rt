@@ -1,8 +1,8 @@
 //! The aliases of a site by where they lead.
 
-ghost use Rattle.std.specs.Prelude.{◌≡◌, map as mapped, IfOk, OnOk, OnErr, option_copied};
+ghost use Rattle.std.specs.Prelude.{◌≡◌, IfOk, OnOk, OnErr, option_copied};
 ghost use Rattle.std.specs.FinMap as map;
-ghost use Rattle.doc_store.specs.AliasSteps.{set_at, with_value};
+ghost use Rattle.doc_store.specs.AliasSteps.{aliases_at, copies_for, with_alias, with_value, without_alias};
 
 use crate::path_set::PathSet;
 use doc_heap::{BTreeMap, Heap, Vec};
@@ -48,7 +48,7 @@ impl ByGoal {
 
     /// Copies of another path, as many as the aliases of a path.
     pub fn copies_for(&self, heap: Heap, goal: &Path, other: &Path) -> Result<Vec<Path>, Memory>
-        ensures { IfOk result (λ copies. copies.items ≡ mapped (λ _. other.now) (map.keys (set_at (map.get self.now goal.now)))) }
+        ensures { IfOk result (λ copies. copies.items ≡ copies_for other.now (map.keys (aliases_at self.now goal.now))) }
     {
         match self.get(goal) {
             Some(aliases) => aliases.copies_of(heap, other),
@@ -85,7 +85,7 @@ impl ByGoal {
 
     /// Adds an alias to those of a path.
     pub fn add(&mut self, heap: Heap, goal: &Path, alias: &Path) -> Result<(), Memory>
-        ensures ok { OnOk result (self.new ≡ map.insert self.old goal.now (map.insert (set_at (map.get self.old goal.now)) alias.now tt)) }
+        ensures ok { OnOk result (self.new ≡ with_alias self.old goal.now alias.now) }
         ensures err { OnErr result (self.new ≡ self.old) }
     {
         if let Some(aliases) = self.entries.get_mut(goal) {
@@ -98,7 +98,7 @@ impl ByGoal {
 
     /// Takes an alias from those of a path. It takes no memory.
     pub fn remove(&mut self, goal: &Path, alias: &Path)
-        ensures { self.new ≡ with_value self.old goal.now (map.remove (set_at (map.get self.old goal.now)) alias.now) }
+        ensures { self.new ≡ without_alias self.old goal.now alias.now }
     {
         let Some(aliases) = self.entries.get_mut(goal) else {
             return;

@@ -1,8 +1,8 @@
 //! Where the aliases of a site lead.
 
-ghost use Rattle.std.specs.Prelude.{◌≡◌, ◌<◌, ◌^◌, ℕ, List as Seq, map as mapped, OnOk, OnErr, option_copied};
+ghost use Rattle.std.specs.Prelude.{◌≡◌, ◌<◌, ◌^◌, ℕ, List as Seq, OnOk, OnErr, option_copied};
 ghost use Rattle.std.specs.FinMap as map;
-ghost use Rattle.doc_store.specs.AliasSteps.{with_all, with_value, without_all};
+ghost use Rattle.doc_store.specs.AliasSteps.{copies_for, with_all, with_value, without_all};
 
 use crate::path_set::PathSet;
 use doc_heap::{BTreeMap, Heap, Vec};
@@ -88,7 +88,7 @@ impl Goals {
     /// Has each of these aliases lead to the same goal, of which as many copies are given. It takes no
     /// memory.
     pub fn set_all(&mut self, aliases: &PathSet, copies: &mut Vec<Path>)
-        ensures { (to : Seq ℕ) → copies.old.items ≡ mapped (λ _. to) (map.keys aliases.now) → self.new ≡ with_all self.old (map.keys aliases.now) to }
+        ensures { (to : Seq ℕ) → copies.old.items ≡ copies_for to (map.keys aliases.now) → self.new ≡ with_all self.old (map.keys aliases.now) to }
     {
         for alias in aliases.iter() {
             let Some(goal) = copies.pop() else {

@@ -25,7 +25,7 @@ pub fn the_view_of_a_view_is_the_view()
 
 /// What a reader sees of a site is a site: no alias is the path of a page that they see, and each leads
 /// to one.
-#[tactic(auto, using(crate::proofs::CutLaw::views_are_sites))]
+#[tactic(auto, using(crate::proofs::SitesOfViews::views_are_sites))]
 pub fn what_a_reader_sees_is_a_site()
     ensures { ViewsAreSites }
 {}

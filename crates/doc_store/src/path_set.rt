@@ -1,11 +1,12 @@
 //! Sets of paths.
 
-ghost use Rattle.std.specs.Prelude.{◌≡◌, ◌∷◌, map as mapped, IfOk, OnOk, OnErr};
+ghost use Rattle.std.specs.Prelude.{◌≡◌, ◌∷◌, IfOk, OnOk, OnErr};
 ghost use Rattle.std.specs.BTreeMap.{IsOrdered};
 ghost use Rattle.std.specs.Cmp.Lexicographic.{slice_cmp};
 ghost use Rattle.std.specs.FinMap as map;
 ghost use Rattle.std.specs.Map.{keys_of};
 ghost use Rattle.std.specs.Ordering.{nat_cmp};
+ghost use Rattle.doc_store.specs.AliasSteps.{copies_for};
 ghost use Rattle.doc_store.specs.Groups.{texts_of};
 
 use doc_heap::{BTreeMap, Heap, Vec};
@@ -74,7 +75,7 @@ impl PathSet {
 
     /// As many copies of another path as there are paths.
     pub fn copies_of(&self, heap: Heap, other: &Path) -> Result<Vec<Path>, Memory>
-        ensures { IfOk result (λ copies. copies.items ≡ mapped (λ _. other.now) (map.keys self.now)) }
+        ensures { IfOk result (λ copies. copies.items ≡ copies_for other.now (map.keys self.now)) }
     {
         copies_of(heap, other, &self.paths)
     }
@@ -99,7 +100,7 @@ fn after<'a>(
 
 /// As many copies of a path as a map has keys.
 fn copies_of(heap: Heap, other: &Path, paths: &BTreeMap<Path, ()>) -> Result<Vec<Path>, Memory>
-    ensures copies { IfOk result (λ copies. copies.items ≡ mapped (λ _. other.now) (keys_of paths.now.entries)) }
+    ensures copies { IfOk result (λ copies. copies.items ≡ copies_for other.now (keys_of paths.now.entries)) }
     ensures ordered { OnOk result (IsOrdered (slice_cmp nat_cmp) paths.now) }
 {
     let mut copies = Vec::with_capacity(heap, paths.len())?;
