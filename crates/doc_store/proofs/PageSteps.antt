@@ -1,5 +1,5 @@
 -- Steps of the moves of pages.
-use Rattle.std.proofs.Common.{◌≡◌, ℕ, List, Bool, true, false, cond, IsTrue, is_some, refl, ap, sym, ◌∙◌}
+use Rattle.std.proofs.Common.{◌≡◌, ℕ, List, Bool, true, false, cond, IsTrue, is_some, refl, ap, sym, subst, ◌∙◌}
 use Rattle.std.specs.Prelude.{Option, Some, None}
 use Rattle.std.specs.FinMap as map
 use Rattle.std.proofs.lemmas.Cmp.{nat_list_cmp_total}
@@ -25,6 +25,13 @@ module _ {X : Type 0} (pages : TextMap X) (from to : List ℕ) (stands : IsTrue 
       by : (b : Bool) → same_key from to ≡ b → b ≡ false
       by true e = absurd (not_both (map.get pages from) stands (ap (map.get pages) (same_from from to e) ∙ free))
       by false e = refl
+
+  pub paths_differ : from ≡ to → ⊥
+  paths_differ e = two (same_key from to) (ap (same_key from) (sym e) ∙ same_itself from) paths_apart
+    where
+      two : (b : Bool) → b ≡ true → b ≡ false → ⊥
+      two true e f = cc
+      two false e f = cc
 
 module _ (pages : TextMap StampedPage) (from to : List ℕ) (stamp : ℕ) (stands : IsTrue (map.contains_key pages from))
     (free : map.get pages to ≡ None)
@@ -70,3 +77,36 @@ module _ (pages : TextMap StampedPage) (from to : List ℕ) (stamp : ℕ) (stand
           ≡ cond t (Some (restamped stamp page)) (cond f None there)
       by true f there = refl
       by false f there = refl
+
+  pub stands_beside : IsTrue (map.contains_key with_one from)
+  stands_beside = subst (λ o. IsTrue (is_some o)) (sym still_found) stands
+
+  -- the page is taken into the room that was made for it
+  pub renamed_in_room : (new : TextMap StampedPage) → new ≡ with_stamped with_one from to stamp → new ≡ with_stamped pages from to stamp
+  renamed_in_room new is = by (map.get with_one from) refl
+    where
+      by : (o : Option StampedPage) → map.get with_one from ≡ o → new ≡ with_stamped pages from to stamp
+      by None e = absurd (page_is_there (sym e))
+      by (Some page) e = page_renamed page (restamped stamp page) new (sym e) refl
+          (is ∙ ap (with_stamped_at with_one from to stamp) e ∙ (λ i. map.insert (sym taken i) to (restamped stamp page)))
+
+pub no_page : (pages : TextMap StampedPage) (from : List ℕ) → IsTrue (map.contains_key pages from) → None ≡ map.get pages from → ⊥
+no_page pages from stands none = not_both (map.get pages from) stands (sym none)
+
+pub stamped_is : (pages without new : TextMap StampedPage) (from to : List ℕ) (stamp : ℕ) (page stamped : StampedPage)
+    → Some page ≡ map.get pages from → without ≡ map.remove pages from → stamped ≡ restamped stamp page
+    → new ≡ map.insert without to stamped → new ≡ with_stamped pages from to stamp
+stamped_is pages without new from to stamp page stamped found taken is set =
+    set ∙ (λ i. map.insert (taken i) to (is i)) ∙ ap (with_stamped_at pages from to stamp) found
+
+-- the room is taken back
+pub room_undone : {X : Type 0} (pages : TextMap X) (path : List ℕ) (one : X) → map.get pages path ≡ None
+    → map.remove (map.insert pages path one) path ≡ pages
+room_undone {X = X} pages path one free = map.same_map nat_list_cmp_total exact_bytes _ _ (λ q.
+    get_taken (map.insert pages path one) path q
+    ∙ ap (cond (same_key q path) None) (get_set pages path one q)
+    ∙ by q (same_key q path) refl)
+  where
+    by : (q : List ℕ) (b : Bool) → same_key q path ≡ b → cond b None (cond b (Some one) (map.get pages q)) ≡ map.get pages q
+    by q true e = sym (ap (map.get pages) (same_from q path e) ∙ free)
+    by q false e = refl

@@ -192,6 +192,10 @@ module _ (pages : TextMap StampedPage) (aliases : TextMap (List ℕ)) (puts : �
   pub move_free : map.get pages to ≡ None
   move_free = absent (map.get pages to) (stands_in pages aliases puts old to view_is ∙ needs.1)
 
+  pub move_unled : IsStore (state_of pages aliases puts) → (alias : List ℕ) → map.get aliases alias ≡ Some to → ⊥
+  move_unled is alias e = clash (map.contains_key (map_values (λ p. p.page) pages) to) (is.site.lead alias to e)
+      (contains-map_values (λ p. p.page) pages to ∙ ap is_some move_free)
+
   pub move_named : IsStore (state_of pages aliases puts) → map.get aliases from ≡ None
   move_named is = alias_of_none pages aliases puts from from_stands is
 

@@ -1,7 +1,9 @@
+pub mod AliasSteps
 pub mod Groups
 pub mod Laws
 pub mod Maps
 pub mod MoveSteps
+pub mod Names
 pub mod Pages
 pub mod Readers
 pub mod Sites

@@ -1,9 +1,8 @@
 -- Words of the proofs of moves.
-use Rattle.std.specs.Prelude.{ℕ, List, [], ◌∷◌, bytes_eq, Option, Some, None, if◌then◌else◌}
+use Rattle.std.specs.Prelude.{ℕ, List, [], Option, Some, None}
 use Rattle.std.specs.FinMap as map
 use Rattle.doc_store.specs.Maps.{TextMap}
 use Rattle.doc_store.specs.Pages.{StampedPage}
-use Rattle.doc_store.specs.Store.{goal_after}
 
 -- the page with another stamp
 abbrev pub restamped : ℕ → StampedPage → StampedPage
@@ -17,8 +16,6 @@ with_stamped_at pages from to stamp (Some page) = map.insert (map.remove pages f
 abbrev pub with_stamped : TextMap StampedPage → List ℕ → List ℕ → ℕ → TextMap StampedPage
 with_stamped pages from to stamp = with_stamped_at pages from to stamp (map.get pages from)
 
--- aliases with those of some entries as they are after a move, but for the new path
-abbrev pub with_moved : List ℕ → List ℕ → TextMap (List ℕ) → List (List ℕ × List ℕ) → TextMap (List ℕ)
-with_moved from to done [] = done
-with_moved from to done (entry ∷ rest) = with_moved from to
-    (if bytes_eq entry.0 to then done else map.insert done entry.0 (goal_after from to entry.1)) rest
+-- what stands under a new path until the page is moved there
+abbrev pub empty_page : StampedPage
+empty_page = record { page = record { groups = []; text = [] }; stamp = 0 }

@@ -68,19 +68,24 @@ are_tables no_items = true
 are_tables (item value rest) = is_some (as_table value) && are_tables rest
 
 -- the tables of what should be an array of tables
-abbrev pub tables_of : Option Items → Result Items ReadersError
-tables_of None = Err BadToml
-tables_of (Some items) = if are_tables items then Ok items else Err BadToml
+abbrev pub tables_of : Option Items → Option Items
+tables_of None = None
+tables_of (Some items) = if are_tables items then Some items else None
 
--- the tables of what the key `reader` holds; without the key there are none
-abbrev pub tables_at : Option Data → Result Items ReadersError
-tables_at None = Ok no_items
+-- the tables of what a key holds; without the key there are none
+abbrev pub tables_at : Option Data → Option Items
+tables_at None = Some no_items
 tables_at (Some value) = tables_of (as_array value)
+
+-- the tables of the readers, if what should be their array is one
+abbrev pub reader_tables : Option Items → Result Items ReadersError
+reader_tables None = Err BadToml
+reader_tables (Some tables) = Ok tables
 
 -- the tables of a document's readers
 abbrev pub tables_in : Option Members → Result Items ReadersError
 tables_in None = Err BadToml
-tables_in (Some document) = tables_at (get_member (codes "reader") document)
+tables_in (Some document) = reader_tables (tables_at (get_member (codes "reader") document))
 
 -- the reader entries found so far, then those of more tables, the first of which has the number n
 abbrev pub entries_from : List Entry → ℕ → Items → Result (List Entry) ReadersError
@@ -115,6 +120,10 @@ readers_in document = readers_of_entries (entries_of (tables_in document))
 abbrev pub table_of : Result (List (List ℕ × Reader)) ReadersError → Result ReaderTable ReadersError
 table_of (Err e) = Err e
 table_of (Ok readers) = Ok (map.from_entries readers)
+
+-- the readers of a document
+abbrev pub readers_of_document : Members → Result ReaderTable ReadersError
+readers_of_document document = table_of (readers_in (Some document))
 
 -- the readers of a text
 abbrev pub readers_of : List ℕ → Result ReaderTable ReadersError

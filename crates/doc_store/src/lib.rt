@@ -3,14 +3,18 @@
 #![tactic(auto)]
 
 mod aliases;
+mod by_goal;
 mod entries;
+mod goals;
 pub mod groups;
 pub mod laws;
 pub mod moving;
 mod names;
 pub mod page;
 mod pages;
+mod path_set;
 pub mod reader;
 pub mod readers;
 pub mod site_sight;
 pub mod store;
+pub mod tables;

@@ -1,8 +1,7 @@
 //! Moves of pages from one path to another.
 
-ghost use Rattle.std.specs.Prelude.{◌≡◌, false, None, IsTrue, OnOk, OnErr, bytes_eq};
+ghost use Rattle.std.specs.Prelude.{◌≡◌, ◌≢◌, ℕ, List as Seq, Some, None, IsTrue, OnOk, OnErr};
 ghost use Rattle.std.specs.FinMap as map;
-ghost use Rattle.std.specs.List.{list_any};
 ghost use Rattle.doc_store.specs.MoveSteps.{with_stamped};
 ghost use Rattle.doc_store.specs.Store.{aliases_after};
 
@@ -52,7 +51,7 @@ impl From<Memory> for MoveError {
 }
 
 /// Takes the page of one path to another, which has none, and has its aliases and the old path lead
-/// there.
+/// there. What needs memory comes first.
 pub(crate) fn move_page(
     heap: Heap,
     pages: &mut Pages,
@@ -64,43 +63,17 @@ pub(crate) fn move_page(
     requires stands { IsTrue (map.contains_key pages.old from.now) }
     requires free { map.get pages.old to.now ≡ None }
     requires named { map.get aliases.old from.now ≡ None }
+    requires unled { (alias : Seq ℕ) → map.get aliases.old alias ≢ Some to.now }
     ensures pages { OnOk result (pages.new ≡ with_stamped pages.old from.now to.now stamp) }
     ensures aliases { OnOk result (aliases.new ≡ aliases_after aliases.old from.now to.now) }
     ensures same_pages { OnErr result (pages.new ≡ pages.old) }
     ensures same_aliases { OnErr result (aliases.new ≡ aliases.old) }
 {
-    if !aliases.has_goal(from) {
-        return move_without_aliases(heap, pages, aliases, from, to, stamp);
-    }
-    let after = aliases.after_move(heap, from, to)?;
-    pages.rename(heap, from, to, stamp)?;
-    *aliases = after;
-    Ok(())
-}
-
-/// The same for a page that has no alias.
-fn move_without_aliases(
-    heap: Heap,
-    pages: &mut Pages,
-    aliases: &mut Aliases,
-    from: &Path,
-    to: &Path,
-    stamp: u64,
-) -> Result<(), Memory>
-    requires stands { IsTrue (map.contains_key pages.old from.now) }
-    requires free { map.get pages.old to.now ≡ None }
-    requires named { map.get aliases.old from.now ≡ None }
-    requires none { list_any (λ goal. bytes_eq goal from.now) (map.values aliases.old) ≡ false }
-    ensures pages { OnOk result (pages.new ≡ with_stamped pages.old from.now to.now stamp) }
-    ensures aliases { OnOk result (aliases.new ≡ aliases_after aliases.old from.now to.now) }
-    ensures same_pages { OnErr result (pages.new ≡ pages.old) }
-    ensures same_aliases { OnErr result (aliases.new ≡ aliases.old) }
-{
-    aliases.insert(from.copy(heap)?, to.copy(heap)?)?;
-    if let Err(e) = pages.rename(heap, from, to, stamp) {
-        aliases.remove(from);
+    pages.make_room(heap, to)?;
+    if let Err(e) = aliases.follow(heap, from, to) {
+        pages.take(to);
         return Err(e);
     }
-    aliases.remove(to);
+    pages.rename(from, to, stamp);
     Ok(())
 }

@@ -1,6 +1,7 @@
 //! Pages.
 
 ghost use Rattle.std.specs.Prelude.{◌≡◌, [], IfOk};
+ghost use Rattle.doc_store.specs.MoveSteps.{empty_page};
 
 use crate::groups::Groups;
 use doc_heap::{Heap, String};
@@ -44,7 +45,9 @@ impl Page {
     }
 
     /// A page without groups and text. It takes no memory.
-    pub(crate) fn empty(heap: Heap) -> Page {
+    pub(crate) fn empty(heap: Heap) -> Page
+        ensures { result ≡ empty_page }
+    {
         Page {
             groups: Groups::none(heap),
             text: Text::new(String::new(heap)),

@@ -1,10 +1,13 @@
 //! The pages of a site by their paths.
 
-ghost use Rattle.std.specs.Prelude.{◌≡◌, ◌<◌, ◌^◌, Some, IsTrue, IfOk, OnOk, OnErr, option_copied, option_map, if◌then◌else◌};
+ghost use Rattle.std.specs.Prelude.{◌≡◌, ◌<◌, ◌^◌, Some, IsTrue, IfOk, OnOk, OnErr, length, option_copied, option_map, if◌then◌else◌};
 ghost use Rattle.std.specs.FinMap as map;
-ghost use Rattle.doc_store.specs.MoveSteps.{with_stamped};
+ghost use Rattle.std.specs.List.{filter};
+ghost use Rattle.doc_store.specs.MoveSteps.{empty_page, with_stamped};
+ghost use Rattle.doc_store.specs.Sites.{may_see};
 
 use crate::page::Page;
+use crate::reader::Reader;
 use crate::store::Put;
 use doc_heap::{BTreeMap, Heap};
 use doc_page::failure::Memory;
@@ -59,6 +62,16 @@ impl Pages {
         self.entries.get_key_value(path)
     }
 
+    /// How many of the pages a reader may see.
+    pub fn count_seen(&self, reader: &Reader) -> usize
+        ensures { result ≡ length (filter (λ page. may_see (Some reader.now) page.page) (map.values self.now)) }
+    {
+        self.entries
+            .values()
+            .filter(|page| reader.may_see(*page))
+            .count()
+    }
+
     pub fn contains(&self, path: &Path) -> bool
         ensures { result ≡ map.contains_key self.now path.now }
     {
@@ -106,17 +119,22 @@ impl Pages {
         self.entries.remove(path)
     }
 
-    /// Takes the page of one path to another, which has none, with another stamp.
-    pub fn rename(&mut self, heap: Heap, from: &Path, to: &Path, stamp: u64) -> Result<(), Memory>
-        requires stands { IsTrue (map.contains_key self.old from.now) }
-        requires free { map.get self.old to.now ≡ None }
-        ensures ok { OnOk result (self.new ≡ with_stamped self.old from.now to.now stamp) }
+    /// Makes room for a page under a path that has none.
+    pub fn make_room(&mut self, heap: Heap, path: &Path) -> Result<(), Memory>
+        ensures ok { OnOk result (self.new ≡ map.insert self.old path.now empty_page) }
         ensures err { OnErr result (self.new ≡ self.old) }
     {
-        self.insert(to.copy(heap)?, Page::empty(heap))?;
+        self.insert(path.copy(heap)?, Page::empty(heap))
+    }
+
+    /// Takes the page of one path into the room under another, with another stamp. It takes no memory.
+    pub fn rename(&mut self, from: &Path, to: &Path, stamp: u64)
+        requires stands { IsTrue (map.contains_key self.old from.now) }
+        requires room { IsTrue (map.contains_key (map.remove self.old from.now) to.now) }
+        ensures { self.new ≡ with_stamped self.old from.now to.now stamp }
+    {
         if let Some(page) = self.take(from) {
             self.replace(to, page.stamped(stamp));
         }
-        Ok(())
     }
 }

@@ -3,10 +3,12 @@
 ghost use Rattle.std.specs.Prelude.{◌≡◌, ◌≢◌, [], IfOk, IfErr, OnOk, OnErr, Ok, Err, option_copied};
 ghost use Rattle.std.specs.FinMap as map;
 ghost use Rattle.doc_page.specs.Refusals.{Gives};
-ghost use Rattle.doc_store.specs.Readers.{readers_from, readers_of, set_reader, table_of};
+ghost use Rattle.toml.specs.View.{table_view};
+ghost use Rattle.doc_store.specs.Readers.{readers_from, readers_of, readers_of_document, set_reader, table_of};
 
 use crate::entries::{Entry, entries_of};
 use crate::reader::Reader;
+use crate::tables::document_of;
 use doc_heap::{BTreeMap, Heap, String};
 use doc_page::failure::Memory;
 use doc_page::list::List;
@@ -15,6 +17,7 @@ use doc_page::token::is_token;
 use std::error::Error;
 use std::fmt;
 use std::marker::Model;
+use toml::Table;
 
 /// Why a configuration has no readers. Entries are counted from 1.
 #[derive(Clone, Copy, Debug, PartialEq, Eq)]
@@ -121,7 +124,16 @@ impl Readers {
         ensures read { IfOk result (λ readers. readers_of text.now ≡ Ok readers) }
         ensures refused { IfErr result (λ e. e ≢ ReadersError.Memory → readers_of text.now ≡ Err e) }
     {
-        let entries = entries_of(heap, text)?;
+        let document = document_of(heap, text)?;
+        Readers::from_document(heap, &document)
+    }
+
+    /// The same of a document that was read already.
+    pub fn from_document(heap: Heap, document: &Table) -> Result<Readers, ReadersError>
+        ensures read { IfOk result (λ readers. readers_of_document (table_view document.now) ≡ Ok readers) }
+        ensures refused { IfErr result (λ e. e ≢ ReadersError.Memory → readers_of_document (table_view document.now) ≡ Err e) }
+    {
+        let entries = entries_of(heap, document)?;
         Readers::of_entries(heap, entries)
     }
 

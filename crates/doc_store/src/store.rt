@@ -1,8 +1,10 @@
 //! The store: the pages of a site with their aliases, and edits of them.
 
-ghost use Rattle.std.specs.Prelude.{◌≡◌, ◌+◌, ◌<◌, ◌^◌, Some, OnOk, option_copied, option_map};
+ghost use Rattle.std.specs.Prelude.{◌≡◌, ◌+◌, ◌<◌, ◌^◌, Some, IfOk, OnOk, length, option_map};
 ghost use Rattle.std.specs.FinMap as map;
 ghost use Rattle.doc_page.specs.Refusals.{Gives};
+ghost use Rattle.doc_store.specs.Groups.{texts_of};
+ghost use Rattle.doc_store.specs.Names.{names_of};
 ghost use Rattle.doc_store.specs.Sites.{view_of};
 ghost use Rattle.doc_store.specs.Store.{IsStore, StoreState, empty_store, fits, fits_in, may_move, move_fits, moved_in, put_into, stamp_after, without_page};
 
@@ -13,7 +15,7 @@ use crate::page::Page;
 use crate::pages::Pages;
 use crate::reader::Reader;
 use crate::site_sight::SiteSight;
-use doc_heap::Heap;
+use doc_heap::{Heap, Vec};
 use doc_page::failure::Memory;
 use doc_page::path::Path;
 use std::error::Error;
@@ -197,6 +199,24 @@ impl Store {
             return None;
         }
         Some(self.puts)
+    }
+
+    /// The names of a page: its path, then its aliases in the order of their bytes. Where no page stands
+    /// under the path there is none.
+    pub fn names_of<'a>(&'a self, path: &Path) -> Result<Vec<&'a Path>, Memory>
+        ensures { IfOk result (λ names. texts_of names.items ≡ names_of self.now.site path.now) }
+    {
+        let Some((path, _page)) = self.pages.entry(path) else {
+            return Ok(Vec::new(self.heap));
+        };
+        self.aliases.names(self.heap, path)
+    }
+
+    /// How many pages the reader sees. It takes no memory, and a step for each page of the store.
+    pub fn count_seen(&self, reader: &Reader) -> usize
+        ensures { result ≡ length (view_of self.now.site (Some reader.now)).pages }
+    {
+        self.pages.count_seen(reader)
     }
 
     /// What the reader sees of the site.

@@ -1,12 +1,16 @@
-use Rattle.std.proofs.Common.{◌∙◌, ap}
-use Rattle.std.specs.FinMap as map
-use Rattle.std.proofs.lemmas.Cmp.{nat_list_cmp_total}
-use Rattle.std.proofs.lemmas.Map.Lookups.{exact_bytes}
-use Rattle.doc_page.proofs.Maps.{removed}
+use Rattle.std.proofs.Common.{sym, ◌∙◌}
+use Rattle.std.proofs.Common.{refl}
+use Rattle.doc_store.proofs.SetSteps.{none_taken, set_taken, sets_same}
 use Rattle.doc_store.proofs.aliases.Aliases.remove.Goals as goal
 
-pub returns : goal.returns
-returns c =
-    removed nat_list_cmp_total exact_bytes c.self.inside.entries.entries c.remove.new.self.entries c.args.alias.now
-    c.remove.ensures.updates.0
-    ∙ ap (λ m. map.remove m c.args.alias.now) c.self.view_is
+pub invariant_of-self : goal.invariant_of-self
+invariant_of-self c =
+    let i = c.self.inside in
+    sets_same i.goals i.by_goal c.self.invariant _ _
+    (c.take.ensures.rest ∙ none_taken i.goals c.args.alias.now c.in_default.ensures.goal) refl
+
+pub invariant_of-self-2 : goal.invariant_of-self-2
+invariant_of-self-2 c =
+    let i = c.self.inside in
+    sets_same _ _ (set_taken i.goals i.by_goal c.self.invariant c.args.alias.now c.in-Some.goal (sym c.in-Some.ensures.goal)) _ _
+    c.take.ensures.rest c.remove.ensures

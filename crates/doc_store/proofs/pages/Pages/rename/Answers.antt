@@ -1,19 +1,15 @@
-use Rattle.doc_store.proofs.PageSteps.{page_is_there, page_renamed, room_is_there}
+use Rattle.std.proofs.Common.{IsTrue, sym, subst}
+use Rattle.std.specs.FinMap as map
+use Rattle.doc_store.proofs.PageSteps.{no_page, stamped_is}
 use Rattle.doc_store.proofs.pages.Pages.rename.Goals as goal
 
 pub replace-requires : goal.replace-requires
-replace-requires c =
-    room_is_there c.args.self.now c.args.from.now c.args.to.now c.args.stamp c.requires.stands c.requires.free
-    c.in_ok-copy.field-0 c.empty.result c.in_ok-copy.ensures c.insert.new.self c.take.new.self c.in_ok-insert.ensures.ok c.take.ensures.rest
+replace-requires c = subst (λ m. IsTrue (map.contains_key m c.args.to.now)) (sym c.take.ensures.rest) c.requires.room
 
-pub returns-in-Some-clause-ok : goal.returns-in-Some-clause-ok
-returns-in-Some-clause-ok c =
-    page_renamed c.args.self.now c.args.from.now c.args.to.now c.args.stamp c.requires.stands c.requires.free
-    c.in_ok-copy.field-0 c.empty.result c.in_ok-copy.ensures c.insert.new.self c.take.new.self c.in_ok-insert.ensures.ok c.take.ensures.rest
-    c.in-Some.page c.stamped.result c.replace.new.self c.in-Some.ensures.page c.stamped.ensures c.replace.ensures
+pub returns-in-Some : goal.returns-in-Some
+returns-in-Some c =
+    stamped_is c.args.self.now c.take.new.self c.replace.new.self c.args.from.now c.args.to.now c.args.stamp c.in-Some.page c.stamped.result
+    c.in-Some.ensures.page c.take.ensures.rest c.stamped.ensures c.replace.ensures
 
-pub returns-in_default-clause-ok : goal.returns-in_default-clause-ok
-returns-in_default-clause-ok c =
-    absurd (page_is_there c.args.self.now c.args.from.now c.args.to.now c.args.stamp c.requires.stands c.requires.free
-    c.in_ok-copy.field-0 c.empty.result c.in_ok-copy.ensures c.insert.new.self c.take.new.self c.in_ok-insert.ensures.ok
-    c.take.ensures.rest c.in_default.ensures.page)
+pub returns-in_default : goal.returns-in_default
+returns-in_default c = absurd (no_page c.args.self.now c.args.from.now c.requires.stands c.in_default.ensures.page)

@@ -1,4 +1,4 @@
-use Rattle.doc_store.proofs.StateSteps.{move_free, move_gives, move_named, move_stands, store_moved}
+use Rattle.doc_store.proofs.StateSteps.{move_free, move_gives, move_named, move_stands, move_unled, store_moved}
 use Rattle.doc_store.proofs.store.Store.move_page.Goals as goal
 
 pub move_page-requires-clause-stands : goal.move_page-requires-clause-stands
@@ -17,6 +17,12 @@ pub move_page-requires-clause-named : goal.move_page-requires-clause-named
 move_page-requires-clause-named c =
     let i = c.self.inside in
     move_named i.pages i.aliases i.puts c.args.self.now c.args.from.now c.args.to.now c.may_move.result c.self.view_is
+    c.may_move.ensures.answer c.in_ok-may_move.was c.self.invariant
+
+pub move_page-requires-clause-unled : goal.move_page-requires-clause-unled
+move_page-requires-clause-unled c =
+    let i = c.self.inside in
+    move_unled i.pages i.aliases i.puts c.args.self.now c.args.from.now c.args.to.now c.may_move.result c.self.view_is
     c.may_move.ensures.answer c.in_ok-may_move.was c.self.invariant
 
 pub invariant_of-self-2 : goal.invariant_of-self-2

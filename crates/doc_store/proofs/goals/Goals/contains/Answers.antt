@@ -1,0 +1,11 @@
+use Rattle.std.proofs.Common.{◌∙◌, ap, is_some}
+use Rattle.std.specs.FinMap as map
+use Rattle.std.proofs.lemmas.Cmp.{nat_list_cmp_total}
+use Rattle.std.proofs.lemmas.Map.Lookups.{exact_bytes}
+use Rattle.doc_page.proofs.Maps.{looked_up}
+use Rattle.doc_store.proofs.goals.Goals.contains.Goals as goal
+
+pub returns : goal.returns
+returns c =
+    c.contains_key.ensures ∙ ap is_some (looked_up nat_list_cmp_total exact_bytes c.self.inside.entries.entries c.args.alias.now)
+    ∙ ap (λ m. is_some (map.get m c.args.alias.now)) c.self.view_is

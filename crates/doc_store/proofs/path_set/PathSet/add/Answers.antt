@@ -1,0 +1,12 @@
+use Rattle.std.proofs.Common.{◌∙◌}
+use Rattle.std.specs.FinMap as map
+use Rattle.std.proofs.lemmas.Cmp.{nat_list_cmp_total}
+use Rattle.std.proofs.lemmas.Map.Lookups.{exact_bytes}
+use Rattle.doc_page.proofs.Maps.{inserted}
+use Rattle.doc_store.proofs.path_set.PathSet.add.Goals as goal
+
+pub returns-clause-ok : goal.returns-clause-ok
+returns-clause-ok c =
+    inserted nat_list_cmp_total exact_bytes c.self.inside.paths.entries c.insert.new.self.entries c.in_ok-copy.field-0 tt
+    c.in_ok-insert.ensures.updates.0
+    ∙ (λ i. map.insert (c.self.view_is i) (c.in_ok-copy.ensures i) tt)
