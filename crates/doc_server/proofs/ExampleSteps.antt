@@ -54,7 +54,7 @@ use Rattle.doc_server.specs.Examples.{
   count_of,
 }
 use Rattle.doc_server.specs.ExampleSteps.{line_before, count_after, StopsAt, HasRoom, IsAt}
-use Rattle.doc_server.specs.Outputs.{AppendsPrefix}
+use Rattle.doc_server_streams.specs.Streams.{AppendsPrefix}
 use Rattle.doc_server.specs.declared.count.Count.{Count}
 use Rattle.doc_server.specs.declared.fault.Fault.{Fault}
 use Rattle.doc_server.specs.declared.fault.Fault.TheVariants as faults

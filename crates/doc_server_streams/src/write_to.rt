@@ -37,6 +37,12 @@ impl<W> WriteTo<W> {
     {
         &self.writer
     }
+
+    pub fn into_writer(self) -> W
+        ensures { result ≡ writer_of self }
+    {
+        self.writer
+    }
 }
 
 impl<W: Write> Output for WriteTo<W> {
