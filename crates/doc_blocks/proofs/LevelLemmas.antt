@@ -1,38 +1,6 @@
 -- What each level has of the stack of finished blocks, as the stack and the open containers change.
-use Rattle.std.proofs.Common.{
-  ◌≡◌,
-  ◌∙◌,
-  ℕ,
-  suc,
-  ◌+◌,
-  ◌<◌,
-  ◌≤◌,
-  Bool,
-  true,
-  false,
-  ◌&&◌,
-  not,
-  List,
-  [],
-  ◌∷◌,
-  ◌++◌,
-  take,
-  drop,
-  length,
-  refl,
-  ap,
-  sym,
-  subst,
-  arith,
-  zero,
-  get_or,
-  set,
-  Option,
-  Some,
-  None,
-  Vec,
-  Global,
-}
+use Rattle.std.proofs.Common.{◌≡◌, ◌∙◌, ℕ, suc, ◌+◌, ◌<◌, ◌≤◌, Bool, true, false, ◌&&◌, not, List, [], ◌∷◌, ◌++◌, take, drop, length, refl}
+use Rattle.std.proofs.Common.{ap, sym, subst, arith, zero, get_or, set, Option, Some, None, Vec, Global}
 use denote.Bor.{Bor}
 use Rattle.doc_heap.specs.declared.refusing.Refusing.{Refusing}
 use Rattle.std.proofs.lemmas.List.{take-take, take-append-le, drop-append-le, length-take-le, take_all, drop_all}
@@ -52,20 +20,8 @@ use Rattle.doc_blocks.specs.declared.levels.Open.{Open}
 use Rattle.doc_blocks.specs.declared.levels.Left.{Left}
 use Rattle.doc_blocks_pass.specs.Closing.{container_closed, item_closed}
 use Rattle.doc_blocks_leaves.specs.Views.{behind, forest, blocks_shown}
-use Rattle.doc_blocks.specs.StackSteps.{
-  Outer,
-  Stack,
-  with_inner_blocks,
-  block_begun,
-  item_begun,
-  container_opened,
-  quote_put,
-  item_put,
-  list_with,
-  container_blank,
-  IsNotOf,
-  ClosesLast,
-}
+use Rattle.doc_blocks.specs.StackSteps.{Outer, Stack, with_inner_blocks, block_begun, item_begun, container_opened, quote_put, item_put}
+use Rattle.doc_blocks.specs.StackSteps.{list_with, container_blank, IsNotOf, ClosesLast}
 use Rattle.doc_blocks.specs.Containers.{container_shown}
 use Rattle.doc_blocks.specs.PathSteps.{gone_on_at}
 use Rattle.doc_blocks.specs.LevelSteps.{list_shown, level_at, level_shown, Leaves, first_base, outers_shown, EndsAt, AreSound}

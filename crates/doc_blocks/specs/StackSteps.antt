@@ -4,21 +4,8 @@ use Rattle.doc_rules.specs.ContainerStarts.{ListKind, is_same_kind}
 use Rattle.doc_rules.specs.Forests.{node}
 use Rattle.doc_rules.specs.Blocks.{Blocks, BlockQuote, ListItem}
 use Rattle.doc_blocks_pass.specs.Leaves.{OpenLeaf}
-use Rattle.doc_blocks_pass.specs.Paths.{
-  OpenList,
-  Level,
-  OpenContainer,
-  OpenQuote,
-  OpenItem,
-  Path,
-  Here,
-  Inside,
-  empty_level,
-  finished,
-  with_blocks,
-  begun_at,
-  item_begun_at,
-}
+use Rattle.doc_blocks_pass.specs.Paths.{OpenList, Level, OpenContainer, OpenQuote, OpenItem, Path, Here, Inside, empty_level, finished}
+use Rattle.doc_blocks_pass.specs.Paths.{with_blocks, begun_at, item_begun_at}
 use Rattle.doc_blocks_pass.specs.Closing.{container_closed}
 
 -- an open container and the level that it stands in

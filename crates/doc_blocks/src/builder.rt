@@ -42,7 +42,8 @@ pub(crate) struct Builder {
 
 impl Builder {
     pub(crate) fn new(heap: Heap) -> Builder
-        ensures state { state_of result ≡ record { stack = empty_stack; leaf = NoLeaf; refs = finite.empty } }
+        ensures state { state_of result
+            ≡ record { stack = empty_stack; leaf = NoLeaf; refs = finite.empty } }
         ensures ready { IsReady result 0 }
     {
         Builder {
@@ -55,7 +56,8 @@ impl Builder {
     /// The open leaf closes.
     fn close_leaf(&mut self, heap: Heap, entities: &Entities) -> Result<(), Memory>
         requires { IsSound self.old.levels }
-        ensures state { OnOk result (state_of self.new ≡ leaf_done entities.now (state_of self.old)) }
+        ensures state { OnOk result (state_of self.new
+            ≡ leaf_done entities.now (state_of self.old)) }
         ensures sound { OnOk result (IsSound self.new.levels) }
         ensures outer { OnOk result (self.new.levels.outer ≡ self.old.levels.outer) }
     {
@@ -75,7 +77,8 @@ impl Builder {
         depth: usize,
     ) -> Result<(), Memory>
         requires { IsReady self.old depth }
-        ensures state { OnOk result (state_of self.new ≡ all_closed entities.now depth (state_of self.old)) }
+        ensures state { OnOk result (state_of self.new
+            ≡ all_closed entities.now depth (state_of self.old)) }
         ensures sound { OnOk result (IsSound self.new.levels) }
         ensures depth { OnOk result (vec_len self.new.levels.outer ≡ depth) }
     {
@@ -87,7 +90,8 @@ impl Builder {
     /// Then a quote opens.
     fn begin_quote(&mut self, heap: Heap, entities: &Entities, depth: usize) -> Result<(), Memory>
         requires { IsReady self.old depth }
-        ensures state { OnOk result (state_of self.new ≡ quote_opened entities.now depth (state_of self.old)) }
+        ensures state { OnOk result (state_of self.new
+            ≡ quote_opened entities.now depth (state_of self.old)) }
         ensures ready { OnOk result (IsReady self.new (depth + 1)) }
     {
         self.close_to(heap, entities, depth)?;
@@ -106,7 +110,8 @@ impl Builder {
     ) -> Result<(), Memory>
         requires { IsReady self.old depth }
         ensures state { OnOk result (state_of self.new
-            ≡ item_opened entities.now depth (state_of self.old) (kind_of item.now.kind) item.now.start item.now.columns (is_blank_line (left_of item.now.first))) }
+            ≡ item_opened entities.now depth (state_of self.old) (kind_of item.now.kind)
+            item.now.start item.now.columns (is_blank_line (left_of item.now.first))) }
         ensures ready { OnOk result (IsReady self.new (depth + 1)) }
     {
         self.close_to(heap, entities, depth)?;
@@ -143,7 +148,10 @@ impl Builder {
         start: LeafStart,
     ) -> Result<(), Memory>
         requires { IsReady self.old depth }
-        ensures reached { OnOk result (reached depth (state_of self.old) (leaf_begun entities.now (below depth (state_of self.old)) (start_shown (left_of line.now) start.entry)) ≡ shown (state_of self.new)) }
+        ensures reached { OnOk result
+            (reached depth (state_of self.old)
+            (leaf_begun entities.now (below depth (state_of self.old))
+            (start_shown (left_of line.now) start.entry)) ≡ shown (state_of self.new)) }
         ensures sound { OnOk result (IsSound self.new.levels) }
     {
         match start {
@@ -167,7 +175,9 @@ impl Builder {
         leaf: NewLeaf,
     ) -> Result<(), Memory>
         requires { IsReady self.old depth }
-        ensures state { OnOk result (state_of self.new ≡ lines_opened entities.now depth (state_of self.old) (leaf_lines (left_of line.now) leaf.entry)) }
+        ensures state { OnOk result (state_of self.new
+            ≡ lines_opened entities.now depth (state_of self.old)
+            (leaf_lines (left_of line.now) leaf.entry)) }
         ensures sound { OnOk result (IsSound self.new.levels) }
     {
         self.close_to(heap, entities, depth)?;
@@ -186,7 +196,10 @@ impl Builder {
         level: u8,
     ) -> Result<(), Memory>
         requires { IsReady self.old depth }
-        ensures reached { OnOk result (reached depth (state_of self.old) (leaf_begun entities.now (below depth (state_of self.old)) (rules.Underline level)) ≡ shown (state_of self.new)) }
+        ensures reached { OnOk result
+            (reached depth (state_of self.old)
+            (leaf_begun entities.now (below depth (state_of self.old)) (rules.Underline level))
+            ≡ shown (state_of self.new)) }
         ensures sound { OnOk result (IsSound self.new.levels) }
     {
         if !self.is_in_paragraph(depth) {
@@ -214,7 +227,10 @@ impl Builder {
         line: &Cursor,
     ) -> Result<(), Memory>
         requires { IsReady self.old depth }
-        ensures reached { OnOk result (reached depth (state_of self.old) (text_put entities.now (met depth (state_of self.old)) (left_of line.now) (below depth (state_of self.old))) ≡ shown (state_of self.new)) }
+        ensures reached { OnOk result
+            (reached depth (state_of self.old)
+            (text_put entities.now (met depth (state_of self.old)) (left_of line.now)
+            (below depth (state_of self.old))) ≡ shown (state_of self.new)) }
         ensures sound { OnOk result (IsSound self.new.levels) }
     {
         if is_blank_line(line) {
@@ -238,7 +254,8 @@ impl Builder {
 
     /// Whether a paragraph is open, at the innermost level or for a lazy line.
     fn meets_paragraph(&self) -> bool
-        ensures { (depth : ℕ) → rules.has_no_paragraph (met depth (state_of self.now)) ≡ not result }
+        ensures { (depth : ℕ) → rules.has_no_paragraph (met depth (state_of self.now))
+            ≡ not result }
     {
         match self.leaf.paragraph() {
             Some(_) => true,
@@ -255,7 +272,10 @@ impl Builder {
         line: &Cursor,
     ) -> Result<(), Memory>
         requires { IsReady self.old depth }
-        ensures reached { OnOk result (reached depth (state_of self.old) (leaf_step entities.now (met depth (state_of self.old)) (left_of line.now) (below depth (state_of self.old))) ≡ shown (state_of self.new)) }
+        ensures reached { OnOk result
+            (reached depth (state_of self.old)
+            (leaf_step entities.now (met depth (state_of self.old)) (left_of line.now)
+            (below depth (state_of self.old))) ≡ shown (state_of self.new)) }
         ensures sound { OnOk result (IsSound self.new.levels) }
     {
         match leaf_start(heap, self.met(depth), line, entities)? {
@@ -279,7 +299,9 @@ impl Builder {
         line: &Cursor<'a>,
     ) -> Result<Option<Cursor<'a>>, Memory>
         requires { IsReady self.old depth }
-        ensures steps { IfOk result (λ rest. (room : ℕ) → StepsTo entities.now room depth (state_of self.old) (left_of line.now) (state_of self.new) (line_of rest)) }
+        ensures steps { IfOk result (λ rest. (room : ℕ)
+            → StepsTo entities.now room depth (state_of self.old) (left_of line.now)
+            (state_of self.new) (line_of rest)) }
         ensures ready { IfOk result (λ rest. IsBegun self.new (depth + 1) (line_of rest)) }
     {
         if let Some(rest) = quote_start(line) {
@@ -307,7 +329,8 @@ impl Builder {
     /// The item that a line may begin: some may not interrupt a paragraph of their own containers.
     fn item_met<'a>(&self, depth: usize, line: &Cursor<'a>) -> Option<ItemStart<'a>>
         requires { IsReady self.now depth }
-        ensures { item_of_start result ≡ item_met (met depth (state_of self.now)) (item_start (left_of line.now)) }
+        ensures { item_of_start result ≡ item_met (met depth (state_of self.now))
+            (item_start (left_of line.now)) }
     {
         let item = item_start(line)?;
         if !self.is_in_paragraph(depth) {
@@ -328,7 +351,10 @@ impl Builder {
         line: Cursor<'a>,
     ) -> Result<(), Memory>
         requires { IsReady self.old from }
-        ensures reached { OnOk result (reached from (state_of self.old) (start_step (100 - from) entities.now (met from (state_of self.old)) (left_of line.entry) (below from (state_of self.old))) ≡ shown (state_of self.new)) }
+        ensures reached { OnOk result
+            (reached from (state_of self.old)
+            (start_step (100 - from) entities.now (met from (state_of self.old))
+            (left_of line.entry) (below from (state_of self.old))) ≡ shown (state_of self.new)) }
         ensures sound { OnOk result (IsSound self.new.levels) }
     {
         let mut depth = from;
@@ -353,7 +379,8 @@ impl Builder {
         line: &Cursor,
     ) -> Result<(), Memory>
         requires { IsSound self.old.levels }
-        ensures line { OnOk result (after_line entities.now (state_of self.old) (left_of line.now) ≡ shown (state_of self.new)) }
+        ensures line { OnOk result (after_line entities.now (state_of self.old) (left_of line.now)
+            ≡ shown (state_of self.new)) }
         ensures sound { OnOk result (IsSound self.new.levels) }
     {
         let (depth, rest) = self.levels.go_down(line);
@@ -371,8 +398,11 @@ impl Builder {
     /// Offers a line to the open leaf, and answers whether it took it.
     fn is_taken(&mut self, heap: Heap, entities: &Entities, line: &Cursor) -> Result<bool, Memory>
         requires { IsSound self.old.levels }
-        ensures yes { IfOk result (λ b. b ≡ true → IsTaken entities.now (state_of self.old) (left_of line.now) (state_of self.new)) }
-        ensures no { IfOk result (λ b. b ≡ false → (state_of self.new ≡ state_of self.old) × (taken (left_of line.now) (state_of self.old).leaf ≡ NotTaken)) }
+        ensures yes { IfOk result (λ b. b ≡ true
+            → IsTaken entities.now (state_of self.old) (left_of line.now) (state_of self.new)) }
+        ensures no { IfOk result (λ b. b ≡ false
+            → (state_of self.new ≡ state_of self.old)
+            × (taken (left_of line.now) (state_of self.old).leaf ≡ NotTaken)) }
         ensures sound { OnOk result (IsSound self.new.levels) }
         ensures outer { OnOk result (self.new.levels.outer ≡ self.old.levels.outer) }
     {

@@ -59,7 +59,9 @@ fn matched_item<'a>(line: &Cursor<'a>, columns: usize, is_empty: bool) -> Option
 
 /// Whether a line is indented far enough to go on with an item, or blank, and then not the second line of an item that started blank.
 fn goes_on_in(line: &Cursor, columns: usize, is_empty: bool) -> bool
-    ensures { result ≡ (nat_le columns (indent (left_of line.now)) && not (is_blank_line (left_of line.now))) || (is_blank_line (left_of line.now) && not is_empty) }
+    ensures { result ≡ (nat_le columns (indent (left_of line.now))
+        && not (is_blank_line (left_of line.now)))
+        || (is_blank_line (left_of line.now) && not is_empty) }
 {
     if is_blank_line(line) {
         return !is_empty;

@@ -31,7 +31,8 @@ fn ends_plain(byte: u8) -> bool
 
 /// What is read of a line.
 pub(crate) fn secure_content(heap: Heap, line: &str) -> Result<String, Memory>
-    ensures { IfOk result (λ content. chars (string_bytes content) ≡ line_content (chars line.now)) }
+    ensures { IfOk result (λ content. chars (string_bytes content)
+        ≡ line_content (chars line.now)) }
 {
     secure_text(heap, without_ending(line))
 }
@@ -51,7 +52,8 @@ fn is_ending(byte: u8) -> bool
 
 /// The text with U+FFFD for each U+0000.
 fn secure_text(heap: Heap, text: &str) -> Result<String, Memory>
-    ensures { IfOk result (λ secure. chars (string_bytes secure) ≡ map secure_char (chars text.now)) }
+    ensures { IfOk result (λ secure. chars (string_bytes secure)
+        ≡ map secure_char (chars text.now)) }
 {
     let mut secure = String::new(heap);
     let mut rest = text;

@@ -30,8 +30,10 @@ pub struct Document {
 /// text. Texts of blocks are without line endings of their own but LF, and inlines are still to be read in those of paragraphs and
 /// headings.
 pub fn blocks(heap: Heap, text: &str, entities: &Entities) -> Result<Document, Memory>
-    ensures blocks { IfOk result (λ document. blocks_shown document.blocks.items ≡ (document_of entities.now (chars text.now)).blocks) }
-    ensures refs { IfOk result (λ document. document.refs ≡ targets_of (document_of entities.now (chars text.now)).refs) }
+    ensures blocks { IfOk result (λ document. blocks_shown document.blocks.items
+        ≡ (document_of entities.now (chars text.now)).blocks) }
+    ensures refs { IfOk result (λ document. document.refs
+        ≡ targets_of (document_of entities.now (chars text.now)).refs) }
 {
     let mut builder = Builder::new(heap);
     'lines: for line in Lines::new(text) {
@@ -49,7 +51,8 @@ fn add_line(
     line: &str,
 ) -> Result<(), Memory>
     requires { IsSound builder.old.levels }
-    ensures line { OnOk result (after_line entities.now (state_of builder.old) (cells_of (line_content (chars line.now))) ≡ shown (state_of builder.new)) }
+    ensures line { OnOk result (after_line entities.now (state_of builder.old)
+        (cells_of (line_content (chars line.now))) ≡ shown (state_of builder.new)) }
     ensures sound { OnOk result (IsSound builder.new.levels) }
 {
     if let Some(content) = plain_content(line) {
@@ -64,7 +67,8 @@ fn add_line(
 /// All that is still open closes.
 fn finish(builder: Builder, heap: Heap, entities: &Entities) -> Result<Document, Memory>
     requires { IsSound builder.levels }
-    ensures { IfOk result (λ document. (blocks_shown document.blocks.items, document.refs) ≡ document_left entities.now [] (shown (state_of builder))) }
+    ensures { IfOk result (λ document. (blocks_shown document.blocks.items, document.refs)
+        ≡ document_left entities.now [] (shown (state_of builder))) }
 {
     let mut builder = builder;
     builder.close_to(heap, entities, 0)?;

@@ -84,7 +84,8 @@ impl Levels {
     /// The list that is open at the innermost level becomes a block.
     fn finish_list(&mut self) -> Result<(), Memory>
         requires { IsSound self.old }
-        ensures stack { OnOk result (stack_of self.new ≡ with_inner_blocks (stack_of self.old) (finished (stack_of self.old).inner)) }
+        ensures stack { OnOk result (stack_of self.new
+            ≡ with_inner_blocks (stack_of self.old) (finished (stack_of self.old).inner)) }
         ensures sound { OnOk result (IsSound self.new) }
         ensures bare { OnOk result (self.new.inner.list ≡ None) }
         ensures outer { OnOk result (self.new.outer ≡ self.old.outer) }
@@ -106,7 +107,9 @@ impl Levels {
     #[tactic(auto, unfolding(doc_blocks_leaves::specs::Views::with_block))]
     pub(crate) fn put(&mut self, block: Option<Block>) -> Result<(), Memory>
         requires { IsSound self.old }
-        ensures stack { OnOk result (stack_of self.new ≡ with_inner_blocks (stack_of self.old) (with_block block (finished (stack_of self.old).inner))) }
+        ensures stack { OnOk result (stack_of self.new
+            ≡ with_inner_blocks (stack_of self.old)
+            (with_block block (finished (stack_of self.old).inner))) }
         ensures sound { OnOk result (IsSound self.new) }
         ensures outer { OnOk result (self.new.outer ≡ self.old.outer) }
     {
@@ -134,7 +137,8 @@ impl Levels {
     /// An item begins at the innermost level.
     pub(crate) fn begin_item(&mut self, kind: ListKind, start: u32) -> Result<(), Memory>
         requires { IsSound self.old }
-        ensures stack { OnOk result (stack_of self.new ≡ item_begun (stack_of self.old) (kind_of kind) start) }
+        ensures stack { OnOk result (stack_of self.new
+            ≡ item_begun (stack_of self.old) (kind_of kind) start) }
         ensures sound { OnOk result (IsSound self.new) }
         ensures outer { OnOk result (self.new.outer ≡ self.old.outer) }
     {
@@ -155,8 +159,10 @@ impl Levels {
     /// list loose.
     fn goes_on_with(&mut self, kind: ListKind) -> bool
         requires { IsSound self.old }
-        ensures yes { IsTrue result → (start : ℕ) → stack_of self.new ≡ item_begun (stack_of self.old) (kind_of kind) start }
-        ensures no { result ≡ false → (self.new ≡ self.old) × IsNotOf (kind_of kind) (stack_of self.old).inner.list }
+        ensures yes { IsTrue result → (start : ℕ)
+            → stack_of self.new ≡ item_begun (stack_of self.old) (kind_of kind) start }
+        ensures no { result ≡ false → (self.new ≡ self.old)
+            × IsNotOf (kind_of kind) (stack_of self.old).inner.list }
         ensures sound { IsSound self.new }
         ensures outer { self.new.outer ≡ self.old.outer }
     {
@@ -174,7 +180,8 @@ impl Levels {
     /// A container opens at the innermost level.
     pub(crate) fn open(&mut self, container: Container) -> Result<(), Memory>
         requires { IsSound self.old }
-        ensures stack { OnOk result (stack_of self.new ≡ container_opened (stack_of self.old) (container_shown container)) }
+        ensures stack { OnOk result (stack_of self.new
+            ≡ container_opened (stack_of self.old) (container_shown container)) }
         ensures sound { OnOk result (IsSound self.new) }
         ensures depth { OnOk result (vec_len self.new.outer ≡ vec_len self.old.outer + 1) }
     {
@@ -232,7 +239,8 @@ impl Levels {
     /// A quote of these blocks comes behind the blocks of the innermost level.
     fn put_quote(&mut self, blocks: Vec<Block>) -> Result<(), Memory>
         requires { IsSound self.old }
-        ensures stack { OnOk result (stack_of self.new ≡ quote_put (stack_of self.old) (blocks_shown blocks.entry.items)) }
+        ensures stack { OnOk result (stack_of self.new
+            ≡ quote_put (stack_of self.old) (blocks_shown blocks.entry.items)) }
         ensures sound { OnOk result (IsSound self.new) }
         ensures outer { OnOk result (self.new.outer ≡ self.old.outer) }
     {
@@ -244,7 +252,8 @@ impl Levels {
     /// An item with these blocks comes behind the items of the open list. A blank line between two of its blocks makes the list loose.
     fn put_item(&mut self, blocks: Vec<Block>, gap: bool) -> Result<(), Memory>
         requires { IsSound self.old }
-        ensures stack { OnOk result (stack_of self.new ≡ item_put (stack_of self.old) gap (blocks_shown blocks.entry.items)) }
+        ensures stack { OnOk result (stack_of self.new
+            ≡ item_put (stack_of self.old) gap (blocks_shown blocks.entry.items)) }
         ensures sound { OnOk result (IsSound self.new) }
         ensures outer { OnOk result (self.new.outer ≡ self.old.outer) }
     {
@@ -291,7 +300,8 @@ impl Levels {
     /// A line goes down the open containers that it goes on with. The answer is how many there are, and the line inside them.
     pub(crate) fn go_down<'a>(&mut self, line: &Cursor<'a>) -> (usize, Cursor<'a>)
         requires { IsSound self.old }
-        ensures goes { GoesDown (stack_of self.old) (left_of line.now) (stack_of self.new) result.0 (left_of result.1) }
+        ensures goes { GoesDown (stack_of self.old) (left_of line.now) (stack_of self.new) result.0
+            (left_of result.1) }
         ensures sound { IsSound self.new }
         ensures depth { result.0 ≤ vec_len self.new.outer }
     {
@@ -320,7 +330,8 @@ impl Levels {
     /// The blocks of the innermost level, whose list closes.
     pub(crate) fn into_blocks(mut self) -> Result<Vec<Block>, Memory>
         requires { IsSound self }
-        ensures { IfOk result (λ blocks. blocks_shown blocks.items ≡ finished (stack_of self).inner) }
+        ensures { IfOk result (λ blocks. blocks_shown blocks.items
+            ≡ finished (stack_of self).inner) }
     {
         self.finish_list()?;
         let base = self.inner.base;
@@ -332,7 +343,8 @@ impl Levels {
     fn go_on_at(&mut self, place: usize)
         requires sound { IsSound self.old }
         requires within { place < vec_len self.old.outer }
-        ensures stack { stack_of self.new ≡ record (stack_of self.old) { outer = gone_on_at place (stack_of self.old).outer } }
+        ensures stack { stack_of self.new ≡ record
+            (stack_of self.old) { outer = gone_on_at place (stack_of self.old).outer } }
         ensures sound { IsSound self.new }
         ensures depth { vec_len self.new.outer ≡ vec_len self.old.outer }
     {

@@ -2,18 +2,8 @@
 use Rattle.std.proofs.Common.{◌≡◌, ℕ, Bool, List, [], ◌∷◌, ◌++◌, map, refl, ap, sym, ◌∙◌, chars}
 use Rattle.std.specs.Prelude.{Option}
 use Rattle.doc_rules.specs.Forests.{none, ◌▹◌, node}
-use Rattle.doc_rules.specs.Blocks.{
-  Paragraph,
-  Heading,
-  IndentedCode,
-  FencedCode,
-  HtmlBlock,
-  ThematicBreak,
-  BlockQuote,
-  ListBlock,
-  ListItem,
-  Blocks,
-}
+use Rattle.doc_rules.specs.Blocks.{Paragraph, Heading, IndentedCode, FencedCode, HtmlBlock, ThematicBreak, BlockQuote, ListBlock, ListItem}
+use Rattle.doc_rules.specs.Blocks.{Blocks}
 use Rattle.doc_blocks_leaves.specs.declared.block.Block.{Block, fold-roll-Block}
 use Rattle.doc_blocks_leaves.specs.declared.block.Block.TheOpen.{Block-F}
 use Rattle.doc_blocks_leaves.specs.declared.block.Block.TheVariants as variants

@@ -1,35 +1,6 @@
 -- The text that is gathered for a leaf: it grows at its end, and what is kept is a front of it.
-use Rattle.std.proofs.Common.{
-  rules,
-  ◌≡◌,
-  ℕ,
-  zero,
-  suc,
-  ◌+◌,
-  ◌-◌,
-  ◌<◌,
-  ◌≤◌,
-  true,
-  false,
-  List,
-  [],
-  ◌∷◌,
-  ◌++◌,
-  length,
-  take,
-  chars,
-  refl,
-  ap,
-  sym,
-  ◌∙◌,
-  arith,
-  subst,
-  append-nil,
-  append_assoc,
-  length-append,
-  inl,
-  inr,
-}
+use Rattle.std.proofs.Common.{rules, ◌≡◌, ℕ, zero, suc, ◌+◌, ◌-◌, ◌<◌, ◌≤◌, true, false, List, [], ◌∷◌, ◌++◌, length, take, chars, refl, ap}
+use Rattle.std.proofs.Common.{sym, ◌∙◌, arith, subst, append-nil, append_assoc, length-append, inl, inr}
 use Rattle.std.specs.Prelude.{replicate, slice_index, Result, Ok, Err, OnOk}
 use Rattle.std.specs.Str.{IsUtf8, IsCharBoundary}
 use Rattle.std.proofs.lemmas.Bool.{cases_lt}

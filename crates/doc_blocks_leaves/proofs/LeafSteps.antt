@@ -10,19 +10,8 @@ use Rattle.doc_rules.specs.LeafStarts as fences
 use Rattle.doc_rules.specs.HtmlStarts as kinds_of
 use Rattle.doc_rules.specs.Forests.{◌▹◌}
 use Rattle.doc_rules.specs.Trees.{AtxLine, FencedLines, HtmlLines, BreakLine}
-use Rattle.doc_rules.specs.Blocks.{
-  Leaf,
-  Paragraph,
-  Heading,
-  IndentedCode,
-  FencedCode,
-  HtmlBlock,
-  Blocks,
-  ended,
-  joined,
-  with_text,
-  with_leaf,
-}
+use Rattle.doc_rules.specs.Blocks.{Leaf, Paragraph, Heading, IndentedCode, FencedCode, HtmlBlock, Blocks, ended, joined, with_text}
+use Rattle.doc_rules.specs.Blocks.{with_leaf}
 use Rattle.doc_blocks_pass.specs.Leaves.{OpenLeaf, NoLeaf, OpenParagraph, OpenCode, OpenFence, OpenHtml, open_of, with_open}
 use Rattle.doc_refs.specs.Targets.{Targets, targets_of}
 use Rattle.doc_refs.specs.Targets as maps

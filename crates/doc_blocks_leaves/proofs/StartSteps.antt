@@ -8,40 +8,13 @@ use Rattle.doc_rules.specs.Characters.{Text, is_space_or_tab, strip, strip_end}
 use Rattle.doc_rules.specs.Columns.{Line, text_of, indent, after_indent}
 use Rattle.doc_rules.specs.Entities.{Table}
 use Rattle.doc_rules.specs.Parsers.{is, many, some, begins}
-use Rattle.doc_rules.specs.LeafStarts.{
-  marker_text,
-  is_end,
-  heading_text,
-  atx_heading,
-  is_all_of,
-  underline_level,
-  is_break_of,
-  is_thematic_break,
-  Fence,
-  fence_of,
-  opening_fence,
-}
+use Rattle.doc_rules.specs.LeafStarts.{marker_text, is_end, heading_text, atx_heading, is_all_of, underline_level, is_break_of}
+use Rattle.doc_rules.specs.LeafStarts.{is_thematic_break, Fence, fence_of, opening_fence}
 use Rattle.doc_rules.specs.HtmlStarts.{HtmlKind, html_start, may_interrupt_paragraph, ends_html}
 use Rattle.doc_rules.specs.Definitions.{definitions_of}
-use Rattle.doc_rules.specs.Trees.{
-  AtxLine,
-  FencedLines,
-  HtmlLines,
-  Situation,
-  NoParagraph,
-  InParagraph,
-  LazyParagraph,
-  has_no_paragraph,
-  LeafStart,
-  NewLeaf,
-  Underline,
-  text_begins,
-  atx_begins,
-  fence_begins,
-  html_begins,
-  setext_begins,
-  break_begins,
-}
+use Rattle.doc_rules.specs.Trees.{AtxLine, FencedLines, HtmlLines, Situation, NoParagraph, InParagraph, LazyParagraph, has_no_paragraph}
+use Rattle.doc_rules.specs.Trees.{LeafStart, NewLeaf, Underline, text_begins, atx_begins, fence_begins, html_begins, setext_begins}
+use Rattle.doc_rules.specs.Trees.{break_begins}
 use Rattle.doc_blocks_leaves.specs.Starts.{or_else}
 use Rattle.doc_blocks_leaves.proofs.Tests.{by_false}
 

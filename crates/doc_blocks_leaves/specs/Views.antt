@@ -1,18 +1,8 @@
 -- The blocks of the code, seen as those of a document (CommonMark 0.31.2, sections 4 and 5).
 use Rattle.std.specs.Prelude.{List, [], ◌∷◌, Option, Some, None, chars}
 use Rattle.doc_rules.specs.Forests.{none, ◌▹◌, node}
-use Rattle.doc_rules.specs.Blocks.{
-  Paragraph,
-  Heading,
-  IndentedCode,
-  FencedCode,
-  HtmlBlock,
-  ThematicBreak,
-  BlockQuote,
-  ListBlock,
-  ListItem,
-  Blocks,
-}
+use Rattle.doc_rules.specs.Blocks.{Paragraph, Heading, IndentedCode, FencedCode, HtmlBlock, ThematicBreak, BlockQuote, ListBlock, ListItem}
+use Rattle.doc_rules.specs.Blocks.{Blocks}
 use Rattle.doc_blocks_leaves.specs.declared.block.Block.{Block}
 use Rattle.doc_blocks_leaves.specs.declared.block.Block.TheOpen.{Block-F}
 use Rattle.doc_blocks_leaves.specs.declared.block.Block.TheFolds.{fold-Block}

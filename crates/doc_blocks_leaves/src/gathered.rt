@@ -128,7 +128,8 @@ impl Gathered {
 
     /// Adds a line behind its first columns of spaces and tabs, and a line ending.
     pub fn add_line(&mut self, line: &Cursor, columns: usize) -> Result<(), Memory>
-        ensures all { OnOk result (self.new.all ≡ self.old.all ++ (text_of (skip columns (left_of line.now)) ++ 10 ∷ [])) }
+        ensures all { OnOk result (self.new.all ≡ self.old.all
+            ++ (text_of (skip columns (left_of line.now)) ++ 10 ∷ [])) }
         ensures kept { self.new.kept ≡ self.old.kept }
     {
         let mut rest = line.copy();
@@ -148,7 +149,8 @@ impl Gathered {
 
     /// Adds a line without its indentation.
     pub fn add_text(&mut self, line: &Cursor) -> Result<(), Memory>
-        ensures all { OnOk result (self.new.all ≡ self.old.all ++ text_of (after_indent (left_of line.now))) }
+        ensures all { OnOk result (self.new.all ≡ self.old.all
+            ++ text_of (after_indent (left_of line.now))) }
         ensures kept { self.new.kept ≡ self.old.kept }
     {
         self.add(after_indent(line))
@@ -156,7 +158,8 @@ impl Gathered {
 
     /// Adds a line ending, and a line without its indentation behind it.
     pub fn add_next_text(&mut self, line: &Cursor) -> Result<(), Memory>
-        ensures all { OnOk result (self.new.all ≡ self.old.all ++ 10 ∷ text_of (after_indent (left_of line.now))) }
+        ensures all { OnOk result (self.new.all ≡ self.old.all ++ 10
+            ∷ text_of (after_indent (left_of line.now))) }
         ensures kept { self.new.kept ≡ self.old.kept }
     {
         self.add_ending()?;

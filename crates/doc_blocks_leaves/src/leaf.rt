@@ -93,7 +93,8 @@ impl OpenLeaf {
     /// Where it is to be closed, [`OpenLeaf::close`] comes next.
     #[tactic(auto, unfolding(crate::specs::OpenLeaves::leaf_shown, doc_blocks_pass::specs::Leaves::taken))]
     pub fn take(&mut self, line: &Cursor) -> Result<LineTaken, Memory>
-        ensures taken { IfOk result (λ answer. taken_shown answer self.new ≡ taken (left_of line.now) self.old) }
+        ensures taken { IfOk result (λ answer. taken_shown answer self.new
+            ≡ taken (left_of line.now) self.old) }
         ensures no { IfOk result (λ answer. answer ≡ answers.No → self.new ≡ self.old) }
     {
         match &self.kind {
@@ -113,8 +114,10 @@ impl OpenLeaf {
         refs: &mut RefMap,
     ) -> Result<Option<Block>, Memory>
         ensures leaf { OnOk result (self.new ≡ NoLeaf) }
-        ensures block { IfOk result (λ block. (before : Blocks) → with_block block before ≡ with_open entities.now self.old before) }
-        ensures refs { OnOk result (refs.new ≡ joined refs.old (targets_of (open_references entities.now self.old))) }
+        ensures block { IfOk result (λ block. (before : Blocks)
+            → with_block block before ≡ with_open entities.now self.old before) }
+        ensures refs { OnOk result (refs.new
+            ≡ joined refs.old (targets_of (open_references entities.now self.old))) }
     {
         let kind = mem::replace(&mut self.kind, Kind::Nothing);
         let block = closed(heap, kind, &self.lines, entities, refs)?;
@@ -132,8 +135,10 @@ impl OpenLeaf {
         refs: &mut RefMap,
     ) -> Result<Option<Block>, Memory>
         ensures leaf { OnOk result (self.new ≡ underlined self.old) }
-        ensures block { IfOk result (λ block. (before : Blocks) → with_block block before ≡ with_underlined entities.now level self.old before) }
-        ensures refs { OnOk result (refs.new ≡ joined refs.old (targets_of (underlined_references entities.now self.old))) }
+        ensures block { IfOk result (λ block. (before : Blocks)
+            → with_block block before ≡ with_underlined entities.now level self.old before) }
+        ensures refs { OnOk result (refs.new
+            ≡ joined refs.old (targets_of (underlined_references entities.now self.old))) }
     {
         let Some(above) = self.paragraph() else {
             return Ok(None);
@@ -180,7 +185,8 @@ impl OpenLeaf {
     /// Begins indented code with this line, which isn't blank (CommonMark 0.31.2, section 4.4).
     #[tactic(auto, unfolding(crate::specs::OpenLeaves::leaf_shown))]
     pub fn begin_code(&mut self, line: &Cursor) -> Result<(), Memory>
-        ensures { OnOk result (self.new ≡ OpenCode (code_with (left_of line.now) []) (code_with (left_of line.now) [])) }
+        ensures { OnOk result (self.new ≡ OpenCode (code_with (left_of line.now) [])
+            (code_with (left_of line.now) [])) }
     {
         self.kind = Kind::Code;
         self.lines.clear();
@@ -189,7 +195,8 @@ impl OpenLeaf {
         Ok(())
     }
 
-    /// Begins the leaf that this line begins, as [`crate::start::leaf_start`] answered for it. A leaf of one line is no open one: the answer is its
+    /// Begins the leaf that this line begins, as [`crate::start::leaf_start`] answered for it. A leaf of one line is no open one: the
+    /// answer is its
     /// block.
     #[tactic(auto, unfolding(crate::specs::OpenLeaves::leaf_shown))]
     pub fn begin(
@@ -199,9 +206,12 @@ impl OpenLeaf {
         leaf: NewLeaf,
         entities: &Entities,
     ) -> Result<Option<Block>, Memory>
-        ensures leaf { OnOk result (self.new ≡ open_of entities.now (leaf_lines (left_of line.now) leaf.entry)) }
+        ensures leaf { OnOk result (self.new
+            ≡ open_of entities.now (leaf_lines (left_of line.now) leaf.entry)) }
         ensures block { IfOk result (λ block. (before : Blocks) →
-            with_block block before ≡ with_begun entities.now (leaf_lines (left_of line.now) leaf.entry) (open_of entities.now (leaf_lines (left_of line.now) leaf.entry)) before) }
+            with_block block before ≡ with_begun entities.now
+            (leaf_lines (left_of line.now) leaf.entry)
+            (open_of entities.now (leaf_lines (left_of line.now) leaf.entry)) before) }
     {
         self.lines.clear();
         self.kind = Kind::Nothing;
@@ -231,9 +241,14 @@ impl OpenLeaf {
         kind: HtmlKind,
         goes_on: bool,
     ) -> Result<Option<Block>, Memory>
-        ensures leaf { (table : Table) → OnOk result (self.new ≡ open_of table (HtmlLines goes_on (kind_of kind) (text_of (left_of line.now) ∷ []))) }
-        ensures block { (table : Table) → IfOk result (λ block. (before : Blocks) → with_block block before
-            ≡ with_begun table (HtmlLines goes_on (kind_of kind) (text_of (left_of line.now) ∷ [])) (open_of table (HtmlLines goes_on (kind_of kind) (text_of (left_of line.now) ∷ []))) before) }
+        ensures leaf { (table : Table)
+            → OnOk result (self.new ≡ open_of table
+            (HtmlLines goes_on (kind_of kind) (text_of (left_of line.now) ∷ []))) }
+        ensures block { (table : Table)
+            → IfOk result (λ block. (before : Blocks) → with_block block before
+            ≡ with_begun table (HtmlLines goes_on (kind_of kind) (text_of (left_of line.now) ∷ []))
+            (open_of table (HtmlLines goes_on (kind_of kind) (text_of (left_of line.now) ∷ [])))
+            before) }
     {
         self.kind = Kind::Nothing;
         self.lines.clear();

@@ -33,7 +33,8 @@ pub(crate) fn closes_fence(fence: Fence, line: &Cursor) -> bool
     }
 }
 
-/// Whether an HTML block of this kind ends with the line (CommonMark 0.31.2, section 4.6). What ends one holds no white space, so a tab that is used in part counts for nothing.
+/// Whether an HTML block of this kind ends with the line (CommonMark 0.31.2, section 4.6). What ends one holds no white space, so a tab
+/// that is used in part counts for nothing.
 pub(crate) fn ends_html(kind: HtmlKind, line: &Cursor) -> bool
     ensures { result ≡ ends_html (kind_of kind) (text_of (left_of line.now)) }
 {

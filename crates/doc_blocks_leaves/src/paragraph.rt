@@ -25,8 +25,10 @@ pub fn paragraph_text(
     refs: &mut RefMap,
 ) -> Result<Option<Text>, Memory>
     ensures text { IfOk result (λ rest. (leaf : Text → Leaf) (before : Blocks) →
-        with_leaf_of leaf (option_map chars rest) before ≡ with_text leaf (definitions_of entities.now (chars text.now)).1 before) }
-    ensures refs { OnOk result (refs.new ≡ joined refs.old (targets_of (definitions_of entities.now (chars text.now)).0)) }
+        with_leaf_of leaf (option_map chars rest) before
+        ≡ with_text leaf (definitions_of entities.now (chars text.now)).1 before) }
+    ensures refs { OnOk result (refs.new ≡ joined refs.old
+        (targets_of (definitions_of entities.now (chars text.now)).0)) }
 {
     let rest = without_definitions(heap, text, entities, refs)?;
     match next_char(rest) {
@@ -42,8 +44,10 @@ fn without_definitions<'a>(
     entities: &Entities,
     refs: &mut RefMap,
 ) -> Result<&'a str, Memory>
-    ensures text { IfOk result (λ rest. chars rest.now ≡ (definitions_of entities.now (chars text.now)).1) }
-    ensures refs { OnOk result (refs.new ≡ joined refs.old (targets_of (definitions_of entities.now (chars text.now)).0)) }
+    ensures text { IfOk result (λ rest. chars rest.now
+        ≡ (definitions_of entities.now (chars text.now)).1) }
+    ensures refs { OnOk result (refs.new ≡ joined refs.old
+        (targets_of (definitions_of entities.now (chars text.now)).0)) }
 {
     if !may_define(text) {
         return Ok(text);
@@ -55,7 +59,8 @@ fn without_definitions<'a>(
 
 /// Whether definitions are all of a paragraph's text.
 pub fn has_only_definitions(heap: Heap, text: &str, entities: &Entities) -> Result<bool, Memory>
-    ensures { IfOk result (λ answer. answer ≡ (length (definitions_of entities.now (chars text.now)).1 == 0)) }
+    ensures { IfOk result (λ answer. answer
+        ≡ (length (definitions_of entities.now (chars text.now)).1 == 0)) }
 {
     if !may_define(text) {
         return Ok(text.is_empty());
@@ -66,7 +71,8 @@ pub fn has_only_definitions(heap: Heap, text: &str, entities: &Entities) -> Resu
 
 /// Whether the first character is one with which definitions can begin.
 fn may_define(text: &str) -> bool
-    ensures { result ≡ false → (table : Table) → definitions_of table (chars text.now) ≡ ([], chars text.now) }
+    ensures { result ≡ false → (table : Table)
+        → definitions_of table (chars text.now) ≡ ([], chars text.now) }
 {
     match next_char(text) {
         Some((c, _)) => c == '[' || c == ' ',

@@ -53,7 +53,8 @@ pub fn leaf_start<'a>(
     line: &Cursor<'a>,
     entities: &Entities,
 ) -> Result<Option<LeafStart<'a>>, Memory>
-    ensures { IfOk result (λ start. start_of (left_of line.now) start ≡ leaf_begins entities.now (situation_of situation.entry) (left_of line.now)) }
+    ensures { IfOk result (λ start. start_of (left_of line.now) start
+        ≡ leaf_begins entities.now (situation_of situation.entry) (left_of line.now)) }
 {
     match marker_text(line) {
         Some(text) => text_start(heap, situation, line, text, entities),
@@ -70,7 +71,9 @@ fn text_start<'a>(
     entities: &Entities,
 ) -> Result<Option<LeafStart<'a>>, Memory>
     requires { indent (left_of line.now) ≤ 3 }
-    ensures { IfOk result (λ start. start_of (left_of line.now) start ≡ text_begins entities.now (situation_of situation.entry) (left_of line.now) (chars text.now)) }
+    ensures { IfOk result (λ start. start_of (left_of line.now) start
+        ≡ text_begins entities.now (situation_of situation.entry) (left_of line.now)
+        (chars text.now)) }
 {
     let Some((first, _)) = next_char(text) else {
         return Ok(None);
@@ -98,7 +101,8 @@ fn heading_start<'a>(line: &Cursor, text: &'a str) -> Option<LeafStart<'a>>
 #[tactic(auto, unfolding(doc_rules::specs::Trees::fence_begins, crate::specs::Starts::start_shown, crate::specs::Starts::leaf_lines))]
 fn fence_start<'a>(line: &Cursor, text: &'a str) -> Option<LeafStart<'a>>
     requires { indent (left_of line.now) ≤ 3 }
-    ensures { start_of (left_of line.now) result ≡ fence_begins (left_of line.now) (chars text.now) }
+    ensures { start_of (left_of line.now) result
+        ≡ fence_begins (left_of line.now) (chars text.now) }
 {
     let start = opening_fence(indent_up_to(line, 3), text)?;
     Some(LeafStart::New(NewLeaf::Fenced(start)))
@@ -107,7 +111,8 @@ fn fence_start<'a>(line: &Cursor, text: &'a str) -> Option<LeafStart<'a>>
 /// An HTML block (section 4.6). Kind 7 begins only where no paragraph could go on.
 #[tactic(auto, unfolding(doc_rules::specs::Trees::html_begins, doc_rules::specs::Trees::has_no_paragraph, crate::specs::Starts::start_shown, crate::specs::Starts::leaf_lines))]
 fn html_block_start<'a>(situation: Situation, line: &Cursor, text: &str) -> Option<LeafStart<'a>>
-    ensures { start_of (left_of line.now) result ≡ html_begins (situation_of situation.entry) (left_of line.now) (chars text.now) }
+    ensures { start_of (left_of line.now) result
+        ≡ html_begins (situation_of situation.entry) (left_of line.now) (chars text.now) }
 {
     let kind = html_start(text)?;
     if !kind.may_interrupt_paragraph() && !has_no_paragraph(situation) {
@@ -133,7 +138,8 @@ fn underline_start<'a>(
     text: &str,
     entities: &Entities,
 ) -> Result<Option<LeafStart<'a>>, Memory>
-    ensures { IfOk result (λ start. start_of (left_of line.now) start ≡ setext_begins entities.now (situation_of situation.entry) (chars text.now)) }
+    ensures { IfOk result (λ start. start_of (left_of line.now) start
+        ≡ setext_begins entities.now (situation_of situation.entry) (chars text.now)) }
 {
     let Situation::InParagraph(above) = situation else {
         return Ok(None);
@@ -168,7 +174,8 @@ fn hyphens_start<'a>(
     entities: &Entities,
 ) -> Result<Option<LeafStart<'a>>, Memory>
     ensures { IfOk result (λ start. start_of (left_of line.now) start
-        ≡ or_else (setext_begins entities.now (situation_of situation.entry) (chars text.now)) (break_begins (chars text.now))) }
+        ≡ or_else (setext_begins entities.now (situation_of situation.entry) (chars text.now))
+        (break_begins (chars text.now))) }
 {
     let underline = underline_start(heap, situation, line, text, entities)?;
     match underline {

@@ -1,24 +1,6 @@
 -- What a path becomes when all that is open in it closes: the blocks of its tree with the items in lists, and the definitions.
-use Rattle.std.proofs.Common.{
-  ◌≡◌,
-  ℕ,
-  Bool,
-  true,
-  false,
-  List,
-  ◌++◌,
-  refl,
-  ap,
-  ap₂,
-  sym,
-  ◌∙◌,
-  Option,
-  Some,
-  None,
-  append_assoc,
-  append-nil,
-  eqb-true,
-}
+use Rattle.std.proofs.Common.{◌≡◌, ℕ, Bool, true, false, List, ◌++◌, refl, ap, ap₂, sym, ◌∙◌, Option, Some, None, append_assoc, append-nil}
+use Rattle.std.proofs.Common.{eqb-true}
 use Rattle.std.specs.Prelude.{◌&&◌, ◌||◌, not, ⊤}
 use Rattle.doc_rules.specs.Entities.{Table}
 use Rattle.doc_rules.specs.Definitions.{Definition}
@@ -26,31 +8,11 @@ use Rattle.doc_rules.specs.ContainerStarts.{ListKind, Bullet, Ordered, is_same_k
 use Rattle.doc_rules.specs.Forests.{none, ◌▹◌, node}
 use Rattle.doc_rules.specs.Trees.{LeafLines, FencedLines, HtmlLines, BlankLine, QuoteLines, ItemLines, ListLines, Tree}
 use Rattle.doc_rules.specs.Lists.{ends_blank, has_gap, LastList, last_list, with_item, listed}
-use Rattle.doc_rules.specs.Blocks.{
-  Blocks,
-  BlockQuote,
-  ListItem,
-  with_leaf,
-  container_of,
-  blocks_of,
-  leaf_references,
-  references_of,
-  Document,
-  tree_document,
-}
+use Rattle.doc_rules.specs.Blocks.{Blocks, BlockQuote, ListItem, with_leaf, container_of, blocks_of, leaf_references, references_of}
+use Rattle.doc_rules.specs.Blocks.{Document, tree_document}
 use Rattle.doc_blocks_pass.specs.Leaves.{open_of, with_open}
-use Rattle.doc_blocks_pass.specs.Paths.{
-  OpenList,
-  Level,
-  empty_level,
-  Path,
-  finished_list,
-  finished,
-  first_item,
-  one_more_item,
-  item_begun_in,
-  item_begun_at,
-}
+use Rattle.doc_blocks_pass.specs.Paths.{OpenList, Level, empty_level, Path, finished_list, finished, first_item, one_more_item}
+use Rattle.doc_blocks_pass.specs.Paths.{item_begun_in, item_begun_at}
 use Rattle.doc_blocks_pass.specs.Closing.{leaf_closed, item_closed, container_closed, closed, path_blank}
 use Rattle.doc_blocks_pass.specs.OpenBlocks.{path_document}
 use Rattle.doc_blocks_pass.proofs.TreePaths.{leaf_path, path_of, moved_of, IsMade, all_references}

@@ -6,23 +6,9 @@ use Rattle.doc_rules.specs.Blocks.{document_of}
 use Rattle.doc_blocks_pass.specs.Leaves.{open_of, taken, with_open, open_references}
 use Rattle.doc_blocks_pass.specs.Paths.{matched_open, paragraph_of, lazy_path_situation, finished_list, item_begun_in}
 use Rattle.doc_blocks_pass.specs.Closing.{leaf_closed, item_closed, container_closed, closed, path_blank, path_references}
-use Rattle.doc_blocks_pass.specs.OpenBlocks.{
-  leaf_put,
-  underlined_path,
-  leaf_begun,
-  paragraph_continued,
-  text_put,
-  leaf_step,
-  item_first,
-  item_step,
-  leaf_or_item_step,
-  start_step,
-  leaf_takes,
-  line_step,
-  line_steps,
-  path_document,
-  one_pass,
-}
+use Rattle.doc_blocks_pass.specs.OpenBlocks.{leaf_put, underlined_path, leaf_begun, paragraph_continued, text_put, leaf_step, item_first}
+use Rattle.doc_blocks_pass.specs.OpenBlocks.{item_step, leaf_or_item_step, start_step, leaf_takes, line_step, line_steps, path_document}
+use Rattle.doc_blocks_pass.specs.OpenBlocks.{one_pass}
 
 -- read in one pass, the text is its document
 abbrev Agrees : List ℕ → Type 0

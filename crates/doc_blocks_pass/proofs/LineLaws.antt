@@ -1,29 +1,6 @@
 -- One line on the path of a tree gives the path of the tree with that line, and the definitions that leave are the same.
-use Rattle.std.proofs.Common.{
-  ◌≡◌,
-  ℕ,
-  zero,
-  suc,
-  ◌-◌,
-  Bool,
-  true,
-  false,
-  List,
-  [],
-  ◌∷◌,
-  ◌++◌,
-  refl,
-  ap,
-  ap₂,
-  sym,
-  ◌∙◌,
-  subst,
-  Option,
-  Some,
-  None,
-  append_assoc,
-  append-nil,
-}
+use Rattle.std.proofs.Common.{◌≡◌, ℕ, zero, suc, ◌-◌, Bool, true, false, List, [], ◌∷◌, ◌++◌, refl, ap, ap₂, sym, ◌∙◌, subst, Option, Some}
+use Rattle.std.proofs.Common.{None, append_assoc, append-nil}
 use Rattle.std.specs.Prelude.{◌&&◌, ◌||◌, nat_le, not}
 use Rattle.doc_rules.specs.Characters.{Text, is_blank_text}
 use Rattle.doc_rules.specs.Columns.{Line, text_of, indent, skip, is_blank_line}
@@ -34,125 +11,25 @@ use Rattle.doc_rules.specs.LeafStarts.{Fence, closes_fence}
 use Rattle.doc_rules.specs.HtmlStarts.{HtmlKind, ends_before_blank, ends_html}
 use Rattle.doc_rules.specs.ContainerStarts.{ItemStart, item_start, quote_start}
 use Rattle.doc_rules.specs.Forests.{none, ◌▹◌, node}
-use Rattle.doc_rules.specs.Trees.{
-  LeafLines,
-  ParagraphLines,
-  IndentedLines,
-  FencedLines,
-  HtmlLines,
-  BlankLine,
-  ContainerLines,
-  QuoteLines,
-  ItemLines,
-  ListLines,
-  Tree,
-  Situation,
-  NoParagraph,
-  InParagraph,
-  LazyParagraph,
-  has_no_paragraph,
-  LeafStart,
-  NewLeaf,
-  Underline,
-  is_empty_tree,
-  matched,
-  continued,
-  leaf_begins,
-  underlined,
-  with_start,
-  item_may_begin,
-  line_text,
-  add_text,
-  add_leaf,
-  add_item,
-  add_leaf_or_item,
-  add_blocks,
-  lazy_situation,
-  add_to_leaf,
-  add_line,
-}
+use Rattle.doc_rules.specs.Trees.{LeafLines, ParagraphLines, IndentedLines, FencedLines, HtmlLines, BlankLine, ContainerLines, QuoteLines}
+use Rattle.doc_rules.specs.Trees.{ItemLines, ListLines, Tree, Situation, NoParagraph, InParagraph, LazyParagraph, has_no_paragraph}
+use Rattle.doc_rules.specs.Trees.{LeafStart, NewLeaf, Underline, is_empty_tree, matched, continued, leaf_begins, underlined, with_start}
+use Rattle.doc_rules.specs.Trees.{item_may_begin, line_text, add_text, add_leaf, add_item, add_leaf_or_item, add_blocks, lazy_situation}
+use Rattle.doc_rules.specs.Trees.{add_to_leaf, add_line}
 use Rattle.doc_rules.specs.Lists.{ends_blank, is_last_blank}
 use Rattle.doc_rules.specs.Blocks.{HtmlBlock, ended, joined, without_last_blanks, with_leaf, leaf_references, references_of}
-use Rattle.doc_blocks_pass.specs.Leaves.{
-  OpenLeaf,
-  NoLeaf,
-  OpenParagraph,
-  OpenCode,
-  OpenFence,
-  OpenHtml,
-  open_of,
-  with_open,
-  kept_with,
-  code_with,
-  fence_with,
-  html_with,
-  NotTaken,
-  GoesOn,
-  Closes,
-  taken,
-}
-use Rattle.doc_blocks_pass.specs.Paths.{
-  Level,
-  OpenItem,
-  Path,
-  Here,
-  Inside,
-  empty_path,
-  with_blocks,
-  finished_list,
-  item_begun_at,
-  matched_open,
-  gone_on,
-  lazy_path_situation,
-}
+use Rattle.doc_blocks_pass.specs.Leaves.{OpenLeaf, NoLeaf, OpenParagraph, OpenCode, OpenFence, OpenHtml, open_of, with_open, kept_with}
+use Rattle.doc_blocks_pass.specs.Leaves.{code_with, fence_with, html_with, NotTaken, GoesOn, Closes, taken}
+use Rattle.doc_blocks_pass.specs.Paths.{Level, OpenItem, Path, Here, Inside, empty_path, with_blocks, finished_list, item_begun_at}
+use Rattle.doc_blocks_pass.specs.Paths.{matched_open, gone_on, lazy_path_situation}
 use Rattle.doc_blocks_pass.specs.Closing.{leaf_closed, closed, path_blank, path_references}
-use Rattle.doc_blocks_pass.specs.OpenBlocks.{
-  Moved,
-  moved_inside,
-  after_closing,
-  level_for,
-  leaf_put,
-  underlined_path,
-  leaf_begun,
-  paragraph_continued,
-  text_put,
-  leaf_step,
-  item_first,
-  item_put,
-  item_step,
-  leaf_or_item_step,
-  quote_put,
-  start_step,
-  leaf_takes,
-  line_step,
-}
-use Rattle.doc_blocks_pass.proofs.TreePaths.{
-  HasLine,
-  leaf_at,
-  leaf_path,
-  container_level,
-  container_open,
-  path_of,
-  closed_references,
-  left_references,
-  moved,
-  moved_of,
-  IsMadeLeaf,
-  IsMade,
-  all_references,
-  same_situation,
-}
-use Rattle.doc_blocks_pass.proofs.LeafLaws.{
-  last_blank,
-  ended_more,
-  joined_more,
-  kept_lines,
-  kept_more,
-  blank_text,
-  blank_skip,
-  code_kept,
-  html_kept,
-}
+use Rattle.doc_blocks_pass.specs.OpenBlocks.{Moved, moved_inside, after_closing, level_for, leaf_put, underlined_path, leaf_begun}
+use Rattle.doc_blocks_pass.specs.OpenBlocks.{paragraph_continued, text_put, leaf_step, item_first, item_put, item_step, leaf_or_item_step}
+use Rattle.doc_blocks_pass.specs.OpenBlocks.{quote_put, start_step, leaf_takes, line_step}
+use Rattle.doc_blocks_pass.proofs.TreePaths.{HasLine, leaf_at, leaf_path, container_level, container_open, path_of, closed_references}
+use Rattle.doc_blocks_pass.proofs.TreePaths.{left_references, moved, moved_of, IsMadeLeaf, IsMade, all_references, same_situation}
+use Rattle.doc_blocks_pass.proofs.LeafLaws.{last_blank, ended_more, joined_more, kept_lines, kept_more, blank_text, blank_skip, code_kept}
+use Rattle.doc_blocks_pass.proofs.LeafLaws.{html_kept}
 use Rattle.doc_blocks_pass.proofs.StartLaws.{IsBegun, IfBegun, leaf_begun_plain}
 
 -- the definitions of a move behind those that left before

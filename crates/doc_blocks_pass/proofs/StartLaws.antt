@@ -8,27 +8,9 @@ use Rattle.doc_rules.specs.Definitions.{definitions_of}
 use Rattle.doc_rules.specs.LeafStarts.{marker_text, is_thematic_break, atx_heading, underline_level, Fence, opening_fence}
 use Rattle.doc_rules.specs.HtmlStarts.{HtmlKind, html_start, may_interrupt_paragraph, ends_html}
 use Rattle.doc_rules.specs.Forests.{none, ◌▹◌}
-use Rattle.doc_rules.specs.Trees.{
-  AtxLine,
-  FencedLines,
-  HtmlLines,
-  BreakLine,
-  Situation,
-  NoParagraph,
-  InParagraph,
-  LazyParagraph,
-  has_no_paragraph,
-  LeafStart,
-  NewLeaf,
-  Underline,
-  atx_begins,
-  fence_begins,
-  html_begins,
-  setext_begins,
-  break_begins,
-  text_begins,
-  leaf_begins,
-}
+use Rattle.doc_rules.specs.Trees.{AtxLine, FencedLines, HtmlLines, BreakLine, Situation, NoParagraph, InParagraph, LazyParagraph}
+use Rattle.doc_rules.specs.Trees.{has_no_paragraph, LeafStart, NewLeaf, Underline, atx_begins, fence_begins, html_begins, setext_begins}
+use Rattle.doc_rules.specs.Trees.{break_begins, text_begins, leaf_begins}
 use Rattle.doc_rules.specs.Lists.{ends_blank, is_last_blank}
 use Rattle.doc_rules.specs.Blocks.{leaf_references}
 use Rattle.doc_blocks_pass.proofs.TreePaths.{IsMadeLeaf, closed_references}

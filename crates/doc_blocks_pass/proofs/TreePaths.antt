@@ -5,39 +5,13 @@ use Rattle.doc_rules.specs.Characters.{Text}
 use Rattle.doc_rules.specs.Entities.{Table}
 use Rattle.doc_rules.specs.Definitions.{Definition}
 use Rattle.doc_rules.specs.Forests.{none, ◌▹◌, node}
-use Rattle.doc_rules.specs.Trees.{
-  LeafLines,
-  ParagraphLines,
-  FencedLines,
-  HtmlLines,
-  BlankLine,
-  ContainerLines,
-  ItemLines,
-  ListLines,
-  Tree,
-  is_empty_tree,
-  NoParagraph,
-  LazyParagraph,
-  open_paragraph,
-  lazy_situation,
-}
+use Rattle.doc_rules.specs.Trees.{LeafLines, ParagraphLines, FencedLines, HtmlLines, BlankLine, ContainerLines, ItemLines, ListLines, Tree}
+use Rattle.doc_rules.specs.Trees.{is_empty_tree, NoParagraph, LazyParagraph, open_paragraph, lazy_situation}
 use Rattle.doc_rules.specs.Lists.{ends_blank}
 use Rattle.doc_rules.specs.Blocks.{with_leaf, leaf_references, references_of}
 use Rattle.doc_blocks_pass.specs.Leaves.{OpenLeaf, NoLeaf, open_of, open_references}
-use Rattle.doc_blocks_pass.specs.Paths.{
-  Level,
-  OpenContainer,
-  OpenQuote,
-  OpenItem,
-  Path,
-  Here,
-  Inside,
-  empty_path,
-  with_blocks,
-  item_begun_at,
-  paragraph_of,
-  lazy_path_situation,
-}
+use Rattle.doc_blocks_pass.specs.Paths.{Level, OpenContainer, OpenQuote, OpenItem, Path, Here, Inside, empty_path, with_blocks}
+use Rattle.doc_blocks_pass.specs.Paths.{item_begun_at, paragraph_of, lazy_path_situation}
 use Rattle.doc_blocks_pass.specs.Closing.{closed, path_blank, path_references}
 use Rattle.doc_blocks_pass.specs.OpenBlocks.{Moved, level_for}
 

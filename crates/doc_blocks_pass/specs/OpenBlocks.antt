@@ -7,50 +7,13 @@ use Rattle.doc_rules.specs.Columns.{Line, cells_of, indent, is_blank_line}
 use Rattle.doc_rules.specs.Entities.{Table}
 use Rattle.doc_rules.specs.Definitions.{Definition, definitions_of}
 use Rattle.doc_rules.specs.ContainerStarts.{ItemStart, item_start, quote_start}
-use Rattle.doc_rules.specs.Trees.{
-  LeafLines,
-  Situation,
-  NoParagraph,
-  InParagraph,
-  has_no_paragraph,
-  LeafStart,
-  NewLeaf,
-  Underline,
-  leaf_begins,
-  item_may_begin,
-  line_text,
-}
+use Rattle.doc_rules.specs.Trees.{LeafLines, Situation, NoParagraph, InParagraph, has_no_paragraph, LeafStart, NewLeaf, Underline}
+use Rattle.doc_rules.specs.Trees.{leaf_begins, item_may_begin, line_text}
 use Rattle.doc_rules.specs.Blocks.{Heading, with_text, with_leaf, Document}
-use Rattle.doc_blocks_pass.specs.Leaves.{
-  OpenLeaf,
-  NoLeaf,
-  OpenParagraph,
-  OpenCode,
-  open_of,
-  code_with,
-  taken,
-  Taken,
-  NotTaken,
-  GoesOn,
-  Closes,
-}
-use Rattle.doc_blocks_pass.specs.Paths.{
-  Level,
-  OpenContainer,
-  OpenQuote,
-  OpenItem,
-  Path,
-  Here,
-  Inside,
-  empty_path,
-  finished,
-  with_blocks,
-  begun_at,
-  item_begun_at,
-  matched_open,
-  gone_on,
-  lazy_path_situation,
-}
+use Rattle.doc_blocks_pass.specs.Leaves.{OpenLeaf, NoLeaf, OpenParagraph, OpenCode, open_of, code_with, taken, Taken, NotTaken, GoesOn}
+use Rattle.doc_blocks_pass.specs.Leaves.{Closes}
+use Rattle.doc_blocks_pass.specs.Paths.{Level, OpenContainer, OpenQuote, OpenItem, Path, Here, Inside, empty_path, finished, with_blocks}
+use Rattle.doc_blocks_pass.specs.Paths.{begun_at, item_begun_at, matched_open, gone_on, lazy_path_situation}
 use Rattle.doc_blocks_pass.specs.Closing.{leaf_closed, closed, path_blank, path_references}
 
 -- the path behind a line, and the definitions that left paragraphs which closed

@@ -1,50 +1,14 @@
 -- Lines as cells: their indentation, and places that are not inside a tab.
-use Rattle.std.proofs.Common.{
-  ◌≡◌,
-  ℕ,
-  zero,
-  suc,
-  ◌+◌,
-  ◌-◌,
-  ◌<◌,
-  ◌≤◌,
-  Bool,
-  true,
-  false,
-  [],
-  ◌∷◌,
-  ◌++◌,
-  refl,
-  ap,
-  sym,
-  ◌∙◌,
-  Some,
-  None,
-  arith,
-  inl,
-  inr,
-}
+use Rattle.std.proofs.Common.{◌≡◌, ℕ, zero, suc, ◌+◌, ◌-◌, ◌<◌, ◌≤◌, Bool, true, false, [], ◌∷◌, ◌++◌, refl, ap, sym, ◌∙◌, Some, None}
+use Rattle.std.proofs.Common.{arith, inl, inr}
 use Rattle.std.specs.Prelude.{◌&&◌, not, nat_lt, nat_le, min, Option}
 use Rattle.std.specs.Option.{is_some}
 use Rattle.std.proofs.lemmas.Bool.{cases_lt}
 use Rattle.std.proofs.lemmas.Bool.Decides.{nat_tests}
 use Rattle.std.proofs.Math.Nat.{min-eq_left, min-eq_right}
 use Rattle.doc_rules.specs.Characters.{Text, is_space_or_tab}
-use Rattle.doc_rules.specs.Columns.{
-  Line,
-  Cell,
-  width_at,
-  columns_from,
-  cell_of,
-  cells_from,
-  text_of,
-  is_gap,
-  spaces,
-  skip,
-  indent,
-  after_indent,
-  is_blank_line,
-}
+use Rattle.doc_rules.specs.Columns.{Line, Cell, width_at, columns_from, cell_of, cells_from, text_of, is_gap, spaces, skip, indent}
+use Rattle.doc_rules.specs.Columns.{after_indent, is_blank_line}
 use Rattle.doc_lines.specs.Cursors.{Position, first, behind_first, after_next, cells_at, left_of}
 use Rattle.doc_blocks_starts.specs.Lines.{IsPlain}
 

@@ -1,47 +1,13 @@
 -- Markers of block quotes and list items, a character at a time.
-use Rattle.std.proofs.Common.{
-  ◌≡◌,
-  ℕ,
-  zero,
-  suc,
-  ◌+◌,
-  ◌-◌,
-  ◌*◌,
-  ◌<◌,
-  ◌≤◌,
-  Bool,
-  true,
-  false,
-  ◌==◌,
-  [],
-  ◌∷◌,
-  drop,
-  length,
-  refl,
-  ap,
-  sym,
-  ◌∙◌,
-  Option,
-  Some,
-  None,
-  arith,
-  ne_eqb,
-}
+use Rattle.std.proofs.Common.{◌≡◌, ℕ, zero, suc, ◌+◌, ◌-◌, ◌*◌, ◌<◌, ◌≤◌, Bool, true, false, ◌==◌, [], ◌∷◌, drop, length, refl, ap, sym}
+use Rattle.std.proofs.Common.{◌∙◌, Option, Some, None, arith, ne_eqb}
 use Rattle.std.specs.Prelude.{fold, codes}
 use Rattle.std.specs.Char.{is_ascii_digit, digit_value}
 use Rattle.std.proofs.lemmas.Bool.Decides.{nat_tests}
 use Rattle.doc_rules.specs.Characters.{Text, one_of}
 use Rattle.doc_rules.specs.Columns.{Line, Cell, width_at, skip}
-use Rattle.doc_rules.specs.ContainerStarts.{
-  ListKind,
-  Bullet,
-  Ordered,
-  ListMarker,
-  behind_quote_marker,
-  digits_of,
-  bullet_marker,
-  ordered_marker,
-}
+use Rattle.doc_rules.specs.ContainerStarts.{ListKind, Bullet, Ordered, ListMarker, behind_quote_marker, digits_of, bullet_marker}
+use Rattle.doc_rules.specs.ContainerStarts.{ordered_marker}
 use Rattle.doc_rules.specs.Escapes.{number}
 use Rattle.doc_lines.specs.Cursors.{Position, first, after_next, left_of}
 use Rattle.doc_blocks_starts.specs.Lines.{IsPlain}

@@ -39,7 +39,8 @@ pub fn opening_fence(indent: usize, text: &str) -> Option<FenceStart>
 /// Of backticks, with none in the info string.
 #[tactic(auto, unfolding(doc_rules::specs::LeafStarts::fence_of))]
 fn backtick_fence(indent: usize, text: &str) -> Option<FenceStart>
-    ensures { fence_start_of result ≡ fence_of 96 (list_all (λ c. not (c == 96))) indent (chars text.now) }
+    ensures { fence_start_of result ≡ fence_of 96 (list_all (λ c. not (c == 96))) indent
+        (chars text.now) }
 {
     let (length, info) = run_of(text, '`')?;
     if length < FEWEST || !has_no_backtick(info) {
@@ -67,7 +68,12 @@ fn tilde_fence(indent: usize, text: &str) -> Option<FenceStart>
 }
 
 fn fence_start(character: char, length: usize, indent: usize, info: &str) -> FenceStart
-    ensures { fence_start_of (Some result) ≡ Some (record { char = character; length = length; indent = indent }, strip is_space_or_tab (chars info.now)) }
+    ensures { fence_start_of (Some result)
+        ≡ Some (
+          record { char = character; length = length; indent = indent },
+          strip
+              is_space_or_tab (chars info.now),
+        ) }
 {
     FenceStart {
         fence: Fence {

@@ -76,7 +76,8 @@ fn item_of<'a>(line: &Cursor<'a>, marker: Marker<'a>) -> Option<ItemStart<'a>>
 fn item_at<'a>(line: &Cursor<'a>, marker: Marker<'a>, columns: usize) -> ItemStart<'a>
     requires marker { IsMarkerOf (left_of line.now) marker }
     requires columns { columns ≤ 4 }
-    ensures { item_shown result ≡ rules.item_at (left_of line.now) (marker_shown marker.entry) columns }
+    ensures { item_shown result ≡ rules.item_at (left_of line.now) (marker_shown marker.entry)
+        columns }
 {
     let mut first = marker.behind;
     let _ = first.skip(columns);

@@ -10,7 +10,8 @@ use doc_lines::scan::white_space::is_space_or_tab;
 /// The text without the longest run of characters at its end that pass the test.
 pub fn strip_end<F: Fn(char) -> bool>(text: &str, test: F) -> &str
     requires { F.IsAlwaysCallable test }
-    ensures { (class : ℕ → Bool) → IsTestOf (F.post test) class → chars result.now ≡ strip_end class (chars text.now) }
+    ensures { (class : ℕ → Bool) → IsTestOf (F.post test) class
+        → chars result.now ≡ strip_end class (chars text.now) }
 {
     let mut rest = text;
     'characters: while let Some((front, c)) = last_char(rest) {

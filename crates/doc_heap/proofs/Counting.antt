@@ -8,35 +8,8 @@ use prog.Memory.{Memory}
 use prog.Routine.{Routine}
 use types.Logic.{Logic, sem}
 use contract.Monad.{Fun}
-use types.Kit.{
-  Item,
-  ‵,
-  raw,
-  mean,
-  ◌⊛◌,
-  some,
-  later,
-  given,
-  ◌$◌,
-  ◌∵◌,
-  !,
-  qed,
-  move,
-  keep,
-  use1,
-  split,
-  join,
-  pick,
-  fjoin,
-  feq_i,
-  feq_l,
-  check,
-  show,
-  await,
-  updating,
-  now as at_once,
-  done,
-}
+use types.Kit.{Item, ‵, raw, mean, ◌⊛◌, some, later, given, ◌$◌, ◌∵◌, !, qed, move, keep, use1, split, join, pick, fjoin, feq_i, feq_l}
+use types.Kit.{check, show, await, updating, now as at_once, done}
 use denote.Memory.{hidden_shr}
 use denote.Builtin.{bool}
 use denote.Steps.{nothing, only}

@@ -7,21 +7,8 @@ use Rattle.doc_rules.specs.Anchors.{anchor_name, free_anchor, anchors_behind}
 use Rattle.doc_rules.specs.Definitions.{Definition}
 use Rattle.doc_rules.specs.Entities.{Table}
 use Rattle.doc_rules.specs.Forests.{none, ◌▹◌, node}
-use Rattle.doc_rules.specs.Blocks.{
-  Leaf,
-  Paragraph,
-  Heading,
-  IndentedCode,
-  FencedCode,
-  HtmlBlock,
-  ThematicBreak,
-  Container,
-  BlockQuote,
-  ListBlock,
-  ListItem,
-  Blocks,
-  document_of,
-}
+use Rattle.doc_rules.specs.Blocks.{Leaf, Paragraph, Heading, IndentedCode, FencedCode, HtmlBlock, ThematicBreak, Container, BlockQuote}
+use Rattle.doc_rules.specs.Blocks.{ListBlock, ListItem, Blocks, document_of}
 use Rattle.doc_rules.specs.PlainTexts.{headings_in, leaf_headings, leaf_texts, texts_in, text_in}
 use Rattle.doc_rules.specs.Reading.{inlines_of}
 use Rattle.doc_rules.specs.Html.{Output, characters, inlines_html, is_fresh, is_tight_inside, blocks_html, output_of}

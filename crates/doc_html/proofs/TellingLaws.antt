@@ -11,45 +11,12 @@ use Rattle.doc_rules.specs.Entities.{Table}
 use Rattle.doc_rules.specs.Escaping.{html_escape}
 use Rattle.doc_rules.specs.Forests.{none, ◌▹◌, node}
 use Rattle.doc_rules.specs.Reading.{inlines_of}
-use Rattle.doc_rules.specs.Blocks.{
-  Leaf,
-  Paragraph,
-  Heading,
-  IndentedCode,
-  FencedCode,
-  HtmlBlock,
-  ThematicBreak,
-  Container,
-  BlockQuote,
-  ListBlock,
-  ListItem,
-  Blocks,
-}
+use Rattle.doc_rules.specs.Blocks.{Leaf, Paragraph, Heading, IndentedCode, FencedCode, HtmlBlock, ThematicBreak, Container, BlockQuote}
+use Rattle.doc_rules.specs.Blocks.{ListBlock, ListItem, Blocks}
 use Rattle.doc_rules.specs.PlainTexts.{headings_in, leaf_headings, text_in}
-use Rattle.doc_rules.specs.Html.{
-  Output,
-  Writing,
-  characters,
-  inlines_html,
-  is_fresh,
-  write,
-  write_text,
-  new_line,
-  paragraph_html,
-  id_attribute,
-  heading_html,
-  code_html,
-  leaf_html,
-  class_attribute,
-  is_tight_inside,
-  container_start,
-  container_end,
-  blocks_html,
-  output_of,
-  html_of,
-  Linker,
-  written_text,
-}
+use Rattle.doc_rules.specs.Html.{Output, Writing, characters, inlines_html, is_fresh, write, write_text, new_line, paragraph_html}
+use Rattle.doc_rules.specs.Html.{id_attribute, heading_html, code_html, leaf_html, class_attribute, is_tight_inside, container_start}
+use Rattle.doc_rules.specs.Html.{container_end, blocks_html, output_of, html_of, Linker, written_text}
 use Rattle.doc_html.specs.ProgressSteps.{Progress, begun, told, on_new_line, text_met, anchored, heading_met_at}
 use Rattle.doc_html.specs.TellingSteps.{paragraph_told, heading_told, code_told, leaf_told, start_told, end_told, blocks_told}
 use Rattle.doc_html.proofs.WriterSteps.{characters_append}

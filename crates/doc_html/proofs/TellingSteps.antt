@@ -1,25 +1,6 @@
 -- Blocks as they are written, step by step.
-use Rattle.std.proofs.Common.{
-  ◌≡◌,
-  ℕ,
-  ◌<◌,
-  Bool,
-  true,
-  false,
-  List,
-  [],
-  ◌∷◌,
-  ◌++◌,
-  ap,
-  sym,
-  ◌∙◌,
-  subst,
-  append_assoc,
-  ◌+◌,
-  length,
-  take,
-  get_or,
-}
+use Rattle.std.proofs.Common.{◌≡◌, ℕ, ◌<◌, Bool, true, false, List, [], ◌∷◌, ◌++◌, ap, sym, ◌∙◌, subst, append_assoc, ◌+◌, length, take}
+use Rattle.std.proofs.Common.{get_or}
 use Rattle.std.specs.Prelude.{codes, decimal, ◌^◌}
 use Rattle.std.specs.Str.{chars}
 use Rattle.std.proofs.lemmas.Str.{chars-IsAscii}

@@ -1,25 +1,6 @@
 -- What a buffer of HTML holds behind what is written.
-use Rattle.std.proofs.Common.{
-  ◌≡◌,
-  ℕ,
-  inl,
-  inr,
-  Bool,
-  true,
-  false,
-  List,
-  [],
-  ◌∷◌,
-  ◌++◌,
-  map,
-  refl,
-  ap,
-  sym,
-  ◌∙◌,
-  subst,
-  append_assoc,
-  append-nil,
-}
+use Rattle.std.proofs.Common.{◌≡◌, ℕ, inl, inr, Bool, true, false, List, [], ◌∷◌, ◌++◌, map, refl, ap, sym, ◌∙◌, subst, append_assoc}
+use Rattle.std.proofs.Common.{append-nil}
 use Rattle.std.specs.Prelude.{◌==◌, flat_map, encode_utf8_all, Option, Some, None, option_map, codes}
 use Rattle.std.specs.Char.{encode_utf8}
 use Rattle.std.specs.Str.{chars, IsUtf8}

@@ -6,20 +6,8 @@ use Rattle.doc_rules.specs.Definitions.{Definition}
 use Rattle.doc_rules.specs.Escaping.{html_escape}
 use Rattle.doc_rules.specs.Reading.{inlines_of}
 use Rattle.doc_rules.specs.Forests.{none, ◌▹◌, node}
-use Rattle.doc_rules.specs.Blocks.{
-  Leaf,
-  Paragraph,
-  Heading,
-  IndentedCode,
-  FencedCode,
-  HtmlBlock,
-  ThematicBreak,
-  Container,
-  BlockQuote,
-  ListBlock,
-  ListItem,
-  Blocks,
-}
+use Rattle.doc_rules.specs.Blocks.{Leaf, Paragraph, Heading, IndentedCode, FencedCode, HtmlBlock, ThematicBreak, Container, BlockQuote}
+use Rattle.doc_rules.specs.Blocks.{ListBlock, ListItem, Blocks}
 use Rattle.doc_rules.specs.Html.{Output, characters, inlines_html, class_attribute, is_tight_inside, list_tag, list_end}
 use Rattle.doc_rules.specs.PlainTexts.{text_in}
 use Rattle.doc_html.specs.ProgressSteps.{Progress, told, on_new_line, text_met, heading_met}

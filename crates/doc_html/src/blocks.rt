@@ -25,8 +25,10 @@ pub(crate) fn push_all<'d, W: Writer>(
     source: &Source,
     blocks: &'d [Block],
 ) -> Result<(), Memory>
-    ensures { (definitions : List Definition) (p : Progress) → source.now.refs.now ≡ targets_of definitions → W.holds writer.old p →
-        OnOk result (W.holds writer.new (blocks_told source.now.entities.now definitions false (blocks_shown blocks.now) p)) }
+    ensures { (definitions : List Definition) (p : Progress)
+        → source.now.refs.now ≡ targets_of definitions → W.holds writer.old p →
+        OnOk result (W.holds writer.new
+        (blocks_told source.now.entities.now definitions false (blocks_shown blocks.now) p)) }
 {
     let mut reader: Reader<'d> = Reader::new(source.heap);
     push_blocks(writer, source, &mut reader, blocks, false)?;
@@ -42,9 +44,11 @@ pub(crate) fn push_blocks<'d, W: Writer>(
     blocks: &'d [Block],
     tight: bool,
 ) -> Result<(), Memory>
-    ensures { (definitions : List Definition) (before : Blocks) (p : Progress) → source.now.refs.now ≡ targets_of definitions →
+    ensures { (definitions : List Definition) (before : Blocks) (p : Progress)
+        → source.now.refs.now ≡ targets_of definitions →
         W.holds writer.old (blocks_told source.now.entities.now definitions tight before p) →
-        OnOk result (W.holds writer.new (blocks_told source.now.entities.now definitions tight (forest blocks.now before) p)) }
+        OnOk result (W.holds writer.new
+        (blocks_told source.now.entities.now definitions tight (forest blocks.now before) p)) }
 {
     for block in blocks {
         push_block(writer, source, reader, block, tight)?;
@@ -61,9 +65,11 @@ fn push_block<'d, W: Writer>(
     block: &'d Block,
     tight: bool,
 ) -> Result<(), Memory>
-    ensures { (definitions : List Definition) (before : Blocks) (p : Progress) → source.now.refs.now ≡ targets_of definitions →
+    ensures { (definitions : List Definition) (before : Blocks) (p : Progress)
+        → source.now.refs.now ≡ targets_of definitions →
         W.holds writer.old (blocks_told source.now.entities.now definitions tight before p) →
-        OnOk result (W.holds writer.new (blocks_told source.now.entities.now definitions tight (behind block.now before) p)) }
+        OnOk result (W.holds writer.new
+        (blocks_told source.now.entities.now definitions tight (behind block.now before) p)) }
 {
     match block {
         Block::Para(text) => {
@@ -132,7 +138,8 @@ fn end_quote<W: Writer>(writer: &mut W) -> Result<(), Memory>
 }
 
 fn begin_list<W: Writer>(writer: &mut W, heap: Heap, start: Option<u32>) -> Result<(), Memory>
-    ensures { (tight : Bool) → OnOk result (Goes W.holds writer.old writer.new (start_told (ListBlock start tight))) }
+    ensures { (tight : Bool)
+        → OnOk result (Goes W.holds writer.old writer.new (start_told (ListBlock start tight))) }
 {
     writer.new_line()?;
     push_list_tag(writer, heap, start)?;
@@ -153,7 +160,8 @@ fn push_list_tag<W: Writer>(writer: &mut W, heap: Heap, start: Option<u32>) -> R
 
 /// Writes the opening tag of a list with its first number.
 fn push_start<W: Writer>(writer: &mut W, heap: Heap, start: u32) -> Result<(), Memory>
-    ensures { OnOk result (Writes W.holds writer.old writer.new (characters (codes "<ol start=\"" ++ decimal start ++ codes "\">\n"))) }
+    ensures { OnOk result (Writes W.holds writer.old writer.new
+        (characters (codes "<ol start=\"" ++ decimal start ++ codes "\">\n"))) }
 {
     markup(writer, "<ol start=\"")?;
     push_decimal(writer, heap, start)?;
@@ -162,7 +170,8 @@ fn push_start<W: Writer>(writer: &mut W, heap: Heap, start: u32) -> Result<(), M
 }
 
 fn end_list<W: Writer>(writer: &mut W, start: Option<u32>) -> Result<(), Memory>
-    ensures { (tight : Bool) → OnOk result (Goes W.holds writer.old writer.new (end_told (ListBlock start tight))) }
+    ensures { (tight : Bool)
+        → OnOk result (Goes W.holds writer.old writer.new (end_told (ListBlock start tight))) }
 {
     writer.new_line()?;
     push_list_end(writer, start)?;

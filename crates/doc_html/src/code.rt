@@ -13,7 +13,8 @@ use doc_page::failure::Memory;
 
 /// Writes a text, escaped, with a space for each line ending.
 pub(crate) fn push_spaced<W: Writer>(writer: &mut W, text: &str) -> Result<(), Memory>
-    ensures { OnOk result (Writes W.holds writer.old writer.new (characters (html_escape (spaced (chars text.now))))) }
+    ensures { OnOk result (Writes W.holds writer.old writer.new
+        (characters (html_escape (spaced (chars text.now))))) }
 {
     let mut rest = text;
     'lines: while let Some((line, behind)) = first_line(rest) {
@@ -28,7 +29,8 @@ pub(crate) fn push_spaced<W: Writer>(writer: &mut W, text: &str) -> Result<(), M
 /// Writes a space.
 #[tactic(auto, unfolding(doc_rules::specs::Escaping::html_escape, doc_rules::specs::Escaping::escaped_char))]
 pub(crate) fn push_space<W: Writer>(writer: &mut W) -> Result<(), Memory>
-    ensures { OnOk result (Writes W.holds writer.old writer.new (characters (html_escape (32 ∷ [])))) }
+    ensures { OnOk result (Writes W.holds writer.old writer.new
+        (characters (html_escape (32 ∷ [])))) }
 {
     markup(writer, " ")
 }
@@ -42,7 +44,8 @@ pub(crate) fn push_nothing<W: Writer>(_writer: &mut W) -> Result<(), Memory>
 
 /// What stands before the first line ending, and what stands behind it.
 pub(crate) fn first_line(text: &str) -> Option<(&str, &str)>
-    ensures line { IfSome result (λ found. spaced (chars text.now) ≡ chars found.0.now ++ 32 ∷ spaced (chars found.1.now)) }
+    ensures line { IfSome result (λ found. spaced (chars text.now) ≡ chars found.0.now ++ 32
+        ∷ spaced (chars found.1.now)) }
     ensures none { IfNone result (spaced (chars text.now) ≡ chars text.now) }
 {
     let behind = many(text, is_in_line);

@@ -24,8 +24,11 @@ pub fn to_html<L: Linker>(
     entities: &Entities,
     linker: &L,
 ) -> Result<Text, Memory>
-    ensures { (definitions : List Definition) (rule : rules.Linker) → document.now.refs ≡ targets_of definitions → ShowsAlike (L.shown linker.now) rule →
-        IfOk result (λ html. html ≡ encode_utf8_all (html_of entities.now rule [] (record { blocks = blocks_shown document.now.blocks.items; refs = definitions }))) }
+    ensures { (definitions : List Definition) (rule : rules.Linker)
+        → document.now.refs ≡ targets_of definitions → ShowsAlike (L.shown linker.now) rule →
+        IfOk result (λ html. html ≡ encode_utf8_all
+        (html_of entities.now rule []
+        (record { blocks = blocks_shown document.now.blocks.items; refs = definitions }))) }
 {
     write_html(heap, document, entities, linker, 0)
 }
@@ -38,8 +41,11 @@ pub(crate) fn write_html<L: Linker>(
     linker: &L,
     room: usize,
 ) -> Result<Text, Memory>
-    ensures { (definitions : List Definition) (rule : rules.Linker) → document.now.refs ≡ targets_of definitions → ShowsAlike (L.shown linker.now) rule →
-        IfOk result (λ html. html ≡ encode_utf8_all (html_of entities.now rule [] (record { blocks = blocks_shown document.now.blocks.items; refs = definitions }))) }
+    ensures { (definitions : List Definition) (rule : rules.Linker)
+        → document.now.refs ≡ targets_of definitions → ShowsAlike (L.shown linker.now) rule →
+        IfOk result (λ html. html ≡ encode_utf8_all
+        (html_of entities.now rule []
+        (record { blocks = blocks_shown document.now.blocks.items; refs = definitions }))) }
 {
     let source = Source {
         heap,

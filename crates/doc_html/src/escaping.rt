@@ -15,7 +15,8 @@ use doc_page::text::Text;
 
 /// Adds the text with `&`, `<`, `>` and `"` as references.
 pub(crate) fn push_html(out: &mut String, text: &str) -> Result<(), Memory>
-    ensures { OnOk result (chars (string_bytes out.new) ≡ chars (string_bytes out.old) ++ html_escape (chars text.now)) }
+    ensures { OnOk result (chars (string_bytes out.new) ≡ chars (string_bytes out.old)
+        ++ html_escape (chars text.now)) }
 {
     push_escaped(out, text)
 }
@@ -37,7 +38,8 @@ pub(crate) fn url(heap: Heap, dest: &str) -> Result<Text, Memory>
 /// Adds a character of a destination.
 #[tactic(auto, unfolding(doc_rules::specs::Escaping::url_char))]
 fn push_url_char(out: &mut String, c: char) -> Result<(), Memory>
-    ensures { OnOk result (chars (string_bytes out.new) ≡ chars (string_bytes out.old) ++ url_char c) }
+    ensures { OnOk result (chars (string_bytes out.new) ≡ chars (string_bytes out.old)
+        ++ url_char c) }
 {
     if stays(c) {
         return push_char(out, c);
@@ -85,7 +87,8 @@ fn is_mark(c: char) -> bool
 
 /// Adds bytes, each as `%` and two digits.
 fn push_percents(out: &mut String, bytes: &[u8]) -> Result<(), Memory>
-    ensures { OnOk result (chars (string_bytes out.new) ≡ chars (string_bytes out.old) ++ flat_map percent bytes.now) }
+    ensures { OnOk result (chars (string_bytes out.new) ≡ chars (string_bytes out.old)
+        ++ flat_map percent bytes.now) }
 {
     for byte in bytes {
         push_percent(out, *byte)?;
@@ -96,7 +99,8 @@ fn push_percents(out: &mut String, bytes: &[u8]) -> Result<(), Memory>
 /// Adds a byte as `%` and two digits.
 #[tactic(auto, unfolding(doc_rules::specs::Escaping::percent))]
 fn push_percent(out: &mut String, byte: u8) -> Result<(), Memory>
-    ensures { OnOk result (chars (string_bytes out.new) ≡ chars (string_bytes out.old) ++ percent byte) }
+    ensures { OnOk result (chars (string_bytes out.new) ≡ chars (string_bytes out.old)
+        ++ percent byte) }
 {
     push_char(out, '%')?;
     push_char(out, hex_digit(byte / 16))?;

@@ -27,7 +27,8 @@ pub(crate) struct HtmlWriter<'l, L: Linker> {
 impl<'l, L: Linker> HtmlWriter<'l, L> {
     /// Nothing is written yet. There is room for so many bytes.
     pub(crate) fn new(heap: Heap, linker: &'l L, room: usize) -> Result<Self, Memory>
-        ensures { IfOk result (λ writer. HoldsHtml (L.shown writer.linker.now) (string_bytes writer.out) writer.fresh (begun (L.shown linker.now) None)) }
+        ensures { IfOk result (λ writer. HoldsHtml (L.shown writer.linker.now)
+            (string_bytes writer.out) writer.fresh (begun (L.shown linker.now) None)) }
     {
         let out = String::with_capacity(heap, room)?;
         Ok(HtmlWriter {
@@ -97,7 +98,8 @@ impl<'l, L: Linker> Writer for HtmlWriter<'l, L> {
 
 /// Adds the opening tag of a link.
 fn push_tag(out: &mut String, title: &Option<Text>, shown: &Shown) -> Result<(), Memory>
-    ensures { OnOk result (string_bytes out.new ≡ string_bytes out.old ++ opening_tag (read_again title.now) shown.now) }
+    ensures { OnOk result (string_bytes out.new ≡ string_bytes out.old
+        ++ opening_tag (read_again title.now) shown.now) }
 {
     match shown {
         Shown::Href(href) => {
@@ -113,7 +115,8 @@ fn push_tag(out: &mut String, title: &Option<Text>, shown: &Shown) -> Result<(),
 }
 
 fn push_title(out: &mut String, title: &Option<Text>) -> Result<(), Memory>
-    ensures { OnOk result (string_bytes out.new ≡ string_bytes out.old ++ title_attribute (read_again title.now)) }
+    ensures { OnOk result (string_bytes out.new ≡ string_bytes out.old
+        ++ title_attribute (read_again title.now)) }
 {
     let Some(title) = title else {
         return Ok(());

@@ -26,7 +26,8 @@ pub(crate) fn push_marks<W: Writer>(
     marks: &[Mark],
 ) -> Result<(), Memory>
     requires { AreCut marks.now }
-    ensures { OnOk result (Writes W.holds writer.old writer.new (inlines_html 0 (inlines_shown marks.now))) }
+    ensures { OnOk result (Writes W.holds writer.old writer.new
+        (inlines_html 0 (inlines_shown marks.now))) }
 {
     let mut images = 0;
     for mark in marks {
@@ -44,7 +45,8 @@ fn push_mark<W: Writer>(
 ) -> Result<usize, Memory>
     requires few { images + 1 < 2 ^ 64 }
     requires cut { IsCut mark.now }
-    ensures written { OnOk result (Writes W.holds writer.old writer.new (inlines_html images (inlines_in mark.now))) }
+    ensures written { OnOk result (Writes W.holds writer.old writer.new
+        (inlines_html images (inlines_in mark.now))) }
     ensures behind { IfOk result (λ behind. behind ≡ images_behind images mark.now) }
 {
     let behind = images_behind(mark, images);
@@ -71,7 +73,8 @@ fn images_behind(mark: &Mark, images: usize) -> usize
 /// Writes the plain text of a mark.
 fn push_plain<W: Writer>(writer: &mut W, mark: &Mark) -> Result<(), Memory>
     requires { IsCut mark.now }
-    ensures { OnOk result (Writes W.holds writer.old writer.new (characters (html_escape (mark_plain mark.now)))) }
+    ensures { OnOk result (Writes W.holds writer.old writer.new
+        (characters (html_escape (mark_plain mark.now)))) }
 {
     match mark {
         Mark::Text(text) => push_cut(writer, text),
@@ -105,7 +108,8 @@ fn push_whole<W: Writer>(writer: &mut W, heap: Heap, mark: &Mark) -> Result<(), 
 /// Writes a text of which each `&`, `<`, `>` and `"` is a text of its own, as it stands where it is longer than they are.
 fn push_cut<W: Writer>(writer: &mut W, text: &str) -> Result<(), Memory>
     requires { is_cut (chars text.now) ≡ true }
-    ensures { OnOk result (Writes W.holds writer.old writer.new (characters (html_escape (chars text.now)))) }
+    ensures { OnOk result (Writes W.holds writer.old writer.new
+        (characters (html_escape (chars text.now)))) }
 {
     if text.len() == 1 {
         return writer.escaped(text);
@@ -129,7 +133,8 @@ fn push_hard<W: Writer>(writer: &mut W) -> Result<(), Memory>
 
 /// Writes a code span.
 fn push_code<W: Writer>(writer: &mut W, text: &str) -> Result<(), Memory>
-    ensures { OnOk result (Writes W.holds writer.old writer.new (inline_html (rules.Code (chars text.now)))) }
+    ensures { OnOk result (Writes W.holds writer.old writer.new
+        (inline_html (rules.Code (chars text.now)))) }
 {
     markup(writer, "<code>")?;
     push_spaced(writer, text)?;
@@ -140,7 +145,8 @@ fn push_code<W: Writer>(writer: &mut W, text: &str) -> Result<(), Memory>
 /// Writes the start of a span.
 #[tactic(auto, unfolding(doc_rules::specs::Html::span_start, doc_inlines_marks::specs::Views::span_shown))]
 fn push_start<W: Writer>(writer: &mut W, heap: Heap, span: &Span) -> Result<(), Memory>
-    ensures { OnOk result (Writes W.holds writer.old writer.new (span_start (span_shown span.now))) }
+    ensures { OnOk result (Writes W.holds writer.old writer.new
+        (span_start (span_shown span.now))) }
 {
     match span {
         Span::Emphasis => markup(writer, "<em>"),
@@ -152,7 +158,8 @@ fn push_start<W: Writer>(writer: &mut W, heap: Heap, span: &Span) -> Result<(), 
 
 /// Writes what stands before the text of an image.
 fn push_image_start<W: Writer>(writer: &mut W, heap: Heap, target: &Target) -> Result<(), Memory>
-    ensures { OnOk result (Writes W.holds writer.old writer.new (span_start (rules.Image (target_shown target.now)))) }
+    ensures { OnOk result (Writes W.holds writer.old writer.new
+        (span_start (rules.Image (target_shown target.now)))) }
 {
     let src = url(heap, target.dest.get())?;
     markup(writer, "<img src=\"")?;
@@ -164,7 +171,8 @@ fn push_image_start<W: Writer>(writer: &mut W, heap: Heap, target: &Target) -> R
 /// Writes the end of a span.
 #[tactic(auto, unfolding(doc_rules::specs::Html::span_end, doc_inlines_marks::specs::Views::span_shown))]
 fn push_end<W: Writer>(writer: &mut W, span: &Span) -> Result<(), Memory>
-    ensures { OnOk result (Writes W.holds writer.old writer.new (characters (span_end (span_shown span.now)))) }
+    ensures { OnOk result (Writes W.holds writer.old writer.new
+        (characters (span_end (span_shown span.now)))) }
 {
     match span {
         Span::Emphasis => markup(writer, "</em>"),
@@ -176,7 +184,8 @@ fn push_end<W: Writer>(writer: &mut W, span: &Span) -> Result<(), Memory>
 
 /// Writes what stands behind the text of an image.
 fn push_image_end<W: Writer>(writer: &mut W, target: &Target) -> Result<(), Memory>
-    ensures { OnOk result (Writes W.holds writer.old writer.new (characters (span_end (rules.Image (target_shown target.now))))) }
+    ensures { OnOk result (Writes W.holds writer.old writer.new
+        (characters (span_end (rules.Image (target_shown target.now))))) }
 {
     markup(writer, "\"")?;
     push_title(writer, &target.title)?;
@@ -186,7 +195,8 @@ fn push_image_end<W: Writer>(writer: &mut W, target: &Target) -> Result<(), Memo
 
 /// Writes the attribute of a title.
 fn push_title<W: Writer>(writer: &mut W, title: &Option<Text>) -> Result<(), Memory>
-    ensures { OnOk result (Writes W.holds writer.old writer.new (characters (title_attribute (option_map chars title.now)))) }
+    ensures { OnOk result (Writes W.holds writer.old writer.new
+        (characters (title_attribute (option_map chars title.now)))) }
 {
     let Some(title) = title else {
         return Ok(());

@@ -29,7 +29,8 @@ pub(crate) fn push_paragraph<'d, W: Writer>(
     tight: bool,
 ) -> Result<(), Memory>
     ensures { (definitions : List Definition) → source.now.refs.now ≡ targets_of definitions →
-        OnOk result (Goes W.holds writer.old writer.new (leaf_told source.now.entities.now definitions tight (Paragraph (chars text.now)))) }
+        OnOk result (Goes W.holds writer.old writer.new
+        (leaf_told source.now.entities.now definitions tight (Paragraph (chars text.now)))) }
 {
     reader.read(source.heap, source.entities, source.refs, text)?;
     let marks = reader.marks();
@@ -53,8 +54,10 @@ pub(crate) fn push_heading<'d, W: Writer>(
     level: u8,
     text: &'d str,
 ) -> Result<(), Memory>
-    ensures { (definitions : List Definition) (tight : Bool) → source.now.refs.now ≡ targets_of definitions →
-        OnOk result (Goes W.holds writer.old writer.new (leaf_told source.now.entities.now definitions tight (Heading level (chars text.now)))) }
+    ensures { (definitions : List Definition) (tight : Bool)
+        → source.now.refs.now ≡ targets_of definitions →
+        OnOk result (Goes W.holds writer.old writer.new
+        (leaf_told source.now.entities.now definitions tight (Heading level (chars text.now)))) }
 {
     reader.read(source.heap, source.entities, source.refs, text)?;
     let marks = reader.marks();
@@ -98,7 +101,8 @@ pub(crate) fn push_indented<W: Writer>(writer: &mut W, text: &str) -> Result<(),
 
 /// Writes fenced code.
 pub(crate) fn push_fenced<W: Writer>(writer: &mut W, info: &str, text: &str) -> Result<(), Memory>
-    ensures { OnOk result (Goes W.holds writer.old writer.new (code_told (class_attribute (chars info.now)) (chars text.now))) }
+    ensures { OnOk result (Goes W.holds writer.old writer.new
+        (code_told (class_attribute (chars info.now)) (chars text.now))) }
 {
     writer.meet_text(text)?;
     writer.new_line()?;
@@ -110,7 +114,8 @@ pub(crate) fn push_fenced<W: Writer>(writer: &mut W, info: &str, text: &str) -> 
 
 /// Writes the rest of a code block behind its attribute.
 fn push_content<W: Writer>(writer: &mut W, text: &str) -> Result<(), Memory>
-    ensures { OnOk result (Writes W.holds writer.old writer.new (characters (codes ">" ++ html_escape (chars text.now) ++ codes "</code></pre>\n"))) }
+    ensures { OnOk result (Writes W.holds writer.old writer.new
+        (characters (codes ">" ++ html_escape (chars text.now) ++ codes "</code></pre>\n"))) }
 {
     markup(writer, ">")?;
     writer.escaped(text)?;
@@ -121,7 +126,8 @@ fn push_content<W: Writer>(writer: &mut W, text: &str) -> Result<(), Memory>
 /// Writes the class for a language, if there is one.
 #[tactic(auto, unfolding(doc_rules::specs::Html::language_class))]
 fn push_class<W: Writer>(writer: &mut W, word: &str) -> Result<(), Memory>
-    ensures { OnOk result (Writes W.holds writer.old writer.new (characters (language_class (chars word.now)))) }
+    ensures { OnOk result (Writes W.holds writer.old writer.new
+        (characters (language_class (chars word.now)))) }
 {
     let Some(_) = next_char(word) else {
         return Ok(());
@@ -155,7 +161,8 @@ fn is_in_word(c: char) -> bool
 /// Writes an HTML block.
 pub(crate) fn push_html_block<W: Writer>(writer: &mut W, text: &str) -> Result<(), Memory>
     ensures { (table : Table) (definitions : List Definition) (tight : Bool) →
-        OnOk result (Goes W.holds writer.old writer.new (leaf_told table definitions tight (HtmlBlock (chars text.now)))) }
+        OnOk result (Goes W.holds writer.old writer.new
+        (leaf_told table definitions tight (HtmlBlock (chars text.now)))) }
 {
     writer.new_line()?;
     writer.text(text)?;
@@ -166,7 +173,8 @@ pub(crate) fn push_html_block<W: Writer>(writer: &mut W, text: &str) -> Result<(
 /// Writes a thematic break.
 pub(crate) fn push_break<W: Writer>(writer: &mut W) -> Result<(), Memory>
     ensures { (table : Table) (definitions : List Definition) (tight : Bool) →
-        OnOk result (Goes W.holds writer.old writer.new (leaf_told table definitions tight ThematicBreak)) }
+        OnOk result (Goes W.holds writer.old writer.new
+        (leaf_told table definitions tight ThematicBreak)) }
 {
     writer.new_line()?;
     markup(writer, "<hr />\n")?;

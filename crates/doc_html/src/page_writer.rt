@@ -40,7 +40,8 @@ pub(crate) struct PageWriter {
 impl PageWriter {
     /// Nothing is written yet.
     pub(crate) fn new(heap: Heap) -> Self
-        ensures { HoldsPage result.pieces.items (string_bytes result.html) result.fresh result.anchors result.headings.items result.texts.items (begun plain_shown (Some [])) }
+        ensures { HoldsPage result.pieces.items (string_bytes result.html) result.fresh
+            result.anchors result.headings.items result.texts.items (begun plain_shown (Some [])) }
     {
         PageWriter {
             heap,
@@ -55,7 +56,9 @@ impl PageWriter {
 
     /// The page.
     pub(crate) fn into_page(self) -> Result<Rendered, Memory>
-        ensures { (p : Progress) → HoldsPage self.pieces.items (string_bytes self.html) self.fresh self.anchors self.headings.items self.texts.items p →
+        ensures { (p : Progress)
+            → HoldsPage self.pieces.items (string_bytes self.html) self.fresh self.anchors
+            self.headings.items self.texts.items p →
             IfOk result (λ page. page ≡ page_told p) }
     {
         let PageWriter {
@@ -138,7 +141,8 @@ impl Writer for PageWriter {
 
 /// Cuts the HTML off as a piece, where there is some. The buffer keeps its room.
 fn cut(heap: Heap, pieces: &mut Vec<Piece>, html: &mut String) -> Result<(), Memory>
-    ensures pieces { OnOk result (pieces.new.items ≡ pieces.old.items ++ html_pieces (string_bytes html.old)) }
+    ensures pieces { OnOk result (pieces.new.items ≡ pieces.old.items
+        ++ html_pieces (string_bytes html.old)) }
     ensures html { OnOk result (string_bytes html.new ≡ []) }
 {
     if html.as_str().is_empty() {
@@ -152,7 +156,8 @@ fn cut(heap: Heap, pieces: &mut Vec<Piece>, html: &mut String) -> Result<(), Mem
 
 /// Adds the last HTML as a piece, where there is some.
 fn push_last(pieces: &mut Vec<Piece>, html: String) -> Result<(), Memory>
-    ensures { OnOk result (pieces.new.items ≡ pieces.old.items ++ html_pieces (string_bytes html.entry)) }
+    ensures { OnOk result (pieces.new.items ≡ pieces.old.items
+        ++ html_pieces (string_bytes html.entry)) }
 {
     if html.as_str().is_empty() {
         return Ok(());
@@ -163,7 +168,8 @@ fn push_last(pieces: &mut Vec<Piece>, html: String) -> Result<(), Memory>
 
 /// The place of a link's opening tag.
 fn spot_of(heap: Heap, target: &Target) -> Result<LinkSpot, Memory>
-    ensures { IfOk result (λ spot. Link spot ≡ encoded_piece (LinkPiece (target_shown target.now))) }
+    ensures { IfOk result (λ spot. Link spot
+        ≡ encoded_piece (LinkPiece (target_shown target.now))) }
 {
     let dest = copy_of(heap, &target.dest)?;
     let title = title_of(heap, &target.title)?;
@@ -190,7 +196,8 @@ fn copy_of(heap: Heap, text: &Text) -> Result<Text, Memory>
 
 /// Adds the attribute with an anchor.
 fn push_id(out: &mut String, anchor: &str) -> Result<(), Memory>
-    ensures { OnOk result (string_bytes out.new ≡ string_bytes out.old ++ (codes " id=\"" ++ escaped anchor.now ++ codes "\"")) }
+    ensures { OnOk result (string_bytes out.new ≡ string_bytes out.old
+        ++ (codes " id=\"" ++ escaped anchor.now ++ codes "\"")) }
 {
     out.push_str(" id=\"")?;
     push_escaped(out, anchor)?;

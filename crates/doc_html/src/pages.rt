@@ -26,7 +26,9 @@ pub(crate) fn page_of(heap: Heap, text: &str, entities: &Entities) -> Result<Ren
 /// The page of a document.
 fn document_page(heap: Heap, document: &Document, entities: &Entities) -> Result<Rendered, Memory>
     ensures { (definitions : List Definition) → document.now.refs ≡ targets_of definitions →
-        IfOk result (λ page. page ≡ encoded (document_page entities.now (record { blocks = blocks_shown document.now.blocks.items; refs = definitions }))) }
+        IfOk result (λ page. page ≡ encoded
+        (document_page entities.now
+        (record { blocks = blocks_shown document.now.blocks.items; refs = definitions }))) }
 {
     let source = Source {
         heap,

@@ -43,7 +43,8 @@ fn room_of_mark(mark: &Mark) -> usize {
 
 /// Adds the plain text of a mark.
 fn push_mark(out: &mut String, mark: &Mark) -> Result<(), Memory>
-    ensures { OnOk result (string_bytes out.new ≡ string_bytes out.old ++ encode_utf8_all (mark_plain mark.now)) }
+    ensures { OnOk result (string_bytes out.new ≡ string_bytes out.old
+        ++ encode_utf8_all (mark_plain mark.now)) }
 {
     match mark {
         Mark::Text(text) => push_str(out, text),
@@ -59,7 +60,8 @@ fn push_mark(out: &mut String, mark: &Mark) -> Result<(), Memory>
 
 /// Adds a text.
 fn push_str(out: &mut String, text: &str) -> Result<(), Memory>
-    ensures { OnOk result (string_bytes out.new ≡ string_bytes out.old ++ encode_utf8_all (chars text.now)) }
+    ensures { OnOk result (string_bytes out.new ≡ string_bytes out.old
+        ++ encode_utf8_all (chars text.now)) }
 {
     out.push_str(text)?;
     Ok(())
@@ -67,7 +69,8 @@ fn push_str(out: &mut String, text: &str) -> Result<(), Memory>
 
 /// Adds a space.
 fn push_space(out: &mut String) -> Result<(), Memory>
-    ensures { OnOk result (string_bytes out.new ≡ string_bytes out.old ++ encode_utf8_all (32 ∷ [])) }
+    ensures { OnOk result (string_bytes out.new ≡ string_bytes out.old
+        ++ encode_utf8_all (32 ∷ [])) }
 {
     out.push_str(" ")?;
     Ok(())
@@ -75,7 +78,8 @@ fn push_space(out: &mut String) -> Result<(), Memory>
 
 /// Adds a text, with a space for each line ending.
 fn push_spaced(out: &mut String, text: &str) -> Result<(), Memory>
-    ensures { OnOk result (string_bytes out.new ≡ string_bytes out.old ++ encode_utf8_all (spaced (chars text.now))) }
+    ensures { OnOk result (string_bytes out.new ≡ string_bytes out.old
+        ++ encode_utf8_all (spaced (chars text.now))) }
 {
     let mut rest = text;
     'lines: while let Some((line, behind)) = first_line(rest) {

@@ -12,7 +12,8 @@ use doc_page::text::Text;
 
 /// The text as HTML, in the form of the examples of CommonMark 0.31.2.
 pub fn render_plain(heap: Heap, text: &str, entities: &Entities) -> Result<Text, Memory>
-    ensures { IfOk result (λ html. html ≡ encode_utf8_all (rendered_plain entities.now (chars text.now))) }
+    ensures { IfOk result (λ html. html ≡ encode_utf8_all
+        (rendered_plain entities.now (chars text.now))) }
 {
     let document = blocks(heap, text, entities)?;
     let linker = PlainLinker;

@@ -23,11 +23,13 @@ pub(crate) trait Writer {
 
     /// Writes a text with `&`, `<`, `>` and `"` as references.
     fn escaped(&mut self, text: &str) -> Result<(), Memory>
-        ensures { OnOk result (Writes holds self.old self.new (characters (html_escape (chars text.now)))) };
+        ensures { OnOk result (Writes holds self.old self.new
+            (characters (html_escape (chars text.now)))) };
 
     /// Writes the opening tag of a link.
     fn link(&mut self, target: &Target) -> Result<(), Memory>
-        ensures { OnOk result (Writes holds self.old self.new (LinkTag (target_shown target.now) ∷ [])) };
+        ensures { OnOk result (Writes holds self.old self.new
+            (LinkTag (target_shown target.now) ∷ [])) };
 
     /// Begins a line, where something stands on this one.
     fn new_line(&mut self) -> Result<(), Memory>
@@ -39,11 +41,13 @@ pub(crate) trait Writer {
 
     /// A paragraph with these inlines is met.
     fn meet_paragraph(&mut self, marks: &[Mark]) -> Result<(), Memory>
-        ensures { OnOk result (Goes holds self.old self.new (text_met (plain_text (inlines_shown marks.now)))) };
+        ensures { OnOk result (Goes holds self.old self.new
+            (text_met (plain_text (inlines_shown marks.now)))) };
 
     /// A heading with these inlines is met, and its anchor written where headings get anchors.
     fn meet_heading(&mut self, level: u8, marks: &[Mark]) -> Result<(), Memory>
-        ensures { OnOk result (Goes holds self.old self.new (heading_met level (plain_text (inlines_shown marks.now)))) };
+        ensures { OnOk result (Goes holds self.old self.new
+            (heading_met level (plain_text (inlines_shown marks.now)))) };
 }
 
 /// Writes a text of ASCII characters as it stands.

@@ -1,25 +1,6 @@
 -- What is known of the anchors used after one more.
-use Rattle.std.proofs.Common.{
-  ◌≡◌,
-  ℕ,
-  ◌+◌,
-  ◌<◌,
-  List,
-  [],
-  ◌∷◌,
-  ◌++◌,
-  map,
-  drop,
-  length,
-  get_or,
-  append-nil,
-  append_assoc,
-  chars,
-  ap,
-  sym,
-  subst,
-  ◌∙◌,
-}
+use Rattle.std.proofs.Common.{◌≡◌, ℕ, ◌+◌, ◌<◌, List, [], ◌∷◌, ◌++◌, map, drop, length, get_or, append-nil, append_assoc, chars, ap, sym}
+use Rattle.std.proofs.Common.{subst, ◌∙◌}
 use Rattle.std.specs.Prelude.{◌||◌, Result, Ok, Err, IfOk, bytes_eq}
 use Rattle.std.proofs.lemmas.List.{drop_more, map-append}
 use Rattle.doc_rules.specs.Characters.{Text}

@@ -31,7 +31,8 @@ fn folded(heap: Heap, text: &str) -> Result<String, Memory>
 
 /// What of a text stands in a name.
 fn kept(heap: Heap, text: &str) -> Result<String, Memory>
-    ensures { IfOk result (λ out. chars (string_bytes out) ≡ flat_map anchor_char (chars text.now)) }
+    ensures { IfOk result (λ out. chars (string_bytes out)
+        ≡ flat_map anchor_char (chars text.now)) }
 {
     let mut out = String::with_capacity(heap, text.len())?;
     'characters: for c in text.chars() {
@@ -43,7 +44,8 @@ fn kept(heap: Heap, text: &str) -> Result<String, Memory>
 /// Adds what of a character stands in a name.
 #[tactic(auto, unfolding(doc_rules::specs::Anchors::anchor_char))]
 fn push_kept(out: &mut String, c: char) -> Result<(), Memory>
-    ensures { OnOk result (chars (string_bytes out.new) ≡ chars (string_bytes out.old) ++ anchor_char c) }
+    ensures { OnOk result (chars (string_bytes out.new) ≡ chars (string_bytes out.old)
+        ++ anchor_char c) }
 {
     if is_name_char(c) {
         return push_char(out, c);
@@ -73,7 +75,8 @@ fn is_word_category(category: GeneralCategory) -> bool
 /// The name where it isn't empty, else `section`.
 #[tactic(auto, unfolding(doc_rules::specs::Anchors::or_section))]
 fn or_section(heap: Heap, name: String) -> Result<String, Memory>
-    ensures { IfOk result (λ out. chars (string_bytes out) ≡ or_section (chars (string_bytes name.entry))) }
+    ensures { IfOk result (λ out. chars (string_bytes out)
+        ≡ or_section (chars (string_bytes name.entry))) }
 {
     if name.as_str().is_empty() {
         return Ok(String::from_str(heap, "section")?);

@@ -12,8 +12,10 @@ use doc_page::text::Text;
 /// Gives a heading of this name its anchor, and keeps it.
 pub fn give(entries: &mut BTreeMap<String, u64>, heap: Heap, name: String) -> Result<Text, Memory>
     requires { AreNumbered entries.old }
-    ensures anchor { IfOk result (λ anchor. IsAnchor (names entries.old) (name_of name.entry) (chars anchor)) }
-    ensures uses { IfOk result (λ anchor. Uses (names entries.new) (chars anchor ∷ names entries.old)) }
+    ensures anchor { IfOk result (λ anchor. IsAnchor (names entries.old) (name_of name.entry)
+        (chars anchor)) }
+    ensures uses { IfOk result (λ anchor. Uses (names entries.new)
+        (chars anchor ∷ names entries.old)) }
     ensures numbered { AreNumbered entries.new }
     ensures err { OnErr result (names entries.new ≡ names entries.old) }
 {
@@ -27,7 +29,8 @@ pub fn give(entries: &mut BTreeMap<String, u64>, heap: Heap, name: String) -> Re
 fn put(entries: &mut BTreeMap<String, u64>, heap: Heap, anchor: String) -> Result<Text, Memory>
     requires { AreNumbered entries.old }
     ensures anchor { IfOk result (λ text. text ≡ string_bytes anchor.entry) }
-    ensures uses { OnOk result (Uses (names entries.new) (name_of anchor.entry ∷ names entries.old)) }
+    ensures uses { OnOk result (Uses (names entries.new)
+        (name_of anchor.entry ∷ names entries.old)) }
     ensures numbered { AreNumbered entries.new }
     ensures err { OnErr result (names entries.new ≡ names entries.old) }
 {
@@ -45,8 +48,10 @@ fn put_numbered(
 ) -> Result<Text, Memory>
     requires numbered { AreNumbered entries.old }
     requires first { get_by_text entries.old name.now ≡ Some first }
-    ensures anchor { IfOk result (λ anchor. IsAnchor (names entries.old) (chars name.now) (chars anchor)) }
-    ensures uses { IfOk result (λ anchor. Uses (names entries.new) (chars anchor ∷ names entries.old)) }
+    ensures anchor { IfOk result (λ anchor. IsAnchor (names entries.old) (chars name.now)
+        (chars anchor)) }
+    ensures uses { IfOk result (λ anchor. Uses (names entries.new)
+        (chars anchor ∷ names entries.old)) }
     ensures numbered { AreNumbered entries.new }
     ensures err { OnErr result (names entries.new ≡ names entries.old) }
 {
@@ -64,7 +69,8 @@ fn next_number(
     name: &str,
     first: u64,
 ) -> Result<(u64, String), Memory>
-    ensures next { IfOk result (λ found. IsNext (names entries.now) (chars name.now) first found.0) }
+    ensures next { IfOk result (λ found. IsNext (names entries.now) (chars name.now) first
+        found.0) }
     ensures anchor { IfOk result (λ found. name_of found.1 ≡ with_number (chars name.now) found.0) }
     ensures small { IfOk result (λ found. found.0 + 1 < 2 ^ 64) }
 {

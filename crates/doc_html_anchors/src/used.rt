@@ -43,7 +43,10 @@ impl Anchors {
     /// from 1 that makes an anchor that is free. A number that was found used behind a name isn't tried there again, so all headings
     /// of a page together take near linear time.
     pub fn next(&mut self, heap: Heap, text: &str) -> Result<Text, Memory>
-        ensures ok { (used : List rules.Text) → Uses self.old used → IfOk result (λ anchor. (chars anchor ≡ free_anchor used (anchor_name (chars text.now))) × Uses self.new (free_anchor used (anchor_name (chars text.now)) ∷ used)) }
+        ensures ok { (used : List rules.Text) → Uses self.old used
+            → IfOk result (λ anchor. (chars anchor
+            ≡ free_anchor used (anchor_name (chars text.now)))
+            × Uses self.new (free_anchor used (anchor_name (chars text.now)) ∷ used)) }
         ensures err { OnErr result (self.new ≡ self.old) }
     {
         let name = anchor_name(heap, text)?;

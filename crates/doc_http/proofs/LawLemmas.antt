@@ -1,28 +1,6 @@
 -- The laws of what bytes begin with.
-use Rattle.std.proofs.Common.{
-  ◌≡◌,
-  ℕ,
-  ◌+◌,
-  ◌-◌,
-  ◌≤◌,
-  List,
-  [],
-  ◌++◌,
-  Bool,
-  true,
-  false,
-  length,
-  drop,
-  slice_range,
-  refl,
-  ap,
-  sym,
-  ◌∙◌,
-  subst,
-  arith,
-  T,
-  length-drop,
-}
+use Rattle.std.proofs.Common.{◌≡◌, ℕ, ◌+◌, ◌-◌, ◌≤◌, List, [], ◌++◌, Bool, true, false, length, drop, slice_range, refl, ap, sym, ◌∙◌}
+use Rattle.std.proofs.Common.{subst, arith, T, length-drop}
 use Rattle.std.specs.Prelude.{◌==◌, Option, Some, None, Result, Ok, Err, ⊤, if◌then◌else◌}
 use Rattle.std.proofs.lemmas.List.{take-append-le, drop-append-le}
 use Rattle.httparse.specs.Grammar.{RequestHead}
@@ -41,20 +19,8 @@ use Rattle.doc_http.specs.declared.request.Next.{Next}
 use Rattle.doc_http.specs.declared.request.Next.TheVariants as next
 use Rattle.doc_http.specs.Fields.{Fields, fields_of}
 use Rattle.doc_http.specs.Heads.{head_limit, head_span_of, IsRead}
-use Rattle.doc_http.specs.Requests.{
-  is_bad,
-  is_bare,
-  request_with,
-  next_read,
-  next_framed,
-  next_with,
-  next_behind,
-  next_at,
-  request_of,
-  IsReadAt,
-  IsNext,
-  UsesAtMost,
-}
+use Rattle.doc_http.specs.Requests.{is_bad, is_bare, request_with, next_read, next_framed, next_with, next_behind, next_at, request_of}
+use Rattle.doc_http.specs.Requests.{IsReadAt, IsNext, UsesAtMost}
 use Rattle.doc_http.specs.Laws.{IsReadInOneWay, StaysDecided, IsDecidedWithin}
 use Rattle.doc_http.proofs.SpanLemmas.{IsInside, span_inside, IsSettled, span_settled, span_in_limit, StaysSettled, span_stays}
 

@@ -1,35 +1,6 @@
 -- What is known of unread bytes, and what they begin with.
-use Rattle.std.proofs.Common.{
-  ◌≡◌,
-  ℕ,
-  ◌==◌,
-  ◌-◌,
-  ◌<◌,
-  ◌≤◌,
-  ◌^◌,
-  true,
-  false,
-  List,
-  [],
-  ◌++◌,
-  Option,
-  Some,
-  None,
-  length,
-  take,
-  drop,
-  slice_range,
-  refl,
-  ap,
-  sym,
-  ◌∙◌,
-  subst,
-  arith,
-  length-drop,
-  length-append,
-  append-nil,
-  T,
-}
+use Rattle.std.proofs.Common.{◌≡◌, ℕ, ◌==◌, ◌-◌, ◌<◌, ◌≤◌, ◌^◌, true, false, List, [], ◌++◌, Option, Some, None, length, take, drop}
+use Rattle.std.proofs.Common.{slice_range, refl, ap, sym, ◌∙◌, subst, arith, length-drop, length-append, append-nil, T}
 use Rattle.std.specs.Prelude.{Result, Ok, Err, OnErr, if◌then◌else◌}
 use Rattle.std.proofs.lemmas.List.{drop-append-le, append_assoc, take_rest}
 use Rattle.httparse.proofs.GrammarLemmas.{request_unique}
@@ -53,19 +24,8 @@ use Rattle.doc_http.specs.BuildingSteps.{EndsWithin}
 use Rattle.doc_http.specs.Fields.{fields_of}
 use Rattle.doc_http.specs.Heads.{head_limit, head_span_of, IsHead, IsRead}
 use Rattle.doc_http.specs.KnowledgeSteps.{CameTo, IsAtBody, Holds, Knows}
-use Rattle.doc_http.specs.Requests.{
-  is_bad,
-  is_bare,
-  request_with,
-  next_read,
-  next_with,
-  next_behind,
-  next_at,
-  IsReadAt,
-  IsNext,
-  IsRequest,
-  BeginsWithRequest,
-}
+use Rattle.doc_http.specs.Requests.{is_bad, is_bare, request_with, next_read, next_with, next_behind, next_at, IsReadAt, IsNext, IsRequest}
+use Rattle.doc_http.specs.Requests.{BeginsWithRequest}
 use Rattle.doc_http.proofs.LawLemmas.{same_text}
 use Rattle.doc_http.proofs.ReadLemmas.{with_reading}
 use Rattle.doc_http.proofs.SpanLemmas.{StaysSettled, span_stays, places}

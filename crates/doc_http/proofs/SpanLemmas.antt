@@ -1,29 +1,6 @@
 -- Where a head lies: inside the bytes, at the same place when more bytes come.
-use Rattle.std.proofs.Common.{
-  ◌≡◌,
-  ℕ,
-  suc,
-  ◌+◌,
-  ◌-◌,
-  ◌≤◌,
-  List,
-  [],
-  ◌∷◌,
-  ◌++◌,
-  Bool,
-  true,
-  false,
-  cond,
-  length,
-  take,
-  refl,
-  ap,
-  sym,
-  ◌∙◌,
-  subst,
-  arith,
-  nat_eq,
-}
+use Rattle.std.proofs.Common.{◌≡◌, ℕ, suc, ◌+◌, ◌-◌, ◌≤◌, List, [], ◌∷◌, ◌++◌, Bool, true, false, cond, length, take, refl, ap, sym, ◌∙◌}
+use Rattle.std.proofs.Common.{subst, arith, nat_eq}
 use Rattle.std.specs.Prelude.{Option, Some, None, nat_le, ⊤}
 use Rattle.std.specs.List.{starts_with}
 use Rattle.std.specs.Option.{option_map}

@@ -1,28 +1,6 @@
 -- How many bytes a request takes: some, and no more than there are.
-use Rattle.std.proofs.Common.{
-  ◌≡◌,
-  ℕ,
-  ◌+◌,
-  ◌≤◌,
-  ◌==◌,
-  List,
-  [],
-  ◌∷◌,
-  Bool,
-  true,
-  false,
-  cond,
-  length,
-  take,
-  drop,
-  slice_range,
-  refl,
-  sym,
-  ◌∙◌,
-  subst,
-  arith,
-  nat_eq,
-}
+use Rattle.std.proofs.Common.{◌≡◌, ℕ, ◌+◌, ◌≤◌, ◌==◌, List, [], ◌∷◌, Bool, true, false, cond, length, take, drop, slice_range, refl, sym}
+use Rattle.std.proofs.Common.{◌∙◌, subst, arith, nat_eq}
 use Rattle.std.specs.Prelude.{Option, Some, None, Result, Ok, Err, nat_le, ⊤, if◌then◌else◌}
 use Rattle.std.specs.List.{starts_with}
 use Rattle.std.specs.Option.{option_map}

@@ -1,27 +1,6 @@
 -- Where a request's head lies in the unread bytes, and how it is read.
-use Rattle.std.specs.Prelude.{
-  ℕ,
-  ◌+◌,
-  ◌-◌,
-  ◌≤◌,
-  ◌==◌,
-  ◌||◌,
-  ◌&&◌,
-  not,
-  Bool,
-  false,
-  List,
-  [],
-  ◌∷◌,
-  Option,
-  Some,
-  None,
-  cond,
-  length,
-  take,
-  nat_le,
-  nat_eq,
-}
+use Rattle.std.specs.Prelude.{ℕ, ◌+◌, ◌-◌, ◌≤◌, ◌==◌, ◌||◌, ◌&&◌, not, Bool, false, List, [], ◌∷◌, Option, Some, None, cond, length, take}
+use Rattle.std.specs.Prelude.{nat_le, nat_eq}
 use Rattle.std.specs.List.{starts_with}
 use Rattle.std.specs.Option.{option_map}
 use Rattle.httparse.specs.Grammar.{RequestHead, ReadsRequest}

@@ -1,29 +1,6 @@
 -- What the unread bytes of a connection begin with.
-use Rattle.std.specs.Prelude.{
-  ◌≡◌,
-  ◌≤◌,
-  ⊤,
-  ℕ,
-  ◌+◌,
-  ◌==◌,
-  ◌||◌,
-  not,
-  Bool,
-  true,
-  false,
-  List,
-  Option,
-  Some,
-  None,
-  Result,
-  Ok,
-  Err,
-  drop,
-  slice_range,
-  codes,
-  bytes_eq,
-  if◌then◌else◌,
-}
+use Rattle.std.specs.Prelude.{◌≡◌, ◌≤◌, ⊤, ℕ, ◌+◌, ◌==◌, ◌||◌, not, Bool, true, false, List, Option, Some, None, Result, Ok, Err, drop}
+use Rattle.std.specs.Prelude.{slice_range, codes, bytes_eq, if◌then◌else◌}
 use Rattle.httparse.specs.Grammar.{RequestHead}
 use Rattle.doc_http_bodies.specs.declared.fault.Fault.{Fault as BodyFault}
 use Rattle.doc_http_bodies.specs.declared.framing.Framing.{Framing}

@@ -1,31 +1,6 @@
 -- The data of chunks: one step, and what more bytes don't change.
-use Rattle.std.proofs.Common.{
-  ◌≡◌,
-  ℕ,
-  zero,
-  suc,
-  ◌+◌,
-  ◌<◌,
-  ◌≤◌,
-  ◌==◌,
-  Bool,
-  true,
-  false,
-  List,
-  [],
-  ◌++◌,
-  length,
-  take,
-  drop,
-  refl,
-  ap,
-  sym,
-  ◌∙◌,
-  subst,
-  arith,
-  nat_eq,
-  length-drop,
-}
+use Rattle.std.proofs.Common.{◌≡◌, ℕ, zero, suc, ◌+◌, ◌<◌, ◌≤◌, ◌==◌, Bool, true, false, List, [], ◌++◌, length, take, drop, refl, ap, sym}
+use Rattle.std.proofs.Common.{◌∙◌, subst, arith, nat_eq, length-drop}
 use Rattle.std.specs.Prelude.{Option, Some, None, nat_lt, ⊤, if◌then◌else◌}
 use Rattle.std.specs.List.{starts_with}
 use Rattle.std.proofs.lemmas.Bool.{ltb-false, eq-eqb, ne_eqb}
@@ -35,21 +10,8 @@ use Rattle.doc_http_bodies.specs.declared.fault.Fault.TheVariants as faults
 use Rattle.doc_http_bodies.specs.declared.size_line.SizeLine.{SizeLine}
 use Rattle.doc_http_bodies.specs.declared.size_line.SizeLine.TheVariants.{Unfinished, Malformed, Size}
 use Rattle.doc_http_bodies.specs.Framings.{body_limit}
-use Rattle.doc_http_bodies.specs.Chunks.{
-  line_end,
-  size_line,
-  trailer_len,
-  trailed,
-  Onward,
-  after_data,
-  after_size,
-  after_line,
-  extent_in,
-  extent_of,
-  data_after,
-  data_in,
-  data_of,
-}
+use Rattle.doc_http_bodies.specs.Chunks.{line_end, size_line, trailer_len, trailed, Onward, after_data, after_size, after_line, extent_in}
+use Rattle.doc_http_bodies.specs.Chunks.{extent_of, data_after, data_in, data_of}
 use Rattle.doc_http_bodies.proofs.PlaceLemmas.{Grows, longer, take_same, drop_grows}
 use Rattle.doc_http_bodies.proofs.ExtentLemmas.{LineFits, line_fits, LineStays, line_grows}
 

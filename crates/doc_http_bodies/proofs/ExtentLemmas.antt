@@ -1,32 +1,6 @@
 -- How far an encoded body reaches: one step, and what more bytes don't change.
-use Rattle.std.proofs.Common.{
-  ◌≡◌,
-  ℕ,
-  zero,
-  suc,
-  ◌+◌,
-  ◌-◌,
-  ◌<◌,
-  ◌≤◌,
-  ◌==◌,
-  Bool,
-  true,
-  false,
-  List,
-  [],
-  ◌++◌,
-  length,
-  take,
-  drop,
-  refl,
-  ap,
-  sym,
-  ◌∙◌,
-  subst,
-  arith,
-  nat_eq,
-  length-drop,
-}
+use Rattle.std.proofs.Common.{◌≡◌, ℕ, zero, suc, ◌+◌, ◌-◌, ◌<◌, ◌≤◌, ◌==◌, Bool, true, false, List, [], ◌++◌, length, take, drop, refl, ap}
+use Rattle.std.proofs.Common.{sym, ◌∙◌, subst, arith, nat_eq, length-drop}
 use Rattle.std.specs.Prelude.{Option, Some, None, nat_le, nat_lt, ⊤, if◌then◌else◌}
 use Rattle.std.specs.List.{starts_with}
 use Rattle.std.proofs.lemmas.Bool.{ltb-false, le-ltb}
@@ -38,37 +12,10 @@ use Rattle.doc_http_bodies.specs.declared.fault.Fault.TheVariants as faults
 use Rattle.doc_http_bodies.specs.declared.size_line.SizeLine.{SizeLine}
 use Rattle.doc_http_bodies.specs.declared.size_line.SizeLine.TheVariants.{Unfinished, Malformed, Size}
 use Rattle.doc_http_bodies.specs.Framings.{body_limit}
-use Rattle.doc_http_bodies.specs.Chunks.{
-  line_end,
-  blank_line,
-  place_of,
-  behind,
-  size_of,
-  line_by,
-  line_in,
-  size_line,
-  trailer_len,
-  trailed,
-  Onward,
-  after_data,
-  after_size,
-  after_line,
-  extent_in,
-  extent_from,
-  extent_of,
-}
-use Rattle.doc_http_bodies.proofs.PlaceLemmas.{
-  Grows,
-  longer,
-  take_same,
-  drop_grows,
-  starts_same,
-  at_least,
-  Within,
-  place_within,
-  Stays,
-  place_grows,
-}
+use Rattle.doc_http_bodies.specs.Chunks.{line_end, blank_line, place_of, behind, size_of, line_by, line_in, size_line, trailer_len, trailed}
+use Rattle.doc_http_bodies.specs.Chunks.{Onward, after_data, after_size, after_line, extent_in, extent_from, extent_of}
+use Rattle.doc_http_bodies.proofs.PlaceLemmas.{Grows, longer, take_same, drop_grows, starts_same, at_least, Within, place_within, Stays}
+use Rattle.doc_http_bodies.proofs.PlaceLemmas.{place_grows}
 
 -- ---- size lines
 

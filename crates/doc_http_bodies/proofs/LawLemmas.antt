@@ -1,33 +1,6 @@
 -- The laws of what bytes behind a head come to.
-use Rattle.std.proofs.Common.{
-  ◌≡◌,
-  ℕ,
-  zero,
-  suc,
-  ◌+◌,
-  ◌≤◌,
-  ◌==◌,
-  Bool,
-  true,
-  false,
-  List,
-  [],
-  ◌∷◌,
-  ◌++◌,
-  length,
-  take,
-  drop,
-  refl,
-  ap,
-  sym,
-  ◌∙◌,
-  subst,
-  arith,
-  nat_eq,
-  length-drop,
-  T,
-  codes,
-}
+use Rattle.std.proofs.Common.{◌≡◌, ℕ, zero, suc, ◌+◌, ◌≤◌, ◌==◌, Bool, true, false, List, [], ◌∷◌, ◌++◌, length, take, drop, refl, ap, sym}
+use Rattle.std.proofs.Common.{◌∙◌, subst, arith, nat_eq, length-drop, T, codes}
 use Rattle.std.specs.Prelude.{Option, Some, None, Result, Ok, Err, nat_le, nat_lt, ⊤, if◌then◌else◌}
 use Rattle.std.specs.List.{starts_with}
 use Rattle.std.proofs.lemmas.Bool.{ltb-false, le-ltb, le-leb}
@@ -46,36 +19,10 @@ use Rattle.doc_http_bodies.specs.declared.reader.Reading.{Reading}
 use Rattle.doc_http_bodies.specs.declared.reader.Reading.TheVariants.{More, Fault, Whole}
 use Rattle.doc_http_bodies.specs.declared.size_line.SizeLine.{SizeLine}
 use Rattle.doc_http_bodies.specs.declared.size_line.SizeLine.TheVariants as line
-use Rattle.doc_http_bodies.specs.Chunks.{
-  line_end,
-  blank_line,
-  size_line,
-  behind,
-  place_of,
-  trailer_len,
-  trailed,
-  Onward,
-  after_data,
-  after_size,
-  after_line,
-  extent_in,
-  extent_of,
-  data_of,
-}
-use Rattle.doc_http_bodies.specs.Framings.{
-  body_limit,
-  allowed,
-  length_by,
-  length_in,
-  is_number,
-  length_of,
-  coding_of,
-  sized_by,
-  chunked_by,
-  framing_by,
-  framing_of,
-  values_named,
-}
+use Rattle.doc_http_bodies.specs.Chunks.{line_end, blank_line, size_line, behind, place_of, trailer_len, trailed, Onward, after_data}
+use Rattle.doc_http_bodies.specs.Chunks.{after_size, after_line, extent_in, extent_of, data_of}
+use Rattle.doc_http_bodies.specs.Framings.{body_limit, allowed, length_by, length_in, is_number, length_of, coding_of, sized_by, chunked_by}
+use Rattle.doc_http_bodies.specs.Framings.{framing_by, framing_of, values_named}
 use Rattle.std.specs.Str.Parse.{digits_value}
 use Rattle.doc_http_bodies.specs.KnowledgeSteps.{KnowsOf}
 use Rattle.doc_http_bodies.specs.Laws.{StaysDecided, IsDecidedWithin, TakesBytes, StaysKnown}

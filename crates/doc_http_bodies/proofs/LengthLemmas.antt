@@ -1,27 +1,6 @@
 -- How long a body is.
-use Rattle.std.proofs.Common.{
-  ◌≡◌,
-  ℕ,
-  zero,
-  suc,
-  ◌+◌,
-  ◌≤◌,
-  ◌==◌,
-  Bool,
-  true,
-  false,
-  List,
-  [],
-  ◌++◌,
-  length,
-  take,
-  drop,
-  refl,
-  subst,
-  arith,
-  nat_eq,
-  codes,
-}
+use Rattle.std.proofs.Common.{◌≡◌, ℕ, zero, suc, ◌+◌, ◌≤◌, ◌==◌, Bool, true, false, List, [], ◌++◌, length, take, drop, refl, subst, arith}
+use Rattle.std.proofs.Common.{nat_eq, codes}
 use Rattle.std.specs.Prelude.{Option, Some, None, nat_le, nat_lt, ⊤, if◌then◌else◌}
 use Rattle.std.specs.List.{starts_with}
 use Rattle.std.proofs.lemmas.Bool.{ltb-false}
@@ -36,21 +15,8 @@ use Rattle.doc_http_bodies.specs.declared.reader.Reading.TheVariants.{More, Faul
 use Rattle.doc_http_bodies.specs.declared.size_line.SizeLine.{SizeLine}
 use Rattle.doc_http_bodies.specs.declared.size_line.SizeLine.TheVariants as line
 use Rattle.doc_http_bodies.specs.Framings.{body_limit, coding_of, length_of, framing_of, values_named}
-use Rattle.doc_http_bodies.specs.Chunks.{
-  line_end,
-  size_line,
-  trailer_len,
-  trailed,
-  Onward,
-  after_data,
-  after_size,
-  after_line,
-  extent_in,
-  extent_of,
-  data_after,
-  data_in,
-  data_of,
-}
+use Rattle.doc_http_bodies.specs.Chunks.{line_end, size_line, trailer_len, trailed, Onward, after_data, after_size, after_line, extent_in}
+use Rattle.doc_http_bodies.specs.Chunks.{extent_of, data_after, data_in, data_of}
 use Rattle.doc_http_bodies.specs.Laws.{IsNoLongerThan}
 use Rattle.doc_http_bodies.specs.Readings.{encoded_limit, reading_by, reading_of}
 use Rattle.doc_http_bodies.proofs.LawLemmas.{Fits, AnswerFits, framing_fits, length_fits}

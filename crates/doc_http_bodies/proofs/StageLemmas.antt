@@ -1,31 +1,6 @@
 -- What a stage of reading an encoded body comes to.
-use Rattle.std.proofs.Common.{
-  ◌≡◌,
-  ℕ,
-  ◌+◌,
-  ◌-◌,
-  ◌<◌,
-  ◌≤◌,
-  ◌==◌,
-  Bool,
-  true,
-  false,
-  List,
-  [],
-  ◌++◌,
-  length,
-  take,
-  drop,
-  refl,
-  ap,
-  sym,
-  ◌∙◌,
-  subst,
-  arith,
-  nat_eq,
-  length-drop,
-  drop-drop,
-}
+use Rattle.std.proofs.Common.{◌≡◌, ℕ, ◌+◌, ◌-◌, ◌<◌, ◌≤◌, ◌==◌, Bool, true, false, List, [], ◌++◌, length, take, drop, refl, ap, sym, ◌∙◌}
+use Rattle.std.proofs.Common.{subst, arith, nat_eq, length-drop, drop-drop}
 use Rattle.std.specs.Prelude.{Option, Some, None, nat_le, nat_lt, if◌then◌else◌}
 use Rattle.std.specs.List.{starts_with}
 use Rattle.std.proofs.lemmas.Bool.{ltb-false, le-ltb, lt-ltb, leb-false}
@@ -38,23 +13,8 @@ use Rattle.doc_http_bodies.specs.declared.stage.Stage.{Stage}
 use Rattle.doc_http_bodies.specs.declared.stage.Stage.TheVariants.{Line, Data, Trailer}
 use Rattle.doc_http_bodies.specs.declared.stage.Step.TheVariants.{On, Waiting, Ended}
 use Rattle.doc_http_bodies.specs.Framings.{body_limit}
-use Rattle.doc_http_bodies.specs.Chunks.{
-  line_end,
-  blank_line,
-  place_of,
-  behind,
-  size_of,
-  line_by,
-  line_in,
-  size_line,
-  trailer_len,
-  trailed,
-  after_data,
-  after_size,
-  after_line,
-  extent_from,
-  extent_of,
-}
+use Rattle.doc_http_bodies.specs.Chunks.{line_end, blank_line, place_of, behind, size_of, line_by, line_in, size_line, trailer_len, trailed}
+use Rattle.doc_http_bodies.specs.Chunks.{after_data, after_size, after_line, extent_from, extent_of}
 use Rattle.doc_http_bodies.specs.KnowledgeSteps.{IsSearched, IsInside, LeadsOn, Knows}
 use Rattle.doc_http_bodies.specs.StageSteps.{IsStep, step_behind_line}
 use Rattle.doc_http_bodies.proofs.PlaceLemmas.{Grows, longer, drop_grows, starts_same, searched_more, searched_none}

@@ -1,31 +1,6 @@
 -- The chunked coding (RFC 9112, section 7.1).
-use Rattle.std.specs.Prelude.{
-  ℕ,
-  zero,
-  suc,
-  ◌+◌,
-  ◌||◌,
-  ◌&&◌,
-  ◌==◌,
-  not,
-  Bool,
-  true,
-  nat_lt,
-  nat_le,
-  nat_eq,
-  List,
-  [],
-  ◌∷◌,
-  ◌++◌,
-  length,
-  take,
-  drop,
-  cond,
-  Option,
-  Some,
-  None,
-  if◌then◌else◌,
-}
+use Rattle.std.specs.Prelude.{ℕ, zero, suc, ◌+◌, ◌||◌, ◌&&◌, ◌==◌, not, Bool, true, nat_lt, nat_le, nat_eq, List, [], ◌∷◌, ◌++◌, length}
+use Rattle.std.specs.Prelude.{take, drop, cond, Option, Some, None, if◌then◌else◌}
 use Rattle.std.specs.List.{starts_with, list_all, prefix_len}
 use Rattle.std.specs.Option.{option_map}
 use Rattle.std.specs.Str.Parse.{digits_value}

@@ -1,28 +1,6 @@
 -- How a head frames the body behind it (RFC 9112, section 6).
-use Rattle.std.specs.Prelude.{
-  ◌≡◌,
-  ℕ,
-  ◌&&◌,
-  ◌==◌,
-  not,
-  Bool,
-  false,
-  List,
-  [],
-  ◌∷◌,
-  Option,
-  Some,
-  None,
-  Result,
-  Ok,
-  Err,
-  length,
-  map,
-  filter,
-  nat_lt,
-  codes,
-  if◌then◌else◌,
-}
+use Rattle.std.specs.Prelude.{◌≡◌, ℕ, ◌&&◌, ◌==◌, not, Bool, false, List, [], ◌∷◌, Option, Some, None, Result, Ok, Err, length, map, filter}
+use Rattle.std.specs.Prelude.{nat_lt, codes, if◌then◌else◌}
 use Rattle.std.specs.List.{list_all}
 use Rattle.std.specs.Char.{is_ascii_digit}
 use Rattle.std.specs.Str.{str_eq_ignore_ascii_case}

@@ -1,47 +1,10 @@
 -- A target's route stands in the part of it that is an origin form.
-use Rattle.std.proofs.Common.{
-  ◌≡◌,
-  ℕ,
-  suc,
-  ◌+◌,
-  ◌==◌,
-  not,
-  true,
-  false,
-  cond,
-  List,
-  [],
-  ◌∷◌,
-  take,
-  drop,
-  ◌⊎◌,
-  inl,
-  inr,
-  subst,
-  Option,
-  Some,
-  None,
-  option_and_then,
-  refl,
-  sym,
-  ap,
-  ◌∙◌,
-  arith,
-}
+use Rattle.std.proofs.Common.{◌≡◌, ℕ, suc, ◌+◌, ◌==◌, not, true, false, cond, List, [], ◌∷◌, take, drop, ◌⊎◌, inl, inr, subst, Option, Some}
+use Rattle.std.proofs.Common.{None, option_and_then, refl, sym, ap, ◌∙◌, arith}
 use Rattle.std.specs.List.{position_or_len}
 use Rattle.std.proofs.lemmas.Bool.Decides.{nat_tests}
-use Rattle.doc_http_targets.specs.Targets.{
-  ends_authority,
-  after_authority,
-  after_http,
-  with_slash,
-  if_rooted,
-  origin_form_by,
-  origin_form,
-  path_part,
-  route_of,
-  page_rest,
-}
+use Rattle.doc_http_targets.specs.Targets.{ends_authority, after_authority, after_http, with_slash, if_rooted, origin_form_by, origin_form}
+use Rattle.doc_http_targets.specs.Targets.{path_part, route_of, page_rest}
 use Rattle.doc_http_targets.specs.TargetSteps.{origin_part_by, origin_part}
 
 -- the byte that ends an authority

@@ -1,33 +1,6 @@
 -- What the router finds, in closed form.
-use Rattle.std.proofs.Common.{
-  ◌≡◌,
-  ℕ,
-  zero,
-  suc,
-  ◌-◌,
-  ◌==◌,
-  ◌&&◌,
-  not,
-  Bool,
-  true,
-  false,
-  cond,
-  List,
-  [],
-  ◌∷◌,
-  ◌++◌,
-  length,
-  Option,
-  Some,
-  None,
-  option_map,
-  option_and_then,
-  codes,
-  refl,
-  sym,
-  ap,
-  ◌∙◌,
-}
+use Rattle.std.proofs.Common.{◌≡◌, ℕ, zero, suc, ◌-◌, ◌==◌, ◌&&◌, not, Bool, true, false, cond, List, [], ◌∷◌, ◌++◌, length, Option, Some}
+use Rattle.std.proofs.Common.{None, option_map, option_and_then, codes, refl, sym, ap, ◌∙◌}
 use Rattle.std.proofs.lemmas.Bool.{and_parts, cond_both}
 use Rattle.std.proofs.lemmas.Bool.Decides.{Decides-eqb}
 use Rattle.matchit.specs.Router.{RouteOf, Refused}

@@ -1,36 +1,6 @@
 -- Steps of the proofs on a request's target.
-use Rattle.std.proofs.Common.{
-  ◌≡◌,
-  ℕ,
-  suc,
-  ◌+◌,
-  ◌<◌,
-  ◌≤◌,
-  ◌==◌,
-  not,
-  Bool,
-  true,
-  false,
-  cond,
-  ltb,
-  List,
-  [],
-  ◌∷◌,
-  length,
-  get_or,
-  take,
-  drop,
-  map,
-  min,
-  Some,
-  None,
-  codes,
-  refl,
-  sym,
-  ap,
-  ◌∙◌,
-  arith,
-}
+use Rattle.std.proofs.Common.{◌≡◌, ℕ, suc, ◌+◌, ◌<◌, ◌≤◌, ◌==◌, not, Bool, true, false, cond, ltb, List, [], ◌∷◌, length, get_or, take}
+use Rattle.std.proofs.Common.{drop, map, min, Some, None, codes, refl, sym, ap, ◌∙◌, arith}
 use Rattle.std.specs.Char.{to_ascii_lowercase}
 use Rattle.std.specs.List.{position, position_or_len, after_first}
 use Rattle.std.specs.Option.{unwrap_or}

@@ -1,24 +1,6 @@
 -- How a request writes the path of a page.
-use Rattle.std.specs.Prelude.{
-  ℕ,
-  List,
-  [],
-  ◌∷◌,
-  ◌++◌,
-  map,
-  Bool,
-  true,
-  not,
-  ◌&&◌,
-  ◌==◌,
-  codes,
-  Option,
-  Some,
-  None,
-  option_map,
-  option_and_then,
-  if◌then◌else◌,
-}
+use Rattle.std.specs.Prelude.{ℕ, List, [], ◌∷◌, ◌++◌, map, Bool, true, not, ◌&&◌, ◌==◌, codes, Option, Some, None, option_map}
+use Rattle.std.specs.Prelude.{option_and_then, if◌then◌else◌}
 use Rattle.std.specs.List.{join_with_byte, list_any}
 use Rattle.std.specs.Str.{is_utf8}
 use Rattle.percent_encoding.specs.Percent.{percent_decode}

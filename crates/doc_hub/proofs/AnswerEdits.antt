@@ -13,21 +13,8 @@ use Rattle.doc_http_targets.specs.Targets.{page_rest}
 use Rattle.doc_http_targets.specs.WrittenPaths.{path_written}
 use Rattle.doc_hub.specs.declared.answer.Answer.{Answer}
 use Rattle.doc_hub.specs.Edits.{CanBeMade, puts_left}
-use Rattle.doc_hub.specs.Replies.{
-  Renders,
-  answer_of,
-  response_to,
-  on_route,
-  by_method,
-  method_of,
-  put_by,
-  put_at,
-  put_page,
-  has_room,
-  delete_at,
-  edited,
-  refused,
-}
+use Rattle.doc_hub.specs.Replies.{Renders, answer_of, response_to, on_route, by_method, method_of, put_by, put_at, put_page, has_room}
+use Rattle.doc_hub.specs.Replies.{delete_at, edited, refused}
 use Rattle.doc_hub.specs.declared.method.Method.{Method}
 use Rattle.doc_hub.specs.declared.method.Method.TheVariants.{Get, Head, Put, Delete, Other}
 use Rattle.doc_hub.specs.declared.response.Edit.TheVariants as edits

@@ -17,21 +17,8 @@ use Rattle.doc_hub.specs.Events.{Said}
 use Rattle.doc_hub.specs.Laws.{NumbersAreGivenOnce, connection}
 use Rattle.doc_hub.specs.Replies.{Renders}
 use Rattle.doc_hub.specs.Runs.{Happens, Happened, Runs, nothing, first}
-use Rattle.doc_hub.specs.Worlds.{
-  World,
-  connected,
-  world_pushed,
-  world_put,
-  world_moved,
-  world_reader_set,
-  answer_in,
-  world_after,
-  stepped_by,
-  Stays,
-  Answers,
-  StepsAt,
-  last_id,
-}
+use Rattle.doc_hub.specs.Worlds.{World, connected, world_pushed, world_put, world_moved, world_reader_set, answer_in, world_after}
+use Rattle.doc_hub.specs.Worlds.{stepped_by, Stays, Answers, StepsAt, last_id}
 use Rattle.doc_hub.specs.declared.connection.Connection.{Connection}
 use Rattle.doc_hub.specs.declared.event.ConnId.{ConnId}
 use Rattle.doc_hub.specs.declared.event.Event.{Event}

@@ -25,20 +25,8 @@ use Rattle.doc_hub.specs.declared.refusal.PushError.TheVariants as push_errors
 use Rattle.doc_hub.specs.declared.refusal.StepError.{StepError}
 use Rattle.doc_hub.specs.declared.refusal.StepError.TheVariants as step_errors
 use Rattle.doc_hub.specs.Replies.{Renders}
-use Rattle.doc_hub.specs.Worlds.{
-  World,
-  connected,
-  world_pushed,
-  disconnected,
-  world_put,
-  world_moved,
-  world_reader_set,
-  stepped_by,
-  Stays,
-  Answers,
-  StepsAt,
-  last_id,
-}
+use Rattle.doc_hub.specs.Worlds.{World, connected, world_pushed, disconnected, world_put, world_moved, world_reader_set, stepped_by, Stays}
+use Rattle.doc_hub.specs.Worlds.{Answers, StepsAt, last_id}
 use Rattle.doc_hub.specs.Runs.{Leaves, IsOutOfMemory}
 
 -- the state is as before, where the call was refused

@@ -12,23 +12,8 @@ use Rattle.doc_http.specs.declared.request.Request.{Request}
 use Rattle.doc_http_targets.specs.Queries.{parameter}
 use Rattle.doc_http_targets.specs.Targets.{page_rest}
 use Rattle.doc_http_targets.specs.WrittenPaths.{path_written}
-use Rattle.doc_hub.specs.Replies.{
-  Renders,
-  at_path,
-  by_method,
-  delete_at,
-  edited,
-  goal_reply,
-  has_room,
-  method_of,
-  on_route,
-  page_or_goal,
-  put_at,
-  put_by,
-  put_page,
-  refused,
-  response_to,
-}
+use Rattle.doc_hub.specs.Replies.{Renders, at_path, by_method, delete_at, edited, goal_reply, has_room, method_of, on_route, page_or_goal}
+use Rattle.doc_hub.specs.Replies.{put_at, put_by, put_page, refused, response_to}
 use Rattle.doc_hub.specs.declared.method.Method.{Method}
 use Rattle.doc_hub.specs.declared.method.Method.TheVariants.{Get, Head, Put, Delete, Other}
 use Rattle.doc_hub.specs.declared.response.Edit.TheVariants as edits

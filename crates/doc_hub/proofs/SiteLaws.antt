@@ -4,19 +4,8 @@ use Rattle.std.specs.Prelude.{nat_lt, MatchBool, Option, Some, None, Result, Ok,
 use Rattle.std.specs.FinMap as map
 use Rattle.doc_page.specs.Refusals.{Gives}
 use Rattle.doc_store.specs.Pages.{Page}
-use Rattle.doc_store.specs.Store.{
-  StoreState,
-  Edit as SiteEdit,
-  set_page,
-  remove_page,
-  move_page,
-  effect_of,
-  fits_in,
-  put_by,
-  without_page,
-  may_move,
-  moved_by,
-}
+use Rattle.doc_store.specs.Store.{StoreState, Edit as SiteEdit, set_page, remove_page, move_page, effect_of, fits_in, put_by, without_page}
+use Rattle.doc_store.specs.Store.{may_move, moved_by}
 use Rattle.doc_store.specs.declared.moving.MoveError.{MoveError}
 use Rattle.doc_store.specs.declared.moving.MoveError.TheVariants as move_errors
 use Rattle.doc_store.specs.declared.readers.ReaderError.TheVariants as reader_errors
@@ -31,21 +20,8 @@ use Rattle.doc_hub.specs.Edits.{CanBeMade, store_after}
 use Rattle.doc_hub.specs.Events.{Said, moving, outcome_of, putting, stepping}
 use Rattle.doc_hub.specs.Replies.{Renders}
 use Rattle.doc_hub.specs.Runs.{Happens, Leaves, nothing, first}
-use Rattle.doc_hub.specs.Worlds.{
-  World,
-  Answers,
-  Stays,
-  StepsAt,
-  answer_in,
-  connected,
-  last_id,
-  reader_of,
-  stepped_by,
-  world_moved,
-  world_pushed,
-  world_put,
-  world_reader_set,
-}
+use Rattle.doc_hub.specs.Worlds.{World, Answers, Stays, StepsAt, answer_in, connected, last_id, reader_of, stepped_by, world_moved}
+use Rattle.doc_hub.specs.Worlds.{world_pushed, world_put, world_reader_set}
 use Rattle.doc_hub.specs.declared.connection.Connection.{Connection}
 use Rattle.doc_hub.specs.declared.event.ConnId.{ConnId}
 use Rattle.doc_hub.specs.declared.event.Event.{Event}

@@ -1,25 +1,6 @@
 -- Connections by number, and what pushes and replies do to one.
-use Rattle.std.specs.Prelude.{
-  ◌≡◌,
-  ◌≤◌,
-  ℕ,
-  List,
-  [],
-  ◌++◌,
-  ◌+◌,
-  length,
-  drop,
-  Bool,
-  false,
-  nat_lt,
-  Option,
-  Some,
-  None,
-  Result,
-  Ok,
-  Err,
-  if◌then◌else◌,
-}
+use Rattle.std.specs.Prelude.{◌≡◌, ◌≤◌, ℕ, List, [], ◌++◌, ◌+◌, length, drop, Bool, false, nat_lt, Option, Some, None, Result, Ok, Err}
+use Rattle.std.specs.Prelude.{if◌then◌else◌}
 use Rattle.std.specs.FinMap as map
 use Rattle.std.specs.Ordering.{nat_cmp}
 use Rattle.doc_hub.specs.declared.connection.Connection.{Connection}

@@ -1,27 +1,6 @@
 -- The world that a hub stands for, and one function of it for each call.
-use Rattle.std.specs.Prelude.{
-  ◌≡◌,
-  ℕ,
-  List,
-  ◌+◌,
-  ◌^◌,
-  ◌-◌,
-  Bool,
-  true,
-  nat_lt,
-  nat_le,
-  ◌&&◌,
-  MatchBool,
-  Option,
-  Some,
-  None,
-  option_and_then,
-  Result,
-  Ok,
-  Err,
-  if◌then◌else◌,
-  refl,
-}
+use Rattle.std.specs.Prelude.{◌≡◌, ℕ, List, ◌+◌, ◌^◌, ◌-◌, Bool, true, nat_lt, nat_le, ◌&&◌, MatchBool, Option, Some, None, option_and_then}
+use Rattle.std.specs.Prelude.{Result, Ok, Err, if◌then◌else◌, refl}
 use Rattle.std.specs.Coded.{Coded, code_by, coded×, coded_ℕ, coded_bool}
 use Rattle.std.specs.FinMap as map
 use Rattle.doc_store.specs.declared.reader.Reader.{Reader}

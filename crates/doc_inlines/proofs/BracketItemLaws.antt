@@ -1,30 +1,6 @@
 -- Brackets that open and close while a text is read.
-use Rattle.std.proofs.Common.{
-  ◌≡◌,
-  Bool,
-  true,
-  false,
-  ◌==◌,
-  chars,
-  ℕ,
-  ◌-◌,
-  List,
-  [],
-  ◌∷◌,
-  ◌++◌,
-  length,
-  refl,
-  ap,
-  sym,
-  ◌∙◌,
-  subst,
-  Option,
-  Some,
-  None,
-  MatchOption,
-  arith,
-  append-nil,
-}
+use Rattle.std.proofs.Common.{◌≡◌, Bool, true, false, ◌==◌, chars, ℕ, ◌-◌, List, [], ◌∷◌, ◌++◌, length, refl, ap, sym, ◌∙◌, subst, Option}
+use Rattle.std.proofs.Common.{Some, None, MatchOption, arith, append-nil}
 use denote.Ref.{Bor}
 use Rattle.std.proofs.lemmas.Bool.{eqb-true}
 use Rattle.doc_rules.specs.Characters.{Text}

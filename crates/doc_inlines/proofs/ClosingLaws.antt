@@ -1,57 +1,11 @@
 -- Drafts when a bracket closes, and when all is read.
-use Rattle.std.proofs.Common.{
-  ◌≡◌,
-  Bool,
-  true,
-  false,
-  ◌||◌,
-  ap₂,
-  reverse,
-  chars,
-  ℕ,
-  suc,
-  ◌+◌,
-  ◌-◌,
-  ◌<◌,
-  ◌≤◌,
-  min,
-  List,
-  [],
-  ◌∷◌,
-  ◌++◌,
-  length,
-  get_or,
-  set,
-  take,
-  drop,
-  map,
-  refl,
-  ap,
-  sym,
-  ◌∙◌,
-  subst,
-  Some,
-  None,
-  arith,
-  length-append,
-  append-nil,
-}
+use Rattle.std.proofs.Common.{◌≡◌, Bool, true, false, ◌||◌, ap₂, reverse, chars, ℕ, suc, ◌+◌, ◌-◌, ◌<◌, ◌≤◌, min, List, [], ◌∷◌, ◌++◌}
+use Rattle.std.proofs.Common.{length, get_or, set, take, drop, map, refl, ap, sym, ◌∙◌, subst, Some, None, arith, length-append, append-nil}
 use Rattle.std.specs.Prelude.{nat_le, flat_map, if◌then◌else◌}
 use Rattle.std.proofs.lemmas.Bool.{leb-true, leb-false}
 use Rattle.std.proofs.lemmas.Grind.{flat_map-append}
-use Rattle.std.proofs.lemmas.List.{
-  length-map,
-  length-reverse,
-  take-take,
-  take-set,
-  take-map,
-  drop-map,
-  drop-set,
-  drop-append-le,
-  take-append-le,
-  get_or-take,
-  length-set,
-}
+use Rattle.std.proofs.lemmas.List.{length-map, length-reverse, take-take, take-set, take-map, drop-map, drop-set, drop-append-le}
+use Rattle.std.proofs.lemmas.List.{take-append-le, get_or-take, length-set}
 use Rattle.doc_rules.specs.Inlines.{Inline, Start, End, Span, Link, Image, onto}
 use Rattle.doc_rules.specs.Links.{last_bracket, without_links, linked}
 use Rattle.doc_rules.specs.Emphasis.{emphasis_of}

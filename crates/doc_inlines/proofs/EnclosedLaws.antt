@@ -1,38 +1,6 @@
 -- Code spans, autolinks and raw HTML, as a reader reads them.
-use Rattle.std.proofs.Common.{
-  ◌≡◌,
-  Bool,
-  true,
-  false,
-  ◌&&◌,
-  ◌||◌,
-  ◌==◌,
-  ℕ,
-  zero,
-  suc,
-  ◌-◌,
-  ◌<◌,
-  ◌≤◌,
-  List,
-  [],
-  ◌∷◌,
-  ◌++◌,
-  replicate,
-  length,
-  chars,
-  refl,
-  ap,
-  sym,
-  ◌∙◌,
-  subst,
-  Option,
-  Some,
-  None,
-  codes,
-  arith,
-  append_assoc,
-  append-nil,
-}
+use Rattle.std.proofs.Common.{◌≡◌, Bool, true, false, ◌&&◌, ◌||◌, ◌==◌, ℕ, zero, suc, ◌-◌, ◌<◌, ◌≤◌, List, [], ◌∷◌, ◌++◌, replicate, length}
+use Rattle.std.proofs.Common.{chars, refl, ap, sym, ◌∙◌, subst, Option, Some, None, codes, arith, append_assoc, append-nil}
 use denote.Ref.{Bor}
 use Rattle.std.specs.Prelude.{IfSome}
 use Rattle.std.specs.List.{list_all}
@@ -47,20 +15,8 @@ use Rattle.doc_rules.specs.Inlines.{Inline, Literal, literals, onto}
 use Rattle.doc_rules.specs.Inlines as inline
 use Rattle.doc_rules.specs.Reading.{address, autolink, autolink_span, kinds, kind_in, item_of_kind, read_item}
 use Rattle.doc_rules.specs.Rests.{IsRest}
-use Rattle.doc_rules.proofs.ParserLaws.{
-  Takes,
-  is_rest_again,
-  rest_is_shorter,
-  one_leaves,
-  word_leaves,
-  then_leaves,
-  first_takes,
-  or_takes,
-  maybe_leaves,
-  repeated_leaves,
-  through_leaves,
-  spacing_leaves,
-}
+use Rattle.doc_rules.proofs.ParserLaws.{Takes, is_rest_again, rest_is_shorter, one_leaves, word_leaves, then_leaves, first_takes, or_takes}
+use Rattle.doc_rules.proofs.ParserLaws.{maybe_leaves, repeated_leaves, through_leaves, spacing_leaves}
 use Rattle.doc_rules.proofs.GrammarLaws.{is_leaves, is_takes, tag_name_leaves, attribute_leaves, raw_html_leaves, uri_leaves, mail_leaves}
 use Rattle.doc_refs.specs.Targets.{Targets}
 use Rattle.doc_inlines_marks.specs.declared.mark.Mark.{Mark}

@@ -1,33 +1,6 @@
 -- Escapes, character references, and what takes no slice.
-use Rattle.std.proofs.Common.{
-  ◌≡◌,
-  Bool,
-  true,
-  false,
-  ◌||◌,
-  ◌&&◌,
-  ◌==◌,
-  chars,
-  ℕ,
-  suc,
-  ◌-◌,
-  ◌≤◌,
-  List,
-  [],
-  ◌∷◌,
-  ◌++◌,
-  length,
-  take,
-  refl,
-  ap,
-  ap₂,
-  sym,
-  ◌∙◌,
-  arith,
-  Some,
-  None,
-  append-nil,
-}
+use Rattle.std.proofs.Common.{◌≡◌, Bool, true, false, ◌||◌, ◌&&◌, ◌==◌, chars, ℕ, suc, ◌-◌, ◌≤◌, List, [], ◌∷◌, ◌++◌, length, take, refl}
+use Rattle.std.proofs.Common.{ap, ap₂, sym, ◌∙◌, arith, Some, None, append-nil}
 use denote.Ref.{Bor}
 use Rattle.std.specs.List.{list_all}
 use Rattle.std.specs.Char.{is_ascii_punctuation}

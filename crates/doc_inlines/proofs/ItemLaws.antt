@@ -1,31 +1,6 @@
 -- One item is read.
-use Rattle.std.proofs.Common.{
-  ◌≡◌,
-  Bool,
-  true,
-  false,
-  not,
-  ◌||◌,
-  ◌&&◌,
-  ◌==◌,
-  chars,
-  ℕ,
-  ◌-◌,
-  ◌≤◌,
-  ◌<◌,
-  List,
-  [],
-  ◌∷◌,
-  ◌++◌,
-  length,
-  refl,
-  ap,
-  ap₂,
-  sym,
-  ◌∙◌,
-  subst,
-  arith,
-}
+use Rattle.std.proofs.Common.{◌≡◌, Bool, true, false, not, ◌||◌, ◌&&◌, ◌==◌, chars, ℕ, ◌-◌, ◌≤◌, ◌<◌, List, [], ◌∷◌, ◌++◌, length, refl, ap}
+use Rattle.std.proofs.Common.{ap₂, sym, ◌∙◌, subst, arith}
 use denote.Ref.{Bor}
 use Rattle.std.specs.List.{list_all}
 use Rattle.doc_rules.specs.Characters.{Text, last_or}

@@ -1,36 +1,6 @@
 -- What was made of a text when a bracket closes, and when all is read.
-use Rattle.std.proofs.Common.{
-  ◌≡◌,
-  ℕ,
-  suc,
-  ◌+◌,
-  ◌-◌,
-  ◌≤◌,
-  Bool,
-  true,
-  false,
-  ◌||◌,
-  List,
-  [],
-  ◌∷◌,
-  ◌++◌,
-  length,
-  take,
-  drop,
-  map,
-  reverse,
-  refl,
-  ap,
-  ap₂,
-  sym,
-  ◌∙◌,
-  subst,
-  Some,
-  None,
-  arith,
-  append_assoc,
-  append-nil,
-}
+use Rattle.std.proofs.Common.{◌≡◌, ℕ, suc, ◌+◌, ◌-◌, ◌≤◌, Bool, true, false, ◌||◌, List, [], ◌∷◌, ◌++◌, length, take, drop, map, reverse}
+use Rattle.std.proofs.Common.{refl, ap, ap₂, sym, ◌∙◌, subst, Some, None, arith, append_assoc, append-nil}
 use Rattle.std.specs.Prelude.{nat_le}
 use Rattle.std.proofs.lemmas.List.{map-append, reverse-reverse, reverse-append, take-append-drop}
 use Rattle.std.proofs.lemmas.Bool.{lt-leb}

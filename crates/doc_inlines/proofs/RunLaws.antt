@@ -1,34 +1,6 @@
 -- Runs of delimiters: what they take of a text, and what a reader makes of them.
-use Rattle.std.proofs.Common.{
-  ◌≡◌,
-  Bool,
-  true,
-  false,
-  ◌||◌,
-  ◌==◌,
-  ℕ,
-  suc,
-  ◌+◌,
-  ◌-◌,
-  List,
-  [],
-  ◌∷◌,
-  ◌++◌,
-  replicate,
-  length,
-  drop,
-  map,
-  refl,
-  ap,
-  ap₂,
-  sym,
-  ◌∙◌,
-  subst,
-  Some,
-  arith,
-  eqb-true,
-  length-append,
-}
+use Rattle.std.proofs.Common.{◌≡◌, Bool, true, false, ◌||◌, ◌==◌, ℕ, suc, ◌+◌, ◌-◌, List, [], ◌∷◌, ◌++◌, replicate, length, drop, map, refl}
+use Rattle.std.proofs.Common.{ap, ap₂, sym, ◌∙◌, subst, Some, arith, eqb-true, length-append}
 use Rattle.std.proofs.lemmas.List.{length-replicate}
 use Rattle.doc_rules.specs.Characters.{Text, first_or, last_or}
 use Rattle.doc_rules.specs.Parsers.{many, before, run_length}

@@ -1,25 +1,6 @@
 -- What a draft stands for.
-use Rattle.std.specs.Prelude.{
-  ◌≡◌,
-  ℕ,
-  suc,
-  Some,
-  take,
-  drop,
-  ◌≤◌,
-  Bool,
-  List,
-  [],
-  ◌∷◌,
-  ◌++◌,
-  map,
-  reverse,
-  replicate,
-  length,
-  chars,
-  codes,
-  if◌then◌else◌,
-}
+use Rattle.std.specs.Prelude.{◌≡◌, ℕ, suc, Some, take, drop, ◌≤◌, Bool, List, [], ◌∷◌, ◌++◌, map, reverse, replicate, length, chars, codes}
+use Rattle.std.specs.Prelude.{if◌then◌else◌}
 use Rattle.doc_rules.specs.Characters.{Text}
 use Rattle.doc_rules.specs.Inlines.{Inline, onto}
 use Rattle.doc_rules.specs.Links.{LastBracket, last_bracket}

@@ -28,7 +28,8 @@ impl<'t> Reader<'t> {
     pub(crate) fn left_bracket(&mut self, behind: &'t str) -> Result<(), Memory>
         requires sound { IsReader self.old }
         requires first { chars self.old.rest.now ≡ 91 ∷ chars behind.now }
-        ensures { OnOk result ((table : Table) (targets : Targets) → GoesOn table targets self.old self.new) }
+        ensures { OnOk result ((table : Table) (targets : Targets)
+            → GoesOn table targets self.old self.new) }
     {
         self.open(false, behind)?;
         Ok(())
@@ -38,7 +39,8 @@ impl<'t> Reader<'t> {
     pub(crate) fn bang(&mut self, behind: &'t str) -> Result<(), Memory>
         requires sound { IsReader self.old }
         requires first { chars self.old.rest.now ≡ 33 ∷ chars behind.now }
-        ensures { OnOk result ((table : Table) (targets : Targets) → GoesOn table targets self.old self.new) }
+        ensures { OnOk result ((table : Table) (targets : Targets)
+            → GoesOn table targets self.old self.new) }
     {
         let Some(after) = is(behind, '[') else {
             self.pass(behind);
@@ -78,7 +80,9 @@ impl<'t> Reader<'t> {
         requires first { chars self.old.rest.now ≡ codes_of_bracket image ++ chars after.now }
         ensures text { OnOk result (self.new.text ≡ self.old.text) }
         ensures rest { OnOk result (self.new.rest ≡ after.entry) }
-        ensures made { OnOk result (state_made self.new ≡ Open (record { image = image; live = true; behind = chars after.now }) ∷ state_made self.old) }
+        ensures made { OnOk result (state_made self.new
+            ≡ Open (record { image = image; live = true; behind = chars after.now })
+            ∷ state_made self.old) }
         ensures sound { OnOk result (IsReader self.new) }
     {
         let own = front(self.rest, after);
@@ -93,7 +97,8 @@ impl<'t> Reader<'t> {
     /// the rest has a mark then.
     fn take_bracket(&mut self) -> Result<Option<(Bracket<'t>, bool)>, Memory>
         requires { IsReader self.old }
-        ensures { IfOk result (λ found. MatchOption found (HasNoBracket self.old self.new) (λ found. IsTaken self.old self.new found.0 found.1)) }
+        ensures { IfOk result (λ found. MatchOption found (HasNoBracket self.old self.new)
+            (λ found. IsTaken self.old self.new found.0 found.1)) }
     {
         if self.draft.brackets.as_slice().is_empty() {
             return Ok(None);
@@ -113,8 +118,13 @@ impl<'t> Reader<'t> {
         behind: &'t str,
     ) -> Result<Option<(Target, &'t str)>, Memory>
         requires { IsRest (chars self.now.rest.now) (chars bracket.behind.now) }
-        ensures value { (definitions : List Definition) → refs.now ≡ targets_of definitions → IfOk result (λ found. tail_shown found ≡ tail_where live entities.now definitions (before (chars self.now.rest.now) (chars bracket.entry.behind.now)) (chars behind.now)) }
-        ensures end { IfOk result (λ found. IfSome found (λ tail. IsRest (chars tail.1.now) (chars behind.now))) }
+        ensures value { (definitions : List Definition) → refs.now ≡ targets_of definitions
+            → IfOk result (λ found. tail_shown found
+            ≡ tail_where live entities.now definitions
+            (before (chars self.now.rest.now) (chars bracket.entry.behind.now))
+            (chars behind.now)) }
+        ensures end { IfOk result (λ found. IfSome found
+            (λ tail. IsRest (chars tail.1.now) (chars behind.now))) }
     {
         if !live {
             return Ok(None);
@@ -133,11 +143,14 @@ impl<'t> Reader<'t> {
     ) -> Result<(), Memory>
         requires sound { IsReader self.old }
         requires plain { self.old.plain ≡ self.old.rest }
-        requires stood { AreOpen (items_of self.old.draft.marks) (runs_in self.old.draft.marks) (self.old.draft.brackets.items ++ (bracket ∷ [])) }
+        requires stood { AreOpen (items_of self.old.draft.marks) (runs_in self.old.draft.marks)
+            (self.old.draft.brackets.items ++ (bracket ∷ [])) }
         requires after { IsRest (chars after.now) (chars self.old.rest.now) }
         ensures text { OnOk result (self.new.text ≡ self.old.text) }
         ensures rest { OnOk result (self.new.rest ≡ after.entry) }
-        ensures made { (live : Bool) → OnOk result (state_made self.new ≡ linked (last_of self.old.draft bracket.entry live) (target_shown target)) }
+        ensures made { (live : Bool)
+            → OnOk result (state_made self.new
+            ≡ linked (last_of self.old.draft bracket.entry live) (target_shown target)) }
         ensures sound { OnOk result (IsReader self.new) }
     {
         self.draft.link(heap, bracket, target)?;

@@ -59,9 +59,11 @@ impl<'t> Draft<'t> {
     /// A mark behind all.
     pub(crate) fn put(&mut self, mark: Mark<'t>) -> Result<(), Memory>
         requires { IsDraft self.old }
-        ensures items { OnOk result (items_of self.new.marks ≡ items_of self.old.marks ++ (mark.entry ∷ [])) }
+        ensures items { OnOk result (items_of self.new.marks ≡ items_of self.old.marks
+            ++ (mark.entry ∷ [])) }
         ensures brackets { OnOk result (self.new.brackets.items ≡ self.old.brackets.items) }
-        ensures made { OnOk result (made_of self.new ≡ onto (inlines_in mark.entry) (made_of self.old)) }
+        ensures made { OnOk result (made_of self.new
+            ≡ onto (inlines_in mark.entry) (made_of self.old)) }
         ensures sound { OnOk result (IsDraft self.new) }
     {
         self.marks.push(mark)?;
@@ -72,9 +74,13 @@ impl<'t> Draft<'t> {
     pub(crate) fn put_run(&mut self, text: &'t str, opens: bool, closes: bool) -> Result<(), Memory>
         requires sound { IsDraft self.old }
         requires text { IsRunText (chars text.now) }
-        ensures items { OnOk result (AddsEach (items_of self.old.marks) (items_of self.new.marks) (chars text.now)) }
+        ensures items { OnOk result (AddsEach (items_of self.old.marks) (items_of self.new.marks)
+            (chars text.now)) }
         ensures brackets { OnOk result (self.new.brackets.items ≡ self.old.brackets.items) }
-        ensures made { (n c : ℕ) → OnOk result (IsRunOf n c (chars text.now) → made_of self.new ≡ Delimiters (record { char = c; left = suc n; length = suc n; opens = opens; closes = closes }) ∷ made_of self.old) }
+        ensures made { (n c : ℕ) → OnOk result (IsRunOf n c (chars text.now)
+            → made_of self.new ≡ Delimiters
+            (record { char = c; left = suc n; length = suc n; opens = opens; closes = closes })
+            ∷ made_of self.old) }
         ensures sound { OnOk result (IsDraft self.new) }
     {
         self.marks.push_run(text, opens, closes)?;
@@ -85,9 +91,13 @@ impl<'t> Draft<'t> {
     pub(crate) fn open(&mut self, text: &'t str, image: bool, behind: &'t str) -> Result<(), Memory>
         requires sound { IsDraft self.old }
         requires text { chars text.now ≡ codes_of_bracket image }
-        ensures items { OnOk result (items_of self.new.marks ≡ items_of self.old.marks ++ (Text text.entry ∷ [])) }
-        ensures brackets { OnOk result (AddsBracket self.old.brackets.items self.new.brackets.items (chars behind.now)) }
-        ensures made { OnOk result (made_of self.new ≡ Open (record { image = image; live = true; behind = chars behind.now }) ∷ made_of self.old) }
+        ensures items { OnOk result (items_of self.new.marks ≡ items_of self.old.marks
+            ++ (Text text.entry ∷ [])) }
+        ensures brackets { OnOk result
+            (AddsBracket self.old.brackets.items self.new.brackets.items (chars behind.now)) }
+        ensures made { OnOk result (made_of self.new
+            ≡ Open (record { image = image; live = true; behind = chars behind.now })
+            ∷ made_of self.old) }
         ensures sound { OnOk result (IsDraft self.new) }
     {
         let place = self.marks.place();
@@ -103,7 +113,8 @@ impl<'t> Draft<'t> {
     /// Closes the last bracket: its mark stays the text that it is. Also whether it may begin a link or an image.
     pub(crate) fn pop(&mut self) -> Option<(Bracket<'t>, bool)>
         requires { IsDraft self.old }
-        ensures { MatchOption result (self.old.brackets.items ≡ []) (λ found. IsPopped self.old self.new found.0 found.1) }
+        ensures { MatchOption result (self.old.brackets.items ≡ [])
+            (λ found. IsPopped self.old self.new found.0 found.1) }
     {
         let bracket = self.brackets.pop()?;
         let count = self.brackets.as_slice().len();
@@ -120,11 +131,16 @@ impl<'t> Draft<'t> {
         target: Target,
     ) -> Result<(), Memory>
         requires sound { IsDraft self.old }
-        requires stood { AreOpen (items_of self.old.marks) (runs_in self.old.marks) (self.old.brackets.items ++ (bracket ∷ [])) }
-        ensures made { (live : Bool) → OnOk result (made_of self.new ≡ linked (last_of self.old bracket.entry live) (target_shown target)) }
+        requires stood { AreOpen (items_of self.old.marks) (runs_in self.old.marks)
+            (self.old.brackets.items ++ (bracket ∷ [])) }
+        ensures made { (live : Bool)
+            → OnOk result (made_of self.new
+            ≡ linked (last_of self.old bracket.entry live) (target_shown target)) }
         ensures brackets { OnOk result (self.new.brackets.items ≡ self.old.brackets.items) }
-        ensures slices { OnOk result ((text : rules.Text) → AreSlices text (items_of self.old.marks) → AreSlices text (items_of self.new.marks)) }
-        ensures cut { OnOk result (AreCut (items_of self.old.marks) → AreCut (items_of self.new.marks)) }
+        ensures slices { OnOk result ((text : rules.Text)
+            → AreSlices text (items_of self.old.marks) → AreSlices text (items_of self.new.marks)) }
+        ensures cut { OnOk result (AreCut (items_of self.old.marks)
+            → AreCut (items_of self.new.marks)) }
         ensures sound { OnOk result (IsDraft self.new) }
     {
         let copy = copy_target(heap, &target)?;
@@ -146,9 +162,12 @@ impl<'t> Draft<'t> {
     /// Makes the emphasis, when all is read. Brackets that are still open stay the text that they are.
     pub(crate) fn finish(&mut self) -> Result<(), Memory>
         requires { IsDraft self.old }
-        ensures shown { OnOk result (inlines_shown (items_of self.new.marks) ≡ emphasis_of (reverse (made_of self.old))) }
-        ensures slices { OnOk result ((text : rules.Text) → AreSlices text (items_of self.old.marks) → AreSlices text (items_of self.new.marks)) }
-        ensures cut { OnOk result (AreCut (items_of self.old.marks) → AreCut (items_of self.new.marks)) }
+        ensures shown { OnOk result (inlines_shown (items_of self.new.marks)
+            ≡ emphasis_of (reverse (made_of self.old))) }
+        ensures slices { OnOk result ((text : rules.Text)
+            → AreSlices text (items_of self.old.marks) → AreSlices text (items_of self.new.marks)) }
+        ensures cut { OnOk result (AreCut (items_of self.old.marks)
+            → AreCut (items_of self.new.marks)) }
     {
         self.marks.wrap(Place { marks: 0, runs: 0 })?;
         Ok(())
@@ -158,7 +177,9 @@ impl<'t> Draft<'t> {
 /// A link, or an image.
 #[tactic(auto, unfolding(doc_inlines_marks::specs::Views::span_shown))]
 fn span(image: bool, target: Target) -> Span
-    ensures { span_shown result ≡ (if image then images.Image (target_shown target) else images.Link (target_shown target)) }
+    ensures { span_shown result
+        ≡ (if image then images.Image (target_shown target) else images.Link
+        (target_shown target)) }
 {
     if image {
         Span::Image(target)

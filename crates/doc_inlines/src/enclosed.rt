@@ -35,7 +35,8 @@ impl<'t> Reader<'t> {
     pub(crate) fn backticks(&mut self, behind: &'t str) -> Result<(), Memory>
         requires sound { IsReader self.old }
         requires first { chars self.old.rest.now ≡ 96 ∷ chars behind.now }
-        ensures { OnOk result ((table : Table) (targets : Targets) → GoesOn table targets self.old self.new) }
+        ensures { OnOk result ((table : Table) (targets : Targets)
+            → GoesOn table targets self.old self.new) }
     {
         let (found, next) = self.backticks.code_span(behind)?;
         match found {
@@ -54,7 +55,8 @@ impl<'t> Reader<'t> {
     pub(crate) fn left_angle(&mut self, heap: Heap, behind: &'t str) -> Result<(), Memory>
         requires sound { IsReader self.old }
         requires first { chars self.old.rest.now ≡ 60 ∷ chars behind.now }
-        ensures { OnOk result ((table : Table) (targets : Targets) → GoesOn table targets self.old self.new) }
+        ensures { OnOk result ((table : Table) (targets : Targets)
+            → GoesOn table targets self.old self.new) }
     {
         match self.missing.enclosed(self.rest) {
             Some((found, next)) => {
@@ -75,7 +77,8 @@ impl<'t> Reader<'t> {
         requires stands { StandsBefore (slice_of found) (chars rest.now) (chars self.old.rest.now) }
         ensures text { OnOk result (self.new.text ≡ self.old.text) }
         ensures rest { OnOk result (self.new.rest ≡ rest.entry) }
-        ensures made { OnOk result (state_made self.new ≡ enclosed_read (state_made self.old) (enclosing_of found.entry)) }
+        ensures made { OnOk result (state_made self.new
+            ≡ enclosed_read (state_made self.old) (enclosing_of found.entry)) }
         ensures sound { OnOk result (IsReader self.new) }
     {
         match found {
@@ -104,10 +107,13 @@ impl<'t> Reader<'t> {
     ) -> Result<(), Memory>
         requires sound { IsReader self.old }
         requires behind { IsRest (chars rest.now) (chars self.old.rest.now) }
-        requires stands { StandsBefore (chars address.now) (chars rest.now) (chars self.old.rest.now) }
+        requires stands { StandsBefore (chars address.now) (chars rest.now)
+            (chars self.old.rest.now) }
         ensures text { OnOk result (self.new.text ≡ self.old.text) }
         ensures rest { OnOk result (self.new.rest ≡ rest.entry) }
-        ensures made { OnOk result (state_made self.new ≡ autolink (chars scheme.now ++ chars address.now) (chars address.now) (state_made self.old)) }
+        ensures made { OnOk result (state_made self.new
+            ≡ autolink (chars scheme.now ++ chars address.now) (chars address.now)
+            (state_made self.old)) }
         ensures sound { OnOk result (IsReader self.new) }
     {
         let start = autolink_span(heap, scheme, address)?;
@@ -126,9 +132,11 @@ impl<'t> Draft<'t> {
     /// A text behind all. What HTML writes otherwise has a mark of its own.
     fn put_text(&mut self, text: &'t str) -> Result<(), Memory>
         requires { IsDraft self.old }
-        ensures items { OnOk result (AddsText (items_of self.old.marks) (items_of self.new.marks) (chars text.now)) }
+        ensures items { OnOk result (AddsText (items_of self.old.marks) (items_of self.new.marks)
+            (chars text.now)) }
         ensures brackets { OnOk result (self.new.brackets.items ≡ self.old.brackets.items) }
-        ensures made { OnOk result (made_of self.new ≡ onto (literals (chars text.now)) (made_of self.old)) }
+        ensures made { OnOk result (made_of self.new
+            ≡ onto (literals (chars text.now)) (made_of self.old)) }
         ensures sound { OnOk result (IsDraft self.new) }
     {
         let mut rest = text;
@@ -143,7 +151,8 @@ impl<'t> Draft<'t> {
 
 /// The text behind its first character, if HTML writes that otherwise, or else behind the first characters that it writes as they are.
 fn behind_piece(text: &str) -> Option<&str>
-    ensures { MatchOption result (chars text.now ≡ []) (λ rest. IsPiece (chars text.now) (chars rest.now)) }
+    ensures { MatchOption result (chars text.now ≡ [])
+        (λ rest. IsPiece (chars text.now) (chars rest.now)) }
 {
     let (c, behind) = next_char(text)?;
     if is_uncut(c) {
@@ -171,7 +180,8 @@ fn is_uncut(c: char) -> bool
 /// A link to this scheme with this address behind it.
 #[tactic(auto, unfolding(doc_inlines_marks::specs::Views::span_shown))]
 fn autolink_span(heap: Heap, scheme: &str, address: &str) -> Result<Span, Memory>
-    ensures { IfOk result (λ span. span_shown span ≡ rules.autolink_span (chars scheme.now ++ chars address.now)) }
+    ensures { IfOk result (λ span. span_shown span
+        ≡ rules.autolink_span (chars scheme.now ++ chars address.now)) }
 {
     let mut dest = String::from_str(heap, scheme)?;
     push_text(&mut dest, address)?;

@@ -22,7 +22,8 @@ impl<'t> Reader<'t> {
     pub(crate) fn backslash(&mut self, behind: &'t str) -> Result<(), Memory>
         requires sound { IsReader self.old }
         requires first { chars self.old.rest.now ≡ 92 ∷ chars behind.now }
-        ensures { OnOk result ((table : Table) (targets : Targets) → GoesOn table targets self.old self.new) }
+        ensures { OnOk result ((table : Table) (targets : Targets)
+            → GoesOn table targets self.old self.new) }
     {
         let Some((d, rest)) = next_char(behind) else {
             self.literal('\\', behind);
@@ -49,7 +50,8 @@ impl<'t> Reader<'t> {
     ) -> Result<(), Memory>
         requires sound { IsReader self.old }
         requires first { chars self.old.rest.now ≡ 38 ∷ chars behind.now }
-        ensures { OnOk result ((targets : Targets) → GoesOn entities.now targets self.old self.new) }
+        ensures { OnOk result ((targets : Targets)
+            → GoesOn entities.now targets self.old self.new) }
     {
         let Some((those, next)) = character_reference(entities, behind) else {
             self.alone('&', behind)?;

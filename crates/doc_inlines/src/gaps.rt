@@ -20,17 +20,20 @@ impl<'t> Reader<'t> {
     pub(crate) fn line_ending(&mut self, behind: &'t str) -> Result<(), Memory>
         requires sound { IsReader self.old }
         requires first { chars self.old.rest.now ≡ 10 ∷ chars behind.now }
-        ensures { OnOk result ((table : Table) (targets : Targets) → GoesOn table targets self.old self.new) }
+        ensures { OnOk result ((table : Table) (targets : Targets)
+            → GoesOn table targets self.old self.new) }
     {
         self.put(Mark::Soft, behind_run(behind, ' '))?;
         Ok(())
     }
 
-    /// Spaces: before a line ending they belong to the break, which is hard where they are two or more. Else they are text, with the plain text behind them.
+    /// Spaces: before a line ending they belong to the break, which is hard where they are two or more. Else they are text, with the plain
+    /// text behind them.
     pub(crate) fn spaces(&mut self, behind: &'t str) -> Result<(), Memory>
         requires sound { IsReader self.old }
         requires first { chars self.old.rest.now ≡ 32 ∷ chars behind.now }
-        ensures { OnOk result ((table : Table) (targets : Targets) → GoesOn table targets self.old self.new) }
+        ensures { OnOk result ((table : Table) (targets : Targets)
+            → GoesOn table targets self.old self.new) }
     {
         let rest = behind_run(behind, ' ');
         let Some(after) = is(rest, '\n') else {

@@ -36,7 +36,9 @@ pub fn inlines<'t>(
     refs: &RefMap,
     entities: &Entities,
 ) -> Result<Vec<Mark<'t>>, Memory>
-    ensures inlines { (definitions : List Definition) → refs.now ≡ targets_of definitions → IfOk result (λ marks. inlines_shown marks.items ≡ inlines_of entities.now definitions (chars text.now)) }
+    ensures inlines { (definitions : List Definition) → refs.now ≡ targets_of definitions
+        → IfOk result (λ marks. inlines_shown marks.items
+        ≡ inlines_of entities.now definitions (chars text.now)) }
     ensures slices { IfOk result (λ marks. AreSlices (chars text.now) marks.items) }
     ensures cut { IfOk result (λ marks. AreCut marks.items) }
 {
@@ -50,7 +52,9 @@ pub fn inlines_counted<'t>(
     refs: &RefMap,
     entities: &Entities,
 ) -> Result<(Vec<Mark<'t>>, u64), Memory>
-    ensures inlines { (definitions : List Definition) → refs.now ≡ targets_of definitions → IfOk result (λ marks. inlines_shown marks.0.items ≡ inlines_of entities.now definitions (chars text.now)) }
+    ensures inlines { (definitions : List Definition) → refs.now ≡ targets_of definitions
+        → IfOk result (λ marks. inlines_shown marks.0.items
+        ≡ inlines_of entities.now definitions (chars text.now)) }
     ensures slices { IfOk result (λ marks. AreSlices (chars text.now) marks.0.items) }
     ensures cut { IfOk result (λ marks. AreCut marks.0.items) }
 {

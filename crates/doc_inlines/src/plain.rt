@@ -22,7 +22,9 @@ impl<'t> Reader<'t> {
     pub(crate) fn alone(&mut self, c: char, behind: &'t str) -> Result<(), Memory>
         requires sound { IsReader self.old }
         requires first { chars self.old.rest.now ≡ c ∷ chars behind.now }
-        ensures { OnOk result ((table : Table) (targets : Targets) → ReadsAs table targets self.old c (chars behind.now) (Literal c ∷ state_made self.old) 0 → GoesOn table targets self.old self.new) }
+        ensures { OnOk result ((table : Table) (targets : Targets)
+            → ReadsAs table targets self.old c (chars behind.now) (Literal c ∷ state_made self.old)
+            0 → GoesOn table targets self.old self.new) }
     {
         let own = front(self.rest, behind);
         self.put(Mark::Text(own), behind)?;
@@ -34,7 +36,8 @@ impl<'t> Reader<'t> {
         requires sound { IsReader self.old }
         requires first { chars self.old.rest.now ≡ c ∷ chars behind.now }
         requires other { kind_in kinds c ≡ Other }
-        ensures { OnOk result ((table : Table) (targets : Targets) → GoesOn table targets self.old self.new) }
+        ensures { OnOk result ((table : Table) (targets : Targets)
+            → GoesOn table targets self.old self.new) }
     {
         self.alone(c, behind)?;
         Ok(())
@@ -56,7 +59,9 @@ impl<'t> Reader<'t> {
         requires sound { IsReader self.old }
         requires first { chars self.old.rest.now ≡ c ∷ chars behind.now }
         requires uncut { is_uncut c ≡ true }
-        ensures { (table : Table) (targets : Targets) → ReadsAs table targets self.old c (chars behind.now) (Literal c ∷ state_made self.old) 0 → GoesOn table targets self.old self.new }
+        ensures { (table : Table) (targets : Targets)
+            → ReadsAs table targets self.old c (chars behind.now) (Literal c ∷ state_made self.old)
+            0 → GoesOn table targets self.old self.new }
     {
         self.pass(behind);
     }
@@ -121,7 +126,8 @@ fn without_spaces(text: &str) -> &str
 
 /// The text before a space at its end.
 fn before_space(text: &str) -> Option<&str>
-    ensures { MatchOption result ((last_or 0 (chars text.now) == 32) ≡ false) (λ before. chars text.now ≡ chars before.now ++ (32 ∷ [])) }
+    ensures { MatchOption result ((last_or 0 (chars text.now) == 32) ≡ false)
+        (λ before. chars text.now ≡ chars before.now ++ (32 ∷ [])) }
 {
     let Some((before, c)) = last_char(text) else {
         return None;

@@ -61,7 +61,9 @@ impl<'t> Reader<'t> {
         refs: &RefMap,
         text: &'t str,
     ) -> Result<(), Memory>
-        ensures inlines { (definitions : List Definition) → refs.now ≡ targets_of definitions → OnOk result (inlines_shown (marks_of self.new) ≡ inlines_of entities.now definitions (chars text.now)) }
+        ensures inlines { (definitions : List Definition) → refs.now ≡ targets_of definitions
+            → OnOk result (inlines_shown (marks_of self.new)
+            ≡ inlines_of entities.now definitions (chars text.now)) }
         ensures slices { OnOk result (AreSlices (chars text.now) (marks_of self.new)) }
         ensures cut { OnOk result (AreCut (marks_of self.new)) }
     {
@@ -166,10 +168,13 @@ impl<'t> Reader<'t> {
     pub(crate) fn pass(&mut self, rest: &'t str)
         requires sound { IsReader self.old }
         requires rest { IsRest (chars rest.now) (chars self.old.rest.now) }
-        requires uncut { list_all is_uncut (before (chars rest.now) (chars self.old.rest.now)) ≡ true }
+        requires uncut { list_all is_uncut (before (chars rest.now) (chars self.old.rest.now))
+            ≡ true }
         ensures text { self.new.text ≡ self.old.text }
         ensures rest { self.new.rest ≡ rest.entry }
-        ensures made { state_made self.new ≡ onto (literals (before (chars rest.now) (chars self.old.rest.now))) (state_made self.old) }
+        ensures made { state_made self.new
+            ≡ onto (literals (before (chars rest.now) (chars self.old.rest.now)))
+            (state_made self.old) }
         ensures sound { IsReader self.new }
     {
         self.rest = rest;
@@ -199,7 +204,8 @@ impl<'t> Reader<'t> {
         requires stands { MarkStands mark (chars self.old.rest.now) (chars rest.now) }
         ensures text { OnOk result (self.new.text ≡ self.old.text) }
         ensures rest { OnOk result (self.new.rest ≡ rest.entry) }
-        ensures made { OnOk result (state_made self.new ≡ onto (inlines_in mark.entry) (state_made self.old)) }
+        ensures made { OnOk result (state_made self.new
+            ≡ onto (inlines_in mark.entry) (state_made self.old)) }
         ensures sound { OnOk result (IsReader self.new) }
     {
         self.flush()?;

@@ -25,7 +25,8 @@ impl<'t> Reader<'t> {
         requires sound { IsReader self.old }
         requires first { chars self.old.rest.now ≡ c ∷ chars behind.now }
         requires delimiter { ((c == 42) || (c == 95)) ≡ true }
-        ensures { OnOk result ((table : Table) (targets : Targets) → GoesOn table targets self.old self.new) }
+        ensures { OnOk result ((table : Table) (targets : Targets)
+            → GoesOn table targets self.old self.new) }
     {
         let next = behind_run(behind, c);
         let run = front(self.rest, next);
@@ -51,7 +52,10 @@ impl<'t> Reader<'t> {
         requires stands { chars run.now ≡ before (chars rest.now) (chars self.old.rest.now) }
         ensures text { OnOk result (self.new.text ≡ self.old.text) }
         ensures rest { OnOk result (self.new.rest ≡ rest.entry) }
-        ensures made { (n c : ℕ) → OnOk result (IsRunOf n c (chars run.now) → state_made self.new ≡ Delimiters (record { char = c; left = suc n; length = suc n; opens = opens; closes = closes }) ∷ state_made self.old) }
+        ensures made { (n c : ℕ) → OnOk result (IsRunOf n c (chars run.now)
+            → state_made self.new ≡ Delimiters
+            (record { char = c; left = suc n; length = suc n; opens = opens; closes = closes })
+            ∷ state_made self.old) }
         ensures sound { OnOk result (IsReader self.new) }
     {
         self.flush()?;

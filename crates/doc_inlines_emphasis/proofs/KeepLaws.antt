@@ -1,31 +1,6 @@
 -- What a mark that stands for a start, an end or nothing keeps of the marks around it, and what a pair of marks shows.
-use Rattle.std.proofs.Common.{
-  ◌≡◌,
-  ◌≢◌,
-  ◌⊎◌,
-  inl,
-  inr,
-  ℕ,
-  zero,
-  suc,
-  ◌≤◌,
-  true,
-  false,
-  List,
-  [],
-  ◌∷◌,
-  ◌++◌,
-  set,
-  refl,
-  ap,
-  ap₂,
-  sym,
-  ◌∙◌,
-  subst,
-  arith,
-  append_assoc,
-  length-set,
-}
+use Rattle.std.proofs.Common.{◌≡◌, ◌≢◌, ◌⊎◌, inl, inr, ℕ, zero, suc, ◌≤◌, true, false, List, [], ◌∷◌, ◌++◌, set, refl, ap, ap₂, sym, ◌∙◌}
+use Rattle.std.proofs.Common.{subst, arith, append_assoc, length-set}
 use Rattle.std.specs.Prelude.{◌==◌, flat_map, chars}
 use Rattle.std.proofs.lemmas.List.{map-set, take-set-le}
 use Rattle.std.proofs.lemmas.Str.{chars-nil}

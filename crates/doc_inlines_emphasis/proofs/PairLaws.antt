@@ -1,36 +1,6 @@
 -- A pair as the code writes it is a pair in place.
-use Rattle.std.proofs.Common.{
-  ◌≡◌,
-  inl,
-  inr,
-  ℕ,
-  suc,
-  ◌+◌,
-  ◌-◌,
-  ◌<◌,
-  ◌≤◌,
-  Bool,
-  true,
-  false,
-  List,
-  ◌∷◌,
-  ◌++◌,
-  length,
-  get_or,
-  set,
-  take,
-  drop,
-  refl,
-  ap,
-  ap₂,
-  sym,
-  ◌∙◌,
-  subst,
-  Some,
-  arith,
-  get_or-set_same,
-  length-set,
-}
+use Rattle.std.proofs.Common.{◌≡◌, inl, inr, ℕ, suc, ◌+◌, ◌-◌, ◌<◌, ◌≤◌, Bool, true, false, List, ◌∷◌, ◌++◌, length, get_or, set, take}
+use Rattle.std.proofs.Common.{drop, refl, ap, ap₂, sym, ◌∙◌, subst, Some, arith, get_or-set_same, length-set}
 use Rattle.std.specs.Prelude.{nat_lt, if◌then◌else◌}
 use Rattle.std.proofs.lemmas.List.{length-map, get_or_default}
 use Rattle.doc_rules.specs.Emphasis.{strength}

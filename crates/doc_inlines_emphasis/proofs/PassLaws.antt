@@ -1,29 +1,6 @@
 -- The pass over the runs of the code: its start, a run closed, a run passed, and its end.
-use Rattle.std.proofs.Common.{
-  ◌≡◌,
-  ℕ,
-  zero,
-  suc,
-  ◌-◌,
-  ◌<◌,
-  ◌≤◌,
-  false,
-  List,
-  [],
-  ◌∷◌,
-  ◌++◌,
-  length,
-  get_or,
-  drop,
-  replicate,
-  refl,
-  ap,
-  sym,
-  ◌∙◌,
-  subst,
-  None,
-  arith,
-}
+use Rattle.std.proofs.Common.{◌≡◌, ℕ, zero, suc, ◌-◌, ◌<◌, ◌≤◌, false, List, [], ◌∷◌, ◌++◌, length, get_or, drop, replicate, refl, ap, sym}
+use Rattle.std.proofs.Common.{◌∙◌, subst, None, arith}
 use Rattle.std.specs.Prelude.{flat_map, chars}
 use Rattle.std.proofs.lemmas.List.{length-map}
 use Rattle.doc_rules.specs.Inlines.{Inline, Literal}

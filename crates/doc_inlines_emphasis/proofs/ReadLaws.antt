@@ -1,31 +1,6 @@
 -- What is seen from a place on while marks and runs come behind all, and where their texts stand.
-use Rattle.std.proofs.Common.{
-  ◌≡◌,
-  ℕ,
-  suc,
-  ◌+◌,
-  List,
-  [],
-  ◌∷◌,
-  ◌++◌,
-  length,
-  get_or,
-  drop,
-  replicate,
-  ap,
-  sym,
-  ◌∙◌,
-  subst,
-  arith,
-  map,
-  length-append,
-  append_assoc,
-  append-nil,
-  ◌-◌,
-  take,
-  ap₂,
-  ◌≤◌,
-}
+use Rattle.std.proofs.Common.{◌≡◌, ℕ, suc, ◌+◌, List, [], ◌∷◌, ◌++◌, length, get_or, drop, replicate, ap, sym, ◌∙◌, subst, arith, map}
+use Rattle.std.proofs.Common.{length-append, append_assoc, append-nil, ◌-◌, take, ap₂, ◌≤◌}
 use Rattle.std.specs.Prelude.{flat_map}
 use Rattle.std.proofs.lemmas.List.{map-append, length-map, length-replicate, length-take-le, take-append-drop, drop-append-le, take_all}
 use Rattle.std.proofs.Math.Seq.{get_or-append_seam}

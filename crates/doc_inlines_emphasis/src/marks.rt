@@ -63,7 +63,8 @@ impl<'t> Marks<'t> {
         ensures items { OnOk result (items_of self.new ≡ items_of self.old ++ (mark.entry ∷ [])) }
         ensures runs { OnOk result (runs_in self.new ≡ runs_in self.old) }
         ensures sound { OnOk result (IsSound self.new) }
-        ensures places { OnOk result ((place : Spot) → IsPlace self.old place → IsPlace self.new place) }
+        ensures places { OnOk result ((place : Spot) → IsPlace self.old place
+            → IsPlace self.new place) }
     {
         self.marks.push(mark)?;
         Ok(())
@@ -73,10 +74,14 @@ impl<'t> Marks<'t> {
     pub fn push_run(&mut self, text: &'t str, opens: bool, closes: bool) -> Result<(), Memory>
         requires sound { IsSound self.old }
         requires text { IsRunText (chars text.now) }
-        ensures items { OnOk result (AddsEach (items_of self.old) (items_of self.new) (chars text.now)) }
-        ensures runs { OnOk result ((n c : ℕ) → chars text.now ≡ replicate (suc n) c → runs_in self.new ≡ runs_in self.old ++ (fresh_run (length (items_of self.old)) c (suc n) opens closes ∷ [])) }
+        ensures items { OnOk result (AddsEach (items_of self.old) (items_of self.new)
+            (chars text.now)) }
+        ensures runs { OnOk result ((n c : ℕ) → chars text.now ≡ replicate (suc n) c
+            → runs_in self.new ≡ runs_in self.old
+            ++ (fresh_run (length (items_of self.old)) c (suc n) opens closes ∷ [])) }
         ensures sound { OnOk result (IsSound self.new) }
-        ensures places { OnOk result ((place : Spot) → IsPlace self.old place → IsPlace self.new place) }
+        ensures places { OnOk result ((place : Spot) → IsPlace self.old place
+            → IsPlace self.new place) }
     {
         let first = self.marks.len();
         let length = text.len();
@@ -111,13 +116,18 @@ impl<'t> Marks<'t> {
     pub fn wrap(&mut self, from: Place) -> Result<(), Memory>
         requires { IsPlace self.old from }
         ensures size { OnOk result (length (items_of self.new) ≡ length (items_of self.old)) }
-        ensures before { OnOk result (take from.marks (items_of self.new) ≡ take from.marks (items_of self.old)) }
+        ensures before { OnOk result (take from.marks (items_of self.new)
+            ≡ take from.marks (items_of self.old)) }
         ensures runs { OnOk result (runs_in self.new ≡ take from.runs (runs_in self.old)) }
-        ensures emphasis { OnOk result (inlines_shown (drop from.marks (items_of self.new)) ≡ emphasis_of (shown_between self.old from.marks (length (items_of self.old)) (drop from.runs (runs_in self.old)))) }
-        ensures slices { OnOk result ((text : rules.Text) → AreSlices text (items_of self.old) → AreSlices text (items_of self.new)) }
+        ensures emphasis { OnOk result (inlines_shown (drop from.marks (items_of self.new))
+            ≡ emphasis_of (shown_between self.old from.marks (length (items_of self.old))
+            (drop from.runs (runs_in self.old)))) }
+        ensures slices { OnOk result ((text : rules.Text) → AreSlices text (items_of self.old)
+            → AreSlices text (items_of self.new)) }
         ensures cut { OnOk result (AreCut (items_of self.old) → AreCut (items_of self.new)) }
         ensures sound { OnOk result (IsSound self.new) }
-        ensures places { OnOk result ((place : Spot) → place.marks ≤ from.marks → place.runs ≤ from.runs → IsPlace self.old place → IsPlace self.new place) }
+        ensures places { OnOk result ((place : Spot) → place.marks ≤ from.marks
+            → place.runs ≤ from.runs → IsPlace self.old place → IsPlace self.new place) }
     {
         pass(
             &mut self.marks,
@@ -162,7 +172,8 @@ impl<'t> Marks<'t> {
 
 /// So many delimiters come behind the marks.
 fn push_delimiters<'t>(marks: &mut Vec<Mark<'t>>, star: bool, length: usize) -> Result<(), Memory>
-    ensures { OnOk result (AddsEach marks.old.items marks.new.items (replicate length (character star))) }
+    ensures { OnOk result (AddsEach marks.old.items marks.new.items
+        (replicate length (character star))) }
 {
     let text = delimiter(star);
     for _ in 0..length {

@@ -39,12 +39,15 @@ impl Openers {
     /// The place on the stack of the nearest opener for the run of this number. Where there is none, none that stands on it now is
     /// looked at again for a closer of that kind.
     pub(crate) fn search(&mut self, runs: &[Run], number: usize) -> Option<usize>
-        requires stacked { Stacked (all_placed runs.now) self.old.numbers.items self.old.bounds number }
+        requires stacked { Stacked (all_placed runs.now) self.old.numbers.items self.old.bounds
+            number }
         requires within { number < length runs.now }
         requires closes { (run_numbered (all_placed runs.now) number).closes ≡ true }
-        ensures nearest { NearestIs (run_numbered (all_placed runs.now)) self.old.numbers.items (run_numbered (all_placed runs.now) number) result }
+        ensures nearest { NearestIs (run_numbered (all_placed runs.now)) self.old.numbers.items
+            (run_numbered (all_placed runs.now) number) result }
         ensures numbers { self.new.numbers ≡ self.old.numbers }
-        ensures stacked { Stacked (all_placed runs.now) self.new.numbers.items self.new.bounds number }
+        ensures stacked { Stacked (all_placed runs.now) self.new.numbers.items self.new.bounds
+            number }
     {
         let closer = runs[number];
         match nearest(runs, &self.numbers, &self.bounds, closer, &mut self.looked) {
@@ -59,7 +62,8 @@ impl Openers {
     /// The run at this place of the stack opened for a closer: the runs above it go, and so does the run itself where none is left of it.
     pub(crate) fn keep(&mut self, place: usize, left: bool)
         requires { place < length self.old.numbers.items }
-        ensures numbers { self.new.numbers.items ≡ take (if left then place + 1 else place) self.old.numbers.items }
+        ensures numbers { self.new.numbers.items
+            ≡ take (if left then place + 1 else place) self.old.numbers.items }
         ensures bounds { self.new.bounds ≡ self.old.bounds }
     {
         let kept = if left { place + 1 } else { place };
@@ -69,7 +73,8 @@ impl Openers {
     /// The run of this number is passed: it joins where it may open and delimiters are left of it.
     pub(crate) fn join(&mut self, runs: &[Run], number: usize) -> Result<(), Memory>
         requires { number < length runs.now }
-        ensures numbers { OnOk result (self.new.numbers.items ≡ joined_openers (all_placed runs.now) self.old.numbers.items number) }
+        ensures numbers { OnOk result (self.new.numbers.items
+            ≡ joined_openers (all_placed runs.now) self.old.numbers.items number) }
         ensures bounds { self.new.bounds ≡ self.old.bounds }
     {
         let run = runs[number];

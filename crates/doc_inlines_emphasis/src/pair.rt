@@ -68,16 +68,22 @@ pub(crate) fn pair<'t>(
     place: usize,
 )
     requires stands { StandAt marks.old runs.old openers.old.numbers.items number }
-    requires stacked { Stacked (all_placed runs.old) openers.old.numbers.items openers.old.bounds number }
+    requires stacked { Stacked (all_placed runs.old) openers.old.numbers.items openers.old.bounds
+        number }
     requires within { number < length runs.old }
     requires left { 1 ≤ (run_numbered (all_placed runs.old) number).left }
-    requires nearest { NearestIs (run_numbered (all_placed runs.old)) openers.old.numbers.items (run_numbered (all_placed runs.old) number) (Some place) }
-    ensures goes { GoesOn marks.old marks.new runs.old runs.new openers.old.numbers.items openers.new.numbers.items number }
+    requires nearest { NearestIs (run_numbered (all_placed runs.old)) openers.old.numbers.items
+        (run_numbered (all_placed runs.old) number) (Some place) }
+    ensures goes { GoesOn marks.old marks.new runs.old runs.new openers.old.numbers.items
+        openers.new.numbers.items number }
     ensures stands { StandAt marks.new runs.new openers.new.numbers.items number }
-    ensures stacked { Stacked (all_placed runs.new) openers.new.numbers.items openers.new.bounds number }
+    ensures stacked { Stacked (all_placed runs.new) openers.new.numbers.items openers.new.bounds
+        number }
     ensures size { length runs.new ≡ length runs.old }
-    ensures closes { (run_numbered (all_placed runs.new) number).closes ≡ (run_numbered (all_placed runs.old) number).closes }
-    ensures less { (run_numbered (all_placed runs.new) number).left < (run_numbered (all_placed runs.old) number).left }
+    ensures closes { (run_numbered (all_placed runs.new) number).closes
+        ≡ (run_numbered (all_placed runs.old) number).closes }
+    ensures less { (run_numbered (all_placed runs.new) number).left
+        < (run_numbered (all_placed runs.old) number).left }
 {
     let opener = openers.numbers[place];
     let opens = runs[opener];

@@ -15,10 +15,13 @@ use doc_page::failure::Memory;
 /// The run of this number is closed as often as it has an opener.
 fn close<'t>(marks: &mut [Mark<'t>], runs: &mut [Run], openers: &mut Openers, number: usize)
     requires stands { StandAt marks.old runs.old openers.old.numbers.items number }
-    requires stacked { Stacked (all_placed runs.old) openers.old.numbers.items openers.old.bounds number }
+    requires stacked { Stacked (all_placed runs.old) openers.old.numbers.items openers.old.bounds
+        number }
     requires within { number < length runs.old }
-    ensures past { GoesPast marks.old marks.new runs.old runs.new openers.old.numbers.items openers.new.numbers.items number }
-    ensures stacked { Stacked (all_placed runs.new) openers.new.numbers.items openers.new.bounds number }
+    ensures past { GoesPast marks.old marks.new runs.old runs.new openers.old.numbers.items
+        openers.new.numbers.items number }
+    ensures stacked { Stacked (all_placed runs.new) openers.new.numbers.items openers.new.bounds
+        number }
     ensures size { length runs.new ≡ length runs.old }
 {
     if !runs[number].closes {
@@ -39,7 +42,9 @@ pub(crate) fn pass<'t>(
     openers: &mut Openers,
 ) -> Result<(), Memory>
     requires { ArePlaced (marks_shown marks.old) 0 (length marks.old) (all_placed runs.old) }
-    ensures { OnOk result ((place : ℕ) → ArePlaced (marks_shown marks.old) place (length marks.old) (all_placed runs.old) → IsWrapped place marks.old marks.new runs.old) }
+    ensures { OnOk result ((place : ℕ)
+        → ArePlaced (marks_shown marks.old) place (length marks.old) (all_placed runs.old)
+        → IsWrapped place marks.old marks.new runs.old) }
 {
     openers.start();
     for number in 0..runs.len() {

@@ -1,31 +1,6 @@
 -- What stands between '<' and '>'.
-use Rattle.std.proofs.Common.{
-  ◌≡◌,
-  ℕ,
-  ◌+◌,
-  ◌-◌,
-  Bool,
-  true,
-  false,
-  ◌==◌,
-  [],
-  ◌∷◌,
-  ◌++◌,
-  take,
-  length,
-  refl,
-  ap,
-  sym,
-  ◌∙◌,
-  Option,
-  Some,
-  None,
-  option_and_then,
-  arith,
-  append_assoc,
-  length-append,
-  eqb-true,
-}
+use Rattle.std.proofs.Common.{◌≡◌, ℕ, ◌+◌, ◌-◌, Bool, true, false, ◌==◌, [], ◌∷◌, ◌++◌, take, length, refl, ap, sym, ◌∙◌, Option, Some}
+use Rattle.std.proofs.Common.{None, option_and_then, arith, append_assoc, length-append, eqb-true}
 use Rattle.std.proofs.Math.Seq.{take-append_seam}
 use Rattle.doc_rules.specs.Characters.{Text}
 use Rattle.doc_rules.specs.Parsers.{Parser, is, ◌then◌, before}

@@ -1,26 +1,6 @@
 -- Ends that are sought once, and raw HTML by the character behind its '<'.
-use Rattle.std.proofs.Common.{
-  ◌≡◌,
-  ℕ,
-  ◌<◌,
-  Bool,
-  true,
-  false,
-  ◌==◌,
-  [],
-  ◌∷◌,
-  refl,
-  ap,
-  sym,
-  ◌∙◌,
-  Option,
-  Some,
-  None,
-  option_and_then,
-  codes,
-  arith,
-  ne_eqb,
-}
+use Rattle.std.proofs.Common.{◌≡◌, ℕ, ◌<◌, Bool, true, false, ◌==◌, [], ◌∷◌, refl, ap, sym, ◌∙◌, Option, Some, None, option_and_then, codes}
+use Rattle.std.proofs.Common.{arith, ne_eqb}
 use Rattle.std.specs.Char.{is_ascii_alphabetic}
 use Rattle.doc_rules.specs.Characters.{Text}
 use Rattle.doc_rules.specs.Parsers.{Parser, one, is, word, through, spacing, ◌then◌, ◌or◌}

@@ -1,38 +1,6 @@
 -- What a reader of inlines makes behind a backtick and a '<' is what is found there.
-use Rattle.std.proofs.Common.{
-  ◌≡◌,
-  ℕ,
-  suc,
-  ◌+◌,
-  ◌-◌,
-  ◌≤◌,
-  Bool,
-  true,
-  false,
-  not,
-  ◌&&◌,
-  ◌==◌,
-  List,
-  [],
-  ◌∷◌,
-  ◌++◌,
-  replicate,
-  length,
-  take,
-  drop,
-  refl,
-  ap,
-  sym,
-  ◌∙◌,
-  Option,
-  Some,
-  None,
-  option_map,
-  codes,
-  arith,
-  length-drop,
-  eqb-true,
-}
+use Rattle.std.proofs.Common.{◌≡◌, ℕ, suc, ◌+◌, ◌-◌, ◌≤◌, Bool, true, false, not, ◌&&◌, ◌==◌, List, [], ◌∷◌, ◌++◌, replicate, length, take}
+use Rattle.std.proofs.Common.{drop, refl, ap, sym, ◌∙◌, Option, Some, None, option_map, codes, arith, length-drop, eqb-true}
 use Rattle.doc_rules.specs.Characters.{Text}
 use Rattle.doc_rules.specs.Parsers.{is, ◌then◌, before, run_length}
 use Rattle.doc_rules.specs.Tags.{raw_html}

@@ -1,29 +1,6 @@
 -- How many backticks stand at the front of a text, as the code counts them.
-use Rattle.std.proofs.Common.{
-  ◌≡◌,
-  ℕ,
-  zero,
-  suc,
-  ◌-◌,
-  Bool,
-  true,
-  false,
-  ◌==◌,
-  List,
-  [],
-  ◌∷◌,
-  ◌++◌,
-  replicate,
-  length,
-  drop,
-  chars,
-  refl,
-  ap,
-  sym,
-  ◌∙◌,
-  Some,
-  arith,
-}
+use Rattle.std.proofs.Common.{◌≡◌, ℕ, zero, suc, ◌-◌, Bool, true, false, ◌==◌, List, [], ◌∷◌, ◌++◌, replicate, length, drop, chars, refl}
+use Rattle.std.proofs.Common.{ap, sym, ◌∙◌, Some, arith}
 use Rattle.std.specs.Str.{IsUtf8, encode_utf8_all}
 use Rattle.std.proofs.lemmas.Str.{encode_ascii}
 use Rattle.doc_rules.specs.Characters.{Text}

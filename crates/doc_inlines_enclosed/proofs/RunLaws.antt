@@ -1,34 +1,6 @@
 -- Where the first run of so many backticks stands: over a gap, over a run, and in what is behind.
-use Rattle.std.proofs.Common.{
-  ◌≡◌,
-  ℕ,
-  zero,
-  suc,
-  ◌+◌,
-  Bool,
-  true,
-  false,
-  not,
-  ◌&&◌,
-  ◌==◌,
-  [],
-  ◌∷◌,
-  ◌++◌,
-  replicate,
-  length,
-  drop,
-  refl,
-  ap,
-  sym,
-  ◌∙◌,
-  Option,
-  Some,
-  None,
-  option_map,
-  arith,
-  eqb-true,
-  eq-eqb,
-}
+use Rattle.std.proofs.Common.{◌≡◌, ℕ, zero, suc, ◌+◌, Bool, true, false, not, ◌&&◌, ◌==◌, [], ◌∷◌, ◌++◌, replicate, length, drop, refl, ap}
+use Rattle.std.proofs.Common.{sym, ◌∙◌, Option, Some, None, option_map, arith, eqb-true, eq-eqb}
 use borrow.Author.Tests.{eqb-false}
 use Rattle.std.specs.List.{list_all}
 use Rattle.doc_rules.specs.Characters.{Text}

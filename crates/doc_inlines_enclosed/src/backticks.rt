@@ -43,9 +43,13 @@ impl Backticks {
     /// Where `text` stands behind the first backtick of a run: the text of the code span that begins there, if one does, with the text
     /// behind it, or else the text behind the run.
     pub fn code_span<'t>(&mut self, text: &'t str) -> Result<(Option<&'t str>, &'t str), Memory>
-        ensures value { (whole : rules.Text) → TellsOfRuns self.old whole → IsRest (chars text.now) whole → IfOk result (λ found. code_found found ≡ code_span_at (chars text.now)) }
-        ensures told { (whole : rules.Text) → TellsOfRuns self.old whole → IsRest (chars text.now) whole → TellsOfRuns self.new whole }
-        ensures slice { IfOk result (λ found. IfSome found.0 (λ content. StandsBefore (chars content.now) (chars found.1.now) (chars text.now))) }
+        ensures value { (whole : rules.Text) → TellsOfRuns self.old whole
+            → IsRest (chars text.now) whole
+            → IfOk result (λ found. code_found found ≡ code_span_at (chars text.now)) }
+        ensures told { (whole : rules.Text) → TellsOfRuns self.old whole
+            → IsRest (chars text.now) whole → TellsOfRuns self.new whole }
+        ensures slice { IfOk result (λ found. IfSome found.0
+            (λ content. StandsBefore (chars content.now) (chars found.1.now) (chars text.now))) }
         ensures end { IfOk result (λ found. IsRest (chars found.1.now) (chars text.now)) }
     {
         let (more, rest) = run(text);

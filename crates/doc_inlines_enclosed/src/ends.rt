@@ -48,9 +48,12 @@ impl MissingEnds {
     /// Where `text` begins with a `<`: what is enclosed there, and the text behind it. An end that was sought in vain in this text is
     /// sought no more.
     pub fn enclosed<'t>(&mut self, text: &'t str) -> Option<(Enclosed<'t>, &'t str)>
-        ensures value { (whole : rules.Text) → TellsOfEnds self.old whole → IsRest (chars text.now) whole → enclosed_found result ≡ enclosed_at (chars text.now) }
-        ensures told { (whole : rules.Text) → TellsOfEnds self.old whole → IsRest (chars text.now) whole → TellsOfEnds self.new whole }
-        ensures slice { IfSome result (λ found. StandsBefore (slice_of found.0) (chars found.1.now) (chars text.now)) }
+        ensures value { (whole : rules.Text) → TellsOfEnds self.old whole
+            → IsRest (chars text.now) whole → enclosed_found result ≡ enclosed_at (chars text.now) }
+        ensures told { (whole : rules.Text) → TellsOfEnds self.old whole
+            → IsRest (chars text.now) whole → TellsOfEnds self.new whole }
+        ensures slice { IfSome result
+            (λ found. StandsBefore (slice_of found.0) (chars found.1.now) (chars text.now)) }
         ensures end { IfSome result (λ found. IsRest (chars found.1.now) (chars text.now)) }
     {
         let inside = is(text, '<')?;
@@ -84,7 +87,8 @@ impl MissingEnds {
 
     /// What begins with `<!`.
     fn marked<'t>(&mut self, text: &'t str) -> Option<&'t str>
-        ensures { Reads (comment or declaration or cdata) self.old self.new (chars text.now) (rest_of result) }
+        ensures { Reads (comment or declaration or cdata) self.old self.new (chars text.now)
+            (rest_of result) }
     {
         if let Some(after) = self.comment(text) {
             return Some(after);

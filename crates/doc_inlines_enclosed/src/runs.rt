@@ -75,7 +75,8 @@ pub(crate) fn learn_places(places: &mut Vec<usize>, text: &str) -> Result<(), Me
 fn note(places: &mut Vec<usize>, none: usize, length: usize, place: usize) -> Result<(), Memory>
     requires { length < usize.MAX }
     ensures same { OnOk result (get_or places.new.items length none ≡ place) }
-    ensures others { OnOk result ((n : ℕ) → n ≢ length → get_or places.new.items n none ≡ get_or places.old.items n none) }
+    ensures others { OnOk result ((n : ℕ) → n ≢ length
+        → get_or places.new.items n none ≡ get_or places.old.items n none) }
 {
     if places.len() <= length {
         places.resize(length + 1, none)?;

@@ -1,39 +1,6 @@
 -- The lower bounds: a search that fails sets one, and they hold while openers come, go, and lose delimiters.
-use Rattle.std.proofs.Common.{
-  ◌≡◌,
-  ◌≢◌,
-  ℕ,
-  zero,
-  suc,
-  ◌+◌,
-  ◌<◌,
-  ◌≤◌,
-  Bool,
-  true,
-  false,
-  List,
-  [],
-  ◌∷◌,
-  ◌++◌,
-  length,
-  replicate,
-  take,
-  set,
-  refl,
-  ap,
-  ap₂,
-  sym,
-  ◌∙◌,
-  ◌⊎◌,
-  inl,
-  inr,
-  Option,
-  Some,
-  None,
-  arith,
-  min,
-  get_or-set_other,
-}
+use Rattle.std.proofs.Common.{◌≡◌, ◌≢◌, ℕ, zero, suc, ◌+◌, ◌<◌, ◌≤◌, Bool, true, false, List, [], ◌∷◌, ◌++◌, length, replicate, take, set}
+use Rattle.std.proofs.Common.{refl, ap, ap₂, sym, ◌∙◌, ◌⊎◌, inl, inr, Option, Some, None, arith, min, get_or-set_other}
 use Rattle.std.specs.Prelude.{◌%◌, nat_lt, ◌&&◌, ◌||◌, ◌==◌, not, if◌then◌else◌, slice_index}
 use Rattle.std.proofs.Math.Nat.{mod-lt}
 use Rattle.std.proofs.Math.Seq.{get_or-append_seam}
@@ -43,21 +10,8 @@ use Rattle.std.proofs.lemmas.Grind.{get_or-set_at}
 use Rattle.std.proofs.lemmas.Bool.Decides.{eqb_tells}
 use Rattle.doc_rules.specs.Inlines.{Run}
 use Rattle.doc_rules.specs.Emphasis.{opens_and_closes, is_multiple_of_3, matches}
-use Rattle.doc_inlines_pass.specs.Openers.{
-  closer_kind,
-  IsCloser,
-  misses,
-  MissedFrom,
-  NearestIs,
-  nearest,
-  nearest_above,
-  AreBounds,
-  Ascend,
-  StandBefore,
-  AllOpen,
-  ReachTo,
-  OpenAlike,
-}
+use Rattle.doc_inlines_pass.specs.Openers.{closer_kind, IsCloser, misses, MissedFrom, NearestIs, nearest, nearest_above, AreBounds, Ascend}
+use Rattle.doc_inlines_pass.specs.Openers.{StandBefore, AllOpen, ReachTo, OpenAlike}
 use Rattle.doc_inlines_pass.specs.Laws.{BoundsSuffice}
 
 -- ---- kinds

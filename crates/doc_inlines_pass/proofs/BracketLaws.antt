@@ -1,31 +1,6 @@
 -- To emphasis a bracket is no more than its text.
-use Rattle.std.proofs.Common.{
-  ◌≡◌,
-  ℕ,
-  zero,
-  suc,
-  ◌-◌,
-  Bool,
-  true,
-  false,
-  List,
-  [],
-  ◌∷◌,
-  ◌++◌,
-  reverse,
-  replicate,
-  map,
-  refl,
-  ap,
-  ap₂,
-  sym,
-  append_assoc,
-  ◌∙◌,
-  Option,
-  Some,
-  None,
-  codes,
-}
+use Rattle.std.proofs.Common.{◌≡◌, ℕ, zero, suc, ◌-◌, Bool, true, false, List, [], ◌∷◌, ◌++◌, reverse, replicate, map, refl, ap, ap₂, sym}
+use Rattle.std.proofs.Common.{append_assoc, ◌∙◌, Option, Some, None, codes}
 use Rattle.std.specs.Prelude.{nat_lt, flat_map, if◌then◌else◌}
 use Rattle.std.proofs.lemmas.List.{reverse-append}
 use Rattle.doc_rules.specs.Inlines.{Inline, Literal, Start, End, Delimiters, Open, Run, run_text, bracket_text, as_text, literals}

@@ -1,25 +1,6 @@
 -- To emphasis a run that may neither open nor close is no more than its text.
-use Rattle.std.proofs.Common.{
-  ◌≡◌,
-  ℕ,
-  zero,
-  suc,
-  Bool,
-  true,
-  false,
-  List,
-  [],
-  ◌∷◌,
-  ◌++◌,
-  replicate,
-  reverse,
-  refl,
-  ap,
-  sym,
-  ◌∙◌,
-  append_assoc,
-  None,
-}
+use Rattle.std.proofs.Common.{◌≡◌, ℕ, zero, suc, Bool, true, false, List, [], ◌∷◌, ◌++◌, replicate, reverse, refl, ap, sym, ◌∙◌}
+use Rattle.std.proofs.Common.{append_assoc, None}
 use Rattle.std.specs.Prelude.{◌||◌, flat_map, if◌then◌else◌}
 use Rattle.std.proofs.lemmas.List.{reverse-append}
 use Rattle.doc_rules.specs.Inlines.{Inline, Literal, Delimiters, Run, run_text, as_text}

@@ -1,56 +1,15 @@
 -- Emphasis in place makes the emphasis of what is seen in the marks.
-use Rattle.std.proofs.Common.{
-  ◌≡◌,
-  ◌≢◌,
-  ◌⊎◌,
-  inl,
-  inr,
-  ℕ,
-  zero,
-  suc,
-  ◌+◌,
-  ◌-◌,
-  ◌<◌,
-  ◌≤◌,
-  Bool,
-  true,
-  false,
-  List,
-  [],
-  ◌∷◌,
-  ◌++◌,
-  length,
-  get_or,
-  set,
-  refl,
-  ap,
-  sym,
-  ◌∙◌,
-  subst,
-  Option,
-  Some,
-  None,
-  arith,
-  get_or-set_other,
-  get_or-set_same,
-  length-set,
-}
+use Rattle.std.proofs.Common.{◌≡◌, ◌≢◌, ◌⊎◌, inl, inr, ℕ, zero, suc, ◌+◌, ◌-◌, ◌<◌, ◌≤◌, Bool, true, false, List, [], ◌∷◌, ◌++◌, length}
+use Rattle.std.proofs.Common.{get_or, set, refl, ap, sym, ◌∙◌, subst, Option, Some, None, arith, get_or-set_other, get_or-set_same}
+use Rattle.std.proofs.Common.{length-set}
 use Rattle.std.specs.Prelude.{nat_lt, nat_le, ◌==◌, ◌&&◌}
 use Rattle.std.proofs.lemmas.Bool.{ltb-true, ltb-false}
 use Rattle.doc_rules.specs.Inlines.{Inline, Start, End, Run}
 use Rattle.doc_rules.specs.Emphasis.{matches, strength, span_of}
 use Rattle.doc_inlines_pass.specs.OnePass.{passed, passed_once}
 use Rattle.doc_inlines_pass.specs.Marks.{Marks, Placed, stretch, seen, ArePlaced, IsPaired, joined}
-use Rattle.doc_inlines_pass.specs.InPlace.{
-  StackOpener,
-  nearest_placed,
-  paired,
-  Closing,
-  pair_in_place,
-  close_in_place,
-  in_place,
-  InPlaceSuffices,
-}
+use Rattle.doc_inlines_pass.specs.InPlace.{StackOpener, nearest_placed, paired, Closing, pair_in_place, close_in_place, in_place}
+use Rattle.doc_inlines_pass.specs.InPlace.{InPlaceSuffices}
 use Rattle.doc_inlines_pass.proofs.Quiet.{SameText}
 use Rattle.doc_inlines_pass.proofs.OnePassLaws.{one_pass_suffices, strong_counts}
 use Rattle.doc_inlines_pass.proofs.Stretches.{placed_order, placed_front, placed_at, AllMiss}

@@ -1,34 +1,6 @@
 -- The loops over runs by their numbers: what holds before each run, and at the present one, with the openers and the bounds.
-use Rattle.std.proofs.Common.{
-  ◌≡◌,
-  ◌⊎◌,
-  inl,
-  inr,
-  ℕ,
-  suc,
-  ◌+◌,
-  ◌-◌,
-  ◌<◌,
-  ◌≤◌,
-  Bool,
-  true,
-  false,
-  List,
-  [],
-  ◌∷◌,
-  ◌++◌,
-  length,
-  get_or,
-  set,
-  take,
-  drop,
-  refl,
-  sym,
-  ◌∙◌,
-  subst,
-  None,
-  arith,
-}
+use Rattle.std.proofs.Common.{◌≡◌, ◌⊎◌, inl, inr, ℕ, suc, ◌+◌, ◌-◌, ◌<◌, ◌≤◌, Bool, true, false, List, [], ◌∷◌, ◌++◌, length, get_or, set}
+use Rattle.std.proofs.Common.{take, drop, refl, sym, ◌∙◌, subst, None, arith}
 use Rattle.std.specs.Prelude.{nat_lt, ◌&&◌, flat_map}
 use Rattle.std.proofs.Math.Seq.{drop-cons}
 use Rattle.std.proofs.Math.ListN.{drop_of_length-le}
@@ -39,21 +11,9 @@ use Rattle.doc_inlines_pass.specs.Openers.{closer_kind, IsCloser, NearestIs, Are
 use Rattle.doc_inlines_pass.specs.Marks.{Marks, Placed, stretch, seen, ArePlaced, ArePlain, IsPaired}
 use Rattle.doc_inlines_pass.specs.NumberSteps.{no_run, numbered, run_numbered, stack_of, paired_runs, paired_openers, joined_openers}
 use Rattle.doc_inlines_pass.proofs.OnePassLaws.{one_pass_suffices}
-use Rattle.doc_inlines_pass.proofs.BoundLaws.{
-  bounds_of_none,
-  bounds_set,
-  bounds_taken,
-  bounds_pushed,
-  bounds_changed,
-  reach_set,
-  reach_further,
-  ascend_taken,
-  ascend_pushed,
-  before_taken,
-  before_pushed,
-  open_taken,
-  open_pushed,
-}
+use Rattle.doc_inlines_pass.proofs.BoundLaws.{bounds_of_none, bounds_set, bounds_taken, bounds_pushed, bounds_changed, reach_set}
+use Rattle.doc_inlines_pass.proofs.BoundLaws.{reach_further, ascend_taken, ascend_pushed, before_taken, before_pushed, open_taken}
+use Rattle.doc_inlines_pass.proofs.BoundLaws.{open_pushed}
 use Rattle.doc_inlines_pass.proofs.Stretches.{AllMiss}
 use Rattle.doc_inlines_pass.specs.PassSteps.{Walks, ClosesAt, Stacked, WalksAt}
 use Rattle.doc_inlines_pass.proofs.Walks.{walks_first, closes_first, walks_next, walks_last, none_closes}

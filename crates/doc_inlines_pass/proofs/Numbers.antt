@@ -1,43 +1,7 @@
 -- Runs by their numbers: the stack of openers as runs, the bounds, and a pair as the code writes it.
-use Rattle.std.proofs.Common.{
-  ◌≡◌,
-  ◌≢◌,
-  ◌⊎◌,
-  inl,
-  inr,
-  ℕ,
-  suc,
-  ◌+◌,
-  ◌-◌,
-  ◌<◌,
-  ◌≤◌,
-  Bool,
-  true,
-  false,
-  List,
-  [],
-  ◌∷◌,
-  ◌++◌,
-  length,
-  get_or,
-  set,
-  take,
-  drop,
-  refl,
-  ap,
-  ap₂,
-  sym,
-  ◌∙◌,
-  subst,
-  Some,
-  None,
-  arith,
-  get_or-set_other,
-  get_or-set_same,
-  length-set,
-  min,
-  append-nil,
-}
+use Rattle.std.proofs.Common.{◌≡◌, ◌≢◌, ◌⊎◌, inl, inr, ℕ, suc, ◌+◌, ◌-◌, ◌<◌, ◌≤◌, Bool, true, false, List, [], ◌∷◌, ◌++◌, length, get_or}
+use Rattle.std.proofs.Common.{set, take, drop, refl, ap, ap₂, sym, ◌∙◌, subst, Some, None, arith, get_or-set_other, get_or-set_same}
+use Rattle.std.proofs.Common.{length-set, min, append-nil}
 use Rattle.std.specs.Prelude.{nat_lt, ◌==◌}
 use Rattle.std.proofs.Math.Seq.{take-suc, drop-cons}
 use Rattle.std.proofs.lemmas.List.{take-append-drop, get_or-drop, get_or-take, drop-set-lt, map-append, length-drop, length-take}

@@ -1,28 +1,6 @@
 -- One pass over the inlines gives the emphasis of the rules: what is passed is settled, and the first wrap is at the present run.
-use Rattle.std.proofs.Common.{
-  ◌≡◌,
-  ℕ,
-  zero,
-  suc,
-  ◌-◌,
-  ◌<◌,
-  ◌≤◌,
-  Bool,
-  true,
-  false,
-  List,
-  [],
-  ◌∷◌,
-  ◌++◌,
-  refl,
-  ap,
-  sym,
-  ◌∙◌,
-  Option,
-  Some,
-  None,
-  arith,
-}
+use Rattle.std.proofs.Common.{◌≡◌, ℕ, zero, suc, ◌-◌, ◌<◌, ◌≤◌, Bool, true, false, List, [], ◌∷◌, ◌++◌, refl, ap, sym, ◌∙◌, Option, Some}
+use Rattle.std.proofs.Common.{None, arith}
 use Rattle.std.specs.Prelude.{nat_lt, nat_le, ◌&&◌, if◌then◌else◌, flat_map}
 use Rattle.std.proofs.lemmas.Bool.{ltb-true}
 use Rattle.doc_rules.specs.Inlines.{Inline, Start, End, Delimiters, Run, as_text}
@@ -32,20 +10,8 @@ use Rattle.doc_inlines_pass.specs.Laws.{OnePassSuffices}
 use Rattle.doc_inlines_pass.specs.PassSteps.{onto}
 use Rattle.doc_inlines_pass.proofs.Settled.{AreSettled, after_test, step_here, settled_more, settled_after, between_has_no_run}
 use Rattle.doc_inlines_pass.proofs.Wrapping.{all_wrapped, settled_stays, wrapped_more}
-use Rattle.doc_inlines_pass.proofs.Quiet.{
-  onto_reverse,
-  onto_nothing,
-  pair_onto,
-  match_opens,
-  found_matches,
-  quiet,
-  quiet_opener,
-  quieted,
-  quiet_search,
-  quiet_pair,
-  SameText,
-  quiet_text,
-}
+use Rattle.doc_inlines_pass.proofs.Quiet.{onto_reverse, onto_nothing, pair_onto, match_opens, found_matches, quiet, quiet_opener, quieted}
+use Rattle.doc_inlines_pass.proofs.Quiet.{quiet_search, quiet_pair, SameText, quiet_text}
 
 pub strong_counts : (m : Bool) → 1 ≤ (if m then 2 else 1)
 strong_counts true = omega arith

@@ -1,72 +1,20 @@
 -- A pair in place is a pair of the pass.
-use Rattle.std.proofs.Common.{
-  ◌≡◌,
-  ◌⊎◌,
-  inl,
-  inr,
-  ℕ,
-  suc,
-  ◌+◌,
-  ◌-◌,
-  ◌<◌,
-  ◌≤◌,
-  Bool,
-  true,
-  false,
-  List,
-  [],
-  ◌∷◌,
-  ◌++◌,
-  get_or,
-  refl,
-  ap,
-  ap₂,
-  sym,
-  ◌∙◌,
-  subst,
-  arith,
-  append-nil,
-}
+use Rattle.std.proofs.Common.{◌≡◌, ◌⊎◌, inl, inr, ℕ, suc, ◌+◌, ◌-◌, ◌<◌, ◌≤◌, Bool, true, false, List, [], ◌∷◌, ◌++◌, get_or, refl, ap, ap₂}
+use Rattle.std.proofs.Common.{sym, ◌∙◌, subst, arith, append-nil}
 use Rattle.std.specs.Prelude.{nat_lt, nat_le, ◌&&◌, if◌then◌else◌}
 use Rattle.std.proofs.lemmas.Bool.{ltb-true, ltb-false, leb-true}
 use Rattle.doc_rules.specs.Inlines.{Inline, Start, End, Delimiters, Run}
 use Rattle.doc_rules.specs.Emphasis.{Opener, matches, strength, span_of, less}
 use Rattle.doc_inlines_pass.specs.OnePass.{behind_pair, passed}
-use Rattle.doc_inlines_pass.specs.Marks.{
-  Marks,
-  Placed,
-  stretch,
-  seen,
-  AreDelimiters,
-  ArePlaced,
-  NoRun,
-  ArePlain,
-  IsPaired,
-  less_opener,
-  less_closer,
-  present,
-}
+use Rattle.doc_inlines_pass.specs.Marks.{Marks, Placed, stretch, seen, AreDelimiters, ArePlaced, NoRun, ArePlain, IsPaired, less_opener}
+use Rattle.doc_inlines_pass.specs.Marks.{less_closer, present}
 use Rattle.doc_inlines_pass.specs.PassSteps.{OneOrTwo, outcome, Stands, onto}
 use Rattle.doc_inlines_pass.proofs.Settled.{onto_twice}
 use Rattle.doc_inlines_pass.proofs.Quiet.{onto_onto, pair_onto}
 use Rattle.doc_inlines_pass.proofs.Passing.{passed_some}
-use Rattle.doc_inlines_pass.proofs.Stretches.{
-  Agree,
-  stretch_same,
-  stretch_to,
-  placed_order,
-  placed_front,
-  placed_at,
-  placed_join,
-  placed_until,
-  placed_same,
-  seen_split,
-  seen_until,
-  seen_same,
-  AllMiss,
-  marks_opener,
-  found_opener,
-}
+use Rattle.doc_inlines_pass.proofs.Stretches.{Agree, stretch_same, stretch_to, placed_order, placed_front, placed_at, placed_join}
+use Rattle.doc_inlines_pass.proofs.Stretches.{placed_until, placed_same, seen_split, seen_until, seen_same, AllMiss, marks_opener}
+use Rattle.doc_inlines_pass.proofs.Stretches.{found_opener}
 
 -- as many as a pair takes are left of both runs
 pub strength_fits : (o c : Run) → 1 ≤ o.left → 1 ≤ c.left → OneOrTwo (strength o c) × (strength o c ≤ o.left) × (strength o c ≤ c.left)

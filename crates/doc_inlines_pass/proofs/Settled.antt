@@ -1,46 +1,12 @@
 -- Emphasis in one pass: the inlines before the present place are settled (none of their runs has an opener), and the next wrap is at the
 -- present run. So one pass over the inlines wraps what wrapping the first pair again and again wraps.
-use Rattle.std.proofs.Common.{
-  ◌≡◌,
-  ℕ,
-  zero,
-  suc,
-  ◌-◌,
-  Bool,
-  true,
-  false,
-  List,
-  [],
-  ◌∷◌,
-  ◌++◌,
-  refl,
-  ap,
-  sym,
-  ◌∙◌,
-  Option,
-  Some,
-  None,
-  subst,
-  replicate,
-}
+use Rattle.std.proofs.Common.{◌≡◌, ℕ, zero, suc, ◌-◌, Bool, true, false, List, [], ◌∷◌, ◌++◌, refl, ap, sym, ◌∙◌, Option, Some, None, subst}
+use Rattle.std.proofs.Common.{replicate}
 use Rattle.std.specs.Prelude.{nat_lt}
-use Rattle.doc_rules.specs.Inlines.{
-  Inline,
-  Literal,
-  Code,
-  Raw,
-  Reference,
-  SoftBreak,
-  HardBreak,
-  Start,
-  End,
-  Delimiters,
-  Open,
-  Run,
-  Span,
-  run_text,
-}
+use Rattle.doc_rules.specs.Inlines.{Inline, Literal, Code, Raw, Reference, SoftBreak, HardBreak, Start, End, Delimiters, Open, Run, Span}
+use Rattle.doc_rules.specs.Inlines.{run_text}
 use Rattle.doc_inlines_pass.specs.Marks.{NoRun}
+use Rattle.doc_inlines_pass.specs.PassSteps.{onto}
 use Rattle.doc_rules.specs.Emphasis.{Opener, matches, opener_of, wrapped, wrap_first, less}
 
 -- no run of xs has an opener, with b before it

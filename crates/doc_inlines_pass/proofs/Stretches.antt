@@ -1,32 +1,6 @@
 -- Stretches of marks, and the runs that are seen in them.
-use Rattle.std.proofs.Common.{
-  ◌≡◌,
-  ℕ,
-  zero,
-  suc,
-  ◌+◌,
-  ◌-◌,
-  ◌<◌,
-  ◌≤◌,
-  true,
-  false,
-  List,
-  [],
-  ◌∷◌,
-  ◌++◌,
-  get_or,
-  replicate,
-  refl,
-  ap,
-  ap₂,
-  sym,
-  ◌∙◌,
-  Some,
-  None,
-  arith,
-  append_assoc,
-  append-nil,
-}
+use Rattle.std.proofs.Common.{◌≡◌, ℕ, zero, suc, ◌+◌, ◌-◌, ◌<◌, ◌≤◌, true, false, List, [], ◌∷◌, ◌++◌, get_or, replicate, refl, ap, ap₂}
+use Rattle.std.proofs.Common.{sym, ◌∙◌, Some, None, arith, append_assoc, append-nil}
 use Rattle.std.specs.Prelude.{flat_map}
 use Rattle.doc_rules.specs.Inlines.{Inline, Literal, Delimiters, Run, run_text, as_text}
 use Rattle.doc_rules.specs.Emphasis.{Opener, matches, opener_of}

@@ -1,62 +1,19 @@
 -- The walk over the runs in place: an invariant for each run that comes next, one for the present run, and the end.
-use Rattle.std.proofs.Common.{
-  ◌≡◌,
-  ◌⊎◌,
-  inl,
-  inr,
-  ℕ,
-  ◌+◌,
-  ◌-◌,
-  ◌<◌,
-  ◌≤◌,
-  Bool,
-  true,
-  false,
-  List,
-  [],
-  ◌∷◌,
-  ◌++◌,
-  reverse,
-  refl,
-  ap,
-  sym,
-  ◌∙◌,
-  arith,
-  append-nil,
-}
+use Rattle.std.proofs.Common.{◌≡◌, ◌⊎◌, inl, inr, ℕ, ◌+◌, ◌-◌, ◌<◌, ◌≤◌, Bool, true, false, List, [], ◌∷◌, ◌++◌, reverse, refl, ap, sym}
+use Rattle.std.proofs.Common.{◌∙◌, arith, append-nil}
 use Rattle.std.specs.Prelude.{nat_lt, ◌&&◌, ◌||◌, ◌==◌, not, flat_map, if◌then◌else◌}
 use Rattle.std.proofs.lemmas.Bool.{ltb-true, ltb-false}
 use Rattle.doc_rules.specs.Inlines.{Inline, Literal, Delimiters, Run, run_text, as_text}
 use Rattle.doc_rules.specs.Emphasis.{matches, strength, opens_and_closes, is_multiple_of_3, emphasis_of}
 use Rattle.doc_inlines_pass.specs.OnePass.{kept, passed, passed_once}
-use Rattle.doc_inlines_pass.specs.Marks.{
-  Marks,
-  Placed,
-  stretch,
-  seen,
-  ArePlaced,
-  ArePlain,
-  IsPaired,
-  less_opener,
-  less_closer,
-  present,
-  joined,
-}
+use Rattle.doc_inlines_pass.specs.Marks.{Marks, Placed, stretch, seen, ArePlaced, ArePlain, IsPaired, less_opener, less_closer, present}
+use Rattle.doc_inlines_pass.specs.Marks.{joined}
 use Rattle.doc_inlines_pass.proofs.Settled.{onto_joined}
 use Rattle.doc_inlines_pass.proofs.Quiet.{onto_nothing, SameText, text_onto}
 use Rattle.doc_inlines_pass.proofs.OnePassLaws.{one_pass_suffices}
 use Rattle.doc_inlines_pass.proofs.Passing.{passed_none, passed_plain}
-use Rattle.doc_inlines_pass.proofs.Stretches.{
-  stretch_text,
-  stretch_plain,
-  placed_join,
-  placed_until,
-  seen_split,
-  seen_until,
-  seen_as_text,
-  AllMiss,
-  found_none,
-}
+use Rattle.doc_inlines_pass.proofs.Stretches.{stretch_text, stretch_plain, placed_join, placed_until, seen_split, seen_until, seen_as_text}
+use Rattle.doc_inlines_pass.proofs.Stretches.{AllMiss, found_none}
 use Rattle.doc_inlines_pass.specs.PassSteps.{outcome, Stands, Walks, Closes, onto}
 use Rattle.doc_inlines_pass.proofs.Pairs.{present_some, pair_outcome, pair_stands, back}
 

@@ -1,28 +1,7 @@
 -- Emphasis in place: the runs are gone through from left to right; those that may open and have delimiters left stand on a stack, on which
 -- a closer takes the nearest opener, and what stood above it goes.
-use Rattle.std.specs.Prelude.{
-  ◌≡◌,
-  ℕ,
-  zero,
-  suc,
-  ◌+◌,
-  ◌-◌,
-  ◌≤◌,
-  nat_lt,
-  true,
-  false,
-  ◌==◌,
-  List,
-  [],
-  ◌∷◌,
-  ◌++◌,
-  length,
-  flat_map,
-  replicate,
-  Option,
-  Some,
-  None,
-}
+use Rattle.std.specs.Prelude.{◌≡◌, ℕ, zero, suc, ◌+◌, ◌-◌, ◌≤◌, nat_lt, true, false, ◌==◌, List, [], ◌∷◌, ◌++◌, length, flat_map, replicate}
+use Rattle.std.specs.Prelude.{Option, Some, None}
 use Rattle.std.proofs.Math.ListN.{set}
 use Rattle.doc_rules.specs.Inlines.{Inline, Literal, Start, End, Delimiters, Run, as_text}
 use Rattle.doc_rules.specs.Emphasis.{matches, strength, span_of, emphasis_of}

@@ -1,24 +1,7 @@
 -- Emphasis in one pass over the inlines (CommonMark 0.31.2, section 6.2, as its appendix does it): each run is closed as often as it has
 -- an opener before it, and then passed for good. What is passed stands nearest first.
-use Rattle.std.specs.Prelude.{
-  ℕ,
-  zero,
-  suc,
-  ◌-◌,
-  nat_lt,
-  true,
-  false,
-  ◌||◌,
-  List,
-  [],
-  ◌∷◌,
-  ◌++◌,
-  reverse,
-  flat_map,
-  Some,
-  None,
-  if◌then◌else◌,
-}
+use Rattle.std.specs.Prelude.{ℕ, zero, suc, ◌-◌, nat_lt, true, false, ◌||◌, List, [], ◌∷◌, ◌++◌, reverse, flat_map, Some, None}
+use Rattle.std.specs.Prelude.{if◌then◌else◌}
 use Rattle.doc_rules.specs.Inlines.{Start, End, Run, Inline, Delimiters, Open, run_text, bracket_text, as_text, onto}
 use Rattle.doc_rules.specs.Emphasis.{Opener, opener_of, strength, span_of, less}
 

@@ -1,27 +1,7 @@
 -- The runs that may still open, with a lower bound for each kind of closer below which none of them opens for it (the delimiter stack
 -- and `openers_bottom` of the appendix of CommonMark 0.31.2). Runs are numbered from left to right.
-use Rattle.std.specs.Prelude.{
-  ◌≡◌,
-  ℕ,
-  zero,
-  suc,
-  ◌+◌,
-  ◌%◌,
-  ◌<◌,
-  ◌≤◌,
-  nat_lt,
-  true,
-  false,
-  ◌==◌,
-  ◌⊎◌,
-  List,
-  length,
-  slice_index,
-  Option,
-  Some,
-  None,
-  if◌then◌else◌,
-}
+use Rattle.std.specs.Prelude.{◌≡◌, ℕ, zero, suc, ◌+◌, ◌%◌, ◌<◌, ◌≤◌, nat_lt, true, false, ◌==◌, ◌⊎◌, List, length, slice_index, Option}
+use Rattle.std.specs.Prelude.{Some, None, if◌then◌else◌}
 use Rattle.doc_rules.specs.Inlines.{Run}
 use Rattle.doc_rules.specs.Emphasis.{matches}
 

@@ -1,29 +1,6 @@
 -- What is too long for a label is none.
-use Rattle.std.proofs.Common.{
-  ◌≡◌,
-  ◌<◌,
-  ◌≤◌,
-  ◌+◌,
-  ◌-◌,
-  Bool,
-  true,
-  false,
-  not,
-  ◌&&◌,
-  ◌==◌,
-  nat_le,
-  List,
-  ℕ,
-  length,
-  chars,
-  refl,
-  ap,
-  sym,
-  ◌∙◌,
-  Some,
-  None,
-  arith,
-}
+use Rattle.std.proofs.Common.{◌≡◌, ◌<◌, ◌≤◌, ◌+◌, ◌-◌, Bool, true, false, not, ◌&&◌, ◌==◌, nat_le, List, ℕ, length, chars, refl, ap, sym}
+use Rattle.std.proofs.Common.{◌∙◌, Some, None, arith}
 use Rattle.std.proofs.lemmas.Bool.{lt-leb}
 use Rattle.std.proofs.lemmas.List.{length-take-le}
 use Rattle.std.specs.List.{list_all}

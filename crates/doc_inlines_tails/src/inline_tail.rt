@@ -24,7 +24,8 @@ pub struct TailSource<'t> {
 /// The inline tail at the front of a text. A destination may be missing only where the title is too, which is this project's choice.
 #[tactic(auto, unfolding(doc_rules::specs::Links::inline_tail), using(doc_refs::proofs::Rests::destination_rest))]
 pub fn inline_tail(rest: &str) -> Option<TailSource>
-    ensures value { (table : Table) → source_tail table result ≡ inline_tail table (chars rest.now) }
+    ensures value { (table : Table)
+        → source_tail table result ≡ inline_tail table (chars rest.now) }
     ensures end { IfSome result (λ source. IsRest (chars source.rest.now) (chars rest.now)) }
 {
     let start = spacing(is(rest, '(')?);
@@ -37,7 +38,8 @@ pub fn inline_tail(rest: &str) -> Option<TailSource>
 /// Behind a destination: a title that spacing sets off, or none, and the `)`.
 #[tactic(auto, unfolding(doc_rules::specs::Links::destination_tail), using(doc_refs::proofs::Rests::title_rest))]
 fn destination_tail<'t>(dest: &'t str, text: &'t str) -> Option<TailSource<'t>>
-    ensures value { (table : Table) → source_tail table result ≡ destination_tail table (chars dest.now) (chars text.now) }
+    ensures value { (table : Table)
+        → source_tail table result ≡ destination_tail table (chars dest.now) (chars text.now) }
     ensures end { IfSome result (λ source. IsRest (chars source.rest.now) (chars text.now)) }
 {
     let Some(start) = some_spacing(text) else {
@@ -52,7 +54,9 @@ fn destination_tail<'t>(dest: &'t str, text: &'t str) -> Option<TailSource<'t>>
 /// Spacing and the `)`.
 #[tactic(auto, unfolding(doc_rules::specs::Links::closed))]
 fn closed<'t>(dest: &'t str, title: Option<&'t str>, text: &'t str) -> Option<TailSource<'t>>
-    ensures value { (table : Table) → source_tail table result ≡ closed (target_of table (chars dest.now) (text_shown title.entry)) (chars text.now) }
+    ensures value { (table : Table)
+        → source_tail table result ≡ closed
+        (target_of table (chars dest.now) (text_shown title.entry)) (chars text.now) }
     ensures end { IfSome result (λ source. IsRest (chars source.rest.now) (chars text.now)) }
 {
     let rest = is(spacing(text), ')')?;

@@ -39,7 +39,9 @@ pub fn is_label(text: &str) -> bool
 
 /// The longest run of characters of which brackets only escaped, or `None` where it is too long for a label.
 fn label_text(text: &str) -> Option<&str>
-    ensures { MatchOption result (IsTooLong (chars text.now)) (λ rest. (Some (chars rest.now) ≡ label_text (chars text.now)) × IsRest (chars rest.now) (chars text.now)) }
+    ensures { MatchOption result (IsTooLong (chars text.now))
+        (λ rest. (Some (chars rest.now) ≡ label_text (chars text.now))
+        × IsRest (chars rest.now) (chars text.now)) }
 {
     let mut rest = text;
     let mut left = MOST + 1;

@@ -36,8 +36,11 @@ pub fn link_tail<'t>(
     between: &str,
     rest: &'t str,
 ) -> Result<Option<(Target, &'t str)>, Memory>
-    ensures value { (definitions : List Definition) → refs.now ≡ targets_of definitions → IfOk result (λ found. tail_shown found ≡ link_tail entities.now definitions (chars between.now) (chars rest.now)) }
-    ensures end { IfOk result (λ found. IfSome found (λ tail. IsRest (chars tail.1.now) (chars rest.now))) }
+    ensures value { (definitions : List Definition) → refs.now ≡ targets_of definitions
+        → IfOk result (λ found. tail_shown found
+        ≡ link_tail entities.now definitions (chars between.now) (chars rest.now)) }
+    ensures end { IfOk result (λ found. IfSome found
+        (λ tail. IsRest (chars tail.1.now) (chars rest.now))) }
 {
     match inline_tail(rest) {
         Some(source) => Ok(Some((read_target(heap, entities, source)?, source.rest))),

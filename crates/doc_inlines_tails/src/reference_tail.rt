@@ -24,8 +24,11 @@ pub fn reference_tail<'t>(
     between: &str,
     rest: &'t str,
 ) -> Result<Option<(Target, &'t str)>, Memory>
-    ensures value { (definitions : List Definition) → refs.now ≡ targets_of definitions → IfOk result (λ found. tail_shown found ≡ reference_tail definitions (chars between.now) (chars rest.now)) }
-    ensures end { IfOk result (λ found. IfSome found (λ tail. IsRest (chars tail.1.now) (chars rest.now))) }
+    ensures value { (definitions : List Definition) → refs.now ≡ targets_of definitions
+        → IfOk result (λ found. tail_shown found
+        ≡ reference_tail definitions (chars between.now) (chars rest.now)) }
+    ensures end { IfOk result (λ found. IfSome found
+        (λ tail. IsRest (chars tail.1.now) (chars rest.now))) }
 {
     if let Some(after) = label(rest) {
         return reference_target(heap, refs, inside(front(rest, after)), after);
@@ -44,7 +47,9 @@ fn reference_target<'t>(
     name: &str,
     after: &'t str,
 ) -> Result<Option<(Target, &'t str)>, Memory>
-    ensures value { (definitions : List Definition) → refs.now ≡ targets_of definitions → IfOk result (λ found. tail_shown found ≡ reference_target definitions (chars name.now) (chars after.now)) }
+    ensures value { (definitions : List Definition) → refs.now ≡ targets_of definitions
+        → IfOk result (λ found. tail_shown found
+        ≡ reference_target definitions (chars name.now) (chars after.now)) }
     ensures end { IfOk result (λ found. IfSome found (λ tail. tail.1.now ≡ after.now)) }
 {
     let normal = normalize_label(heap, name)?;

@@ -12,7 +12,8 @@ use doc_refs::{Target, destination_value, title_value};
 
 /// The target whose parts stand in a text.
 pub fn read_target(heap: Heap, entities: &Entities, source: TailSource) -> Result<Target, Memory>
-    ensures { IfOk result (λ made. target_shown made ≡ target_of entities.now (chars source.entry.dest.now) (text_shown source.entry.title)) }
+    ensures { IfOk result (λ made. target_shown made
+        ≡ target_of entities.now (chars source.entry.dest.now) (text_shown source.entry.title)) }
 {
     let dest = destination_value(heap, source.dest, entities)?;
     let title = match source.title {

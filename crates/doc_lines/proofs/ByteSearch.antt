@@ -1,35 +1,6 @@
 -- A search over the bytes of a text for ASCII characters is one over its characters.
-use Rattle.std.proofs.Common.{
-  ◌≡◌,
-  ℕ,
-  zero,
-  suc,
-  ◌+◌,
-  ◌<◌,
-  ◌≤◌,
-  not,
-  ◌&&◌,
-  Bool,
-  true,
-  false,
-  List,
-  [],
-  ◌∷◌,
-  ◌++◌,
-  length,
-  get_or,
-  take,
-  drop,
-  Some,
-  chars,
-  refl,
-  sym,
-  ap,
-  ◌∙◌,
-  subst,
-  arith,
-  append-nil,
-}
+use Rattle.std.proofs.Common.{◌≡◌, ℕ, zero, suc, ◌+◌, ◌<◌, ◌≤◌, not, ◌&&◌, Bool, true, false, List, [], ◌∷◌, ◌++◌, length, get_or, take}
+use Rattle.std.proofs.Common.{drop, Some, chars, refl, sym, ap, ◌∙◌, subst, arith, append-nil}
 use Rattle.std.specs.List.{list_all}
 use Rattle.std.specs.Str.{IsUtf8, IsCharBoundary, IsAscii, encode_utf8_all}
 use Rattle.std.proofs.lemmas.Bool.{both_ways}
@@ -37,18 +8,8 @@ use Rattle.std.proofs.lemmas.List.{get_or-take, length-take, take-append-drop, d
 use Rattle.std.proofs.lemmas.Grind.{get_or_default_zero}
 use Rattle.std.proofs.lemmas.List.Folds.{list_all-append, list_all_at}
 use Rattle.std.proofs.lemmas.List.Sums.{list_all-from_AllPass}
-use Rattle.std.proofs.lemmas.Str.{
-  encode_ascii,
-  encodes-append,
-  encodes-IsAscii,
-  encodes-chars,
-  chars-append,
-  chars-nil,
-  chars_past_char,
-  IsUtf8-take,
-  IsUtf8-drop,
-  IsCharBoundary-before_ascii,
-}
+use Rattle.std.proofs.lemmas.Str.{encode_ascii, encodes-append, encodes-IsAscii, encodes-chars, chars-append, chars-nil, chars_past_char}
+use Rattle.std.proofs.lemmas.Str.{IsUtf8-take, IsUtf8-drop, IsCharBoundary-before_ascii}
 use Rattle.doc_rules.specs.Characters.{Text}
 use Rattle.doc_rules.specs.Rests.{IsRest}
 use Rattle.doc_lines.specs.RestSteps.{IsAsciiClass, IsCutBefore, begins_in}

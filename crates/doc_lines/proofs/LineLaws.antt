@@ -1,34 +1,6 @@
 -- The lines of a text as bytes are its lines as characters.
-use Rattle.std.proofs.Common.{
-  ◌≡◌,
-  ℕ,
-  ◌+◌,
-  ◌/◌,
-  ◌%◌,
-  ◌<◌,
-  ◌≤◌,
-  Bool,
-  true,
-  false,
-  cond,
-  ltb,
-  List,
-  [],
-  ◌∷◌,
-  ◌++◌,
-  map,
-  length,
-  chars,
-  refl,
-  ap,
-  sym,
-  ◌∙◌,
-  arith,
-  inl,
-  inr,
-  append-nil,
-  ne_eqb,
-}
+use Rattle.std.proofs.Common.{◌≡◌, ℕ, ◌+◌, ◌/◌, ◌%◌, ◌<◌, ◌≤◌, Bool, true, false, cond, ltb, List, [], ◌∷◌, ◌++◌, map, length, chars, refl}
+use Rattle.std.proofs.Common.{ap, sym, ◌∙◌, arith, inl, inr, append-nil, ne_eqb}
 use Rattle.std.specs.Prelude.{◌==◌, ◌&&◌, ◌||◌, not, if◌then◌else◌}
 use Rattle.std.specs.Char.{IsScalar, encode_utf8}
 use Rattle.std.specs.List.{onto_first}
@@ -36,17 +8,8 @@ use Rattle.std.specs.Str.{encode_utf8_all}
 use Rattle.std.proofs.Math.Utf8.{scalar, scalars}
 use Rattle.std.proofs.lemmas.Bool.{cases_lt}
 use Rattle.std.proofs.lemmas.Bool.Decides.{nat_tests}
-use Rattle.std.proofs.lemmas.Str.{
-  chars-nil,
-  chars-append,
-  chars_past_char,
-  encode_ascii,
-  encodes-chars,
-  scalars-chars,
-  IsUtf8-encode,
-  length-encode,
-  len_utf8_bounds,
-}
+use Rattle.std.proofs.lemmas.Str.{chars-nil, chars-append, chars_past_char, encode_ascii, encodes-chars, scalars-chars, IsUtf8-encode}
+use Rattle.std.proofs.lemmas.Str.{length-encode, len_utf8_bounds}
 use Rattle.doc_page.specs.Lines as bytewise
 use Rattle.doc_page.proofs.LineSteps.{onto_front, onto_front-nil, onto_front-cons}
 use Rattle.doc_rules.specs.Characters.{Text}

@@ -4,69 +4,18 @@ use Rattle.std.proofs.Common.{◌≡◌, ℕ, Some, sym}
 use Rattle.std.specs.Prelude.{codes, not, ◌||◌}
 use Rattle.std.specs.Char.{is_ascii_alphabetic, is_ascii_control}
 use Rattle.doc_rules.specs.Characters.{Text, one_of}
-use Rattle.doc_rules.specs.Parsers.{
-  one,
-  is,
-  many,
-  some,
-  at_most,
-  repeated,
-  word,
-  word_in_any_case,
-  through,
-  ◌then◌,
-  line_ending,
-  spacing,
-  some_spacing,
-}
-use Rattle.doc_rules.specs.Tags.{
-  tag_name,
-  attribute_name,
-  quoted_by,
-  attribute_value,
-  attribute,
-  open_tag,
-  closing_tag,
-  html_tag,
-  comment,
-  instruction,
-  declaration,
-  cdata,
-  raw_html,
-}
+use Rattle.doc_rules.specs.Parsers.{one, is, many, some, at_most, repeated, word, word_in_any_case, through, ◌then◌, line_ending, spacing}
+use Rattle.doc_rules.specs.Parsers.{some_spacing}
+use Rattle.doc_rules.specs.Tags.{tag_name, attribute_name, quoted_by, attribute_value, attribute, open_tag, closing_tag, html_tag, comment}
+use Rattle.doc_rules.specs.Tags.{instruction, declaration, cdata, raw_html}
 use Rattle.doc_rules.specs.Autolinks.{is_scheme_char, scheme, uri, is_local_char, domain_part, mail}
 use Rattle.doc_rules.specs.Rests.{IsRest}
-use Rattle.doc_rules.proofs.ParserLaws.{
-  Leaves,
-  one_leaves,
-  many_leaves,
-  some_leaves,
-  at_most_leaves,
-  repeated_leaves,
-  word_leaves,
-  word_in_any_case_leaves,
-  through_leaves,
-  then_leaves,
-  line_ending_leaves,
-  spacing_leaves,
-  some_spacing_leaves,
-}
-use Rattle.doc_rules.proofs.GrammarLaws.{
-  is_leaves,
-  tag_name_leaves,
-  attribute_name_leaves,
-  quoted_by_leaves,
-  attribute_value_leaves,
-  attribute_leaves,
-  open_tag_leaves,
-  closing_tag_leaves,
-  html_tag_leaves,
-  comment_leaves,
-  instruction_leaves,
-  declaration_leaves,
-  cdata_leaves,
-  raw_html_leaves,
-}
+use Rattle.doc_rules.proofs.ParserLaws.{Leaves, one_leaves, many_leaves, some_leaves, at_most_leaves, repeated_leaves, word_leaves}
+use Rattle.doc_rules.proofs.ParserLaws.{word_in_any_case_leaves, through_leaves, then_leaves, line_ending_leaves, spacing_leaves}
+use Rattle.doc_rules.proofs.ParserLaws.{some_spacing_leaves}
+use Rattle.doc_rules.proofs.GrammarLaws.{is_leaves, tag_name_leaves, attribute_name_leaves, quoted_by_leaves, attribute_value_leaves}
+use Rattle.doc_rules.proofs.GrammarLaws.{attribute_leaves, open_tag_leaves, closing_tag_leaves, html_tag_leaves, comment_leaves}
+use Rattle.doc_rules.proofs.GrammarLaws.{instruction_leaves, declaration_leaves, cdata_leaves, raw_html_leaves}
 use Rattle.doc_lines.proofs.Takes.{domain_part_leaves}
 
 -- ---- autolinks

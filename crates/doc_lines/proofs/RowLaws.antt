@@ -1,32 +1,6 @@
 -- Numbers of lines and of hexadecimal digits; names are of ASCII characters.
-use Rattle.std.proofs.Common.{
-  ◌≡◌,
-  ℕ,
-  suc,
-  ◌+◌,
-  ◌*◌,
-  ◌^◌,
-  ◌<◌,
-  ◌≤◌,
-  Bool,
-  true,
-  false,
-  List,
-  [],
-  ◌∷◌,
-  length,
-  take,
-  get_or,
-  refl,
-  ap,
-  sym,
-  ◌∙◌,
-  arith,
-  add-one,
-  Option,
-  Some,
-  None,
-}
+use Rattle.std.proofs.Common.{◌≡◌, ℕ, suc, ◌+◌, ◌*◌, ◌^◌, ◌<◌, ◌≤◌, Bool, true, false, List, [], ◌∷◌, length, take, get_or, refl, ap, sym}
+use Rattle.std.proofs.Common.{◌∙◌, arith, add-one, Option, Some, None}
 use Rattle.std.specs.Prelude.{if◌then◌else◌, nat_lt, nat_le, ◌&&◌, option_map}
 use Rattle.std.specs.Char.{digit_value, is_ascii_alphabetic, is_ascii_alphanumeric}
 use Rattle.std.specs.List.{onto_first, list_all}

@@ -1,36 +1,6 @@
 -- Looking names up in tables, and tables that are made line by line.
-use Rattle.std.proofs.Common.{
-  ◌≡◌,
-  ℕ,
-  zero,
-  suc,
-  ◌+◌,
-  ◌-◌,
-  ◌<◌,
-  Bool,
-  true,
-  false,
-  cond,
-  not,
-  List,
-  [],
-  ◌∷◌,
-  ◌++◌,
-  take,
-  drop,
-  refl,
-  ap,
-  sym,
-  ◌∙◌,
-  arith,
-  Option,
-  Some,
-  None,
-  append_assoc,
-  append-nil,
-  String,
-  string_bytes,
-}
+use Rattle.std.proofs.Common.{◌≡◌, ℕ, zero, suc, ◌+◌, ◌-◌, ◌<◌, Bool, true, false, cond, not, List, [], ◌∷◌, ◌++◌, take, drop, refl, ap}
+use Rattle.std.proofs.Common.{sym, ◌∙◌, arith, Option, Some, None, append_assoc, append-nil, String, string_bytes}
 use Rattle.std.specs.Prelude.{◌&&◌, nat_lt, bytes_eq, option_map}
 use Rattle.std.specs.List.{list_all}
 use Rattle.std.specs.BTreeMap.{insert_entry, is_at}
@@ -46,17 +16,8 @@ use Rattle.doc_rules.specs.Characters.{Text}
 use Rattle.doc_rules.specs.Entities.{Entity, Table, built_in}
 use Rattle.doc_rules.specs.Escapes.{find_entity}
 use Rattle.doc_lines.specs.Entities.{characters, entities_shown, has_ascii_names}
-use Rattle.doc_lines.specs.Tables.{
-  is_row,
-  bad_line,
-  entity_of,
-  entities_in,
-  contradicts,
-  line_contradicts,
-  twice_line,
-  with_entity,
-  with_entities,
-}
+use Rattle.doc_lines.specs.Tables.{is_row, bad_line, entity_of, entities_in, contradicts, line_contradicts, twice_line, with_entity}
+use Rattle.doc_lines.specs.Tables.{with_entities}
 
 -- both of two tests
 pub and_parts : (x y : Bool) → (x && y) ≡ true → (x ≡ true) × (y ≡ true)

@@ -5,19 +5,8 @@ use Rattle.doc_rules.specs.Characters.{one_of}
 use Rattle.doc_rules.specs.Parsers.{is, one, many, ◌then◌, maybe, spacing, some_spacing}
 use Rattle.doc_rules.specs.Tags.{attribute_name, attribute_value, attribute}
 use Rattle.doc_rules.specs.Autolinks.{is_domain_char, is_domain_part, domain_part}
-use Rattle.doc_rules.proofs.ParserLaws.{
-  Leaves,
-  Takes,
-  one_takes,
-  many_leaves,
-  then_leaves,
-  first_takes,
-  second_takes,
-  maybe_leaves,
-  passing_leaves,
-  spacing_leaves,
-  some_spacing_leaves,
-}
+use Rattle.doc_rules.proofs.ParserLaws.{Leaves, Takes, one_takes, many_leaves, then_leaves, first_takes, second_takes, maybe_leaves}
+use Rattle.doc_rules.proofs.ParserLaws.{passing_leaves, spacing_leaves, some_spacing_leaves}
 use Rattle.doc_rules.proofs.GrammarLaws.{is_leaves, is_takes, attribute_value_leaves}
 
 pub attribute_name_takes : Takes attribute_name

@@ -1,27 +1,6 @@
 -- The steps of the loop that reads escapes and references.
-use Rattle.std.proofs.Common.{
-  ◌≡◌,
-  ℕ,
-  zero,
-  suc,
-  ◌+◌,
-  ◌-◌,
-  [],
-  ◌∷◌,
-  ◌++◌,
-  drop,
-  length,
-  refl,
-  ap,
-  sym,
-  ◌∙◌,
-  Option,
-  Some,
-  None,
-  arith,
-  append_assoc,
-  length-append,
-}
+use Rattle.std.proofs.Common.{◌≡◌, ℕ, zero, suc, ◌+◌, ◌-◌, [], ◌∷◌, ◌++◌, drop, length, refl, ap, sym, ◌∙◌, Option, Some, None, arith}
+use Rattle.std.proofs.Common.{append_assoc, length-append}
 use Rattle.std.proofs.lemmas.List.{append_cancel_right}
 use Rattle.std.proofs.Math.Seq.{drop-append_seam}
 use Rattle.doc_rules.specs.Characters.{Text}

@@ -1,29 +1,6 @@
 -- A cursor on a line (CommonMark 0.31.2, section 2.2, "Tabs"). Its form is this project's choice.
-use Rattle.std.specs.Prelude.{
-  ◌≡◌,
-  ℕ,
-  ◌+◌,
-  ◌-◌,
-  ◌*◌,
-  ◌^◌,
-  ◌<◌,
-  ◌≤◌,
-  nat_lt,
-  nat_le,
-  Bool,
-  true,
-  false,
-  ◌&&◌,
-  List,
-  [],
-  ◌∷◌,
-  ◌++◌,
-  length,
-  chars,
-  Option,
-  Some,
-  None,
-}
+use Rattle.std.specs.Prelude.{◌≡◌, ℕ, ◌+◌, ◌-◌, ◌*◌, ◌^◌, ◌<◌, ◌≤◌, nat_lt, nat_le, Bool, true, false, ◌&&◌, List, [], ◌∷◌, ◌++◌, length}
+use Rattle.std.specs.Prelude.{chars, Option, Some, None}
 use Rattle.std.specs.Char.{len_utf8}
 use Rattle.doc_rules.specs.Characters.{Text, is_space_or_tab}
 use Rattle.doc_rules.specs.Columns.{Line, width_at, cells_from, spaces}

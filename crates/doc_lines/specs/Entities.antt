@@ -1,24 +1,6 @@
 -- The form in which character references by name are kept. This is this project's choice.
-use Rattle.std.specs.Prelude.{
-  ◌≡◌,
-  ℕ,
-  ◌+◌,
-  Bool,
-  nat_lt,
-  nat_le,
-  List,
-  [],
-  ◌∷◌,
-  map,
-  take,
-  drop,
-  length,
-  String,
-  string_bytes,
-  Option,
-  Some,
-  None,
-}
+use Rattle.std.specs.Prelude.{◌≡◌, ℕ, ◌+◌, Bool, nat_lt, nat_le, List, [], ◌∷◌, map, take, drop, length, String, string_bytes, Option, Some}
+use Rattle.std.specs.Prelude.{None}
 use denote.Ref.{Bor}
 use Rattle.std.specs.List.{list_all}
 use Rattle.std.specs.BTreeMap.{BTreeMap}

@@ -47,7 +47,8 @@ fn escape_or_reference<'a>(
     c: char,
     rest: &'a str,
 ) -> Option<((char, Option<char>), &'a str)>
-    ensures value { meaning_of result (chars rest.now) ≡ escape_or_reference entities.now c (chars rest.now) }
+    ensures value { meaning_of result (chars rest.now)
+        ≡ escape_or_reference entities.now c (chars rest.now) }
     ensures end { IfSome result (λ found. IsRest (chars found.1.now) (chars rest.now)) }
 {
     match c {

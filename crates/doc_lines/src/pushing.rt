@@ -7,7 +7,8 @@ use doc_page::failure::Memory;
 
 /// Adds a character. Without memory `out` stays as it is.
 pub fn push_char(out: &mut String, c: char) -> Result<(), Memory>
-    ensures ok { OnOk result (chars (string_bytes out.new) ≡ chars (string_bytes out.old) ++ c ∷ []) }
+    ensures ok { OnOk result (chars (string_bytes out.new) ≡ chars (string_bytes out.old) ++ c
+        ∷ []) }
     ensures err { OnErr result (string_bytes out.new ≡ string_bytes out.old) }
 {
     Ok(out.push(c)?)
@@ -15,7 +16,8 @@ pub fn push_char(out: &mut String, c: char) -> Result<(), Memory>
 
 /// Adds a text. Without memory `out` stays as it is.
 pub fn push_text(out: &mut String, text: &str) -> Result<(), Memory>
-    ensures ok { OnOk result (chars (string_bytes out.new) ≡ chars (string_bytes out.old) ++ chars text.now) }
+    ensures ok { OnOk result (chars (string_bytes out.new) ≡ chars (string_bytes out.old)
+        ++ chars text.now) }
     ensures err { OnErr result (string_bytes out.new ≡ string_bytes out.old) }
 {
     Ok(out.push_str(text)?)
@@ -23,7 +25,8 @@ pub fn push_text(out: &mut String, text: &str) -> Result<(), Memory>
 
 /// Adds one or two characters. Without memory `out` stays as it is.
 pub fn push_characters(out: &mut String, those: (char, Option<char>)) -> Result<(), Memory>
-    ensures ok { OnOk result (chars (string_bytes out.new) ≡ chars (string_bytes out.old) ++ characters those) }
+    ensures ok { OnOk result (chars (string_bytes out.new) ≡ chars (string_bytes out.old)
+        ++ characters those) }
     ensures err { OnErr result (string_bytes out.new ≡ string_bytes out.old) }
 {
     match those.1 {
@@ -34,7 +37,8 @@ pub fn push_characters(out: &mut String, those: (char, Option<char>)) -> Result<
 
 /// Adds two characters. Without memory `out` stays as it is.
 fn push_both(out: &mut String, first: char, second: char) -> Result<(), Memory>
-    ensures ok { OnOk result (chars (string_bytes out.new) ≡ chars (string_bytes out.old) ++ first ∷ second ∷ []) }
+    ensures ok { OnOk result (chars (string_bytes out.new) ≡ chars (string_bytes out.old) ++ first
+        ∷ second ∷ []) }
     ensures err { OnErr result (string_bytes out.new ≡ string_bytes out.old) }
 {
     out.reserve(first.len_utf8() + second.len_utf8())?;

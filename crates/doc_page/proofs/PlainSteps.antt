@@ -1,27 +1,6 @@
 -- The paragraphs of a plain text, line by line.
-use Rattle.std.proofs.Common.{
-  ◌≡◌,
-  ℕ,
-  List,
-  [],
-  ◌∷◌,
-  ◌++◌,
-  length,
-  map,
-  Bool,
-  true,
-  false,
-  not,
-  refl,
-  ap,
-  sym,
-  ◌∙◌,
-  arith,
-  All,
-  eqb,
-  suc,
-  Bor,
-}
+use Rattle.std.proofs.Common.{◌≡◌, ℕ, List, [], ◌∷◌, ◌++◌, length, map, Bool, true, false, not, refl, ap, sym, ◌∙◌, arith, All, eqb, suc}
+use Rattle.std.proofs.Common.{Bor}
 use Rattle.std.specs.Prelude.{filter, Result, Ok, Err, OnOk}
 use Rattle.std.specs.List.{slice_split, join_with_byte, flat_map}
 use Rattle.std.proofs.lemmas.Bool.Decides.{nat_tests}

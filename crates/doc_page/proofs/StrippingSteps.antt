@@ -1,26 +1,6 @@
 -- Texts without certain bytes at their ends.
-use Rattle.std.proofs.Common.{
-  ◌≡◌,
-  ℕ,
-  ◌+◌,
-  ◌-◌,
-  ◌<◌,
-  ◌≤◌,
-  List,
-  length,
-  get_or,
-  take,
-  drop,
-  Bool,
-  true,
-  ap,
-  sym,
-  ◌∙◌,
-  arith,
-  inl,
-  inr,
-  subst,
-}
+use Rattle.std.proofs.Common.{◌≡◌, ℕ, ◌+◌, ◌-◌, ◌<◌, ◌≤◌, List, length, get_or, take, drop, Bool, true, ap, sym, ◌∙◌, arith, inl, inr}
+use Rattle.std.proofs.Common.{subst}
 use Rattle.std.specs.Prelude.{reverse, slice_range}
 use Rattle.std.specs.List.{prefix_len, suffix_len}
 use Rattle.std.specs.Str.{IsUtf8, IsCharBoundary}

@@ -63,7 +63,8 @@ fn push_piece<L: Linker>(
     linker: &L,
 ) -> Result<(), Memory>
     ensures ok { OnOk result
-        (string_bytes out.new ≡ string_bytes out.old ++ filled_piece (L.shown linker.now) piece.now) }
+        (string_bytes out.new ≡ string_bytes out.old
+        ++ filled_piece (L.shown linker.now) piece.now) }
     ensures err { OnErr result (StartsWith (string_bytes out.new) (string_bytes out.old)) }
 {
     match piece {

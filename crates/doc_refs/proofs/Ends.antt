@@ -1,32 +1,6 @@
 -- The two ends of a text in UTF-8.
-use Rattle.std.proofs.Common.{
-  ◌≡◌,
-  ℕ,
-  ◌+◌,
-  ◌-◌,
-  ◌<◌,
-  Bool,
-  true,
-  false,
-  ◌==◌,
-  nat_lt,
-  List,
-  [],
-  ◌∷◌,
-  ◌++◌,
-  length,
-  take,
-  chars,
-  refl,
-  ap,
-  sym,
-  ◌∙◌,
-  Option,
-  Some,
-  None,
-  arith,
-  length-append,
-}
+use Rattle.std.proofs.Common.{◌≡◌, ℕ, ◌+◌, ◌-◌, ◌<◌, Bool, true, false, ◌==◌, nat_lt, List, [], ◌∷◌, ◌++◌, length, take, chars, refl, ap}
+use Rattle.std.proofs.Common.{sym, ◌∙◌, Option, Some, None, arith, length-append}
 use Rattle.std.proofs.Math.Seq.{take-append_seam}
 use Rattle.std.specs.Str.{IsUtf8, encode_utf8_all}
 use Rattle.std.proofs.lemmas.Str.{encodes-chars}

@@ -1,22 +1,7 @@
 -- Entries, and the map of targets that they stand for.
 use Rattle.std.proofs.Common.{◌≡◌, ℕ, suc, ◌<◌, ◌≤◌, Bool, true, false, cond, List, [], ◌∷◌, map, length, refl, ap, sym, subst, ◌∙◌, arith}
-use Rattle.std.specs.Prelude.{
-  Result,
-  Ok,
-  Err,
-  OnOk,
-  OnErr,
-  Option,
-  Some,
-  None,
-  option_map,
-  is_some,
-  nat_lt,
-  bytes_eq,
-  String,
-  string_bytes,
-  chars,
-}
+use Rattle.std.specs.Prelude.{Result, Ok, Err, OnOk, OnErr, Option, Some, None, option_map, is_some, nat_lt, bytes_eq, String, string_bytes}
+use Rattle.std.specs.Prelude.{chars}
 use Rattle.std.specs.BTreeMap.{insert_entry, is_at}
 use Rattle.std.specs.Cmp.Lexicographic.{slice_cmp, nat_list_cmp_total}
 use Rattle.std.specs.FinMap.{get, get-from_entries}

@@ -1,30 +1,6 @@
 -- What collapsing keeps of a word, the white space behind it and the rest.
-use Rattle.std.proofs.Common.{
-  ◌≡◌,
-  ℕ,
-  ◌<◌,
-  ◌≤◌,
-  Bool,
-  true,
-  false,
-  not,
-  List,
-  [],
-  ◌∷◌,
-  ◌++◌,
-  length,
-  refl,
-  ap,
-  sym,
-  ◌∙◌,
-  Option,
-  Some,
-  arith,
-  append_assoc,
-  append-nil,
-  chars,
-  IsUtf8,
-}
+use Rattle.std.proofs.Common.{◌≡◌, ℕ, ◌<◌, ◌≤◌, Bool, true, false, not, List, [], ◌∷◌, ◌++◌, length, refl, ap, sym, ◌∙◌, Option, Some}
+use Rattle.std.proofs.Common.{arith, append_assoc, append-nil, chars, IsUtf8}
 use Rattle.std.specs.Prelude.{◌&&◌, ◌==◌}
 use Rattle.std.specs.List.{list_all}
 use Rattle.std.specs.Str.{encode_utf8_all}

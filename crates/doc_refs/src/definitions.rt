@@ -22,8 +22,10 @@ pub fn take_definitions(
     text: &str,
     entities: &Entities,
 ) -> Result<(RefMap, usize), Memory>
-    ensures refs { IfOk result (λ taken. taken.0 ≡ targets_of (definitions_of entities.now (chars text.now)).0) }
-    ensures rest { IfOk result (λ taken. chars (drop taken.1 text.now) ≡ (definitions_of entities.now (chars text.now)).1) }
+    ensures refs { IfOk result (λ taken. taken.0
+        ≡ targets_of (definitions_of entities.now (chars text.now)).0) }
+    ensures rest { IfOk result (λ taken. chars (drop taken.1 text.now)
+        ≡ (definitions_of entities.now (chars text.now)).1) }
     ensures boundary { IfOk result (λ taken. IsCharBoundary text.now taken.1) }
 {
     let mut refs = RefMap::new(heap);

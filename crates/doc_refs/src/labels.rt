@@ -33,7 +33,8 @@ fn folded(heap: Heap, text: &str) -> Result<String, Memory>
 
 /// The words of a text with one space between two.
 fn spaced(heap: Heap, text: &str) -> Result<String, Memory>
-    ensures { IfOk result (λ out. chars (string_bytes out) ≡ collapse (strip is_space_tab_or_ending (chars text.now))) }
+    ensures { IfOk result (λ out. chars (string_bytes out)
+        ≡ collapse (strip is_space_tab_or_ending (chars text.now))) }
 {
     let mut out = String::with_capacity(heap, text.len())?;
     let mut rest = many(text, is_space_tab_or_ending);
@@ -45,8 +46,12 @@ fn spaced(heap: Heap, text: &str) -> Result<String, Memory>
 
 /// Adds the word at the front of a text, and a space where another word follows. Answers the text from that word on.
 fn push_word<'a>(out: &mut String, text: &'a str) -> Result<&'a str, Memory>
-    ensures value { IfOk result (λ rest. chars (string_bytes out.new) ++ collapse (strip_end is_space_tab_or_ending (chars rest.now)) ≡ chars (string_bytes out.old) ++ collapse (strip_end is_space_tab_or_ending (chars text.now))) }
-    ensures shorter { IfOk result (λ rest. 0 < length (chars text.now) → length (chars rest.now) < length (chars text.now)) }
+    ensures value { IfOk result (λ rest. chars (string_bytes out.new)
+        ++ collapse (strip_end is_space_tab_or_ending (chars rest.now))
+        ≡ chars (string_bytes out.old) ++ collapse
+        (strip_end is_space_tab_or_ending (chars text.now))) }
+    ensures shorter { IfOk result (λ rest. 0 < length (chars text.now)
+        → length (chars rest.now) < length (chars text.now)) }
 {
     let gap = many(text, is_word_char);
     let rest = many(gap, is_space_tab_or_ending);

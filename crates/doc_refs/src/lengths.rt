@@ -8,7 +8,8 @@ use crate::scan;
 /// The bytes of the longest link destination at the front of a text (CommonMark 0.31.2, section 6.3), `None` where none stands there:
 /// `<..>`, or characters with parentheses balanced to 32 levels. Of `foo(bar` it is `foo`.
 pub fn destination(text: &str) -> Option<usize>
-    ensures behind { option_map (λ n. chars (drop n text.now)) result ≡ destination (chars text.now) }
+    ensures behind { option_map (λ n. chars (drop n text.now)) result
+        ≡ destination (chars text.now) }
     ensures boundary { IfSome result (λ n. IsCharBoundary text.now n) }
 {
     let rest = scan::destination::destination(text)?;

@@ -58,7 +58,8 @@ impl RefMap {
 
     /// Lets a label name a target, where it names none yet.
     pub fn add(&mut self, label: String, target: Target) -> Result<(), Memory>
-        ensures ok { OnOk result (self.new ≡ joined self.old (single (chars (string_bytes label.entry)) (target_shown target))) }
+        ensures ok { OnOk result (self.new
+            ≡ joined self.old (single (chars (string_bytes label.entry)) (target_shown target))) }
         ensures err { OnErr result (self.new ≡ self.old) }
     {
         put(&mut self.entries, label, target)
@@ -83,7 +84,8 @@ impl RefMap {
 
 /// Puts in an entry for a label, where there is none yet.
 fn put(entries: &mut BTreeMap<String, Entry>, label: String, target: Target) -> Result<(), Memory>
-    ensures ok { OnOk result (entries.new.entries ≡ with_entry entries.old.entries label.entry target) }
+    ensures ok { OnOk result (entries.new.entries
+        ≡ with_entry entries.old.entries label.entry target) }
     ensures err { OnErr result (entries.new.entries ≡ entries.old.entries) }
 {
     if entries.contains_key(label.as_str()) {
@@ -99,7 +101,8 @@ fn put_all(
     entries: &mut BTreeMap<String, Entry>,
     other: BTreeMap<String, Entry>,
 ) -> Result<(), Memory>
-    ensures ok { OnOk result (targets_shown entries.new.entries ≡ joined (targets_shown entries.old.entries) (targets_shown other.entry.entries)) }
+    ensures ok { OnOk result (targets_shown entries.new.entries
+        ≡ joined (targets_shown entries.old.entries) (targets_shown other.entry.entries)) }
     ensures grown { AreGrown entries.old.entries entries.new.entries }
 {
     'labels: for (label, entry) in other {

@@ -27,7 +27,8 @@ pub fn read_target(
     title: Option<&str>,
     entities: &Entities,
 ) -> Result<Target, Memory>
-    ensures { IfOk result (λ made. target_shown made ≡ target_of entities.now (chars dest.now) (text_shown title.entry)) }
+    ensures { IfOk result (λ made. target_shown made
+        ≡ target_of entities.now (chars dest.now) (text_shown title.entry)) }
 {
     let dest = destination_value(heap, dest, entities)?;
     let title = match title {

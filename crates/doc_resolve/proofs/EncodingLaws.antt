@@ -1,31 +1,6 @@
 -- Percent-encoding a path, segment by segment and as a whole.
-use Rattle.std.proofs.Common.{
-  ◌≡◌,
-  ℕ,
-  suc,
-  ◌<◌,
-  lit<,
-  ◌==◌,
-  not,
-  ◌||◌,
-  Bool,
-  false,
-  cond,
-  List,
-  [],
-  ◌∷◌,
-  ◌++◌,
-  length,
-  get_or,
-  map,
-  refl,
-  sym,
-  ap,
-  ◌∙◌,
-  arith,
-  inl,
-  inr,
-}
+use Rattle.std.proofs.Common.{◌≡◌, ℕ, suc, ◌<◌, lit<, ◌==◌, not, ◌||◌, Bool, false, cond, List, [], ◌∷◌, ◌++◌, length, get_or, map, refl}
+use Rattle.std.proofs.Common.{sym, ap, ◌∙◌, arith, inl, inr}
 use Rattle.std.specs.List.{onto_first, join_with_byte, flat_map}
 use Rattle.std.proofs.lemmas.Bool.{agree_below_at, cases_Bool, cond_both}
 use Rattle.std.proofs.lemmas.Bool.Decides.{nat_tests}
@@ -33,13 +8,8 @@ use Rattle.std.proofs.lemmas.List.Splits.{slice_split-cons_yes, slice_split-cons
 use Rattle.percent_encoding.specs.declared.ascii_set.AsciiSet.{AsciiSet}
 use Rattle.percent_encoding.specs.AsciiSet.{should_percent_encode}
 use Rattle.percent_encoding.specs.Percent.{percent_encode, percent_encode_byte}
-use Rattle.percent_encoding.proofs.PercentLemmas.{
-  percent_encode-nil,
-  percent_encode_escaped,
-  percent_encode_kept,
-  All-percent_encode_byte,
-  IsEscapeByte,
-}
+use Rattle.percent_encoding.proofs.PercentLemmas.{percent_encode-nil, percent_encode_escaped, percent_encode_kept, All-percent_encode_byte}
+use Rattle.percent_encoding.proofs.PercentLemmas.{IsEscapeByte}
 use Rattle.doc_page.specs.Paths.{segments}
 use Rattle.doc_resolve.specs.Encoding.{is_unreserved, encoded, encoded_path}
 use Rattle.doc_resolve.specs.Hrefs.{is_kept, destination}

@@ -1,34 +1,6 @@
 -- Steps of the proofs on a reference's components.
-use Rattle.std.proofs.Common.{
-  ◌≡◌,
-  ◌≢◌,
-  ℕ,
-  suc,
-  ◌+◌,
-  ◌<◌,
-  ◌==◌,
-  not,
-  Bool,
-  true,
-  false,
-  cond,
-  ltb,
-  List,
-  [],
-  ◌∷◌,
-  length,
-  get_or,
-  drop,
-  Option,
-  Some,
-  None,
-  refl,
-  sym,
-  ap,
-  ◌∙◌,
-  arith,
-  Bor,
-}
+use Rattle.std.proofs.Common.{◌≡◌, ◌≢◌, ℕ, suc, ◌+◌, ◌<◌, ◌==◌, not, Bool, true, false, cond, ltb, List, [], ◌∷◌, length, get_or, drop}
+use Rattle.std.proofs.Common.{Option, Some, None, refl, sym, ap, ◌∙◌, arith, Bor}
 use Rattle.std.specs.List.{position, position_or_len, after_first}
 use Rattle.std.specs.Option.{unwrap_or, option_copied, MatchOption}
 use Rattle.std.specs.Str.{IsCharBoundary}

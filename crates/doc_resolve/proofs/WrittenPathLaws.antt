@@ -1,52 +1,12 @@
 -- The path that segments write, by what they are decoded to.
-use Rattle.std.proofs.Common.{
-  ◌≡◌,
-  ℕ,
-  ◌+◌,
-  lit<,
-  not,
-  ◌&&◌,
-  ◌||◌,
-  Bool,
-  true,
-  false,
-  cond,
-  List,
-  [],
-  ◌∷◌,
-  ◌++◌,
-  length,
-  get_or,
-  drop,
-  map,
-  Option,
-  Some,
-  None,
-  option_map,
-  option_and_then,
-  refl,
-  sym,
-  ap,
-  ◌∙◌,
-  subst,
-  arith,
-}
+use Rattle.std.proofs.Common.{◌≡◌, ℕ, ◌+◌, lit<, not, ◌&&◌, ◌||◌, Bool, true, false, cond, List, [], ◌∷◌, ◌++◌, length, get_or, drop, map}
+use Rattle.std.proofs.Common.{Option, Some, None, option_map, option_and_then, refl, sym, ap, ◌∙◌, subst, arith}
 use Rattle.std.specs.List.{join_with_byte, flat_map, list_all, list_any}
 use Rattle.std.specs.Str.{IsUtf8, is_utf8}
 use Rattle.std.proofs.lemmas.Bool.{and_parts, and_from}
 use Rattle.std.proofs.lemmas.List.{append-nil, append_assoc, get_or_at, take_at, drop_at, drop-drop, length-append}
-use Rattle.std.proofs.lemmas.Str.{
-  IsUtf8-append,
-  IsUtf8-encode,
-  encode_ascii,
-  IsUtf8-take,
-  IsUtf8-drop,
-  IsUtf8-nil,
-  IsUtf8-from_is_utf8,
-  is_utf8-from_IsUtf8,
-  IsCharBoundary-before_ascii,
-  IsCharBoundary-after_ascii,
-}
+use Rattle.std.proofs.lemmas.Str.{IsUtf8-append, IsUtf8-encode, encode_ascii, IsUtf8-take, IsUtf8-drop, IsUtf8-nil, IsUtf8-from_is_utf8}
+use Rattle.std.proofs.lemmas.Str.{is_utf8-from_IsUtf8, IsCharBoundary-before_ascii, IsCharBoundary-after_ascii}
 use Rattle.percent_encoding.specs.Percent.{percent_decode}
 use Rattle.doc_page.specs.Pages.{is_empty}
 use Rattle.doc_page.specs.Paths.{is_path}

@@ -9,224 +9,46 @@ use Rattle.doc_rules.specs.Lines.{ends_line, onto_first, lines_of, without_endin
 use Rattle.doc_rules.specs.Columns.{columns_from, cell_of, text_of, skip, indent, after_indent}
 use Rattle.doc_rules.specs.Parsers.{word, word_in_any_case, many, at_most, through, run_length, some_spacing}
 use Rattle.doc_rules.specs.Entities.{built_in}
-use Rattle.doc_rules.specs.Escapes.{
-  decimal_reference,
-  hexadecimal_reference,
-  named_reference,
-  number,
-  code_point,
-  find_entity,
-  by_name,
-  character_reference,
-  backslash_escape,
-  escape_or_reference,
-  meaning,
-  unescape_behind,
-  unescape,
-}
-use Rattle.doc_rules.specs.Tags.{
-  tag_name,
-  attribute_name,
-  attribute_value,
-  attribute,
-  open_tag,
-  closing_tag,
-  comment,
-  instruction,
-  declaration,
-  cdata,
-  raw_html,
-}
+use Rattle.doc_rules.specs.Escapes.{decimal_reference, hexadecimal_reference, named_reference, number, code_point, find_entity, by_name}
+use Rattle.doc_rules.specs.Escapes.{character_reference, backslash_escape, escape_or_reference, meaning, unescape_behind, unescape}
+use Rattle.doc_rules.specs.Tags.{tag_name, attribute_name, attribute_value, attribute, open_tag, closing_tag, comment, instruction}
+use Rattle.doc_rules.specs.Tags.{declaration, cdata, raw_html}
 use Rattle.doc_rules.specs.Autolinks.{is_scheme_char, scheme, uri, is_local_char, is_domain_char, is_domain_part, domain_part, mail}
-use Rattle.doc_rules.specs.Destinations.{
-  many_or_escaped,
-  angled,
-  balanced,
-  bare,
-  destination,
-  has_blank_line,
-  title,
-  destination_value,
-  title_value,
-}
+use Rattle.doc_rules.specs.Destinations.{many_or_escaped, angled, balanced, bare, destination, has_blank_line, title, destination_value}
+use Rattle.doc_rules.specs.Destinations.{title_value}
 use Rattle.doc_rules.specs.Labels.{is_label, label, collapse, normal_label}
-use Rattle.doc_rules.specs.Definitions.{
-  end_of_line,
-  rest_of_line,
-  with_title,
-  without_title,
-  after_destination,
-  after_label,
-  definition_source,
-  definitions_within,
-  definitions_of,
-  find_reference,
-}
+use Rattle.doc_rules.specs.Definitions.{end_of_line, rest_of_line, with_title, without_title, after_destination, after_label}
+use Rattle.doc_rules.specs.Definitions.{definition_source, definitions_within, definitions_of, find_reference}
 use Rattle.doc_rules.specs.Inlines.{run_text, bracket_text, as_text}
 use Rattle.doc_rules.specs.Emphasis.{run_between, matches, opener_of, wrapped, wrap_first, wrap_at_most, weight, emphasis_of}
 use Rattle.doc_rules.specs.CodeSpans.{before_backticks, code_text, spaced, code_span}
-use Rattle.doc_rules.specs.Links.{
-  closed,
-  title_tail,
-  destination_tail,
-  inline_tail,
-  reference_target,
-  behind_empty_label,
-  reference_tail,
-  link_tail,
-  last_bracket,
-  without_links,
-  linked,
-  unlinked,
-  close_bracket,
-}
-use Rattle.doc_rules.specs.Reading.{
-  backslash,
-  ampersand,
-  delimiters,
-  bang,
-  autolink,
-  left_angle,
-  break_behind,
-  gap,
-  kinds,
-  kind_in,
-  item_of_kind,
-  read_item,
-  read,
-  inlines_of,
-}
-use Rattle.doc_rules.specs.LeafStarts.{
-  marker_text,
-  is_break_of,
-  is_thematic_break,
-  without_closing,
-  heading_text,
-  atx_heading,
-  is_all_of,
-  underline_level,
-  fence_of,
-  opening_fence,
-  is_closing_text,
-  closes_fence,
-}
-use Rattle.doc_rules.specs.HtmlStarts.{
-  raw_text_names,
-  element_names,
-  is_among,
-  is_named,
-  is_raw_text_start,
-  is_element_start,
-  is_tag_line,
-  html_start,
-  may_interrupt_paragraph,
-  ends_before_blank,
-  ends_html,
-}
-use Rattle.doc_rules.specs.ContainerStarts.{
-  behind_quote_marker,
-  quote_start,
-  is_same_kind,
-  digits_of,
-  bullet_marker,
-  ordered_marker,
-  list_marker,
-  marker_end,
-  item_at,
-  item_of,
-  item_start,
-  begins_a_list,
-  item_may_interrupt,
-}
-use Rattle.doc_rules.specs.Trees.{
-  is_empty_tree,
-  matched,
-  open_paragraph,
-  continued,
-  has_no_paragraph,
-  atx_begins,
-  fence_begins,
-  html_begins,
-  setext_begins,
-  break_begins,
-  text_begins,
-  leaf_begins,
-  underlined,
-  with_start,
-  item_may_begin,
-  add_text,
-  add_leaf,
-  add_item,
-  add_leaf_or_item,
-  add_blocks,
-  add_to_leaf,
-  lazy_situation,
-  add_line,
-  add_lines,
-}
+use Rattle.doc_rules.specs.Links.{closed, title_tail, destination_tail, inline_tail, reference_target, behind_empty_label, reference_tail}
+use Rattle.doc_rules.specs.Links.{link_tail, last_bracket, without_links, linked, unlinked, close_bracket}
+use Rattle.doc_rules.specs.Reading.{backslash, ampersand, delimiters, bang, autolink, left_angle, break_behind, gap, kinds, kind_in}
+use Rattle.doc_rules.specs.Reading.{item_of_kind, read_item, read, inlines_of}
+use Rattle.doc_rules.specs.LeafStarts.{marker_text, is_break_of, is_thematic_break, without_closing, heading_text, atx_heading, is_all_of}
+use Rattle.doc_rules.specs.LeafStarts.{underline_level, fence_of, opening_fence, is_closing_text, closes_fence}
+use Rattle.doc_rules.specs.HtmlStarts.{raw_text_names, element_names, is_among, is_named, is_raw_text_start, is_element_start, is_tag_line}
+use Rattle.doc_rules.specs.HtmlStarts.{html_start, may_interrupt_paragraph, ends_before_blank, ends_html}
+use Rattle.doc_rules.specs.ContainerStarts.{behind_quote_marker, quote_start, is_same_kind, digits_of, bullet_marker, ordered_marker}
+use Rattle.doc_rules.specs.ContainerStarts.{list_marker, marker_end, item_at, item_of, item_start, begins_a_list, item_may_interrupt}
+use Rattle.doc_rules.specs.Trees.{is_empty_tree, matched, open_paragraph, continued, has_no_paragraph, atx_begins, fence_begins}
+use Rattle.doc_rules.specs.Trees.{html_begins, setext_begins, break_begins, text_begins, leaf_begins, underlined, with_start}
+use Rattle.doc_rules.specs.Trees.{item_may_begin, add_text, add_leaf, add_item, add_leaf_or_item, add_blocks, add_to_leaf, lazy_situation}
+use Rattle.doc_rules.specs.Trees.{add_line, add_lines}
 use Rattle.doc_rules.specs.Lists.{is_last_blank, ends_blank, has_gap, last_list, with_item, listed}
-use Rattle.doc_rules.specs.Blocks.{
-  ended,
-  joined,
-  without_last_blanks,
-  with_text,
-  with_leaf,
-  list_start,
-  container_of,
-  blocks_of,
-  leaf_references,
-  references_of,
-  tree_document,
-  document_of,
-}
+use Rattle.doc_rules.specs.Blocks.{ended, joined, without_last_blanks, with_text, with_leaf, list_start, container_of, blocks_of}
+use Rattle.doc_rules.specs.Blocks.{leaf_references, references_of, tree_document, document_of}
 use Rattle.doc_rules.specs.Escaping.{escaped_char, html_escape, percent, url_char, url_escape}
 use Rattle.doc_rules.specs.PlainTexts.{plain, plain_text, leaf_headings, headings_in, leaf_texts, texts_in}
 use Rattle.doc_page.specs.Escaping.{escaped}
-use Rattle.doc_rules.specs.Html.{
-  characters,
-  span_start,
-  span_end,
-  inline_html,
-  images_after,
-  html_among,
-  inlines_html,
-  write,
-  is_fresh,
-  new_line,
-  paragraph_html,
-  id_attribute,
-  heading_html,
-  first_word,
-  language_class,
-  code_html,
-  leaf_html,
-  is_tight_inside,
-  list_tag,
-  list_end,
-  container_start,
-  container_end,
-  blocks_html,
-  output_of,
-  link_tag,
-  written_text,
-  html_of,
-  plain_linker,
-  rendered_plain,
-}
+use Rattle.doc_rules.specs.Html.{characters, span_start, span_end, inline_html, images_after, html_among, inlines_html, write, is_fresh}
+use Rattle.doc_rules.specs.Html.{new_line, paragraph_html, id_attribute, heading_html, first_word, language_class, code_html, leaf_html}
+use Rattle.doc_rules.specs.Html.{is_tight_inside, list_tag, list_end, container_start, container_end, blocks_html, output_of, link_tag}
+use Rattle.doc_rules.specs.Html.{written_text, html_of, plain_linker, rendered_plain}
 use Rattle.doc_rules.specs.Anchors.{anchor_char, or_section, anchor_name, free_number, free_anchor, anchors_behind}
-use Rattle.doc_rules.specs.Pages.{
-  onto_html,
-  pieces_of,
-  page_headings,
-  document_anchors,
-  document_page,
-  page_of,
-  piece_text,
-  filled,
-  encoded_piece,
-  encoded_heading,
-  encoded,
-}
+use Rattle.doc_rules.specs.Pages.{onto_html, pieces_of, page_headings, document_anchors, document_page, page_of, piece_text, filled}
+use Rattle.doc_rules.specs.Pages.{encoded_piece, encoded_heading, encoded}
 
 -- characters, lines, columns and parsers
 unfoldable pub text_words : Unit {0}

@@ -10,19 +10,8 @@ use Rattle.doc_rules.specs.Characters.{Text}
 use Rattle.doc_rules.specs.Escaping.{escaped_char, html_escape}
 use Rattle.doc_rules.specs.Blocks.{Document, document_of}
 use Rattle.doc_rules.specs.Html.{Output, Linker, Shown, Href, Missing, link_tag, output_of, html_of}
-use Rattle.doc_rules.specs.Pages.{
-  PagePiece,
-  HtmlPiece,
-  LinkPiece,
-  document_anchors,
-  document_page,
-  page_of,
-  piece_text,
-  filled,
-  encoded_piece,
-  encoded,
-  encoded_shown,
-}
+use Rattle.doc_rules.specs.Pages.{PagePiece, HtmlPiece, LinkPiece, document_anchors, document_page, page_of, piece_text, filled}
+use Rattle.doc_rules.specs.Pages.{encoded_piece, encoded, encoded_shown}
 use Rattle.doc_rules.specs.Laws.{ShowsAlike, FillingIsByBytes, FilledPagesAreHtml}
 use Rattle.doc_rules.proofs.EscapingLaws.{escaping_is_by_bytes}
 use Rattle.doc_rules.proofs.PieceLaws.{pieces_join}

@@ -1,128 +1,29 @@
 -- Tags, destinations, titles, labels, definitions, addresses and references leave the end of a text; definitions one after another are
 -- one and then the others.
-use Rattle.std.proofs.Common.{
-  ◌≡◌,
-  ℕ,
-  zero,
-  suc,
-  ◌<◌,
-  ◌≤◌,
-  Bool,
-  not,
-  ◌==◌,
-  List,
-  [],
-  ◌∷◌,
-  length,
-  refl,
-  ap,
-  sym,
-  ◌∙◌,
-  Option,
-  Some,
-  None,
-  arith,
-  subst,
-}
+use Rattle.std.proofs.Common.{◌≡◌, ℕ, zero, suc, ◌<◌, ◌≤◌, Bool, not, ◌==◌, List, [], ◌∷◌, length, refl, ap, sym, ◌∙◌, Option, Some, None}
+use Rattle.std.proofs.Common.{arith, subst}
 use Rattle.std.specs.Prelude.{codes, ◌||◌, option_map, nat_lt}
-use Rattle.std.specs.Char.{
-  is_ascii_punctuation,
-  is_ascii_alphabetic,
-  is_ascii_alphanumeric,
-  is_ascii_digit,
-  is_ascii_hexdigit,
-  is_ascii_control,
-}
+use Rattle.std.specs.Char.{is_ascii_punctuation, is_ascii_alphabetic, is_ascii_alphanumeric, is_ascii_digit, is_ascii_hexdigit}
+use Rattle.std.specs.Char.{is_ascii_control}
 use Rattle.doc_rules.specs.Characters.{Text, one_of, none_of, is_space_or_tab}
-use Rattle.doc_rules.specs.Parsers.{
-  one,
-  is,
-  word,
-  ◌then◌,
-  ◌or◌,
-  maybe,
-  many,
-  some,
-  at_most,
-  repeated,
-  through,
-  before,
-  inside,
-  passing,
-  spacing,
-  some_spacing,
-}
+use Rattle.doc_rules.specs.Parsers.{one, is, word, ◌then◌, ◌or◌, maybe, many, some, at_most, repeated, through, before, inside, passing}
+use Rattle.doc_rules.specs.Parsers.{spacing, some_spacing}
 use Rattle.doc_rules.specs.Entities.{Table}
-use Rattle.doc_rules.specs.Tags.{
-  tag_name,
-  attribute_name,
-  quoted_by,
-  attribute_value,
-  attribute,
-  open_tag,
-  closing_tag,
-  html_tag,
-  comment,
-  instruction,
-  declaration,
-  cdata,
-  raw_html,
-}
+use Rattle.doc_rules.specs.Tags.{tag_name, attribute_name, quoted_by, attribute_value, attribute, open_tag, closing_tag, html_tag, comment}
+use Rattle.doc_rules.specs.Tags.{instruction, declaration, cdata, raw_html}
 use Rattle.doc_rules.specs.Autolinks.{is_scheme_char, scheme, uri, is_local_char, is_domain_char, is_domain_part, domain_part, mail}
 use Rattle.doc_rules.specs.Escapes.{decimal_reference, hexadecimal_reference, named_reference}
-use Rattle.doc_rules.specs.Destinations.{
-  escaped,
-  many_or_escaped,
-  angled,
-  is_bare,
-  balanced,
-  bare,
-  destination,
-  has_blank_line,
-  title_in,
-  title,
-}
+use Rattle.doc_rules.specs.Destinations.{escaped, many_or_escaped, angled, is_bare, balanced, bare, destination, has_blank_line, title_in}
+use Rattle.doc_rules.specs.Destinations.{title}
 use Rattle.doc_rules.specs.Labels.{label_text, is_label, label}
-use Rattle.doc_rules.specs.Definitions.{
-  Definition,
-  DefinitionSource,
-  end_of_line,
-  rest_of_line,
-  margin,
-  with_title,
-  without_title,
-  after_destination,
-  after_label,
-  definition_source,
-  definition_of,
-  definitions_within,
-  definitions_of,
-}
+use Rattle.doc_rules.specs.Definitions.{Definition, DefinitionSource, end_of_line, rest_of_line, margin, with_title, without_title}
+use Rattle.doc_rules.specs.Definitions.{after_destination, after_label, definition_source, definition_of, definitions_within}
+use Rattle.doc_rules.specs.Definitions.{definitions_of}
 use Rattle.doc_rules.specs.Rests.{IsRest}
-use Rattle.doc_rules.proofs.ParserLaws.{
-  Leaves,
-  Takes,
-  rest_is_shorter,
-  one_leaves,
-  one_takes,
-  nothing_leaves,
-  word_leaves,
-  then_leaves,
-  first_takes,
-  or_leaves,
-  maybe_leaves,
-  many_leaves,
-  some_leaves,
-  at_most_leaves,
-  repeated_leaves,
-  through_leaves,
-  passing_leaves,
-  line_ending_leaves,
-  spacing_leaves,
-  some_spacing_leaves,
-  is_all,
-  is_rest_again,
-}
+use Rattle.doc_rules.proofs.ParserLaws.{Leaves, Takes, rest_is_shorter, one_leaves, one_takes, nothing_leaves, word_leaves, then_leaves}
+use Rattle.doc_rules.proofs.ParserLaws.{first_takes, or_leaves, maybe_leaves, many_leaves, some_leaves, at_most_leaves, repeated_leaves}
+use Rattle.doc_rules.proofs.ParserLaws.{through_leaves, passing_leaves, line_ending_leaves, spacing_leaves, some_spacing_leaves, is_all}
+use Rattle.doc_rules.proofs.ParserLaws.{is_rest_again}
 
 pub is_leaves : (c : ℕ) → Leaves (is c)
 is_leaves c = one_leaves (λ d. d == c)

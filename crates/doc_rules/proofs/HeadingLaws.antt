@@ -7,39 +7,12 @@ use Rattle.doc_rules.specs.Entities.{Table}
 use Rattle.doc_rules.specs.Definitions.{Definition}
 use Rattle.doc_rules.specs.Reading.{inlines_of}
 use Rattle.doc_rules.specs.Forests.{none, ◌▹◌, node}
-use Rattle.doc_rules.specs.Blocks.{
-  Leaf,
-  Paragraph,
-  Heading,
-  IndentedCode,
-  FencedCode,
-  HtmlBlock,
-  ThematicBreak,
-  Container,
-  BlockQuote,
-  ListBlock,
-  ListItem,
-  Document,
-}
+use Rattle.doc_rules.specs.Blocks.{Leaf, Paragraph, Heading, IndentedCode, FencedCode, HtmlBlock, ThematicBreak, Container, BlockQuote}
+use Rattle.doc_rules.specs.Blocks.{ListBlock, ListItem, Document}
 use Rattle.doc_rules.specs.PlainTexts.{leaf_headings, headings_in, headings_of}
 use Rattle.doc_rules.specs.Anchors.{free_anchor, anchor_name, anchors_behind}
-use Rattle.doc_rules.specs.Html.{
-  Writing,
-  Output,
-  write,
-  write_text,
-  new_line,
-  is_fresh,
-  paragraph_html,
-  heading_html,
-  code_html,
-  leaf_html,
-  inlines_html,
-  is_tight_inside,
-  container_start,
-  container_end,
-  blocks_html,
-}
+use Rattle.doc_rules.specs.Html.{Writing, Output, write, write_text, new_line, is_fresh, paragraph_html, heading_html, code_html, leaf_html}
+use Rattle.doc_rules.specs.Html.{inlines_html, is_tight_inside, container_start, container_end, blocks_html}
 use Rattle.doc_rules.specs.Pages.{page_headings, document_anchors, document_page}
 use Rattle.doc_rules.specs.Laws.{AnchorsAreAsMany, HeadingsTakeAnchors, HeadingsHaveAnchors}
 

@@ -1,29 +1,6 @@
 -- Lines, with and without their endings, are those of doc_page.
-use Rattle.std.proofs.Common.{
-  ◌≡◌,
-  ℕ,
-  zero,
-  suc,
-  ◌-◌,
-  ◌<◌,
-  ◌≤◌,
-  Bool,
-  true,
-  false,
-  List,
-  [],
-  ◌∷◌,
-  refl,
-  ap,
-  sym,
-  ◌∙◌,
-  subst,
-  length,
-  take,
-  get_or,
-  map,
-  arith,
-}
+use Rattle.std.proofs.Common.{◌≡◌, ℕ, zero, suc, ◌-◌, ◌<◌, ◌≤◌, Bool, true, false, List, [], ◌∷◌, refl, ap, sym, ◌∙◌, subst, length, take}
+use Rattle.std.proofs.Common.{get_or, map, arith}
 use Rattle.std.specs.Prelude.{◌==◌, ◌||◌, ◌&&◌, not, if◌then◌else◌}
 use Rattle.std.specs.List.{list_all, suffix_len, onto_first as std_onto_first, AllByRecursion}
 use Rattle.std.proofs.lemmas.List.Folds.{list_all_at}

@@ -1,59 +1,13 @@
 -- What a parser leaves is the end of the text: what it takes stands before it. Code that goes over a text needs these.
-use Rattle.std.proofs.Common.{
-  ◌≡◌,
-  ℕ,
-  zero,
-  suc,
-  ◌+◌,
-  ◌-◌,
-  ◌<◌,
-  ◌≤◌,
-  Bool,
-  true,
-  false,
-  ◌==◌,
-  [],
-  ◌∷◌,
-  ◌++◌,
-  take,
-  length,
-  refl,
-  ap,
-  sym,
-  ◌∙◌,
-  subst,
-  Option,
-  Some,
-  None,
-  arith,
-  append_assoc,
-  length-append,
-}
+use Rattle.std.proofs.Common.{◌≡◌, ℕ, zero, suc, ◌+◌, ◌-◌, ◌<◌, ◌≤◌, Bool, true, false, ◌==◌, [], ◌∷◌, ◌++◌, take, length, refl, ap, sym}
+use Rattle.std.proofs.Common.{◌∙◌, subst, Option, Some, None, arith, append_assoc, length-append}
 use Rattle.std.proofs.Math.Seq.{take-append_seam}
 use Rattle.std.specs.Prelude.{codes}
 use Rattle.std.specs.Char.{to_ascii_lowercase}
 use Rattle.doc_rules.specs.Characters.{Text, is_space_or_tab}
 use Rattle.doc_rules.specs.Rests.{IsRest}
-use Rattle.doc_rules.specs.Parsers.{
-  Parser,
-  one,
-  is,
-  word,
-  word_in_any_case,
-  ◌then◌,
-  ◌or◌,
-  maybe,
-  many,
-  at_most,
-  repeated,
-  through,
-  before,
-  passing,
-  some,
-  line_ending,
-  spacing,
-  some_spacing,
-}
+use Rattle.doc_rules.specs.Parsers.{Parser, one, is, word, word_in_any_case, ◌then◌, ◌or◌, maybe, many, at_most, repeated, through, before}
+use Rattle.doc_rules.specs.Parsers.{passing, some, line_ending, spacing, some_spacing}
 
 -- a parser leaves the end of each text that it is given
 abbrev pub Leaves : Parser → Type 0

@@ -8,20 +8,8 @@ use Rattle.doc_page.specs.declared.rendered.LinkSpot.{LinkSpot}
 use Rattle.doc_page.specs.declared.rendered.Piece.{Piece}
 use Rattle.doc_page.specs.declared.rendered.Piece.TheVariants.{Html, Link}
 use Rattle.doc_rules.specs.Html.{Character, LinkTag, Output, output_of, Linker, written_text, link_tag}
-use Rattle.doc_rules.specs.Pages.{
-  PagePiece,
-  HtmlPiece,
-  LinkPiece,
-  onto_html,
-  pieces_of,
-  document_anchors,
-  document_page,
-  page_of,
-  piece_text,
-  filled,
-  encoded_piece,
-  encoded,
-}
+use Rattle.doc_rules.specs.Pages.{PagePiece, HtmlPiece, LinkPiece, onto_html, pieces_of, document_anchors, document_page, page_of}
+use Rattle.doc_rules.specs.Pages.{piece_text, filled, encoded_piece, encoded}
 use Rattle.doc_page.specs.Laws as pages
 use Rattle.doc_rules.specs.Laws.{IsCut, PiecesAreCut, RenderedIsCut, PiecesJoin}
 

@@ -8,18 +8,8 @@ use Rattle.doc_rules.specs.Columns.{columns_from, width_at, cell_of, Line, cells
 use Rattle.doc_rules.specs.Entities.{Table}
 use Rattle.doc_rules.specs.ContainerStarts.{behind_quote_marker, quote_start}
 use Rattle.doc_rules.specs.Forests.{none, node}
-use Rattle.doc_rules.specs.Trees.{
-  QuoteLines,
-  Tree,
-  NoParagraph,
-  matched,
-  add_leaf_or_item,
-  add_blocks,
-  lazy_situation,
-  add_line,
-  add_lines,
-  tree_within,
-}
+use Rattle.doc_rules.specs.Trees.{QuoteLines, Tree, NoParagraph, matched, add_leaf_or_item, add_blocks, lazy_situation, add_line, add_lines}
+use Rattle.doc_rules.specs.Trees.{tree_within}
 use Rattle.doc_rules.specs.Lists.{listed}
 use Rattle.doc_rules.specs.Blocks.{container_of, blocks_of, references_of, tree_document}
 use Rattle.doc_rules.specs.Laws.{has_tab, QuotedTree, QuotedDocument, quote_over}

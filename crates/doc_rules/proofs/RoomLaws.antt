@@ -1,27 +1,6 @@
 -- Room for containers that isn't used does not matter: by the steps of adding a line, once for the tree and once for its depth.
-use Rattle.std.proofs.Common.{
-  ◌≡◌,
-  ℕ,
-  zero,
-  suc,
-  ◌-◌,
-  Bool,
-  true,
-  false,
-  List,
-  [],
-  ◌∷◌,
-  ◌++◌,
-  refl,
-  ap,
-  sym,
-  ◌∙◌,
-  subst,
-  Option,
-  Some,
-  None,
-  arith,
-}
+use Rattle.std.proofs.Common.{◌≡◌, ℕ, zero, suc, ◌-◌, Bool, true, false, List, [], ◌∷◌, ◌++◌, refl, ap, sym, ◌∙◌, subst, Option, Some, None}
+use Rattle.std.proofs.Common.{arith}
 use Rattle.std.specs.Prelude.{◌||◌, ◌&&◌, not, nat_le}
 use Rattle.doc_rules.specs.Characters.{Text}
 use Rattle.doc_rules.specs.Lines.{lines_of, line_content}
@@ -31,41 +10,10 @@ use Rattle.doc_rules.specs.HtmlStarts.{ends_before_blank, ends_html}
 use Rattle.doc_rules.specs.LeafStarts.{closes_fence}
 use Rattle.doc_rules.specs.ContainerStarts.{quote_start, ItemStart, item_start}
 use Rattle.doc_rules.specs.Forests.{none, ◌▹◌, node}
-use Rattle.doc_rules.specs.Trees.{
-  LeafLines,
-  ParagraphLines,
-  IndentedLines,
-  FencedLines,
-  HtmlLines,
-  BlankLine,
-  ContainerLines,
-  QuoteLines,
-  ItemLines,
-  Tree,
-  Situation,
-  NoParagraph,
-  InParagraph,
-  has_no_paragraph,
-  LeafStart,
-  NewLeaf,
-  Underline,
-  matched,
-  continued,
-  leaf_begins,
-  underlined,
-  with_start,
-  item_may_begin,
-  line_text,
-  add_text,
-  add_leaf,
-  add_item,
-  add_leaf_or_item,
-  add_blocks,
-  lazy_situation,
-  add_to_leaf,
-  add_line,
-  add_lines,
-}
+use Rattle.doc_rules.specs.Trees.{LeafLines, ParagraphLines, IndentedLines, FencedLines, HtmlLines, BlankLine, ContainerLines, QuoteLines}
+use Rattle.doc_rules.specs.Trees.{ItemLines, Tree, Situation, NoParagraph, InParagraph, has_no_paragraph, LeafStart, NewLeaf, Underline}
+use Rattle.doc_rules.specs.Trees.{matched, continued, leaf_begins, underlined, with_start, item_may_begin, line_text, add_text, add_leaf}
+use Rattle.doc_rules.specs.Trees.{add_item, add_leaf_or_item, add_blocks, lazy_situation, add_to_leaf, add_line, add_lines}
 use Rattle.doc_rules.specs.Lists.{listed}
 use Rattle.doc_rules.specs.Blocks.{tree_document, document_of}
 use Rattle.doc_rules.specs.Laws.{IsWithin, RoomIsEnough, QuotedWithin, quote_over}

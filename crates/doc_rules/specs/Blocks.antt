@@ -6,23 +6,8 @@ use Rattle.doc_rules.specs.Escapes.{unescape}
 use Rattle.doc_rules.specs.Definitions.{Definition, definitions_of}
 use Rattle.doc_rules.specs.ContainerStarts.{ListKind, Bullet, Ordered}
 use Rattle.doc_rules.specs.Forests.{Forest, none, ◌▹◌, node}
-use Rattle.doc_rules.specs.Trees.{
-  LeafLines,
-  ParagraphLines,
-  AtxLine,
-  SetextLines,
-  IndentedLines,
-  FencedLines,
-  HtmlLines,
-  BreakLine,
-  BlankLine,
-  ContainerLines,
-  QuoteLines,
-  ItemLines,
-  ListLines,
-  Tree,
-  tree_within,
-}
+use Rattle.doc_rules.specs.Trees.{LeafLines, ParagraphLines, AtxLine, SetextLines, IndentedLines, FencedLines, HtmlLines, BreakLine}
+use Rattle.doc_rules.specs.Trees.{BlankLine, ContainerLines, QuoteLines, ItemLines, ListLines, Tree, tree_within}
 use Rattle.doc_rules.specs.Lists.{listed}
 
 -- the lines of code end in LF each, other lines are joined by it; the info string's escapes and references are read

@@ -1,26 +1,6 @@
 -- Starts of block quotes and list items (CommonMark 0.31.2, sections 5.1 and 5.2).
-use Rattle.std.specs.Prelude.{
-  ℕ,
-  ◌+◌,
-  ◌-◌,
-  nat_le,
-  Bool,
-  true,
-  false,
-  not,
-  ◌&&◌,
-  ◌==◌,
-  [],
-  ◌∷◌,
-  drop,
-  length,
-  Option,
-  Some,
-  None,
-  option_and_then,
-  if◌then◌else◌,
-  codes,
-}
+use Rattle.std.specs.Prelude.{ℕ, ◌+◌, ◌-◌, nat_le, Bool, true, false, not, ◌&&◌, ◌==◌, [], ◌∷◌, drop, length, Option, Some, None}
+use Rattle.std.specs.Prelude.{option_and_then, if◌then◌else◌, codes}
 use Rattle.std.specs.Char.{is_ascii_digit}
 use Rattle.doc_rules.specs.Characters.{Text, one_of}
 use Rattle.doc_rules.specs.Columns.{Line, indent, after_indent, skip, is_blank_line}

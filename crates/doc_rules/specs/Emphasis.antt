@@ -1,32 +1,7 @@
 -- Emphasis and strong emphasis (CommonMark 0.31.2, section 6.2): the first run that has an opener is wrapped with the nearest one,
 -- again and again.
-use Rattle.std.specs.Prelude.{
-  ℕ,
-  zero,
-  suc,
-  ◌+◌,
-  ◌-◌,
-  ◌%◌,
-  nat_lt,
-  nat_le,
-  Bool,
-  true,
-  false,
-  not,
-  ◌&&◌,
-  ◌||◌,
-  ◌==◌,
-  List,
-  [],
-  ◌∷◌,
-  ◌++◌,
-  reverse,
-  flat_map,
-  Option,
-  Some,
-  None,
-  if◌then◌else◌,
-}
+use Rattle.std.specs.Prelude.{ℕ, zero, suc, ◌+◌, ◌-◌, ◌%◌, nat_lt, nat_le, Bool, true, false, not, ◌&&◌, ◌||◌, ◌==◌, List, [], ◌∷◌, ◌++◌}
+use Rattle.std.specs.Prelude.{reverse, flat_map, Option, Some, None, if◌then◌else◌}
 use Rattle.doc_rules.specs.Characters.{is_white, is_punctuation}
 use Rattle.doc_rules.specs.Inlines.{Span, Emphasis, Strong, Run, Inline, Start, End, Delimiters, run_text, as_text}
 

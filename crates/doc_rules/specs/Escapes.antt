@@ -1,32 +1,6 @@
 -- Backslash escapes and character references (CommonMark 0.31.2, sections 2.4 and 2.5).
-use Rattle.std.specs.Prelude.{
-  ℕ,
-  zero,
-  suc,
-  ◌+◌,
-  ◌*◌,
-  ◌-◌,
-  nat_lt,
-  nat_le,
-  true,
-  false,
-  ◌&&◌,
-  ◌||◌,
-  ◌==◌,
-  bytes_eq,
-  [],
-  ◌∷◌,
-  ◌++◌,
-  drop,
-  take,
-  length,
-  fold,
-  Option,
-  Some,
-  None,
-  option_map,
-  codes,
-}
+use Rattle.std.specs.Prelude.{ℕ, zero, suc, ◌+◌, ◌*◌, ◌-◌, nat_lt, nat_le, true, false, ◌&&◌, ◌||◌, ◌==◌, bytes_eq, [], ◌∷◌, ◌++◌, drop}
+use Rattle.std.specs.Prelude.{take, length, fold, Option, Some, None, option_map, codes}
 use Rattle.std.specs.Char.{is_ascii_punctuation, is_ascii_digit, is_ascii_hexdigit, is_ascii_alphanumeric, digit_value}
 use Rattle.doc_rules.specs.Characters.{Text, one_of}
 use Rattle.doc_rules.specs.Parsers.{Parser, one, is, ◌then◌, some, at_most, before, inside}

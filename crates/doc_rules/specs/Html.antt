@@ -1,65 +1,17 @@
 -- Inlines and blocks as HTML (CommonMark 0.31.2; the layout is that of its examples).
-use Rattle.std.specs.Prelude.{
-  ℕ,
-  zero,
-  suc,
-  Bool,
-  true,
-  false,
-  ◌==◌,
-  List,
-  [],
-  ◌∷◌,
-  ◌++◌,
-  map,
-  flat_map,
-  decimal,
-  drop,
-  Option,
-  Some,
-  None,
-  if◌then◌else◌,
-  codes,
-}
+use Rattle.std.specs.Prelude.{ℕ, zero, suc, Bool, true, false, ◌==◌, List, [], ◌∷◌, ◌++◌, map, flat_map, decimal, drop, Option, Some, None}
+use Rattle.std.specs.Prelude.{if◌then◌else◌, codes}
 use Rattle.doc_rules.specs.Characters.{Text, is_space_or_tab, strip_front}
 use Rattle.doc_rules.specs.Entities.{Table}
 use Rattle.doc_rules.specs.Destinations.{Target}
 use Rattle.doc_rules.specs.Definitions.{Definition}
-use Rattle.doc_rules.specs.Inlines.{
-  Span,
-  Emphasis,
-  Strong,
-  Link,
-  Image,
-  Inline,
-  Literal,
-  Code,
-  Raw,
-  Reference,
-  SoftBreak,
-  HardBreak,
-  Start,
-  End,
-}
+use Rattle.doc_rules.specs.Inlines.{Span, Emphasis, Strong, Link, Image, Inline, Literal, Code, Raw, Reference, SoftBreak, HardBreak, Start}
+use Rattle.doc_rules.specs.Inlines.{End}
 use Rattle.doc_rules.specs.CodeSpans.{spaced}
 use Rattle.doc_rules.specs.Reading.{inlines_of}
 use Rattle.doc_rules.specs.Forests.{none, ◌▹◌, node}
-use Rattle.doc_rules.specs.Blocks.{
-  Leaf,
-  Paragraph,
-  Heading,
-  IndentedCode,
-  FencedCode,
-  HtmlBlock,
-  ThematicBreak,
-  Container,
-  BlockQuote,
-  ListBlock,
-  ListItem,
-  Blocks,
-  Document,
-  document_of,
-}
+use Rattle.doc_rules.specs.Blocks.{Leaf, Paragraph, Heading, IndentedCode, FencedCode, HtmlBlock, ThematicBreak, Container, BlockQuote}
+use Rattle.doc_rules.specs.Blocks.{ListBlock, ListItem, Blocks, Document, document_of}
 use Rattle.doc_rules.specs.Escaping.{html_escape, url_escape}
 use Rattle.doc_rules.specs.PlainTexts.{plain}
 use Rattle.doc_page.specs.Pages.{title_attribute, opening_tag}

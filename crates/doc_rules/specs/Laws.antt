@@ -1,33 +1,6 @@
 -- Laws of the definitions; the proofs are in proofs/.
-use Rattle.std.specs.Prelude.{
-  ◌≡◌,
-  ℕ,
-  zero,
-  suc,
-  ◌+◌,
-  ◌%◌,
-  ◌^◌,
-  ◌<◌,
-  ◌≤◌,
-  ⊤,
-  Bool,
-  false,
-  ◌==◌,
-  bytes_eq,
-  List,
-  [],
-  ◌∷◌,
-  ◌++◌,
-  map,
-  flat_map,
-  drop,
-  length,
-  encode_utf8_all,
-  Option,
-  Some,
-  None,
-  codes,
-}
+use Rattle.std.specs.Prelude.{◌≡◌, ℕ, zero, suc, ◌+◌, ◌%◌, ◌^◌, ◌<◌, ◌≤◌, ⊤, Bool, false, ◌==◌, bytes_eq, List, [], ◌∷◌, ◌++◌, map}
+use Rattle.std.specs.Prelude.{flat_map, drop, length, encode_utf8_all, Option, Some, None, codes}
 use Rattle.std.specs.Bool.{MatchBool}
 use Rattle.std.specs.List.{concat, AllByRecursion, IsDistinct, list_any}
 use Rattle.doc_rules.specs.Characters.{Text}
@@ -45,19 +18,8 @@ use Rattle.doc_rules.specs.PlainTexts.{headings_in, headings_of}
 use Rattle.doc_rules.specs.Anchors.{anchors_of}
 use Rattle.doc_rules.specs.Escaping.{html_escape}
 use Rattle.doc_rules.specs.Html.{Output, Writing, blocks_html, Linker, written_text, html_of}
-use Rattle.doc_rules.specs.Pages.{
-  PagePiece,
-  HtmlPiece,
-  LinkPiece,
-  Page,
-  pieces_of,
-  document_anchors,
-  document_page,
-  filled,
-  encoded,
-  encoded_shown,
-  rendered_of,
-}
+use Rattle.doc_rules.specs.Pages.{PagePiece, HtmlPiece, LinkPiece, Page, pieces_of, document_anchors, document_page, filled, encoded}
+use Rattle.doc_rules.specs.Pages.{encoded_shown, rendered_of}
 use Rattle.doc_page.specs.Laws as pages
 use Rattle.doc_page.specs.Escaping.{escaped}
 use Rattle.doc_page.specs.Lines.{lines as page_lines, without_ending as page_without_ending}

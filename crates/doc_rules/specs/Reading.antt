@@ -1,27 +1,6 @@
 -- Reading a text as inlines (CommonMark 0.31.2, section 6): what was made so far, the nearest first, and the rest of the text.
-use Rattle.std.specs.Prelude.{
-  ℕ,
-  zero,
-  suc,
-  ◌+◌,
-  ◌-◌,
-  nat_le,
-  true,
-  false,
-  ◌==◌,
-  List,
-  [],
-  ◌∷◌,
-  ◌++◌,
-  reverse,
-  length,
-  drop,
-  take,
-  Some,
-  None,
-  if◌then◌else◌,
-  codes,
-}
+use Rattle.std.specs.Prelude.{ℕ, zero, suc, ◌+◌, ◌-◌, nat_le, true, false, ◌==◌, List, [], ◌∷◌, ◌++◌, reverse, length, drop, take, Some}
+use Rattle.std.specs.Prelude.{None, if◌then◌else◌, codes}
 use Rattle.std.specs.Char.{is_ascii_punctuation}
 use Rattle.doc_rules.specs.Characters.{Text, first_or}
 use Rattle.doc_rules.specs.Parsers.{is, ◌then◌, before, inside, run_length}
@@ -30,22 +9,8 @@ use Rattle.doc_rules.specs.Autolinks.{uri, mail}
 use Rattle.doc_rules.specs.Entities.{Table}
 use Rattle.doc_rules.specs.Escapes.{character_reference}
 use Rattle.doc_rules.specs.Definitions.{Definition}
-use Rattle.doc_rules.specs.Inlines.{
-  Span,
-  Link,
-  Inline,
-  Literal,
-  Raw,
-  Reference,
-  SoftBreak,
-  HardBreak,
-  Start,
-  End,
-  Delimiters,
-  Open,
-  literals,
-  onto,
-}
+use Rattle.doc_rules.specs.Inlines.{Span, Link, Inline, Literal, Raw, Reference, SoftBreak, HardBreak, Start, End, Delimiters, Open}
+use Rattle.doc_rules.specs.Inlines.{literals, onto}
 use Rattle.doc_rules.specs.Emphasis.{run_between, emphasis_of}
 use Rattle.doc_rules.specs.CodeSpans.{code_span}
 use Rattle.doc_rules.specs.Links.{close_bracket}

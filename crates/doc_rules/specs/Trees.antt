@@ -1,27 +1,7 @@
 -- The tree of a text's lines, which are added one by one (CommonMark 0.31.2, sections 3, 4 and 5; the phases are those of its appendix).
 -- Nothing is marked open or closed but fences and HTML blocks: the open blocks are the last ones, and a blank line is kept as a leaf.
-use Rattle.std.specs.Prelude.{
-  ℕ,
-  zero,
-  suc,
-  ◌-◌,
-  nat_le,
-  Bool,
-  true,
-  false,
-  not,
-  ◌&&◌,
-  ◌||◌,
-  ◌==◌,
-  List,
-  [],
-  ◌∷◌,
-  ◌++◌,
-  length,
-  Option,
-  Some,
-  None,
-}
+use Rattle.std.specs.Prelude.{ℕ, zero, suc, ◌-◌, nat_le, Bool, true, false, not, ◌&&◌, ◌||◌, ◌==◌, List, [], ◌∷◌, ◌++◌, length, Option}
+use Rattle.std.specs.Prelude.{Some, None}
 use Rattle.doc_rules.specs.Characters.{Text}
 use Rattle.doc_rules.specs.Lines.{lines_of, line_content}
 use Rattle.doc_rules.specs.Columns.{Line, cells_of, text_of, indent, after_indent, skip, is_blank_line}

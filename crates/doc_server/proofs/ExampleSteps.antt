@@ -1,30 +1,6 @@
 -- Reading examples: texts character by character and line by line.
-use Rattle.std.proofs.Common.{
-  ◌≡◌,
-  ℕ,
-  ◌+◌,
-  ◌≤◌,
-  List,
-  [],
-  ◌∷◌,
-  ◌++◌,
-  ◌<◌,
-  ◌==◌,
-  length,
-  take,
-  drop,
-  map,
-  Bool,
-  true,
-  false,
-  refl,
-  sym,
-  ap,
-  subst,
-  ◌∙◌,
-  append-nil,
-  arith,
-}
+use Rattle.std.proofs.Common.{◌≡◌, ℕ, ◌+◌, ◌≤◌, List, [], ◌∷◌, ◌++◌, ◌<◌, ◌==◌, length, take, drop, map, Bool, true, false, refl, sym, ap}
+use Rattle.std.proofs.Common.{subst, ◌∙◌, append-nil, arith}
 use Rattle.std.proofs.Math.Seq.{take-append-add}
 use Rattle.std.specs.Prelude.{Option, Some, None, chars, encode_utf8, encode_utf8_all}
 use Rattle.std.proofs.lemmas.Iterator.{YieldsList}
@@ -33,26 +9,8 @@ use Rattle.std.proofs.lemmas.List.Splits.{length-slice_split}
 use Rattle.std.proofs.lemmas.List.Sums.{count_by-le-length}
 use Rattle.std.specs.Io.KnownBytes.{Appends, Keeps}
 use Rattle.std.proofs.KnownBytes.{Appends-nil, Appends-trans, Appends-kept}
-use Rattle.doc_server.specs.Examples.{
-  Example,
-  Place,
-  Between,
-  tab_or,
-  meant,
-  lines,
-  onto,
-  example_before,
-  place_after,
-  examples_from,
-  examples_of,
-  passes,
-  one_more,
-  example_line,
-  lines_from,
-  count_from,
-  no_examples,
-  count_of,
-}
+use Rattle.doc_server.specs.Examples.{Example, Place, Between, tab_or, meant, lines, onto, example_before, place_after, examples_from}
+use Rattle.doc_server.specs.Examples.{examples_of, passes, one_more, example_line, lines_from, count_from, no_examples, count_of}
 use Rattle.doc_server.specs.ExampleSteps.{line_before, count_after, StopsAt, HasRoom, IsAt}
 use Rattle.doc_server_streams.specs.Streams.{AppendsPrefix}
 use Rattle.doc_server.specs.declared.count.Count.{Count}

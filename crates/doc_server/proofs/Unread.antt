@@ -1,27 +1,6 @@
 -- Steps that send a reply take unread bytes.
-use Rattle.std.proofs.Common.{
-  ◌≡◌,
-  ℕ,
-  ◌<◌,
-  ◌≤◌,
-  List,
-  [],
-  ◌∷◌,
-  Bool,
-  true,
-  false,
-  cond,
-  T,
-  length,
-  drop,
-  sym,
-  ap,
-  ◌∙◌,
-  subst,
-  ◌==◌,
-  arith,
-  length-drop,
-}
+use Rattle.std.proofs.Common.{◌≡◌, ℕ, ◌<◌, ◌≤◌, List, [], ◌∷◌, Bool, true, false, cond, T, length, drop, sym, ap, ◌∙◌, subst, ◌==◌, arith}
+use Rattle.std.proofs.Common.{length-drop}
 use Rattle.std.specs.Prelude.{Option, Some, None, Result, Ok, Err, is_ok, MatchBool, if◌then◌else◌, ⊤}
 use Rattle.std.specs.FinMap as map
 use Rattle.std.specs.Cmp.{unsigned_tied}

@@ -6,20 +6,8 @@ use Rattle.std.specs.Char.{encode_utf8}
 use Rattle.std.specs.Fmt.{digits}
 use Rattle.doc_rules.proofs.Computing.{html_words}
 use Rattle.doc_server.specs.Rendering.{rendered}
-use Rattle.doc_server.specs.Examples.{
-  begins_example,
-  ends_input,
-  ends_output,
-  meant,
-  examples_from,
-  examples_of,
-  count_from,
-  lines_from,
-  report,
-  count_of,
-  status_of,
-  fence,
-}
+use Rattle.doc_server.specs.Examples.{begins_example, ends_input, ends_output, meant, examples_from, examples_of, count_from, lines_from}
+use Rattle.doc_server.specs.Examples.{report, count_of, status_of, fence}
 
 -- three examples, of which the second is shown otherwise and the last doesn't end; `→` stands for a tab
 abbrev text : List ℕ

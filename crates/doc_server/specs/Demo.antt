@@ -1,21 +1,5 @@
 -- What the command `demo` sends: a run of the hub on the demonstration site. All of this is this project's choice.
-use Rattle.std.specs.Prelude.{
-  ◌≡◌,
-  ◌<◌,
-  ⊤,
-  ◌⊎◌,
-  ℕ,
-  List,
-  [],
-  ◌∷◌,
-  ◌++◌,
-  length,
-  codes,
-  string_bytes,
-  All,
-  Option,
-  IfSome,
-}
+use Rattle.std.specs.Prelude.{◌≡◌, ◌<◌, ⊤, ◌⊎◌, ℕ, List, [], ◌∷◌, ◌++◌, length, codes, string_bytes, All, Option, IfSome}
 use Rattle.std.specs.Io.KnownBytes.{Appends, Keeps}
 use Rattle.doc_hub.specs.Connections.{backlog_limit}
 use Rattle.doc_hub.specs.Replies.{Renders}

@@ -1,29 +1,7 @@
 -- The examples of a published text of CommonMark, and what the command `examples` prints for them. The form of that text is the one of
 -- CommonMark 0.31.2's `spec.txt`; what is printed is this project's choice.
-use Rattle.std.specs.Prelude.{
-  ℕ,
-  ◌≡◌,
-  ◌⊎◌,
-  ◌+◌,
-  Bool,
-  ◌||◌,
-  ◌==◌,
-  List,
-  [],
-  ◌∷◌,
-  ◌++◌,
-  map,
-  codes,
-  chars,
-  string_bytes,
-  encode_utf8_all,
-  decimal,
-  bytes_eq,
-  Option,
-  Some,
-  None,
-  if◌then◌else◌,
-}
+use Rattle.std.specs.Prelude.{ℕ, ◌≡◌, ◌⊎◌, ◌+◌, Bool, ◌||◌, ◌==◌, List, [], ◌∷◌, ◌++◌, map, codes, chars, string_bytes, encode_utf8_all}
+use Rattle.std.specs.Prelude.{decimal, bytes_eq, Option, Some, None, if◌then◌else◌}
 use Rattle.std.specs.List.{slice_split}
 use Rattle.std.specs.Io.KnownBytes.{Keeps}
 use Rattle.doc_server_streams.specs.Streams.{AppendsPrefix}

@@ -1,27 +1,6 @@
 -- The different names of a list are the keys of a finite set: so they are its names, and equal sets have equal lists.
-use Rattle.std.proofs.Common.{
-  ◌≡◌,
-  ℕ,
-  List,
-  [],
-  ◌∷◌,
-  map as mapped,
-  Bool,
-  true,
-  false,
-  ◌||◌,
-  ◌++◌,
-  cond,
-  bytes_eq,
-  Less,
-  Equal,
-  Greater,
-  is_some,
-  refl,
-  sym,
-  ap,
-  ◌∙◌,
-}
+use Rattle.std.proofs.Common.{◌≡◌, ℕ, List, [], ◌∷◌, map as mapped, Bool, true, false, ◌||◌, ◌++◌, cond, bytes_eq, Less, Equal, Greater}
+use Rattle.std.proofs.Common.{is_some, refl, sym, ap, ◌∙◌}
 use Rattle.std.specs.Prelude.{Option, Some, None}
 use Rattle.std.specs.Cmp.Lexicographic.{slice_cmp}
 use Rattle.std.specs.FinMap as map

@@ -1,25 +1,6 @@
 -- Maps as contracts see them: how many keys they have, and those by `String` keys.
-use Rattle.std.proofs.Common.{
-  ◌≡◌,
-  ℕ,
-  List,
-  [],
-  ◌∷◌,
-  ◌+◌,
-  Bool,
-  false,
-  cond,
-  String,
-  string_bytes,
-  length,
-  add-one,
-  is_some,
-  refl,
-  ap,
-  sym,
-  ◌∙◌,
-  arith,
-}
+use Rattle.std.proofs.Common.{◌≡◌, ℕ, List, [], ◌∷◌, ◌+◌, Bool, false, cond, String, string_bytes, length, add-one, is_some, refl, ap, sym}
+use Rattle.std.proofs.Common.{◌∙◌, arith}
 use Rattle.std.specs.Prelude.{Some, None}
 use Rattle.std.specs.declared.cmp.Ordering.{Ordering}
 use Rattle.std.specs.declared.cmp.Ordering.TheVariants.{Less}

@@ -1,26 +1,6 @@
 -- Maps whose values are changed, and maps of sorted entries.
-use Rattle.std.proofs.Common.{
-  ◌≡◌,
-  ℕ,
-  suc,
-  ◌&&◌,
-  subst,
-  List,
-  [],
-  ◌∷◌,
-  Bool,
-  true,
-  false,
-  cond,
-  T,
-  length,
-  map as mapped,
-  refl,
-  ap,
-  sym,
-  ◌∙◌,
-  is_some,
-}
+use Rattle.std.proofs.Common.{◌≡◌, ℕ, suc, ◌&&◌, subst, List, [], ◌∷◌, Bool, true, false, cond, T, length, map as mapped, refl, ap, sym}
+use Rattle.std.proofs.Common.{◌∙◌, is_some}
 use Rattle.std.specs.Prelude.{Option, Some, None, option_map}
 use Rattle.std.specs.FinMap as map
 use Rattle.std.specs.FinMap.Entries.{find, is_sorted, below_all}

@@ -13,25 +13,8 @@ use Rattle.doc_store.proofs.StoreSteps.{move_stays, put_stays, remove_stays, tak
 use Rattle.doc_store.specs.Maps.{TextMap, map_values}
 use Rattle.doc_store.specs.MoveSteps.{restamped, with_stamped, with_stamped_at}
 use Rattle.doc_store.specs.Pages.{Page, StampedPage}
-use Rattle.doc_store.specs.Store.{
-  StoreState,
-  IsStore,
-  empty_store,
-  state_of,
-  with_page,
-  put_by,
-  fits,
-  fits_in,
-  without_goal,
-  without_page,
-  aliases_after,
-  may_move,
-  move_fits,
-  with_key_at,
-  with_move,
-  moved_by,
-  moved_in,
-}
+use Rattle.doc_store.specs.Store.{StoreState, IsStore, empty_store, state_of, with_page, put_by, fits, fits_in, without_goal, without_page}
+use Rattle.doc_store.specs.Store.{aliases_after, may_move, move_fits, with_key_at, with_move, moved_by, moved_in}
 
 -- ---- a new store
 

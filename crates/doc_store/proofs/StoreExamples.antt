@@ -13,22 +13,8 @@ use Rattle.doc_store.specs.declared.readers.Set.{Set}
 use Rattle.doc_store.specs.declared.store.EditError.{EditError}
 use Rattle.doc_store.specs.declared.store.Put.{Put}
 use Rattle.doc_store.specs.declared.store.Put.TheVariants.{Created, Replaced}
-use Rattle.doc_store.proofs.StoreOnLists.{
-  Entries,
-  made,
-  has-made,
-  removed-made,
-  len-none,
-  len-more,
-  store_of,
-  no_page_on,
-  taken_on,
-  full_on,
-  moved_on,
-  put_on,
-  removed_on,
-  not_removed_on,
-}
+use Rattle.doc_store.proofs.StoreOnLists.{Entries, made, has-made, removed-made, len-none, len-more, store_of, no_page_on, taken_on}
+use Rattle.doc_store.proofs.StoreOnLists.{full_on, moved_on, put_on, removed_on, not_removed_on}
 use Rattle.doc_store.specs.Pages.{Page}
 use Rattle.doc_store.specs.Readers.{ReaderTable, set_reader}
 use Rattle.doc_store.specs.Store.{StoreState, put_into, without_page, moved_in, text_limit, page_limit, alias_limit, put_limit}

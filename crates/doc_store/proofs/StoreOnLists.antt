@@ -1,24 +1,6 @@
 -- Stores whose maps are written out as lists of entries, on which examples compute.
-use Rattle.std.proofs.Common.{
-  ◌≡◌,
-  ℕ,
-  ◌+◌,
-  List,
-  [],
-  ◌∷◌,
-  map as mapped,
-  Bool,
-  true,
-  false,
-  cond,
-  not,
-  bytes_eq,
-  is_some,
-  refl,
-  ap,
-  sym,
-  ◌∙◌,
-}
+use Rattle.std.proofs.Common.{◌≡◌, ℕ, ◌+◌, List, [], ◌∷◌, map as mapped, Bool, true, false, cond, not, bytes_eq, is_some, refl, ap, sym}
+use Rattle.std.proofs.Common.{◌∙◌}
 use Rattle.std.specs.Prelude.{Option, Some, None, option_map, Result, Ok, Err, nat_lt, nat_le, ◌||◌, if◌then◌else◌}
 use Rattle.std.specs.Cmp.{eq_by_cmp_equiv}
 use Rattle.std.specs.Cmp.Lexicographic.{slice_cmp}
@@ -40,22 +22,8 @@ use Rattle.doc_store.proofs.KeySteps.{same_key}
 use Rattle.doc_store.proofs.MapValues.{find-changed, get-map_values}
 use Rattle.doc_store.specs.Maps.{TextMap, map_values}
 use Rattle.doc_store.specs.Pages.{Page}
-use Rattle.doc_store.specs.Store.{
-  StoreState,
-  put_into,
-  put_by,
-  fits,
-  without_goal,
-  without_page,
-  goal_after,
-  aliases_after,
-  alias_limit,
-  put_limit,
-  move_fits,
-  moved_by,
-  moved_in,
-  with_key_at,
-}
+use Rattle.doc_store.specs.Store.{StoreState, put_into, put_by, fits, without_goal, without_page, goal_after, aliases_after, alias_limit}
+use Rattle.doc_store.specs.Store.{put_limit, move_fits, moved_by, moved_in, with_key_at}
 
 abbrev pub Entries : Type 0 → Type 0
 Entries X = List (List ℕ × X)

@@ -1,62 +1,19 @@
 -- Stores stay stores: an edit keeps what every store is.
-use Rattle.std.proofs.Common.{
-  ◌≡◌,
-  ◌⊎◌,
-  ⊎_elim,
-  ℕ,
-  ◌+◌,
-  ◌<◌,
-  List,
-  Bool,
-  true,
-  false,
-  cond,
-  not,
-  bytes_eq,
-  is_some,
-  inl,
-  inr,
-  refl,
-  ap,
-  sym,
-  ◌∙◌,
-  arith,
-}
+use Rattle.std.proofs.Common.{◌≡◌, ◌⊎◌, ⊎_elim, ℕ, ◌+◌, ◌<◌, List, Bool, true, false, cond, not, bytes_eq, is_some, inl, inr, refl, ap, sym}
+use Rattle.std.proofs.Common.{◌∙◌, arith}
 use Rattle.std.specs.Prelude.{Option, Some, None, option_map}
 use Rattle.std.specs.FinMap as map
 use Rattle.std.specs.Cmp.Lexicographic.{slice_cmp}
 use Rattle.std.specs.Ordering.{nat_cmp}
 use Rattle.std.proofs.lemmas.Cmp.{nat_list_cmp_total}
-use Rattle.doc_store.proofs.KeySteps.{
-  same_key,
-  same_from,
-  same_itself,
-  bytes_eq_is,
-  not_none,
-  some_is,
-  get_set,
-  get_taken,
-  stood,
-  set_or_stood,
-  contains_set,
-  contains_taken,
-}
+use Rattle.doc_store.proofs.KeySteps.{same_key, same_from, same_itself, bytes_eq_is, not_none, some_is, get_set, get_taken, stood}
+use Rattle.doc_store.proofs.KeySteps.{set_or_stood, contains_set, contains_taken}
 use Rattle.doc_store.proofs.MapValues.{get-map_values}
 use Rattle.doc_store.specs.Maps.{TextMap, map_values}
 use Rattle.doc_store.specs.Pages.{Page}
 use Rattle.doc_store.specs.Sites.{Site, IsSite}
-use Rattle.doc_store.specs.Store.{
-  StoreState,
-  IsStore,
-  empty_store,
-  is_goal,
-  without_goal,
-  goal_after,
-  aliases_after,
-  with_page,
-  with_move,
-  with_key_at,
-}
+use Rattle.doc_store.specs.Store.{StoreState, IsStore, empty_store, is_goal, without_goal, goal_after, aliases_after, with_page, with_move}
+use Rattle.doc_store.specs.Store.{with_key_at}
 
 differ : (b : Bool) → b ≡ true → b ≡ false → ⊥
 differ true e f = cc

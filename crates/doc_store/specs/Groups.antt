@@ -1,27 +1,6 @@
 -- Groups of readers. All of this is this project's choice.
-use Rattle.std.specs.Prelude.{
-  ◌≡◌,
-  ◌≤◌,
-  true,
-  ℕ,
-  List,
-  [],
-  ◌∷◌,
-  length,
-  map,
-  Bool,
-  not,
-  ◌&&◌,
-  ◌||◌,
-  ◌==◌,
-  nat_le,
-  nat_lt,
-  bytes_eq,
-  Result,
-  Ok,
-  Err,
-  if◌then◌else◌,
-}
+use Rattle.std.specs.Prelude.{◌≡◌, ◌≤◌, true, ℕ, List, [], ◌∷◌, length, map, Bool, not, ◌&&◌, ◌||◌, ◌==◌, nat_le, nat_lt, bytes_eq, Result}
+use Rattle.std.specs.Prelude.{Ok, Err, if◌then◌else◌}
 use Rattle.std.specs.Borrow.{Bor}
 use Rattle.std.specs.Char.{is_ascii_digit, is_ascii_lowercase}
 use Rattle.std.specs.Cmp.Lexicographic.{slice_cmp}

@@ -1,31 +1,7 @@
 -- The readers of a configuration, a TOML 1.1 document: the tables of its array `reader`, each a reader
 -- entry. Their keys and the order of the refusals are this project's choice.
-use Rattle.std.specs.Prelude.{
-  ℕ,
-  ◌+◌,
-  List,
-  [],
-  ◌∷◌,
-  ◌++◌,
-  Bool,
-  true,
-  false,
-  ◌&&◌,
-  is_some,
-  codes,
-  map as mapped,
-  String,
-  string_bytes,
-  Option,
-  Some,
-  None,
-  option_map,
-  option_and_then,
-  Result,
-  Ok,
-  Err,
-  if◌then◌else◌,
-}
+use Rattle.std.specs.Prelude.{ℕ, ◌+◌, List, [], ◌∷◌, ◌++◌, Bool, true, false, ◌&&◌, is_some, codes, map as mapped, String, string_bytes}
+use Rattle.std.specs.Prelude.{Option, Some, None, option_map, option_and_then, Result, Ok, Err, if◌then◌else◌}
 use Rattle.std.specs.FinMap as map
 use Rattle.std.specs.Cmp.Lexicographic.{slice_cmp}
 use Rattle.std.specs.Ordering.{nat_cmp}

@@ -1,22 +1,6 @@
 -- Sites, and what a reader sees of one. All of this is this project's choice.
-use Rattle.std.specs.Prelude.{
-  ◌≡◌,
-  ℕ,
-  List,
-  [],
-  ◌∷◌,
-  Bool,
-  true,
-  false,
-  ◌||◌,
-  bytes_eq,
-  Option,
-  Some,
-  None,
-  option_and_then,
-  if◌then◌else◌,
-  refl,
-}
+use Rattle.std.specs.Prelude.{◌≡◌, ℕ, List, [], ◌∷◌, Bool, true, false, ◌||◌, bytes_eq, Option, Some, None, option_and_then, if◌then◌else◌}
+use Rattle.std.specs.Prelude.{refl}
 use Rattle.std.specs.Coded.{Coded, code_by, coded×, coded_list, coded_ℕ}
 use Rattle.std.specs.FinMap as map
 use Rattle.doc_store.specs.declared.reader.Reader.{Reader}

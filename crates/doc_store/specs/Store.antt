@@ -1,30 +1,6 @@
 -- The store: a site, and the edits of it. All of this is this project's choice.
-use Rattle.std.specs.Prelude.{
-  ◌≡◌,
-  ℕ,
-  ◌+◌,
-  ◌-◌,
-  ◌^◌,
-  ◌<◌,
-  List,
-  length,
-  Bool,
-  false,
-  not,
-  ◌&&◌,
-  ◌||◌,
-  nat_lt,
-  nat_le,
-  bytes_eq,
-  Option,
-  Some,
-  None,
-  Result,
-  Ok,
-  Err,
-  if◌then◌else◌,
-  refl,
-}
+use Rattle.std.specs.Prelude.{◌≡◌, ℕ, ◌+◌, ◌-◌, ◌^◌, ◌<◌, List, length, Bool, false, not, ◌&&◌, ◌||◌, nat_lt, nat_le, bytes_eq, Option}
+use Rattle.std.specs.Prelude.{Some, None, Result, Ok, Err, if◌then◌else◌, refl}
 use Rattle.std.specs.Coded.{Coded, code_by, coded×, coded_list, coded_ℕ}
 use Rattle.std.specs.FinMap as map
 use Rattle.doc_store.specs.declared.moving.MoveError.{MoveError}

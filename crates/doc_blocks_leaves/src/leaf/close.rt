@@ -25,8 +25,10 @@ pub fn closed(
     entities: &Entities,
     refs: &mut RefMap,
 ) -> Result<Option<Block>, Memory>
-    ensures block { IfOk result (λ block. (before : Blocks) → with_block block before ≡ with_open entities.now (leaf_shown kind lines.now) before) }
-    ensures refs { OnOk result (refs.new ≡ joined refs.old (targets_of (open_references entities.now (leaf_shown kind lines.now)))) }
+    ensures block { IfOk result (λ block. (before : Blocks)
+        → with_block block before ≡ with_open entities.now (leaf_shown kind lines.now) before) }
+    ensures refs { OnOk result (refs.new ≡ joined refs.old
+        (targets_of (open_references entities.now (leaf_shown kind lines.now)))) }
 {
     match kind {
         Kind::Nothing => Ok(None),

@@ -36,7 +36,9 @@ pub enum LineTaken {
 /// Indented code takes lines that are indented as code, and blank ones.
 #[tactic(auto, unfolding(doc_blocks_pass::specs::Leaves::taken))]
 pub fn take_code(lines: &mut Gathered, line: &Cursor) -> Result<LineTaken, Memory>
-    ensures taken { IfOk result (λ answer. taken_shown answer (OpenCode lines.new.all lines.new.kept) ≡ taken (left_of line.now) (OpenCode lines.old.all lines.old.kept)) }
+    ensures taken { IfOk result (λ answer. taken_shown answer
+        (OpenCode lines.new.all lines.new.kept)
+        ≡ taken (left_of line.now) (OpenCode lines.old.all lines.old.kept)) }
     ensures no { IfOk result (λ answer. answer ≡ No → lines.new ≡ lines.old) }
 {
     let blank = is_blank_line(line);
@@ -52,7 +54,8 @@ pub fn take_code(lines: &mut Gathered, line: &Cursor) -> Result<LineTaken, Memor
 #[tactic(auto, unfolding(doc_blocks_pass::specs::Leaves::taken))]
 pub fn take_fenced(fence: Fence, lines: &mut Gathered, line: &Cursor) -> Result<LineTaken, Memory>
     ensures taken { IfOk result (λ answer. (info : Text) →
-        taken_shown answer (OpenFence (fence_shown fence) info lines.new.all) ≡ taken (left_of line.now) (OpenFence (fence_shown fence) info lines.old.all)) }
+        taken_shown answer (OpenFence (fence_shown fence) info lines.new.all)
+        ≡ taken (left_of line.now) (OpenFence (fence_shown fence) info lines.old.all)) }
     ensures no { IfOk result (λ answer. answer ≡ No → lines.new ≡ lines.old) }
 {
     if closes_fence(fence, line) {
@@ -66,7 +69,8 @@ pub fn take_fenced(fence: Fence, lines: &mut Gathered, line: &Cursor) -> Result<
 #[tactic(auto, unfolding(doc_blocks_pass::specs::Leaves::taken))]
 pub fn take_html(kind: HtmlKind, lines: &mut Gathered, line: &Cursor) -> Result<LineTaken, Memory>
     ensures taken { IfOk result (λ answer.
-        taken_shown answer (OpenHtml (kind_of kind) lines.new.all lines.new.kept) ≡ taken (left_of line.now) (OpenHtml (kind_of kind) lines.old.all lines.old.kept)) }
+        taken_shown answer (OpenHtml (kind_of kind) lines.new.all lines.new.kept)
+        ≡ taken (left_of line.now) (OpenHtml (kind_of kind) lines.old.all lines.old.kept)) }
     ensures no { IfOk result (λ answer. answer ≡ No → lines.new ≡ lines.old) }
 {
     let blank = is_blank_line(line);

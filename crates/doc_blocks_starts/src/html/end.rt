@@ -11,7 +11,8 @@ use doc_lines::scan::word::{through, through_in_any_case};
 /// Whether the end tag of a name of kind 1 stands in the line, in any case.
 #[tactic(auto, unfolding(doc_rules::specs::HtmlStarts::raw_text_names))]
 pub fn holds_raw_text_end(line: &str) -> bool
-    ensures { result ≡ list_any (λ name. holds (word_in_any_case (codes "</" ++ name ++ codes ">")) (chars line.now)) raw_text_names }
+    ensures { result ≡ list_any (λ name. holds (word_in_any_case (codes "</" ++ name ++ codes ">"))
+        (chars line.now)) raw_text_names }
 {
     holds_in_any_case(line, b"</script>")
         || holds_in_any_case(line, b"</pre>")

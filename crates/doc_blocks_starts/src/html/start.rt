@@ -98,7 +98,8 @@ fn is_tag_line(text: &str) -> bool
 
 /// Whether a name of kind 1 stands behind `<`.
 fn has_raw_text_name(text: &str) -> bool
-    ensures { result ≡ begins_before (is_named raw_text_names (λ rest. true)) (is 60) (chars text.now) }
+    ensures { result ≡ begins_before (is_named raw_text_names (λ rest. true)) (is 60)
+        (chars text.now) }
 {
     match is(text, '<') {
         Some(rest) => is_named(rest, RAW_TEXT_NAMES, |_| true),
@@ -110,7 +111,8 @@ fn has_raw_text_name(text: &str) -> bool
 #[tactic(auto, unfolding(doc_rules::specs::HtmlStarts::is_named), using(doc_lines::proofs::Rests::tag_name_rest))]
 fn is_named<F: Fn(&str) -> bool>(text: &str, names: &[&str], test: F) -> bool
     requires { F.IsAlwaysCallable test }
-    ensures { (fits : Text → Bool) → IsRestTestOf (F.post test) fits → result ≡ is_named (names_of names.now) fits (chars text.now) }
+    ensures { (fits : Text → Bool) → IsRestTestOf (F.post test) fits
+        → result ≡ is_named (names_of names.now) fits (chars text.now) }
 {
     match tag_name(text) {
         Some(rest) => is_among(names, front(text, rest)) && test(rest),

@@ -33,7 +33,8 @@ struct Digits {
 pub(super) fn list_marker<'a>(front: Cursor<'a>) -> Option<Marker<'a>>
     requires { IsPlain front }
     ensures marker { marker_of result ≡ list_marker (left_of front.entry) }
-    ensures length { IfSome result (λ m. m.length + length (left_of m.behind) ≡ length (left_of front.entry)) }
+    ensures length { IfSome result (λ m. m.length + length (left_of m.behind)
+        ≡ length (left_of front.entry)) }
     ensures few { IfSome result (λ m. m.length ≤ 10) }
 {
     let mut line = front;
@@ -49,7 +50,8 @@ pub(super) fn list_marker<'a>(front: Cursor<'a>) -> Option<Marker<'a>>
 fn bullet_marker<'a>(front: Cursor<'a>) -> Option<Marker<'a>>
     requires { IsPlain front }
     ensures marker { marker_of result ≡ bullet_marker (left_of front.entry) }
-    ensures length { IfSome result (λ m. m.length + length (left_of m.behind) ≡ length (left_of front.entry)) }
+    ensures length { IfSome result (λ m. m.length + length (left_of m.behind)
+        ≡ length (left_of front.entry)) }
     ensures few { IfSome result (λ m. m.length ≤ 10) }
 {
     let mut line = front;
@@ -70,7 +72,8 @@ fn ordered_marker<'a>(digits: Digits, front: Cursor<'a>) -> Option<Marker<'a>>
     requires plain { IsPlain front }
     requires few { digits.length ≤ 9 }
     ensures marker { marker_of result ≡ ordered_marker digits.number (left_of front.entry) }
-    ensures length { IfSome result (λ m. m.length + length (left_of m.behind) ≡ digits.length + length (left_of front.entry)) }
+    ensures length { IfSome result (λ m. m.length + length (left_of m.behind)
+        ≡ digits.length + length (left_of front.entry)) }
     ensures few { IfSome result (λ m. m.length ≤ 10) }
 {
     let mut line = front;
@@ -101,7 +104,8 @@ fn is_delimiter(c: char) -> bool
 /// Takes the digits at the front of a line, 9 at most, or answers `None` where there are more.
 fn take_digits(line: &mut Cursor) -> Option<Digits>
     requires { IsPlain line.old }
-    ensures digits { MatchOption result (9 < length (digits_of (left_of line.old))) (AreDigits (left_of line.old) (left_of line.new)) }
+    ensures digits { MatchOption result (9 < length (digits_of (left_of line.old)))
+        (AreDigits (left_of line.old) (left_of line.new)) }
     ensures plain { IsPlain line.new }
 {
     let mut number = 0;

@@ -20,7 +20,8 @@ pub fn find_built_in(name: &str) -> Option<(char, Option<char>)>
 fn find_in(rows: &[Row], name: &[u8]) -> Option<(char, Option<char>)>
     requires within { list_all (is_within NAMES.now) rows.now ≡ true }
     requires order { Rises (map (row_entity NAMES.now) rows.now) }
-    ensures { option_map characters result ≡ find_entity (map (row_entity NAMES.now) rows.now) name.now }
+    ensures { option_map characters result
+        ≡ find_entity (map (row_entity NAMES.now) rows.now) name.now }
 {
     let middle = rows.len() / 2;
     if middle == rows.len() {

@@ -104,7 +104,8 @@ fn are_letters_or_digits(text: &[u8]) -> bool
 
 /// What stands before the first space, and what behind it.
 fn at_space(text: &str) -> Option<(&str, &str)>
-    ensures { MatchOption result (at_space text.now ≡ None) (λ fields. at_space text.now ≡ Some (fields.0.now, fields.1.now)) }
+    ensures { MatchOption result (at_space text.now ≡ None)
+        (λ fields. at_space text.now ≡ Some (fields.0.now, fields.1.now)) }
 {
     text.split_once(' ')
 }

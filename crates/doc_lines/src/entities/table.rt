@@ -37,7 +37,8 @@ pub fn added_of(
     text: &str,
 ) -> Result<BTreeMap<String, (char, Option<char>)>, TableError>
     ensures consistent { IfOk result (λ added. twice_line built_in 1 (lines text.now) ≡ None) }
-    ensures added { IfOk result (λ added. entities_shown added.entries ≡ with_entities [] (entities_in (lines text.now))) }
+    ensures added { IfOk result (λ added. entities_shown added.entries
+        ≡ with_entities [] (entities_in (lines text.now))) }
     ensures ascii { IfOk result (λ added. has_ascii_names (entities_shown added.entries) ≡ true) }
     ensures refused { IfErr result (MayRefuse (twice_line built_in 1 (lines text.now))) }
 {
@@ -60,9 +61,14 @@ fn add_line(
     added: &mut BTreeMap<String, (char, Option<char>)>,
     line: &str,
 ) -> Result<bool, Memory>
-    ensures consistent { IfOk result (λ kept. kept ≡ not (line_contradicts (built_in ++ entities_shown added.old.entries) (entity_of line.now))) }
-    ensures added { IfOk result (λ kept. kept ≡ true → entities_shown added.new.entries ≡ with_entities (entities_shown added.old.entries) (entities_in (line.now ∷ []))) }
-    ensures ascii { has_ascii_names (entities_shown added.old.entries) ≡ true → has_ascii_names (entities_shown added.new.entries) ≡ true }
+    ensures consistent { IfOk result (λ kept. kept
+        ≡ not (line_contradicts (built_in ++ entities_shown added.old.entries)
+        (entity_of line.now))) }
+    ensures added { IfOk result (λ kept. kept ≡ true
+        → entities_shown added.new.entries
+        ≡ with_entities (entities_shown added.old.entries) (entities_in (line.now ∷ []))) }
+    ensures ascii { has_ascii_names (entities_shown added.old.entries) ≡ true
+        → has_ascii_names (entities_shown added.new.entries) ≡ true }
 {
     let Some((name, characters)) = entity_of(line) else {
         return Ok(true);
@@ -79,7 +85,8 @@ pub fn find_either(
     added: &BTreeMap<String, (char, Option<char>)>,
     name: &str,
 ) -> Option<(char, Option<char>)>
-    ensures { option_map characters result ≡ find_entity (built_in ++ entities_shown added.now.entries) name.now }
+    ensures { option_map characters result
+        ≡ find_entity (built_in ++ entities_shown added.now.entries) name.now }
 {
     if let Some(characters) = find_built_in(name) {
         return Some(characters);
@@ -92,7 +99,8 @@ fn find_added(
     added: &BTreeMap<String, (char, Option<char>)>,
     name: &str,
 ) -> Option<(char, Option<char>)>
-    ensures { option_map characters result ≡ find_entity (entities_shown added.now.entries) name.now }
+    ensures { option_map characters result
+        ≡ find_entity (entities_shown added.now.entries) name.now }
 {
     added.get(name).copied()
 }
@@ -122,7 +130,8 @@ pub fn twice_line(text: &str) -> Option<usize>
 
 /// Whether a line contradicts the built-in names or one of the first `number` lines.
 fn contradicts_before(text: &str, number: usize, line: &str) -> bool
-    ensures { result ≡ line_contradicts (built_in ++ entities_in (take number (lines text.now))) (entity_of line.now) }
+    ensures { result ≡ line_contradicts (built_in ++ entities_in (take number (lines text.now)))
+        (entity_of line.now) }
 {
     let Some((name, characters)) = entity_of(line) else {
         return false;
@@ -135,7 +144,8 @@ fn contradicts_before(text: &str, number: usize, line: &str) -> bool
 
 /// The characters that a name has among the built-in names and the first `number` lines.
 fn find_before(text: &str, number: usize, name: &str) -> Option<(char, Option<char>)>
-    ensures { option_map characters result ≡ find_entity (built_in ++ entities_in (take number (lines text.now))) name.now }
+    ensures { option_map characters result
+        ≡ find_entity (built_in ++ entities_in (take number (lines text.now))) name.now }
 {
     if let Some(characters) = find_built_in(name) {
         return Some(characters);
@@ -145,7 +155,8 @@ fn find_before(text: &str, number: usize, name: &str) -> Option<(char, Option<ch
 
 /// The characters that a name has in the first `number` lines.
 fn find_in_lines(text: &str, number: usize, name: &str) -> Option<(char, Option<char>)>
-    ensures { option_map characters result ≡ find_entity (entities_in (take number (lines text.now))) name.now }
+    ensures { option_map characters result
+        ≡ find_entity (entities_in (take number (lines text.now))) name.now }
 {
     let mut left = number;
     for line in Lines::new(text) {

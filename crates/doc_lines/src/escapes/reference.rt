@@ -20,7 +20,8 @@ pub fn character_reference<'a>(
     entities: &Entities,
     text: &'a str,
 ) -> Option<((char, Option<char>), &'a str)>
-    ensures value { meaning_of result (chars text.now) ≡ character_reference entities.now (chars text.now) }
+    ensures value { meaning_of result (chars text.now)
+        ≡ character_reference entities.now (chars text.now) }
     ensures end { IfSome result (λ found. IsRest (chars found.1.now) (chars text.now)) }
 {
     if let Some((c, rest)) = decimal_reference(text) {
@@ -36,7 +37,8 @@ pub fn character_reference<'a>(
 #[tactic(auto, unfolding(doc_rules::specs::Escapes::decimal_reference))]
 fn decimal_reference(text: &str) -> Option<(char, &str)>
     ensures behind { behind_of result ≡ decimal_reference (chars text.now) }
-    ensures value { IfSome result (λ found. found.0 ∷ [] ≡ code_point (number 10 (inside (before (chars found.1.now) (chars text.now))))) }
+    ensures value { IfSome result (λ found. found.0 ∷ []
+        ≡ code_point (number 10 (inside (before (chars found.1.now) (chars text.now))))) }
     ensures end { IfSome result (λ found. IsRest (chars found.1.now) (chars text.now)) }
 {
     let digits = is(text, '#')?;
@@ -50,7 +52,8 @@ fn decimal_reference(text: &str) -> Option<(char, &str)>
 #[tactic(auto, unfolding(doc_rules::specs::Escapes::hexadecimal_reference))]
 fn hexadecimal_reference(text: &str) -> Option<(char, &str)>
     ensures behind { behind_of result ≡ hexadecimal_reference (chars text.now) }
-    ensures value { IfSome result (λ found. found.0 ∷ [] ≡ code_point (number 16 (drop 1 (inside (before (chars found.1.now) (chars text.now)))))) }
+    ensures value { IfSome result (λ found. found.0 ∷ []
+        ≡ code_point (number 16 (drop 1 (inside (before (chars found.1.now) (chars text.now)))))) }
     ensures end { IfSome result (λ found. IsRest (chars found.1.now) (chars text.now)) }
 {
     let mark = is(text, '#')?;

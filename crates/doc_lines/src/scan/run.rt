@@ -10,7 +10,8 @@ use super::character::{next_char, one};
 #[tactic(auto, unfolding(doc_rules::specs::Parsers::many))]
 pub fn many<F: Fn(char) -> bool>(text: &str, test: F) -> &str
     requires { F.IsAlwaysCallable test }
-    ensures value { (class : ℕ → Bool) → IsTestOf (F.post test) class → Some (chars result.now) ≡ many class (chars text.now) }
+    ensures value { (class : ℕ → Bool) → IsTestOf (F.post test) class
+        → Some (chars result.now) ≡ many class (chars text.now) }
     ensures end { IsRest (chars result.now) (chars text.now) }
 {
     let mut rest = text;
@@ -26,7 +27,8 @@ pub fn many<F: Fn(char) -> bool>(text: &str, test: F) -> &str
 /// The longest run of characters that pass the test, one at least.
 pub fn some<F: Fn(char) -> bool>(text: &str, test: F) -> Option<&str>
     requires { F.IsAlwaysCallable test }
-    ensures value { (class : ℕ → Bool) → IsTestOf (F.post test) class → rest_of result ≡ some class (chars text.now) }
+    ensures value { (class : ℕ → Bool) → IsTestOf (F.post test) class
+        → rest_of result ≡ some class (chars text.now) }
     ensures end { IfSome result (λ rest. IsRest (chars rest.now) (chars text.now)) }
 {
     let rest = one(text, &test)?;
@@ -37,7 +39,8 @@ pub fn some<F: Fn(char) -> bool>(text: &str, test: F) -> Option<&str>
 #[tactic(auto, unfolding(doc_rules::specs::Parsers::at_most))]
 pub fn at_most<F: Fn(char) -> bool>(text: &str, most: usize, test: F) -> &str
     requires { F.IsAlwaysCallable test }
-    ensures value { (class : ℕ → Bool) → IsTestOf (F.post test) class → Some (chars result.now) ≡ at_most most (one class) (chars text.now) }
+    ensures value { (class : ℕ → Bool) → IsTestOf (F.post test) class
+        → Some (chars result.now) ≡ at_most most (one class) (chars text.now) }
     ensures end { IsRest (chars result.now) (chars text.now) }
 {
     let mut rest = text;

@@ -79,7 +79,8 @@ pub fn attribute(text: &str) -> Option<&str>
 
 /// `=` with spacing round it, and a value.
 fn assigned_value(text: &str) -> Option<&str>
-    ensures { rest_of result ≡ (spacing then is 61 then spacing then attribute_value) (chars text.now) }
+    ensures { rest_of result ≡ (spacing then is 61 then spacing then attribute_value)
+        (chars text.now) }
 {
     let rest = is(spacing(text), '=')?;
     attribute_value(spacing(rest))

@@ -8,7 +8,8 @@ ghost use Rattle.doc_lines.specs.RestSteps.{IsTestOf, IsAsciiClass, IsCutBefore}
 pub fn until<F: Fn(u8) -> bool>(text: &str, test: F) -> &str
     requires callable { F.IsAlwaysCallable test }
     requires ascii { (b : ℕ) → F.post test b true → b < 128 }
-    ensures cut { (class : ℕ → Bool) → IsTestOf (F.post test) class → IsAsciiClass class → IsCutBefore class (chars text.now) (chars result.now) }
+    ensures cut { (class : ℕ → Bool) → IsTestOf (F.post test) class → IsAsciiClass class
+        → IsCutBefore class (chars text.now) (chars result.now) }
     ensures end { IsRest (chars result.now) (chars text.now) }
 {
     for (place, byte) in text.as_bytes().iter().enumerate() {

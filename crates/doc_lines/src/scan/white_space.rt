@@ -46,7 +46,8 @@ pub fn some_spacing(text: &str) -> Option<&str>
 
 /// At most one line ending, and the spaces and tabs behind it.
 fn ending_and_gap(text: &str) -> &str
-    ensures { Some (chars result.now) ≡ (maybe line_ending then many is_space_or_tab) (chars text.now) }
+    ensures { Some (chars result.now) ≡ (maybe line_ending then many is_space_or_tab)
+        (chars text.now) }
 {
     many(line_ending(text).unwrap_or(text), is_space_or_tab)
 }

@@ -50,7 +50,8 @@ fn through_first<'a, F: Fn(&'a str) -> Option<&'a str>>(
     scanner: F,
 ) -> Option<&'a str>
     requires { F.IsAlwaysCallable scanner }
-    ensures { (parser : Parser) → IsScannerOf (F.post scanner) parser → rest_of result ≡ through parser (chars text.now) }
+    ensures { (parser : Parser) → IsScannerOf (F.post scanner) parser
+        → rest_of result ≡ through parser (chars text.now) }
 {
     let mut rest = text;
     'places: loop {

@@ -50,7 +50,8 @@ fn after_destination<'a>(
     dest: &'a str,
     text: &'a str,
 ) -> Option<DefinitionSource<'a>>
-    ensures { source_of result ≡ after_destination (chars label.now) (chars dest.now) (chars text.now) }
+    ensures { source_of result ≡ after_destination (chars label.now) (chars dest.now)
+        (chars text.now) }
 {
     let Some(start) = some_spacing(text) else {
         return without_title(label, dest, text);

@@ -50,7 +50,8 @@ fn bare(text: &str) -> Option<&str>
 
 /// The longest run that is not empty of characters other than spaces and ASCII controls, their parentheses balanced.
 fn some_balanced(text: &str) -> Option<&str>
-    ensures { rest_of result ≡ passing (λ front. nat_lt 0 (length front)) (balanced 32) (chars text.now) }
+    ensures { rest_of result ≡ passing (λ front. nat_lt 0 (length front)) (balanced 32)
+        (chars text.now) }
 {
     let rest = balanced(text);
     if front(text, rest).is_empty() {

@@ -18,7 +18,8 @@ pub fn escaped(text: &str) -> Option<&str>
 #[tactic(auto, unfolding(doc_rules::specs::Destinations::many_or_escaped))]
 pub fn many_or_escaped<F: Fn(char) -> bool>(text: &str, test: F) -> &str
     requires { F.IsAlwaysCallable test }
-    ensures value { (class : ℕ → Bool) → IsTestOf (F.post test) class → Some (chars result.now) ≡ many_or_escaped class (chars text.now) }
+    ensures value { (class : ℕ → Bool) → IsTestOf (F.post test) class
+        → Some (chars result.now) ≡ many_or_escaped class (chars text.now) }
     ensures end { IsRest (chars result.now) (chars text.now) }
 {
     let mut rest = text;
@@ -31,7 +32,8 @@ pub fn many_or_escaped<F: Fn(char) -> bool>(text: &str, test: F) -> &str
 /// An escaped character, or one that passes the test.
 pub fn escaped_or_one<F: Fn(char) -> bool>(text: &str, test: F) -> Option<&str>
     requires { F.IsAlwaysCallable test }
-    ensures value { (class : ℕ → Bool) → IsTestOf (F.post test) class → rest_of result ≡ (escaped or one class) (chars text.now) }
+    ensures value { (class : ℕ → Bool) → IsTestOf (F.post test) class
+        → rest_of result ≡ (escaped or one class) (chars text.now) }
     ensures end { IfSome result (λ rest. IsRest (chars rest.now) (chars text.now)) }
     ensures shorter { IfSome result (λ rest. length (chars rest.now) < length (chars text.now)) }
 {

@@ -25,7 +25,8 @@ pub fn title(text: &str) -> Option<&str>
 
 /// The same, but a blank line may stand inside.
 fn enclosed(text: &str) -> Option<&str>
-    ensures { rest_of result ≡ (title_in 34 34 or title_in 39 39 or title_in 40 41) (chars text.now) }
+    ensures { rest_of result ≡ (title_in 34 34 or title_in 39 39 or title_in 40 41)
+        (chars text.now) }
 {
     title_in(text, '"', '"')
         .or_else(|| title_in(text, '\'', '\''))
@@ -60,7 +61,8 @@ fn has_blank_line(text: &str) -> bool
 
 /// Whether the text begins with a line ending and a blank line behind it.
 fn begins_blank_line(text: &str) -> bool
-    ensures { result ≡ begins (line_ending then many is_space_or_tab then line_ending) (chars text.now) }
+    ensures { result ≡ begins (line_ending then many is_space_or_tab then line_ending)
+        (chars text.now) }
 {
     match line_ending(text) {
         Some(line) => line_ending(many(line, is_space_or_tab)).is_some(),

@@ -2,17 +2,8 @@ use Rattle.std.proofs.Common.{rules, ◌≡◌, ◌==◌, false, refl, chars, ap
 use Rattle.doc_rules.specs.Trees.{text_begins, atx_begins, fence_begins, html_begins, setext_begins, break_begins}
 use Rattle.doc_lines.specs.Cursors.{left_of}
 use Rattle.doc_blocks_leaves.specs.Starts.{situation_of, start_of, or_else}
-use Rattle.doc_blocks_leaves.proofs.StartSteps.{
-  at_number_sign,
-  at_fence_sign,
-  at_left_angle,
-  at_equals_sign,
-  at_hyphen,
-  at_break_sign,
-  at_other,
-  neither,
-  at_end,
-}
+use Rattle.doc_blocks_leaves.proofs.StartSteps.{at_number_sign, at_fence_sign, at_left_angle, at_equals_sign, at_hyphen, at_break_sign}
+use Rattle.doc_blocks_leaves.proofs.StartSteps.{at_other, neither, at_end}
 use Rattle.doc_blocks_leaves.proofs.Tests.{if_ok, at_front}
 use Rattle.doc_blocks_leaves.proofs.start.text_start.Goals as goal
 

@@ -3,17 +3,8 @@ use Rattle.doc_rules.specs.Forests.{none, ◌▹◌, node}
 use Rattle.doc_rules.specs.Blocks.{Paragraph, Heading, IndentedCode, FencedCode, HtmlBlock, ThematicBreak, BlockQuote, ListBlock, ListItem}
 use Rattle.doc_rules.specs.Html.{is_tight_inside}
 use Rattle.doc_blocks_leaves.specs.Views.{behind, blocks_shown, forest}
-use Rattle.doc_blocks_leaves.proofs.Forests.{
-  behind_para,
-  behind_heading,
-  behind_code,
-  behind_fence,
-  behind_html,
-  behind_break,
-  behind_quote,
-  behind_list,
-  behind_item,
-}
+use Rattle.doc_blocks_leaves.proofs.Forests.{behind_para, behind_heading, behind_code, behind_fence, behind_html, behind_break}
+use Rattle.doc_blocks_leaves.proofs.Forests.{behind_quote, behind_list, behind_item}
 use Rattle.doc_html.specs.TellingSteps.{leaf_told}
 use Rattle.doc_html.proofs.TellingSteps.{leaf_block, node_block, forest_begins, forest_goes_on}
 use Rattle.doc_html.proofs.blocks.+blocks.Goals as goal

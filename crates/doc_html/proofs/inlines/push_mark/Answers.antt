@@ -2,10 +2,8 @@ use Rattle.std.proofs.Common.{◌≡◌, ◌<◌, arith}
 use Rattle.doc_html.proofs.WriterSteps.{same}
 use Rattle.doc_html.proofs.InlineLaws.{is_inside, is_outside}
 use Rattle.doc_html.proofs.inlines.push_mark.Goals as goal
-use Rattle.doc_html.proofs.inlines.push_mark.Goals.{
-  else-images-gt0-via-then-images-gt0+else-behind-gt0,
-  else-images-gt0-via-else-images-gt0,
-}
+use Rattle.doc_html.proofs.inlines.push_mark.Goals.{else-images-gt0-via-then-images-gt0+else-behind-gt0}
+use Rattle.doc_html.proofs.inlines.push_mark.Goals.{else-images-gt0-via-else-images-gt0}
 
 pub returns-then-behind-gt0-clause-written : goal.returns-then-behind-gt0-clause-written
 returns-then-behind-gt0-clause-written g c =

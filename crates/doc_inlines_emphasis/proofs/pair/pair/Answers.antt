@@ -5,17 +5,8 @@ use Rattle.doc_rules.specs.Inlines as rules
 use Rattle.doc_inlines_pass.specs.Marks.{Placed}
 use Rattle.doc_inlines_pass.specs.NumberSteps.{numbered, paired_runs}
 use Rattle.doc_inlines_emphasis.proofs.NumberLaws.{numbered_is, run_is}
-use Rattle.doc_inlines_emphasis.proofs.PairLaws.{
-  MayPair,
-  may_pair,
-  place_is,
-  opens_at,
-  opens_is,
-  IsPairMade,
-  pair_goes,
-  pair_stacked,
-  stands_on,
-}
+use Rattle.doc_inlines_emphasis.proofs.PairLaws.{MayPair, may_pair, place_is, opens_at, opens_is, IsPairMade, pair_goes, pair_stacked}
+use Rattle.doc_inlines_emphasis.proofs.PairLaws.{stands_on}
 use Rattle.doc_inlines_emphasis.proofs.pair.pair.Goals as goal
 
 abbrev blank : Run

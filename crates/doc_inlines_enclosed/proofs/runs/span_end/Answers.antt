@@ -1,15 +1,8 @@
 use Rattle.std.proofs.Common.{rules, arith, ◌∙◌, sym, ◌<◌, chars}
 use Rattle.doc_rules.specs.Parsers.{run_length}
 use Rattle.doc_rules.proofs.ParserLaws.{is_rest_again}
-use Rattle.doc_inlines_enclosed.proofs.SearchSteps.{
-  sought_first,
-  sought_rest,
-  to_run_rest,
-  sought_behind,
-  span_found,
-  span_missing,
-  shorter_behind,
-}
+use Rattle.doc_inlines_enclosed.proofs.SearchSteps.{sought_first, sought_rest, to_run_rest, sought_behind, span_found, span_missing}
+use Rattle.doc_inlines_enclosed.proofs.SearchSteps.{shorter_behind}
 use Rattle.doc_inlines_enclosed.proofs.runs.span_end.Goals as goal
 
 pub runs-init : goal.runs-init

@@ -1,31 +1,5 @@
-use Rattle.std.proofs.Common.{
-  rules,
-  ◌≡◌,
-  ◌∙◌,
-  ℕ,
-  ◌+◌,
-  ◌-◌,
-  ◌<◌,
-  ◌≤◌,
-  Bool,
-  true,
-  false,
-  List,
-  [],
-  ◌∷◌,
-  take,
-  drop,
-  length,
-  vec_len,
-  refl,
-  ap,
-  sym,
-  subst,
-  arith,
-  Option,
-  Some,
-  None,
-}
+use Rattle.std.proofs.Common.{rules, ◌≡◌, ◌∙◌, ℕ, ◌+◌, ◌-◌, ◌<◌, ◌≤◌, Bool, true, false, List, [], ◌∷◌, take, drop, length, vec_len, refl}
+use Rattle.std.proofs.Common.{ap, sym, subst, arith, Option, Some, None}
 use Rattle.std.proofs.lemmas.List.{length-drop}
 use Rattle.doc_rules.specs.Characters.{Text}
 use Rattle.doc_rules.specs.Columns.{Line, is_blank_line}
@@ -39,19 +13,8 @@ use Rattle.doc_lines.specs.Cursors.{left_of}
 use Rattle.doc_blocks_leaves.specs.Starts.{situation_of, start_shown, leaf_lines}
 use Rattle.doc_blocks.specs.StackSteps.{Outer, Stack, with_inner_blocks, block_begun, item_begun, container_opened}
 use Rattle.doc_blocks.specs.PathSteps.{closed_to}
-use Rattle.doc_blocks.specs.StateSteps.{
-  State,
-  below,
-  met,
-  shown,
-  reached,
-  all_closed,
-  quote_opened,
-  item_opened,
-  leaf_opened,
-  lines_opened,
-  StepsTo,
-}
+use Rattle.doc_blocks.specs.StateSteps.{State, below, met, shown, reached, all_closed, quote_opened, item_opened, leaf_opened, lines_opened}
+use Rattle.doc_blocks.specs.StateSteps.{StepsTo}
 use Rattle.doc_blocks.specs.BuilderSteps.{state_of}
 use Rattle.doc_blocks.specs.LevelSteps.{stack_of}
 use Rattle.doc_blocks.proofs.LevelLemmas.{length_outers}

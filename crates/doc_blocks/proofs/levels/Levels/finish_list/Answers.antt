@@ -1,30 +1,6 @@
 use Rattle.doc_blocks_leaves.specs.declared.block.Block.TheVariants as variants
-use Rattle.std.proofs.Common.{
-  rules,
-  ◌≡◌,
-  ◌+◌,
-  ◌<◌,
-  ◌≤◌,
-  ◌∙◌,
-  ap,
-  sym,
-  arith,
-  ℕ,
-  Bool,
-  true,
-  false,
-  List,
-  [],
-  ◌∷◌,
-  ◌++◌,
-  length,
-  take,
-  drop,
-  refl,
-  Option,
-  Some,
-  None,
-}
+use Rattle.std.proofs.Common.{rules, ◌≡◌, ◌+◌, ◌<◌, ◌≤◌, ◌∙◌, ap, sym, arith, ℕ, Bool, true, false, List, [], ◌∷◌, ◌++◌, length, take, drop}
+use Rattle.std.proofs.Common.{refl, Option, Some, None}
 use Rattle.doc_rules.specs.Blocks.{Blocks}
 use Rattle.doc_blocks_pass.specs.Paths as paths
 use Rattle.doc_blocks_starts.specs.Items.{kind_of}

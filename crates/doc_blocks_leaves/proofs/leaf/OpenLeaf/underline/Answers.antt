@@ -1,15 +1,7 @@
 use Rattle.std.proofs.Common.{rules, ◌≡◌, ℕ, List, subst, chars}
 use Rattle.std.specs.Prelude.{Option, None}
-use Rattle.doc_blocks_leaves.proofs.LeafSteps.{
-  Leaves,
-  other_stays,
-  other_makes_none,
-  other_defines_none,
-  paragraph_goes,
-  heading_of_paragraph,
-  no_heading_of_paragraph,
-  paragraph_defines,
-}
+use Rattle.doc_blocks_leaves.proofs.LeafSteps.{Leaves, other_stays, other_makes_none, other_defines_none, paragraph_goes}
+use Rattle.doc_blocks_leaves.proofs.LeafSteps.{heading_of_paragraph, no_heading_of_paragraph, paragraph_defines}
 use Rattle.doc_blocks_leaves.proofs.leaf.OpenLeaf.underline.Goals as goal
 
 pub returns-in_default-clause-leaf : goal.returns-in_default-clause-leaf

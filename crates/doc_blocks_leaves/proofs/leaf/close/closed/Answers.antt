@@ -3,16 +3,8 @@ use Rattle.std.specs.Prelude.{Option}
 use Rattle.doc_blocks_pass.specs.Leaves.{with_open, open_references}
 use Rattle.doc_blocks_leaves.specs.OpenLeaves.{leaf_shown}
 use Rattle.doc_blocks_leaves.specs.Views.{with_block}
-use Rattle.doc_blocks_leaves.proofs.LeafSteps.{
-  code_closed,
-  fence_closed,
-  html_closed,
-  Leaves,
-  paragraph_closed,
-  definitions_closed,
-  none_join,
-  those_join,
-}
+use Rattle.doc_blocks_leaves.proofs.LeafSteps.{code_closed, fence_closed, html_closed, Leaves, paragraph_closed, definitions_closed}
+use Rattle.doc_blocks_leaves.proofs.LeafSteps.{none_join, those_join}
 use Rattle.doc_blocks_leaves.proofs.leaf.close.closed.Goals as goal
 
 pub returns-in-Nothing-clause-block : goal.returns-in-Nothing-clause-block

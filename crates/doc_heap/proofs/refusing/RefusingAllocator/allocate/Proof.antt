@@ -2,22 +2,8 @@
 use Rattle.std.proofs.Common.{ℕ, true, false, [], ◌∷◌, Ok, Err, refl, ◌≡◌, w64}
 use Rattle.std.proofs.raw_atomic.Walks.{proved}
 use Rattle.std.proofs.VecSteps.Shapes.{after}
-use Rattle.std.proofs.alloc.Calls.{
-  Al,
-  seen,
-  token,
-  Answer,
-  answer_val,
-  Answer-typed,
-  Answer-Ok,
-  Answer-err,
-  Takes,
-  at_takes,
-  Answered,
-  Takes-goes,
-  Takes-gives,
-  answers,
-}
+use Rattle.std.proofs.alloc.Calls.{Al, seen, token, Answer, answer_val, Answer-typed, Answer-Ok, Answer-err, Takes, at_takes, Answered}
+use Rattle.std.proofs.alloc.Calls.{Takes-goes, Takes-gives, answers}
 use Rattle.std.specs.Allocator.{block_if_ok}
 use base.Fml.{ftrue, flft}
 use base.Logic.{id⊢}
@@ -40,33 +26,8 @@ use mir.Syntax.{Fn}
 use mir.Val.{Val, vint}
 use prog.Memory.{size, align, capped}
 use types.ByLocal.{alloc_all, pass_all, free_all, look_at, get, through, sets, lands_as, env}
-use types.Kit.{
-  ‵,
-  raw,
-  ◌⊛◌,
-  later,
-  prop,
-  at_ret,
-  Sq,
-  ◌$◌,
-  ◌∵◌,
-  !,
-  qed,
-  move,
-  keep,
-  use0,
-  use1,
-  use2,
-  split,
-  pick,
-  learn,
-  join,
-  fsplit,
-  fjoin,
-  suffices,
-  await,
-  done,
-}
+use types.Kit.{‵, raw, ◌⊛◌, later, prop, at_ret, Sq, ◌$◌, ◌∵◌, !, qed, move, keep, use0, use1, use2, split, pick, learn, join, fsplit}
+use types.Kit.{fjoin, suffices, await, done}
 use types.Part.{agg}
 use types.Run.{stop, fld, addr, lit, no_more, and_then, first, branches, skips, exec, returns, returns_within, enter}
 use Rattle.doc_heap.proofs.Counting.{Answers, Counts, counts_at, counts_takes, counts_gives}

@@ -25,33 +25,8 @@ use prog.Memory.{size, align, capped}
 use prog.Wp.{WpFn}
 use types.ByLocal.{alloc_all, pass_all, free_all, look_at, get, through, sets, lands_as}
 use types.Logic.{sem}
-use types.Kit.{
-  ‵,
-  raw,
-  ◌⊛◌,
-  later,
-  given,
-  prop,
-  ◌$◌,
-  ◌∵◌,
-  !,
-  qed,
-  move,
-  keep,
-  use1,
-  split,
-  group,
-  split3,
-  join,
-  learn,
-  fsplit,
-  fjoin,
-  feq_i,
-  regoal,
-  suffices,
-  await,
-  done,
-}
+use types.Kit.{‵, raw, ◌⊛◌, later, given, prop, ◌$◌, ◌∵◌, !, qed, move, keep, use1, split, group, split3, join, learn, fsplit, fjoin, feq_i}
+use types.Kit.{regoal, suffices, await, done}
 use types.Run.{stop, fld, addr, no_more, and_then, of_opd, unit_lit, returns, enter}
 use Rattle.doc_heap.proofs.Shared.{self, word, pointer, args_of, inner_at}
 use Rattle.doc_heap.specs.contracts.refusing.RefusingAllocator.deallocate as promise

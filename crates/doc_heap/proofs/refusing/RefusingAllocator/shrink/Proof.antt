@@ -4,18 +4,8 @@ use Rattle.std.proofs.Common.{◌≡◌, ℕ, Bool, false, List, [], ◌∷◌, 
 use Rattle.std.proofs.raw_atomic.Walks.{proved}
 use Rattle.std.proofs.VecSteps.Shapes.{after}
 use Rattle.std.proofs.alloc.Calls.{Al, seen, token, Answer, answer_val, Answer-typed}
-use Rattle.std.proofs.alloc.Resizes.{
-  Shrinks,
-  Resizes,
-  at_resizes,
-  left_by,
-  Resizes-goes,
-  Resizes-gives,
-  result_of,
-  result_own,
-  asked,
-  heard_all,
-}
+use Rattle.std.proofs.alloc.Resizes.{Shrinks, Resizes, at_resizes, left_by, Resizes-goes, Resizes-gives, result_of, result_own, asked}
+use Rattle.std.proofs.alloc.Resizes.{heard_all}
 use Rattle.std.specs.Allocator.{array_of, block_with_items}
 use base.Fml.{Fml, ffalse, ftrue, fsep, flft}
 use base.Logic.{id⊢, fst∗, never}
@@ -39,37 +29,8 @@ use mir.Val.{Val, vint, vptr}
 use prog.Wp.{WpFn}
 use types.ByLocal.{alloc_all, pass_all, free_all, look_at, get, through, sets, lands_as, env}
 use types.Logic.{sem}
-use types.Kit.{
-  ‵,
-  raw,
-  ◌⊛◌,
-  some,
-  later,
-  given,
-  prop,
-  at_ret,
-  Sq,
-  ◌$◌,
-  ◌∵◌,
-  !,
-  qed,
-  move,
-  keep,
-  use0,
-  use1,
-  use2,
-  split,
-  split3,
-  pick,
-  learn,
-  join,
-  fsplit,
-  fjoin,
-  regoal,
-  suffices,
-  await,
-  done,
-}
+use types.Kit.{‵, raw, ◌⊛◌, some, later, given, prop, at_ret, Sq, ◌$◌, ◌∵◌, !, qed, move, keep, use0, use1, use2, split, split3, pick}
+use types.Kit.{learn, join, fsplit, fjoin, regoal, suffices, await, done}
 use types.Part.{agg}
 use types.Run.{stop, fld, addr, lit, no_more, and_then, first, branches, skips, exec, returns, returns_within, enter}
 use Rattle.doc_heap.proofs.Counting.{Answers, Counts, counts_at, counts_takes, counts_gives}

@@ -1,19 +1,8 @@
 use Rattle.std.proofs.Common.{Ok, slice_range, sym, ap, ◌∙◌, subst, arith}
 use Rattle.std.proofs.lemmas.Result.{IfOk-weaker, on_err_weaker}
 use Rattle.doc_http.specs.Requests.{IsNext, IsRequest}
-use Rattle.doc_http.proofs.ProgressLemmas.{
-  bad_head,
-  good_head,
-  whole_begins,
-  reading_found,
-  reading_begins,
-  ends_within,
-  knows_body,
-  at_rest,
-  whole_rest,
-  knows_rest,
-  on_err,
-}
+use Rattle.doc_http.proofs.ProgressLemmas.{bad_head, good_head, whole_begins, reading_found, reading_begins, ends_within, knows_body}
+use Rattle.doc_http.proofs.ProgressLemmas.{at_rest, whole_rest, knows_rest, on_err}
 use Rattle.doc_http.proofs.ReadLemmas.{method_text, framed_by_parts, with_fault, read_by_parts}
 use Rattle.doc_http.proofs.SpanLemmas.{places}
 use Rattle.doc_http.proofs.progress.Progress.at_head.Goals as goal

@@ -1,17 +1,6 @@
 use Rattle.std.proofs.Common.{arith, refl, ap, ◌∙◌, length}
-use Rattle.doc_inlines.proofs.ClosingLaws.{
-  place_behind,
-  bracket_below,
-  one_more,
-  wrapped_marks,
-  turned_marks,
-  kept_more,
-  lower_placed,
-  link_open,
-  link_made_at,
-  dead_within,
-  same_span,
-}
+use Rattle.doc_inlines.proofs.ClosingLaws.{place_behind, bracket_below, one_more, wrapped_marks, turned_marks, kept_more, lower_placed}
+use Rattle.doc_inlines.proofs.ClosingLaws.{link_open, link_made_at, dead_within, same_span}
 use Rattle.doc_inlines.proofs.SliceLaws.{link_slices, link_cut}
 use Rattle.doc_inlines.proofs.draft.Draft.link.Goals as goal
 

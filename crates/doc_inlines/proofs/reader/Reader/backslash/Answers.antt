@@ -3,16 +3,8 @@ use Rattle.std.proofs.lemmas.Bool.{ne_eqb}
 use Rattle.doc_rules.specs.Inlines.{Literal, HardBreak}
 use Rattle.doc_inlines.specs.ReaderSteps.{state_made}
 use Rattle.doc_inlines.proofs.ItemLaws.{goes_on, first_behind}
-use Rattle.doc_inlines.proofs.EscapeLaws.{
-  hard_stands,
-  hard_made,
-  escaped_stands,
-  escaped_made,
-  escape_reads,
-  ending_reads,
-  lone_reads,
-  last_reads,
-}
+use Rattle.doc_inlines.proofs.EscapeLaws.{hard_stands, hard_made, escaped_stands, escaped_made, escape_reads, ending_reads, lone_reads}
+use Rattle.doc_inlines.proofs.EscapeLaws.{last_reads}
 use Rattle.doc_inlines.proofs.RunLaws.{behind_first}
 use Rattle.doc_inlines.proofs.reader.Reader.backslash.Goals as goal
 

@@ -3,18 +3,8 @@ use Rattle.doc_rules.specs.Inlines.{Literal, Code}
 use Rattle.doc_inlines.specs.ReaderSteps.{state_made}
 use Rattle.doc_inlines.proofs.ItemLaws.{goes_on}
 use Rattle.doc_inlines.proofs.RunLaws.{behind_first}
-use Rattle.doc_inlines.proofs.EnclosedLaws.{
-  behind_in_whole,
-  learned_runs,
-  span_found,
-  span_slice,
-  run_found,
-  ticks_uncut,
-  ticks_made,
-  backtick_reads,
-  code_stands,
-  code_made,
-}
+use Rattle.doc_inlines.proofs.EnclosedLaws.{behind_in_whole, learned_runs, span_found, span_slice, run_found, ticks_uncut, ticks_made}
+use Rattle.doc_inlines.proofs.EnclosedLaws.{backtick_reads, code_stands, code_made}
 use Rattle.doc_inlines.proofs.reader.Reader.backticks.Goals as goal
 
 pub put-requires-clause-sound : goal.put-requires-clause-sound

@@ -2,16 +2,8 @@ use Rattle.std.proofs.Common.{subst, sym, chars}
 use Rattle.doc_rules.proofs.ParserLaws.{is_rest_again}
 use Rattle.doc_inlines_emphasis.specs.Views.{items_of}
 use Rattle.doc_inlines.specs.ReaderSteps.{AllBehind}
-use Rattle.doc_inlines.proofs.ReaderLaws.{
-  flushed_made,
-  flushed_none,
-  flushed_slices,
-  none_slices,
-  flushed_cut,
-  none_uncut,
-  all_of_itself,
-  is_nothing,
-}
+use Rattle.doc_inlines.proofs.ReaderLaws.{flushed_made, flushed_none, flushed_slices, none_slices, flushed_cut, none_uncut, all_of_itself}
+use Rattle.doc_inlines.proofs.ReaderLaws.{is_nothing}
 use Rattle.doc_inlines.proofs.reader.Reader.flush.Goals as goal
 
 pub returns-clause-made : goal.returns-clause-made

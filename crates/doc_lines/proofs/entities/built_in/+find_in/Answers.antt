@@ -1,25 +1,5 @@
-use Rattle.std.proofs.Common.{
-  ◌≡◌,
-  ◌+◌,
-  ◌-◌,
-  ◌<◌,
-  ◌/◌,
-  ℕ,
-  List,
-  get_or,
-  true,
-  None,
-  length,
-  take,
-  drop,
-  map,
-  ap,
-  sym,
-  ◌∙◌,
-  subst,
-  arith,
-  rules,
-}
+use Rattle.std.proofs.Common.{◌≡◌, ◌+◌, ◌-◌, ◌<◌, ◌/◌, ℕ, List, get_or, true, None, length, take, drop, map, ap, sym, ◌∙◌, subst, arith}
+use Rattle.std.proofs.Common.{rules}
 use Rattle.std.specs.List.{list_all}
 use Rattle.std.specs.Cmp.Lexicographic.{slice_cmp}
 use Rattle.std.specs.Ordering.{nat_cmp}
@@ -29,16 +9,8 @@ use Rattle.doc_rules.specs.Escapes.{find_entity}
 use Rattle.doc_lines.specs.declared.entities.names.Row.{Row}
 use Rattle.doc_lines.specs.declared.entities.names.TheConstants.{NAMES}
 use Rattle.doc_lines.specs.Entities.{is_within, row_entity, Rises}
-use Rattle.doc_lines.proofs.SearchLaws.{
-  front_rises,
-  back_rises,
-  front_within,
-  back_within,
-  found_behind,
-  found_at,
-  found_before,
-  found_nowhere,
-}
+use Rattle.doc_lines.proofs.SearchLaws.{front_rises, back_rises, front_within, back_within, found_behind, found_at, found_before}
+use Rattle.doc_lines.proofs.SearchLaws.{found_nowhere}
 use Rattle.doc_lines.proofs.entities.built_in.+find_in.Goals as goal
 
 pub returns-then-middle-rows : goal.returns-then-middle-rows
