@@ -2,7 +2,7 @@ mod ExampleSteps
 mod HtmlSteps
 mod Opening
 mod Puts
-mod Reads
+mod ReadCounts
 mod Replies
 mod Results
 mod RunSteps

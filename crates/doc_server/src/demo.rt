@@ -70,7 +70,8 @@ fn answer_all<R: Renderer + Drop, O: Output>(
 
 /// Makes a connection.
 fn connect<R: Renderer + Drop>(hub: &mut Hub<R>) -> Result<ConnId, Fault>
-    ensures world { IfOk result (λ id. Happens (R.page hub.old.0) hub.old.1 events.Connect hub.new.1 (Ok id)) }
+    ensures world { IfOk result
+        (λ id. Happens (R.page hub.old.0) hub.old.1 events.Connect hub.new.1 (Ok id)) }
     ensures same { R.page hub.new.0 ≡ R.page hub.old.0 }
     ensures fault { IfErr result (StopsCall (connected hub.old.1).1) }
 {
@@ -83,7 +84,8 @@ fn connect<R: Renderer + Drop>(hub: &mut Hub<R>) -> Result<ConnId, Fault>
 
 /// Pushes the bytes on a connection.
 fn push<R: Renderer + Drop>(hub: &mut Hub<R>, id: ConnId, bytes: &[u8]) -> Result<(), Fault>
-    ensures world { OnOk result (Happens (R.page hub.old.0) hub.old.1 (events.Push id bytes.now) hub.new.1 (Ok tt)) }
+    ensures world { OnOk result
+        (Happens (R.page hub.old.0) hub.old.1 (events.Push id bytes.now) hub.new.1 (Ok tt)) }
     ensures same { R.page hub.new.0 ≡ R.page hub.old.0 }
     ensures fault { IfErr result (StopsCall (world_pushed hub.old.1 id.0 bytes.now).1) }
 {
@@ -144,7 +146,8 @@ fn write_reply<R: Renderer + Drop, O: Output>(
 /// A step of a connection that was made.
 fn step<R: Renderer + Drop>(hub: &mut Hub<R>, id: ConnId) -> Result<Step, Fault>
     requires made { IsMade hub.old.1 id.0 }
-    ensures world { IfOk result (λ said. Happens (R.page hub.old.0) hub.old.1 (events.Step id) hub.new.1 (Ok said)) }
+    ensures world { IfOk result
+        (λ said. Happens (R.page hub.old.0) hub.old.1 (events.Step id) hub.new.1 (Ok said)) }
     ensures same { R.page hub.new.0 ≡ R.page hub.old.0 }
     ensures fault { IfErr result (λ fault. fault ≡ Fault.Memory) }
     ensures kept { OnErr result (hub.new.1 ≡ hub.old.1) }

@@ -2,7 +2,8 @@
 
 ghost use Rattle.std.specs.Prelude.{◌≡◌, true, IfOk, IfErr, OnOk, string_bytes};
 ghost use Rattle.std.specs.Io.KnownBytes.{Appends};
-ghost use Rattle.doc_server.specs.Examples.{count_line, count_of, example_before, example_line, examples_of, lines_from, no_examples, one_more, passes, place_after, report, status_of, StopsExamples};
+ghost use Rattle.doc_server.specs.Examples.{count_line, count_of, example_before, example_line, examples_of, lines_from};
+ghost use Rattle.doc_server.specs.Examples.{no_examples, one_more, passes, place_after, report, status_of, StopsExamples};
 ghost use Rattle.doc_server.specs.ExampleSteps.{count_after, line_before, place_of, HasRoom, StopsAt};
 ghost use Rattle.doc_server.specs.Faults.{failed_writes_after, IsNoText, ReadsFailed};
 ghost use Rattle.doc_server.specs.Rendering.{OfText};
@@ -25,7 +26,8 @@ pub fn examples<I: Input, O: Output>(
     file: &mut I,
     output: &mut O,
 ) -> Result<u8, Fault>
-    ensures sent { IfOk result (λ status. OfText (I.unread file.old) (λ text. (status ≡ status_of (count_of text))
+    ensures sent { IfOk result (λ status. OfText (I.unread file.old) (λ text.
+        (status ≡ status_of (count_of text))
         × Appends (O.written output.old) (O.written output.new) (report text))) }
     ensures flushed { OnOk result (O.flushed output.new ≡ true) }
     ensures fault { IfErr result (StopsExamples name.now (I.unread file.old)
@@ -40,10 +42,12 @@ pub fn examples<I: Input, O: Output>(
 
 /// The same for a text.
 fn report_on<O: Output>(heap: Heap, text: &str, output: &mut O) -> Result<u8, Fault>
-    ensures sent { OnOk result (Appends (O.written output.old) (O.written output.new) (report text.now)) }
+    ensures sent { OnOk result
+        (Appends (O.written output.old) (O.written output.new) (report text.now)) }
     ensures status { IfOk result (λ status. status ≡ status_of (count_of text.now)) }
     ensures flushed { OnOk result (O.flushed output.new ≡ true) }
-    ensures fault { IfErr result (StopsAt (O.written output.old) (O.written output.new) (report text.now)) }
+    ensures fault { IfErr result
+        (StopsAt (O.written output.old) (O.written output.new) (report text.now)) }
     ensures writes { O.failed output.new ≡ failed_writes_after (O.failed output.old) result }
 {
     let count = compare_all(heap, text, output)?;
@@ -84,7 +88,8 @@ fn read_line<O: Output>(
     requires room { HasRoom count.old }
     ensures sent { OnOk result (Appends (O.written output.old) (O.written output.new)
         (line_before count.old (example_before (place_of reader.old) line.now))) }
-    ensures count { OnOk result (count.new ≡ count_after count.old (example_before (place_of reader.old) line.now)) }
+    ensures count { OnOk result
+        (count.new ≡ count_after count.old (example_before (place_of reader.old) line.now)) }
     ensures place { OnOk result (place_of reader.new ≡ place_after (place_of reader.old) line.now) }
     ensures fault { IfErr result (StopsAt (O.written output.old) (O.written output.new)
         (line_before count.old (example_before (place_of reader.old) line.now))) }
@@ -108,7 +113,8 @@ fn compare<O: Output>(
     requires room { HasRoom count.old }
     ensures sent { OnOk result (Appends (O.written output.old) (O.written output.new)
         (example_line count.old (passes (record { input = input.now; output = wanted.now })))) }
-    ensures count { OnOk result (count.new ≡ one_more count.old (passes (record { input = input.now; output = wanted.now }))) }
+    ensures count { OnOk result (count.new
+        ≡ one_more count.old (passes (record { input = input.now; output = wanted.now }))) }
     ensures fault { IfErr result (StopsAt (O.written output.old) (O.written output.new)
         (example_line count.old (passes (record { input = input.now; output = wanted.now })))) }
     ensures writes { O.failed output.new ≡ failed_writes_after (O.failed output.old) result }

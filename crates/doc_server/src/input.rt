@@ -23,7 +23,8 @@ pub fn read_whole<I: Input>(
     input: &mut I,
     limit: usize,
 ) -> Result<Vec<u8>, Fault>
-    ensures bytes { IfOk result (λ bytes. IfSome (I.unread input.old) (λ left. bytes.items ≡ left)) }
+    ensures bytes { IfOk result
+        (λ bytes. IfSome (I.unread input.old) (λ left. bytes.items ≡ left)) }
     ensures within { IfOk result (λ bytes. vec_len bytes ≤ limit) }
     ensures end { OnOk result (IsAtEnd (I.unread input.new)) }
     ensures fault { IfErr result (IsUnread name.now limit (I.unread input.old)) }
@@ -36,7 +37,8 @@ pub fn read_whole<I: Input>(
 
 /// The whole input as a text. A fault calls it by the name: `CannotRead` also where it isn't UTF-8.
 pub fn read_text<I: Input>(heap: Heap, name: &str, input: &mut I) -> Result<String, Fault>
-    ensures text { IfOk result (λ text. IfSome (I.unread input.old) (λ left. string_bytes text ≡ left)) }
+    ensures text { IfOk result
+        (λ text. IfSome (I.unread input.old) (λ left. string_bytes text ≡ left)) }
     ensures end { OnOk result (IsAtEnd (I.unread input.new)) }
     ensures fault { IfErr result (IsNamed name.now) }
     ensures reads { ReadsFailed (IsNoText (I.unread input.old))
@@ -69,7 +71,8 @@ fn read_pieces<I: Input>(
     limit: usize,
 ) -> Result<Vec<u8>, Fault>
     requires { 0 < length piece.old }
-    ensures bytes { IfOk result (λ bytes. IfSome (I.unread input.old) (λ left. bytes.items ≡ left)) }
+    ensures bytes { IfOk result
+        (λ bytes. IfSome (I.unread input.old) (λ left. bytes.items ≡ left)) }
     ensures within { IfOk result (λ bytes. vec_len bytes ≤ limit) }
     ensures end { OnOk result (IsAtEnd (I.unread input.new)) }
     ensures fault { IfErr result (IsUnread name.now limit (I.unread input.old)) }

@@ -64,12 +64,7 @@ fn run_refused(
 }
 
 /// Runs a command, with growths refused from its beginning on.
-fn run(
-    heap: Heap,
-    command: Command,
-    given: Given<'_>,
-    refusal: Refusal,
-) -> Result<Came, Memory> {
+fn run(heap: Heap, command: Command, given: Given<'_>, refusal: Refusal) -> Result<Came, Memory> {
     let bytes = bytes_of(heap, given)?;
     let feed = Feed::new(given.way, &bytes);
     let sink = Sink::new(heap, given)?;

@@ -5,7 +5,7 @@ use Rattle.doc_server.specs.Demo.{StepsToEnd, StopsDemo}
 use Rattle.doc_server.specs.DemoSteps.{StopsReplies}
 use Rattle.doc_server.proofs.Opening.{opened, stopped}
 use Rattle.doc_server.specs.InputSteps.{IsRead}
-use Rattle.doc_server.proofs.Reads.{call_reads, replies_read}
+use Rattle.doc_server.proofs.ReadCounts.{call_reads, replies_read}
 use Rattle.doc_server.proofs.Results.{then_ok, then_err}
 use Rattle.doc_server.proofs.Stops.{stop_connect, stop_push, made_after_push}
 use Rattle.doc_server.proofs.demo.answer_all.Goals as goal
