@@ -14,7 +14,7 @@ too_few le = omega (arith, le)
 
 -- an input of at most 4,194,304 bytes isn't given up
 pub never_given_up : {X Y : Type 0} (input : Option (List ℕ)) (before after : ℕ) (fault : Fault)
-    → ReadsFailed {X} (IsTooLong 4194304 input) before after (Err fault) → ReadsFailed {Y} ⊥ before after (Err fault)
+    → ReadsFailed {X = X} (IsTooLong 4194304 input) before after (Err fault) → ReadsFailed {X = Y} ⊥ before after (Err fault)
 never_given_up input before after faults.Usage reads = reads
 never_given_up input before after (faults.CannotRead name) (inl one) = inl one
 never_given_up input before after (faults.CannotRead name) (inr (same, long)) = absurd (too_few long.0)

@@ -1,6 +1,7 @@
 use Rattle.std.proofs.lemmas.Result.{err_from_is_err_and}
 use Rattle.std.specs.Prelude.{Some}
 use Rattle.std.specs.Io.KnownBytes.{Appends}
+use Rattle.doc_hub.specs.Worlds.{world_pushed}
 use Rattle.doc_server.specs.Demo.{StepsToEnd, StopsDemo}
 use Rattle.doc_server.specs.DemoSteps.{StopsReplies}
 use Rattle.doc_server.proofs.Opening.{opened, stopped}
@@ -60,7 +61,8 @@ returns-in_err-id-clause-read g c =
 pub returns-in_err-push-clause-read : goal.returns-in_err-push-clause-read
 returns-in_err-push-clause-read g c =
     let p = err_from_is_err_and c.from_residual-in_err-push.result c.from_residual-in_err-push.ensures.1 in
-    rw (p.1, p.2) (call_reads _ c.in_err-push.field-0.0 c.in_err-push.ensures.fault)
+    rw (p.1, p.2) (call_reads (world_pushed c.connect.new.hub.1 c.in_ok-id.id.0 c.args.bytes.now).1 c.in_err-push.field-0.0
+    c.in_err-push.ensures.fault)
 
 pub returns-clause-read : goal.returns-clause-read
 returns-clause-read g c =
