@@ -12,7 +12,7 @@ use Rattle.std.proofs.KnownBytes.{Appends-nil, Appends-trans, Appends-kept}
 use Rattle.doc_server.specs.Examples.{Example, Place, Between, tab_or, meant, lines, onto, example_before, place_after, examples_from}
 use Rattle.doc_server.specs.Examples.{examples_of, passes, one_more, example_line, lines_from, count_from, no_examples, count_of}
 use Rattle.doc_server.specs.ExampleSteps.{line_before, count_after, StopsAt, HasRoom, IsAt}
-use Rattle.doc_server.specs.Outputs.{AppendsPrefix}
+use Rattle.doc_server_streams.specs.Streams.{AppendsPrefix}
 use Rattle.doc_server.specs.declared.count.Count.{Count}
 use Rattle.doc_server.specs.declared.fault.Fault.{Fault}
 use Rattle.doc_server.specs.declared.fault.Fault.TheVariants as faults

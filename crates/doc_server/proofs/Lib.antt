@@ -2,6 +2,7 @@ mod ExampleSteps
 mod HtmlSteps
 mod Opening
 mod Puts
+mod ReadCounts
 mod Replies
 mod Results
 mod RunSteps

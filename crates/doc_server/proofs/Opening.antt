@@ -15,7 +15,7 @@ use Rattle.doc_server.specs.declared.fault.Fault.TheVariants as faults
 use Rattle.doc_server.specs.DemoSite.{demo_world}
 use Rattle.doc_server.specs.Demo.{AreReplies, RunSends, StopsDemo}
 use Rattle.doc_server.specs.DemoSteps.{StepsSend, StopsReplies}
-use Rattle.doc_server.specs.Outputs.{AppendsPrefix}
+use Rattle.doc_server_streams.specs.Streams.{AppendsPrefix}
 
 -- the connection that the demonstration makes
 abbrev one : ConnId

@@ -16,7 +16,7 @@ use Rattle.doc_hub.specs.declared.event.Step.{Step}
 use Rattle.doc_hub.specs.declared.event.Step.TheVariants as steps
 use Rattle.doc_server.specs.Demo.{Sends, Ends, IsStep, AreReplies}
 use Rattle.doc_server.specs.DemoSteps.{SendsNext, StopsNext, StepsSend, SendsToEnd, StopsReplies}
-use Rattle.doc_server.specs.Outputs.{AppendsPrefix}
+use Rattle.doc_server_streams.specs.Streams.{AppendsPrefix}
 use Rattle.doc_server.specs.declared.fault.Fault.{Fault}
 use Rattle.doc_server.specs.declared.fault.Fault.TheVariants as faults
 use Rattle.doc_server.proofs.RunSteps.{one_more, sent_more}

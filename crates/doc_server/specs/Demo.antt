@@ -1,6 +1,5 @@
 -- What the command `demo` sends: a run of the hub on the demonstration site. All of this is this project's choice.
-use Rattle.std.specs.Prelude.{◌≡◌, ◌<◌, ⊤, ◌⊎◌, ℕ, Bool, true, false, List, [], ◌∷◌, ◌++◌, length, codes, string_bytes, All, Option, IfSome}
-use Rattle.std.specs.Prelude.{Result, Ok, Err}
+use Rattle.std.specs.Prelude.{◌≡◌, ◌<◌, ⊤, ◌⊎◌, ℕ, List, [], ◌∷◌, ◌++◌, length, codes, string_bytes, All, Option, IfSome}
 use Rattle.std.specs.Io.KnownBytes.{Appends, Keeps}
 use Rattle.doc_hub.specs.Connections.{backlog_limit}
 use Rattle.doc_hub.specs.Replies.{Renders}
@@ -12,7 +11,7 @@ use Rattle.doc_hub.specs.declared.event.Step.TheVariants as steps
 use Rattle.doc_hub.specs.declared.outcome.Outcome.{Outcome}
 use Rattle.doc_hub.specs.declared.outcome.Outcome.TheVariants as outcomes
 use Rattle.doc_server.specs.DemoSite.{demo_world}
-use Rattle.doc_server.specs.Outputs.{AppendsPrefix}
+use Rattle.doc_server_streams.specs.Streams.{AppendsPrefix}
 use Rattle.doc_server.specs.declared.fault.Fault.{Fault}
 use Rattle.doc_server.specs.declared.fault.Fault.TheVariants as faults
 
@@ -71,8 +70,3 @@ StopsDemo render input old new faults.Refused = IfSome input (λ left. backlog_l
 StopsDemo render input old new faults.CannotWrite = RunSends render input (AreReplies 1) (AppendsPrefix old new)
 StopsDemo render input old new faults.Memory = Keeps old new ⊎ RunSends render input (AreReplies 1) (Appends old new)
 StopsDemo render input old new faults.Usage = ⊥
-
--- the output could not be written
-abbrev pub cannot_write : {X : Type 0} → Result X Fault → Bool
-cannot_write (Err faults.CannotWrite) = true
-cannot_write result = false

@@ -9,7 +9,7 @@ use Rattle.doc_hub.specs.declared.event.Event.TheVariants as events
 use Rattle.doc_hub.specs.declared.outcome.Outcome.{Outcome}
 use Rattle.doc_hub.specs.declared.connection.Connection.{Connection}
 use Rattle.doc_server.specs.Demo.{Sends, Ends, AreReplies, StepsToEnd}
-use Rattle.doc_server.specs.Outputs.{AppendsPrefix}
+use Rattle.doc_server_streams.specs.Streams.{AppendsPrefix}
 use Rattle.doc_server.specs.declared.fault.Fault.{Fault}
 use Rattle.doc_server.specs.declared.fault.Fault.TheVariants as faults
 

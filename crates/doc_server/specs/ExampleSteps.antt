@@ -2,7 +2,7 @@
 use Rattle.std.specs.Prelude.{◌≡◌, ◌≤◌, ◌+◌, ℕ, List, [], ◌++◌, length, Option, Some, None, string_bytes}
 use denote.Ref.{Bor}
 use Rattle.std.specs.Io.KnownBytes.{Appends}
-use Rattle.doc_server.specs.Outputs.{AppendsPrefix}
+use Rattle.doc_server_streams.specs.Streams.{AppendsPrefix}
 use Rattle.doc_server.specs.Examples.{Example, Place, Between, InInput, InOutput, examples_from, examples_of, passes, one_more}
 use Rattle.doc_server.specs.Examples.{example_line, lines_from, count_from, no_examples, count_of}
 use Rattle.doc_server.specs.declared.count.Count.{Count}

@@ -1,10 +1,14 @@
 -- The examples of a published text of CommonMark, and what the command `examples` prints for them. The form of that text is the one of
 -- CommonMark 0.31.2's `spec.txt`; what is printed is this project's choice.
-use Rattle.std.specs.Prelude.{ℕ, ◌+◌, Bool, ◌||◌, ◌==◌, List, [], ◌∷◌, ◌++◌, map, codes, chars, encode_utf8_all, decimal, bytes_eq, Option}
-use Rattle.std.specs.Prelude.{Some, None, if◌then◌else◌}
+use Rattle.std.specs.Prelude.{ℕ, ◌≡◌, ◌⊎◌, ◌+◌, Bool, ◌||◌, ◌==◌, List, [], ◌∷◌, ◌++◌, map, codes, chars, string_bytes, encode_utf8_all}
+use Rattle.std.specs.Prelude.{decimal, bytes_eq, Option, Some, None, if◌then◌else◌}
 use Rattle.std.specs.List.{slice_split}
-use Rattle.doc_server.specs.Rendering.{rendered}
+use Rattle.std.specs.Io.KnownBytes.{Keeps}
+use Rattle.doc_server_streams.specs.Streams.{AppendsPrefix}
+use Rattle.doc_server.specs.Rendering.{rendered, OfText}
 use Rattle.doc_server.specs.declared.count.Count.{Count}
+use Rattle.doc_server.specs.declared.fault.Fault.{Fault}
+use Rattle.doc_server.specs.declared.fault.Fault.TheVariants as faults
 
 -- an example: a text, and the HTML that it should be
 pub record Example : Type 0 where
@@ -130,3 +134,11 @@ report text = lines_from no_examples (examples_of text) ++ count_line (count_of 
 -- the status that the command ends with
 abbrev pub status_of : Count → ℕ
 status_of count = if count.failed == 0 then 0 else 1
+
+-- What stops the command `examples` on a file of this name, and what the output holds then. The file can't be read, or isn't UTF-8:
+-- nothing is written. The output can't be written, or memory runs out: it grows by a prefix of what is printed.
+abbrev pub StopsExamples : List ℕ → Option (List ℕ) → Option (List ℕ) → Option (List ℕ) → Fault → Type 0
+StopsExamples name file old new (faults.CannotRead called) = (string_bytes called ≡ name) × Keeps old new
+StopsExamples name file old new faults.CannotWrite = OfText file (λ text. AppendsPrefix old new (report text))
+StopsExamples name file old new faults.Memory = Keeps old new ⊎ OfText file (λ text. AppendsPrefix old new (report text))
+StopsExamples name file old new fault = ⊥

@@ -5,5 +5,4 @@ pub mod ExampleSteps
 pub mod Examples
 pub mod Faults
 pub mod InputSteps
-pub mod Outputs
 pub mod Rendering

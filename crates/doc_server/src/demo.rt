@@ -1,24 +1,26 @@
 //! The command `demo`: requests on one connection of the demonstration site.
 
-ghost use Rattle.std.specs.Prelude.{◌≡◌, ◌||◌, Some, Ok, IfOk, IfErr, OnOk, OnErr};
+ghost use Rattle.std.specs.Prelude.{◌≡◌, true, Some, Ok, IfOk, IfErr, OnOk, OnErr};
 ghost use Rattle.doc_hub.specs.Runs.{Happens};
 ghost use Rattle.doc_hub.specs.declared.event.Event.TheVariants as events;
 ghost use Rattle.doc_hub.specs.Worlds.{connected, world_pushed};
-ghost use Rattle.doc_server.specs.Demo.{cannot_write, Demonstrates, StopsDemo};
+ghost use Rattle.doc_server.specs.Demo.{Demonstrates, StopsDemo};
 ghost use Rattle.doc_server.specs.DemoSite.{demo_world};
 ghost use Rattle.doc_server.specs.DemoSteps.{IsMade, SendsNext, SendsToEnd, StopsCall, StopsNext, StopsReplies};
-ghost use Rattle.doc_server.specs.Outputs.{has_failed, writer_of};
+ghost use Rattle.doc_server.specs.Faults.{failed_writes_after, ReadsFailed};
+ghost use Rattle.doc_server.specs.InputSteps.{IsRead};
 
 use crate::demo_site::demo_hub;
 use crate::fault::Fault;
 use crate::input::read_whole;
-use crate::output::Output;
+use crate::output::{flush, send};
 use doc_heap::Heap;
 use doc_hub::event::{ConnId, Step};
 use doc_hub::hub::Hub;
 use doc_hub::refusal::{ConnectError, PushError, StepError};
 use doc_page::renderer::Renderer;
-use std::io::{Read, Write};
+use doc_server_streams::input::Input;
+use doc_server_streams::output::Output;
 
 /// How many bytes the input may have: as many as a connection may have unread.
 const LIMIT: usize = 4_194_304;
@@ -27,17 +29,19 @@ const LIMIT: usize = 4_194_304;
 /// An input of more than 4,194,304 bytes is `Refused` before anything is written; the rest of it
 /// may stay unread.
 #[tactic(auto, unfolding(doc_hub::specs::Connections::backlog_limit))]
-pub fn demo<R: Renderer + Drop, I: Read, O: Write>(
+pub fn demo<R: Renderer + Drop, I: Input, O: Output>(
     heap: Heap,
     renderer: R,
     input: &mut I,
-    output: &mut Output<O>,
+    output: &mut O,
 ) -> Result<(), Fault>
-    ensures sent { OnOk result (Demonstrates (R.page renderer) (I.remaining input.old)
-        (O.contents (writer_of output.old)) (O.contents (writer_of output.new))) }
-    ensures fault { IfErr result (StopsDemo (R.page renderer) (I.remaining input.old)
-        (O.contents (writer_of output.old)) (O.contents (writer_of output.new))) }
-    ensures failed { has_failed output.new ≡ (cannot_write result || has_failed output.old) }
+    ensures sent { OnOk result (Demonstrates (R.page renderer) (I.unread input.old)
+        (O.written output.old) (O.written output.new)) }
+    ensures flushed { OnOk result (O.flushed output.new ≡ true) }
+    ensures fault { IfErr result (StopsDemo (R.page renderer) (I.unread input.old)
+        (O.written output.old) (O.written output.new)) }
+    ensures reads { ReadsFailed ⊥ (I.failed input.old) (I.failed input.new) result }
+    ensures writes { O.failed output.new ≡ failed_writes_after (O.failed output.old) result }
 {
     let mut hub = demo_hub(heap, renderer)?;
     let bytes = read_whole(heap, "-", input, LIMIT)?;
@@ -45,25 +49,29 @@ pub fn demo<R: Renderer + Drop, I: Read, O: Write>(
 }
 
 /// Pushes the bytes on the first connection, and writes each reply.
-fn answer_all<R: Renderer + Drop, O: Write>(
+fn answer_all<R: Renderer + Drop, O: Output>(
     hub: &mut Hub<R>,
     bytes: &[u8],
-    output: &mut Output<O>,
+    output: &mut O,
 ) -> Result<(), Fault>
     requires world { hub.old.1 ≡ demo_world }
     ensures sent { OnOk result (Demonstrates (R.page hub.old.0) (Some bytes.now)
-        (O.contents (writer_of output.old)) (O.contents (writer_of output.new))) }
+        (O.written output.old) (O.written output.new)) }
+    ensures flushed { OnOk result (O.flushed output.new ≡ true) }
     ensures fault { IfErr result (StopsDemo (R.page hub.old.0) (Some bytes.now)
-        (O.contents (writer_of output.old)) (O.contents (writer_of output.new))) }
-    ensures failed { has_failed output.new ≡ (cannot_write result || has_failed output.old) }
+        (O.written output.old) (O.written output.new)) }
+    ensures read { IfErr result IsRead }
+    ensures writes { O.failed output.new ≡ failed_writes_after (O.failed output.old) result }
 {
     let id = connect(hub)?;
     push(hub, id, bytes)?;
     write_replies(hub, id, output)
 }
 
+/// Makes a connection.
 fn connect<R: Renderer + Drop>(hub: &mut Hub<R>) -> Result<ConnId, Fault>
-    ensures world { IfOk result (λ id. Happens (R.page hub.old.0) hub.old.1 events.Connect hub.new.1 (Ok id)) }
+    ensures world { IfOk result
+        (λ id. Happens (R.page hub.old.0) hub.old.1 events.Connect hub.new.1 (Ok id)) }
     ensures same { R.page hub.new.0 ≡ R.page hub.old.0 }
     ensures fault { IfErr result (StopsCall (connected hub.old.1).1) }
 {
@@ -74,8 +82,10 @@ fn connect<R: Renderer + Drop>(hub: &mut Hub<R>) -> Result<ConnId, Fault>
     }
 }
 
+/// Pushes the bytes on a connection.
 fn push<R: Renderer + Drop>(hub: &mut Hub<R>, id: ConnId, bytes: &[u8]) -> Result<(), Fault>
-    ensures world { OnOk result (Happens (R.page hub.old.0) hub.old.1 (events.Push id bytes.now) hub.new.1 (Ok tt)) }
+    ensures world { OnOk result
+        (Happens (R.page hub.old.0) hub.old.1 (events.Push id bytes.now) hub.new.1 (Ok tt)) }
     ensures same { R.page hub.new.0 ≡ R.page hub.old.0 }
     ensures fault { IfErr result (StopsCall (world_pushed hub.old.1 id.0 bytes.now).1) }
 {
@@ -88,43 +98,44 @@ fn push<R: Renderer + Drop>(hub: &mut Hub<R>, id: ConnId, bytes: &[u8]) -> Resul
 
 /// Writes each reply until the unread bytes hold no request. Each step but the last takes unread
 /// bytes, so this ends.
-fn write_replies<R: Renderer + Drop, O: Write>(
+fn write_replies<R: Renderer + Drop, O: Output>(
     hub: &mut Hub<R>,
     id: ConnId,
-    output: &mut Output<O>,
+    output: &mut O,
 ) -> Result<(), Fault>
     requires made { IsMade hub.old.1 id.0 }
     ensures sent { OnOk result (SendsToEnd (R.page hub.old.0) hub.old.1 id.0 hub.new.1
-        (O.contents (writer_of output.old)) (O.contents (writer_of output.new))) }
+        (O.written output.old) (O.written output.new)) }
+    ensures flushed { OnOk result (O.flushed output.new ≡ true) }
     ensures fault { IfErr result (StopsReplies (R.page hub.old.0) hub.old.1 id.0
-        (O.contents (writer_of output.old)) (O.contents (writer_of output.new))) }
-    ensures failed { has_failed output.new ≡ (cannot_write result || has_failed output.old) }
+        (O.written output.old) (O.written output.new)) }
+    ensures writes { O.failed output.new ≡ failed_writes_after (O.failed output.old) result }
 {
     'replies: while write_reply(hub, id, output)? {}
-    output.flush()
+    flush(output)
 }
 
 /// Writes the next reply; false where there is none.
-fn write_reply<R: Renderer + Drop, O: Write>(
+fn write_reply<R: Renderer + Drop, O: Output>(
     hub: &mut Hub<R>,
     id: ConnId,
-    output: &mut Output<O>,
+    output: &mut O,
 ) -> Result<bool, Fault>
     requires made { IsMade hub.old.1 id.0 }
     ensures sent { IfOk result (SendsNext (R.page hub.old.0) hub.old.1 id.0 hub.new.1
-        (O.contents (writer_of output.old)) (O.contents (writer_of output.new))) }
+        (O.written output.old) (O.written output.new)) }
     ensures same { R.page hub.new.0 ≡ R.page hub.old.0 }
     ensures fault { IfErr result (StopsNext (R.page hub.old.0) hub.old.1 id.0 hub.new.1
-        (O.contents (writer_of output.old)) (O.contents (writer_of output.new))) }
-    ensures failed { has_failed output.new ≡ (cannot_write result || has_failed output.old) }
+        (O.written output.old) (O.written output.new)) }
+    ensures writes { O.failed output.new ≡ failed_writes_after (O.failed output.old) result }
 {
     match step(hub, id)? {
         Step::Sent(reply) => {
-            output.send(reply.get())?;
+            send(output, reply.get())?;
             Ok(true)
         }
         Step::Last(reply) => {
-            output.send(reply.get())?;
+            send(output, reply.get())?;
             Ok(true)
         }
         Step::More => Ok(false),
@@ -132,9 +143,11 @@ fn write_reply<R: Renderer + Drop, O: Write>(
     }
 }
 
+/// A step of a connection that was made.
 fn step<R: Renderer + Drop>(hub: &mut Hub<R>, id: ConnId) -> Result<Step, Fault>
     requires made { IsMade hub.old.1 id.0 }
-    ensures world { IfOk result (λ said. Happens (R.page hub.old.0) hub.old.1 (events.Step id) hub.new.1 (Ok said)) }
+    ensures world { IfOk result
+        (λ said. Happens (R.page hub.old.0) hub.old.1 (events.Step id) hub.new.1 (Ok said)) }
     ensures same { R.page hub.new.0 ≡ R.page hub.old.0 }
     ensures fault { IfErr result (λ fault. fault ≡ Fault.Memory) }
     ensures kept { OnErr result (hub.new.1 ≡ hub.old.1) }

@@ -7,7 +7,7 @@ use std::error::Error;
 use std::fmt;
 
 /// What stops the program. Each prints one line, as `docs_server: usage`, and ends it with status 2.
-#[derive(Debug, Drop)]
+#[derive(Debug, PartialEq, Eq, Drop)]
 pub enum Fault {
     /// No such command.
     Usage,

@@ -2,12 +2,12 @@
 
 ghost use Rattle.std.specs.Prelude.{◌≡◌, ◌<◌, ◌≤◌, ◌++◌, length, IfOk, IfErr, IfSome, OnOk, string_bytes, vec_len};
 ghost use Rattle.std.specs.Io.KnownBytes.{IsAtEnd};
-ghost use Rattle.doc_server.specs.Faults.{IsUnread};
-ghost use Rattle.doc_server.specs.InputSteps.{IsNamed, IsUnadded};
+ghost use Rattle.doc_server.specs.Faults.{IsNoText, IsTooLong, IsUnread, ReadsFailed};
+ghost use Rattle.doc_server.specs.InputSteps.{IsNamed, IsNoTextOf, IsUnadded};
 
 use crate::fault::Fault;
 use doc_heap::{Heap, String, Vec};
-use std::io::{ErrorKind, Read};
+use doc_server_streams::input::Input;
 
 /// How often an input is read at most, so that reading it ends.
 const READS: u64 = 0x1_0000_0000;
@@ -16,38 +16,45 @@ const READS: u64 = 0x1_0000_0000;
 const PIECE: usize = 65_536;
 
 /// The whole input, or `Refused` once it has given more bytes than the limit. `name` is what a fault
-/// calls it. An interrupted read is tried again; the input is given up after 2^32 reads.
-pub fn read_whole<R: Read>(
+/// calls it. The input is given up after 2^32 reads.
+pub fn read_whole<I: Input>(
     heap: Heap,
     name: &str,
-    reader: &mut R,
+    input: &mut I,
     limit: usize,
 ) -> Result<Vec<u8>, Fault>
-    ensures bytes { IfOk result (λ bytes. IfSome (R.remaining reader.old) (λ left. bytes.items ≡ left)) }
+    ensures bytes { IfOk result
+        (λ bytes. IfSome (I.unread input.old) (λ left. bytes.items ≡ left)) }
     ensures within { IfOk result (λ bytes. vec_len bytes ≤ limit) }
-    ensures end { OnOk result (IsAtEnd (R.remaining reader.new)) }
-    ensures fault { IfErr result (IsUnread name.now limit (R.remaining reader.old)) }
+    ensures end { OnOk result (IsAtEnd (I.unread input.new)) }
+    ensures fault { IfErr result (IsUnread name.now limit (I.unread input.old)) }
+    ensures reads { ReadsFailed (IsTooLong limit (I.unread input.old))
+        (I.failed input.old) (I.failed input.new) result }
 {
     let mut piece = Vec::from_elem(heap, 0u8, PIECE)?;
-    read_pieces(heap, name, reader, piece.as_mut_slice(), limit)
+    read_pieces(heap, name, input, piece.as_mut_slice(), limit)
 }
 
 /// The whole input as a text. A fault calls it by the name: `CannotRead` also where it isn't UTF-8.
-pub fn read_text<R: Read>(heap: Heap, name: &str, reader: &mut R) -> Result<String, Fault>
-    ensures text { IfOk result (λ text. IfSome (R.remaining reader.old) (λ left. string_bytes text ≡ left)) }
-    ensures end { OnOk result (IsAtEnd (R.remaining reader.new)) }
+pub fn read_text<I: Input>(heap: Heap, name: &str, input: &mut I) -> Result<String, Fault>
+    ensures text { IfOk result
+        (λ text. IfSome (I.unread input.old) (λ left. string_bytes text ≡ left)) }
+    ensures end { OnOk result (IsAtEnd (I.unread input.new)) }
     ensures fault { IfErr result (IsNamed name.now) }
+    ensures reads { ReadsFailed (IsNoText (I.unread input.old))
+        (I.failed input.old) (I.failed input.new) result }
 {
-    match read_whole(heap, name, reader, usize::MAX) {
+    match read_whole(heap, name, input, usize::MAX) {
         Ok(bytes) => text_of(heap, name, bytes),
         Err(Fault::CannotRead(name)) => Err(Fault::CannotRead(name)),
         Err(_) => Err(Fault::Memory),
     }
 }
 
+/// The bytes as a text.
 fn text_of(heap: Heap, name: &str, bytes: Vec<u8>) -> Result<String, Fault>
     ensures text { IfOk result (λ text. string_bytes text ≡ bytes.entry.items) }
-    ensures fault { IfErr result (IsNamed name.now) }
+    ensures fault { IfErr result (IsNoTextOf name.now bytes.entry.items) }
 {
     match String::from_utf8(bytes) {
         Ok(text) => Ok(text),
@@ -55,26 +62,28 @@ fn text_of(heap: Heap, name: &str, bytes: Vec<u8>) -> Result<String, Fault>
     }
 }
 
-/// The same, by reads into this piece.
-fn read_pieces<R: Read>(
+/// The whole input, by reads into this piece.
+fn read_pieces<I: Input>(
     heap: Heap,
     name: &str,
-    reader: &mut R,
+    input: &mut I,
     piece: &mut [u8],
     limit: usize,
 ) -> Result<Vec<u8>, Fault>
     requires { 0 < length piece.old }
-    ensures bytes { IfOk result (λ bytes. IfSome (R.remaining reader.old) (λ left. bytes.items ≡ left)) }
+    ensures bytes { IfOk result
+        (λ bytes. IfSome (I.unread input.old) (λ left. bytes.items ≡ left)) }
     ensures within { IfOk result (λ bytes. vec_len bytes ≤ limit) }
-    ensures end { OnOk result (IsAtEnd (R.remaining reader.new)) }
-    ensures fault { IfErr result (IsUnread name.now limit (R.remaining reader.old)) }
+    ensures end { OnOk result (IsAtEnd (I.unread input.new)) }
+    ensures fault { IfErr result (IsUnread name.now limit (I.unread input.old)) }
+    ensures reads { ReadsFailed (IsTooLong limit (I.unread input.old))
+        (I.failed input.old) (I.failed input.new) result }
 {
     let mut bytes = Vec::new(heap);
     'reads: for _ in 0..READS {
-        match reader.read(piece) {
+        match input.read(piece) {
             Ok(0) => return Ok(bytes),
             Ok(count) => add_piece(&mut bytes, &piece[..count], limit)?,
-            Err(e) if e.kind() == ErrorKind::Interrupted => {}
             Err(_) => return Err(cannot_read(heap, name)),
         }
     }

@@ -1,4 +1,4 @@
-//! The commands of the program, each a function over a reader and a writer.
+//! The commands of the program, each a function over an input and an output.
 #![tactic(auto)]
 
 pub mod count;

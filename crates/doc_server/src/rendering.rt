@@ -1,35 +1,34 @@
 //! The command `render`: standard input as HTML.
 
-ghost use Rattle.std.specs.Prelude.{◌≡◌, ◌||◌, codes, string_bytes, IfOk, IfErr, OnOk};
-ghost use Rattle.doc_server.specs.Outputs.{has_failed, writer_of};
-ghost use Rattle.doc_server.specs.Demo.{cannot_write};
-ghost use Rattle.doc_server.specs.Rendering.{rendered, Renders, StopsWriting};
+ghost use Rattle.std.specs.Prelude.{◌≡◌, true, string_bytes, IfOk, IfErr, OnOk};
+ghost use Rattle.doc_server.specs.Faults.{failed_writes_after, IsNoText, ReadsFailed};
+ghost use Rattle.doc_server.specs.Rendering.{rendered, Renders, StopsRendering};
 
 use crate::fault::Fault;
 use crate::input::read_text;
-use crate::output::Output;
+use crate::output::{flush, send};
 use doc_heap::{Heap, String};
 use doc_html::render_plain;
 use doc_lines::entities::Entities;
 use doc_page::failure::Memory;
-use std::io::{Read, Write};
+use doc_server_streams::input::Input;
+use doc_server_streams::output::Output;
 
 /// Writes the HTML of the whole input, which is called `-`. Nothing is written before all of it is made.
-pub fn render<I: Read, O: Write>(
-    heap: Heap,
-    input: &mut I,
-    output: &mut Output<O>,
-) -> Result<(), Fault>
-    ensures sent { OnOk result (Renders (I.remaining input.old)
-        (O.contents (writer_of output.old)) (O.contents (writer_of output.new))) }
-    ensures fault { IfErr result (StopsWriting (codes "-") (I.remaining input.old) rendered
-        (O.contents (writer_of output.old)) (O.contents (writer_of output.new))) }
-    ensures failed { has_failed output.new ≡ (cannot_write result || has_failed output.old) }
+pub fn render<I: Input, O: Output>(heap: Heap, input: &mut I, output: &mut O) -> Result<(), Fault>
+    ensures sent { OnOk result (Renders (I.unread input.old)
+        (O.written output.old) (O.written output.new)) }
+    ensures flushed { OnOk result (O.flushed output.new ≡ true) }
+    ensures fault { IfErr result (StopsRendering (I.unread input.old)
+        (O.written output.old) (O.written output.new)) }
+    ensures reads { ReadsFailed (IsNoText (I.unread input.old))
+        (I.failed input.old) (I.failed input.new) result }
+    ensures writes { O.failed output.new ≡ failed_writes_after (O.failed output.old) result }
 {
     let text = read_text(heap, "-", input)?;
     let html = html_of(heap, &text)?;
-    output.send(html.as_bytes())?;
-    output.flush()
+    send(output, html.as_bytes())?;
+    flush(output)
 }
 
 /// The HTML of a text, with the built-in character references.

@@ -11,8 +11,9 @@ use doc_server::demo::demo;
 use doc_server::examples::examples;
 use doc_server::fault::Fault;
 use doc_server::input::cannot_read;
-use doc_server::output::Output;
 use doc_server::rendering::render;
+use doc_server_streams::read_from::ReadFrom;
+use doc_server_streams::write_to::WriteTo;
 use std::env;
 use std::fs::File;
 use std::io::{self, ErrorKind};
@@ -50,7 +51,7 @@ fn run<R: AllocGlobal + Env + Eprint + Files + Input + Print>(rt: &R) -> Result<
     match named_command(rt, heap)? {
         Command::Demo => Ok(run_demo::<Brand, R>(rt, Blank::new(1))),
         Command::Render => {
-            render(heap, &mut rt.reader(), &mut Output::new(io::writer(rt)))?;
+            run_render(rt, heap)?;
             Ok(0)
         }
         Command::Examples(name) => run_examples(rt, heap, &name),
@@ -108,23 +109,31 @@ fn run_demo_with<R: Renderer + Drop, P: AllocGlobal + Eprint + Input + Print>(
     status_of(rt, demo_with(rt, renderer))
 }
 
+/// The same, as a result.
 fn demo_with<R: Renderer + Drop, P: AllocGlobal + Input + Print>(
     rt: &P,
     renderer: R,
 ) -> Result<u8, Fault> {
     let heap = heap(rt.alloc(), u64::MAX)?;
-    demo(
-        heap,
-        renderer,
-        &mut rt.reader(),
-        &mut Output::new(io::writer(rt)),
-    )?;
+    let mut input = ReadFrom::new(rt.reader());
+    let mut output = WriteTo::new(io::writer(rt));
+    demo(heap, renderer, &mut input, &mut output)?;
     Ok(0)
 }
 
+/// Runs `render` over standard input and output.
+fn run_render<R: Input + Print>(rt: &R, heap: Heap) -> Result<(), Fault> {
+    let mut input = ReadFrom::new(rt.reader());
+    let mut output = WriteTo::new(io::writer(rt));
+    render(heap, &mut input, &mut output)
+}
+
+/// Runs `examples` over the file of this name.
 fn run_examples<R: Files + Print>(rt: &R, heap: Heap, name: &str) -> Result<u8, Fault> {
-    let Ok(mut file) = File::open(rt, name) else {
+    let Ok(file) = File::open(rt, name) else {
         return Err(cannot_read(heap, name));
     };
-    examples(heap, name, &mut file, &mut Output::new(io::writer(rt)))
+    let mut input = ReadFrom::new(file);
+    let mut output = WriteTo::new(io::writer(rt));
+    examples(heap, name, &mut input, &mut output)
 }

@@ -1,9 +1,10 @@
-//! Tries the calls of `doc_html` and `doc_html_anchors` and the command `examples`, as `trial` says; but a page is printed on several
-//! lines.
+//! Tries the calls of `doc_html` and `doc_html_anchors`, and those of `doc_page` on texts and pages, as `trial` says; but a page is
+//! printed on several lines.
 #![tactic(auto)]
 
+mod hides;
 mod of_anchors;
-mod of_examples;
+mod of_filling;
 mod of_html;
 mod of_pages;
 mod printed;
@@ -40,7 +41,7 @@ fn answer_of(heap: Heap, line: &str) -> Result<String, Memory> {
 fn called(heap: Heap, name: &str, text: &str) -> Result<String, Memory> {
     of_html::called(heap, name, text)
         .or_else(|| of_anchors::called(heap, name, text))
-        .or_else(|| of_examples::called(heap, name, text))
+        .or_else(|| of_filling::called(heap, name, text))
         .or_else(|| of_pages::called(heap, name, text))
         .unwrap_or_else(|| no_call(heap))
 }

@@ -1,12 +1,12 @@
 //! Calls of `doc_html`. HTML is printed as a text is written in the input.
 
+use crate::hides::Hides;
 use crate::printed::{compared, printed};
 use doc_blocks::blocks;
 use doc_heap::{Heap, String};
 use doc_html::{render_plain, to_html};
 use doc_lines::entities::Entities;
 use doc_page::failure::Memory;
-use doc_page::linker::{Linker, Shown};
 use doc_page::text::Text;
 use trial::answer::{no_call, two_texts};
 use trial::growths::{Refusal, refused_each};
@@ -66,19 +66,6 @@ fn push_backticks(text: &mut String, length: usize) -> Result<(), Memory> {
         text.push('`')?;
     }
     Ok(())
-}
-
-/// Shows no link.
-struct Hides;
-
-impl Linker for Hides {
-    ghost use Rattle.doc_page.specs.declared.linker.Shown.TheVariants.{Missing};
-
-    ghost shown = { λ _ _. Missing };
-
-    fn show(&self, _heap: Heap, _dest: &str) -> Result<Shown, Memory> {
-        Ok(Shown::Missing)
-    }
 }
 
 /// The HTML of a text by a linker that shows no link.

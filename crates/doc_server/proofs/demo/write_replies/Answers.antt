@@ -2,15 +2,14 @@ use Rattle.std.proofs.Common.{◌≡◌, refl, ◌∙◌}
 use Rattle.std.proofs.lemmas.Result.{err_from_is_err_and}
 use Rattle.doc_server.specs.DemoSteps.{StopsReplies}
 use Rattle.doc_server.specs.declared.fault.Fault.TheVariants as faults
-use Rattle.doc_server.specs.Outputs.{writer_of}
 use Rattle.doc_server.proofs.Replies.{none_yet, reply_more, reply_leaves, reply_none, replies_stopped, flush_stopped}
 use Rattle.doc_server.proofs.Results.{ok_always, then_err}
 use Rattle.doc_server.proofs.demo.write_replies.Goals as goal
 
 pub replies-init : goal.replies-init
 replies-init g c = record {
-  sent = none_yet (g.R.Renderer.page c.args.hub.now.0) c.args.hub.now.1 c.args.id.0 (g.O.Write.contents (writer_of c.args.output.now));
-  failed = refl;
+  sent = none_yet (g.R.Renderer.page c.args.hub.now.0) c.args.hub.now.1 c.args.id.0 (g.O.Output.written c.args.output.now);
+  writes = refl;
   made = c.requires.made;
   same = refl;
 }
@@ -25,7 +24,7 @@ replies-preserved g c = record {
   sent = reply_more (g.R.Renderer.page c.args.hub.now.0) (g.R.Renderer.page c.replies.hub.0) c.args.hub.now.1 c.replies.hub.1
       c.write_reply.new.hub.1 c.args.id.0 _ _ _ c.in_ok-write_reply.field-0 c.if-branch.true c.replies.invariant.same
       c.replies.invariant.sent c.in_ok-write_reply.ensures.sent;
-  failed = c.in_ok-write_reply.ensures.failed ∙ c.replies.invariant.failed;
+  writes = c.in_ok-write_reply.ensures.writes ∙ c.replies.invariant.writes;
   made = (reply_leaves (g.R.Renderer.page c.replies.hub.0) c.replies.hub.1 c.write_reply.new.hub.1 c.args.id.0 _ _
       c.in_ok-write_reply.field-0 c.if-branch.true c.in_ok-write_reply.ensures.sent).1;
   same = c.in_ok-write_reply.ensures.same ∙ c.replies.invariant.same;
@@ -47,8 +46,8 @@ returns-in_err-write_reply-clause-fault g c =
 pub returns-clause-fault : goal.returns-clause-fault
 returns-clause-fault g c =
     then_err (λ fault. fault ≡ faults.CannotWrite)
-    (StopsReplies (g.R.Renderer.page c.args.hub.now.0) c.args.hub.now.1 c.args.id.0 (g.O.Write.contents (writer_of c.args.output.now))
-    (g.O.Write.contents (writer_of c.flush.new.self)))
+    (StopsReplies (g.R.Renderer.page c.args.hub.now.0) c.args.hub.now.1 c.args.id.0 (g.O.Output.written c.args.output.now)
+    (g.O.Output.written c.flush.new.output))
     c.flush.result
     (λ fault is. flush_stopped (g.R.Renderer.page c.args.hub.now.0) (g.R.Renderer.page c.replies.hub.0) c.args.hub.now.1 c.replies.hub.1
     c.write_reply.new.hub.1 c.args.id.0 _ _ _ _ c.in_ok-write_reply.field-0 fault

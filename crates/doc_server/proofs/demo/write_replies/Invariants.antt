@@ -1,15 +1,14 @@
 use Rattle.std.proofs.Common.{◌≡◌}
 use Rattle.doc_server.specs.DemoSteps.{IsMade}
-use Rattle.doc_server.specs.Outputs.{has_failed, writer_of}
 use Rattle.doc_server.proofs.Replies.{Replied}
 use Rattle.doc_server.proofs.Unread.{unread_len}
 use Rattle.doc_server.proofs.demo.write_replies.Given as goal
 
 abbrev pub invariant-replies : goal.invariant-replies
 invariant-replies g l = record {
-  sent : Replied (g.R.Renderer.page l.fn.hub.0) l.fn.hub.1 l.id.0 l.hub.1 (g.O.Write.contents (writer_of l.fn.output))
-      (g.O.Write.contents (writer_of l.output));
-  failed : has_failed l.output ≡ has_failed l.fn.output;
+  sent : Replied (g.R.Renderer.page l.fn.hub.0) l.fn.hub.1 l.id.0 l.hub.1 (g.O.Output.written l.fn.output)
+      (g.O.Output.written l.output);
+  writes : g.O.Output.failed l.output ≡ g.O.Output.failed l.fn.output;
   made : IsMade l.hub.1 l.id.0;
   same : g.R.Renderer.page l.hub.0 ≡ g.R.Renderer.page l.fn.hub.0;
 }

@@ -1,5 +1,4 @@
 use Rattle.std.proofs.lemmas.Result.{err_from_is_err_and}
-use Rattle.doc_server.specs.Outputs.{writer_of}
 use Rattle.doc_server.proofs.Replies.{reply_sent, last_sent, none_left, closed_before, reply_cut, last_cut}
 use Rattle.doc_server.proofs.demo.write_reply.Goals as goal
 
@@ -18,12 +17,12 @@ returns-in_ok-send-in-Last-clause-sent g c =
 pub returns-in-More-clause-sent : goal.returns-in-More-clause-sent
 returns-in-More-clause-sent g c =
     none_left (g.R.Renderer.page c.args.hub.now.0) c.args.hub.now.1 c.step.new.hub.1 c.args.id.0
-    (g.O.Write.contents (writer_of c.args.output.now)) c.in_ok-reply.field-0 c.in-More.is c.in_ok-reply.ensures.world
+    (g.O.Output.written c.args.output.now) c.in_ok-reply.field-0 c.in-More.is c.in_ok-reply.ensures.world
 
 pub returns-in-Closed-clause-sent : goal.returns-in-Closed-clause-sent
 returns-in-Closed-clause-sent g c =
     closed_before (g.R.Renderer.page c.args.hub.now.0) c.args.hub.now.1 c.step.new.hub.1 c.args.id.0
-    (g.O.Write.contents (writer_of c.args.output.now)) c.in_ok-reply.field-0 c.in-Closed.is c.in_ok-reply.ensures.world
+    (g.O.Output.written c.args.output.now) c.in_ok-reply.field-0 c.in-Closed.is c.in_ok-reply.ensures.world
 
 pub returns-in_err-send-in-Sent-clause-fault : goal.returns-in_err-send-in-Sent-clause-fault
 returns-in_err-send-in-Sent-clause-fault g c =

@@ -3,11 +3,10 @@ use Rattle.std.specs.Str.Iter.{split_steps}
 use Rattle.std.specs.Str.Pattern.{FindsChar}
 use Rattle.std.proofs.lemmas.Iterator.{YieldsList}
 use Rattle.doc_server.specs.ExampleSteps.{place_of, IsAt}
-use Rattle.doc_server.specs.Outputs.{has_failed, writer_of}
 use Rattle.doc_server.proofs.examples.compare_all.Given as goal
 
 abbrev pub invariant-loop-line : goal.invariant-loop-line
 invariant-loop-line g l =
     (rest : List (List ℕ)) × YieldsList (split_steps FindsChar (λ a b. b ≡ a)) (λ line. line.now) l.line-iterator rest
-    × IsAt l.text (g.O.Write.contents (writer_of l.fn.output)) (place_of l.reader) l.count (g.O.Write.contents (writer_of l.output)) rest
-    × (has_failed l.output ≡ has_failed l.fn.output)
+    × IsAt l.text (g.O.Output.written l.fn.output) (place_of l.reader) l.count (g.O.Output.written l.output) rest
+    × (g.O.Output.failed l.output ≡ g.O.Output.failed l.fn.output)

@@ -1,0 +1,10 @@
+//! Bytes that come in and go out, with what contracts see of them: what is left to read, what was written and flushed, and how many
+//! calls failed. So a contract can say that a command gives up only where a call failed.
+#![tactic(auto)]
+
+pub mod fault;
+pub mod input;
+pub mod output;
+pub mod read_from;
+pub mod sending;
+pub mod write_to;

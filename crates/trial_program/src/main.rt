@@ -1,0 +1,56 @@
+//! Tries the commands `demo`, `render` and `examples`, as `trial` says; `examples` reads a file of the name `spec.txt`. A call is given
+//! `WAY ROOM TEXT`: the input holds the text, and the output has room for so many bytes, behind which a write fails. The way is `plain`,
+//! or what happens besides: `stray`, where a byte that isn't UTF-8 stands behind the text; `unread`, where reading fails behind the
+//! text; `unflushed`, where a flush fails; `interrupted`, where the first read, write and flush are.
+//!
+//! The answer is the status that the command ends with or what stops it, whether it left bytes of the input, and what it wrote.
+#![tactic(auto)]
+
+mod commands;
+mod feed;
+mod given;
+mod sink;
+mod tried;
+
+use commands::Command;
+use doc_heap::{Heap, String, heap};
+use doc_page::failure::Memory;
+use std::io;
+use std::io::{BufRead, BufReader};
+use trial::answer::no_call;
+use trial::line::{Line, read_line};
+use tried::{answer, grown};
+
+fn main(rt: HostRuntime) -> io::Result<()> {
+    let heap = heap(rt.alloc(), u64::MAX)?;
+    for line in BufReader::new(rt.alloc(), rt.reader())?.lines(rt.alloc()) {
+        let line = line?;
+        match answer_of(heap, line.as_str()) {
+            Ok(answer) => println!(rt; "{answer}")?,
+            Err(Memory) => println!(rt; "no memory for the line")?,
+        }
+    }
+    Ok(())
+}
+
+/// What is printed for a line.
+fn answer_of(heap: Heap, line: &str) -> Result<String, Memory> {
+    match read_line(heap, line)? {
+        Line::Comment => Ok(String::from_str(heap, line)?),
+        Line::Call { name, given } => called(heap, name, &given),
+        Line::Wrong => no_call(heap),
+    }
+}
+
+/// What a call answers.
+fn called(heap: Heap, name: &str, given: &str) -> Result<String, Memory> {
+    match name {
+        "demo" => answer(heap, Command::Demo, given),
+        "grow_demo" => grown(heap, Command::Demo, given),
+        "render" => answer(heap, Command::Render, given),
+        "grow_render" => grown(heap, Command::Render, given),
+        "examples" => answer(heap, Command::Examples, given),
+        "grow_examples" => grown(heap, Command::Examples, given),
+        _ => no_call(heap),
+    }
+}

@@ -1,0 +1,84 @@
+//! Commands on what a call is given.
+
+use crate::commands::Command;
+use crate::feed::Feed;
+use crate::given::{Given, bytes_of, read_given};
+use crate::sink::Sink;
+use doc_heap::{Heap, String};
+use doc_page::failure::Memory;
+use doc_server::fault::Fault;
+use doc_server_streams::read_from::ReadFrom;
+use doc_server_streams::write_to::WriteTo;
+use trial::answer::no_call;
+use trial::growths::{Refusal, refused_each};
+
+/// What came of a command: the status that it ended with or what stopped it, whether it left bytes of the input, and what it wrote.
+#[derive(Debug, PartialEq, Drop)]
+struct Came {
+    ended: Result<u8, Fault>,
+    leaves: bool,
+    wrote: String,
+}
+
+/// What is printed for a command.
+pub fn answer(heap: Heap, command: Command, given: &str) -> Result<String, Memory> {
+    match read_given(given) {
+        Some(given) => told(heap, run(heap, command, given, Refusal::After(u64::MAX))?),
+        None => no_call(heap),
+    }
+}
+
+fn told(heap: Heap, came: Came) -> Result<String, Memory> {
+    let mut out = match &came.ended {
+        Ok(status) => format!(in heap; "status {status}; ")?,
+        Err(fault) => format!(in heap; "{fault}; ")?,
+    };
+    if came.leaves {
+        out.push_str("not all was read; ")?;
+    }
+    let wrote = came.wrote.as_str();
+    write!(out, "wrote {wrote:?}")?;
+    Ok(out)
+}
+
+/// What is printed for a command whose growths are refused in turn.
+pub fn grown(heap: Heap, command: Command, given: &str) -> Result<String, Memory> {
+    match read_given(given) {
+        Some(given) => refused_each(heap, |refusal| run_refused(heap, command, given, refusal)),
+        None => no_call(heap),
+    }
+}
+
+/// What came of a command with growths refused: `Memory` where memory ran out before anything was written.
+fn run_refused(
+    heap: Heap,
+    command: Command,
+    given: Given<'_>,
+    refusal: Refusal,
+) -> Result<Came, Memory> {
+    let came = run(heap, command, given, refusal)?;
+    match &came.ended {
+        Err(Fault::Memory) if came.wrote.is_empty() => Err(Memory),
+        _ => Ok(came),
+    }
+}
+
+/// Runs a command, with growths refused from its beginning on.
+fn run(heap: Heap, command: Command, given: Given<'_>, refusal: Refusal) -> Result<Came, Memory> {
+    let bytes = bytes_of(heap, given)?;
+    let feed = Feed::new(given.way, &bytes);
+    let sink = Sink::new(heap, given)?;
+    refusal.begin(heap);
+    Ok(run_on(heap, command, feed, sink))
+}
+
+fn run_on(heap: Heap, command: Command, feed: Feed<'_>, sink: Sink) -> Came {
+    let mut input = ReadFrom::new(feed);
+    let mut output = WriteTo::new(sink);
+    let ended = command.run(heap, &mut input, &mut output);
+    Came {
+        ended,
+        leaves: input.reader().is_left(),
+        wrote: output.into_writer().into_text(heap),
+    }
+}
