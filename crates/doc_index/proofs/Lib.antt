@@ -1,0 +1,5 @@
+pub mod CountSteps
+pub mod HeldSteps
+pub mod IndexSteps
+pub mod RowSteps
+pub mod TableSteps

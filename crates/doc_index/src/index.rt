@@ -1,0 +1,173 @@
+//! Pages held under a path and a stamp, and asked by key.
+
+ghost use Rattle.std.specs.Prelude.{◌≡◌, ◌==◌, ℕ, List as Seq, [], None, OnOk, OnErr, option_copied, option_map};
+ghost use Rattle.std.specs.FinMap as map;
+ghost use Rattle.doc_index.specs.Held.{count_in, held, known, known_as, slot_at};
+ghost use Rattle.doc_index.specs.Maps.{text_map};
+ghost use Rattle.doc_index.specs.TableSteps.{HasCounts, HasSame, number_at, number_in, with_number};
+
+use crate::counts::Counts;
+use crate::held::Held;
+use crate::row::Row;
+use crate::table::Table;
+use doc_heap::{BTreeMap, Heap, String};
+use doc_page::failure::Memory;
+use doc_page::path::Path;
+use slab::Slab;
+use std::marker::Model;
+
+/// Pages, each held under a path and a stamp in a slot of its own. Contracts see the slots.
+#[derive(Drop)]
+pub struct Index<T> {
+    heap: Heap,
+    slots: Slab<Held<T>, Heap>,
+    places: Table,
+    postings: Table,
+}
+
+impl<T> Model for Index<T> {
+    ghost use Rattle.std.specs.Prelude.{List as Seq, Option as Maybe};
+    ghost use Rattle.doc_index.specs.declared.held.Held.{Held as Page};
+    ghost use Rattle.std.specs.Coded.{coded_list, coded_option};
+    ghost use Rattle.doc_index.specs.Held.{held_code};
+
+    ghost Value = { Seq (Maybe (Page T)) };
+
+    ghost coded = { coded_list (coded_option (held_code T.code)) };
+
+    ghost use Rattle.doc_index.specs.IndexSteps.{IsIndex};
+
+    ghost view = { λ i. i.slots.slots };
+
+    ghost invariant = { λ i. IsIndex i.slots.slots i.places i.postings };
+}
+
+impl<T> Index<T> {
+    /// An index that holds no page. It takes no memory.
+    pub fn new(heap: Heap) -> Index<T>
+        ensures { result ≡ [] }
+    {
+        Index {
+            heap,
+            slots: Slab::new(heap),
+            places: Table::new(heap),
+            postings: Table::new(heap),
+        }
+    }
+
+    /// The page in a slot.
+    pub fn slot(&self, slot: usize) -> Option<&Held<T>>
+        ensures { option_copied result ≡ slot_at self.now slot }
+    {
+        self.slots.get(slot)
+    }
+
+    /// The value of the page under a path and a stamp.
+    pub fn get(&self, path: &Path, stamp: u64) -> Option<&T>
+        ensures { option_copied result ≡ option_map (λ page. page.value) (map.get (held self.now) (path.now, stamp)) }
+    {
+        let Some(slot) = self.places.get(path.text(), stamp) else {
+            return None;
+        };
+        let Some(page) = self.slots.get(slot as usize) else {
+            return None;
+        };
+        Some(&page.value)
+    }
+
+    /// The slots of the pages that have a key, each with the count of the key in its page.
+    pub fn of_key(&self, key: &str) -> Option<&Row>
+        ensures { (slot : ℕ) → number_in (option_copied result) slot ≡ count_in (slot_at self.now slot) key.now }
+    {
+        self.postings.row(key)
+    }
+
+    /// Holds a page under a path and a stamp that none has. A refusal leaves the index as it was.
+    pub fn add(
+        &mut self,
+        path: &Path,
+        stamp: u64,
+        value: T,
+        keys: &BTreeMap<String, u64>,
+    ) -> Result<(), Memory>
+    where
+        T: Drop,
+        requires free { map.get (held self.old) (path.now, stamp) ≡ None }
+        ensures ok { OnOk result (held self.new ≡ map.insert (held self.old) (path.now, stamp) (known_as value (text_map keys.now))) }
+        ensures err { OnErr result (self.new ≡ self.old) }
+    {
+        let counts = Counts::copy_of(self.heap, keys)?;
+        let path = path.copy(self.heap)?;
+        self.enter(Held {
+            path,
+            stamp,
+            value,
+            counts,
+        })
+    }
+
+    /// Holds a page whose path and stamp none has.
+    fn enter(&mut self, page: Held<T>) -> Result<(), Memory>
+    where
+        T: Drop,
+        requires free { map.get (held self.old) (page.path, page.stamp) ≡ None }
+        ensures ok { OnOk result (held self.new ≡ map.insert (held self.old) (page.path, page.stamp) (known page)) }
+        ensures err { OnErr result (self.new ≡ self.old) }
+    {
+        self.slots.reserve(1)?;
+        let slot = self.slots.vacant_key();
+        place(
+            self.heap,
+            &mut self.places,
+            &mut self.postings,
+            &page,
+            slot as u64,
+        )?;
+        self.slots.insert_reserved(page);
+        Ok(())
+    }
+
+    /// Lets the page under a path and a stamp go, and tells whether there was one. It takes no memory.
+    pub fn drop_page(&mut self, path: &Path, stamp: u64) -> bool
+    where
+        T: Drop,
+        ensures answer { result ≡ map.contains_key (held self.old) (path.now, stamp) }
+        ensures rest { held self.new ≡ map.remove (held self.old) (path.now, stamp) }
+    {
+        let Some(slot) = self.places.get(path.text(), stamp) else {
+            return false;
+        };
+        let Some(page) = self.slots.try_remove(slot as usize) else {
+            return false;
+        };
+        self.places.take(path.text(), stamp);
+        page.counts.take_from(&mut self.postings, slot);
+        true
+    }
+}
+
+/// Leads a page's path and stamp, and each of its keys, to a slot. A refusal leaves both tables as they
+/// were.
+fn place<T>(
+    heap: Heap,
+    places: &mut Table,
+    postings: &mut Table,
+    page: &Held<T>,
+    slot: u64,
+) -> Result<(), Memory>
+    requires { (text : Seq ℕ) → number_at postings.old text slot ≡ None }
+    ensures places { OnOk result (places.new ≡ with_number places.old page.now.path page.now.stamp slot) }
+    ensures postings { OnOk result (HasCounts page.now.counts slot postings.old postings.new) }
+    ensures places_err { OnErr result (places.new ≡ places.old) }
+    ensures postings_err { OnErr result (HasSame postings.old postings.new) }
+{
+    page.counts.add_to(heap, postings, slot)?;
+    if places
+        .set(heap, page.path.text(), page.stamp, slot)
+        .is_err()
+    {
+        page.counts.take_from(postings, slot);
+        return Err(Memory);
+    }
+    Ok(())
+}
