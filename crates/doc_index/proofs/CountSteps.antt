@@ -200,12 +200,14 @@ module _ (items : List (List ℕ × ℕ)) (slot : ℕ) (old table new : NumberTa
   pub set_first : (counts : TextMap ℕ) → map.from_entries items ≡ counts → i ≡ 0 → HasEntries (drop i items) slot old table
       → HasCounts counts slot old table
   set_first counts is none done =
-      all_set items counts is slot old table (subst (λ es. HasEntries es slot old table) (ap (λ j. drop j items) none ∙ drop_none items) done)
+      all_set items counts is slot old table
+      (subst (λ es. HasEntries es slot old table) (ap (λ j. drop j items) none ∙ drop_none items) done)
 
   pub taken_first : (counts : TextMap ℕ) → map.from_entries items ≡ counts → i ≡ 0 → LacksEntries (drop i items) slot old table
       → LacksCounts counts slot old table
   taken_first counts is none done =
-      all_taken items counts is slot old table (subst (λ es. LacksEntries es slot old table) (ap (λ j. drop j items) none ∙ drop_none items) done)
+      all_taken items counts is slot old table
+      (subst (λ es. LacksEntries es slot old table) (ap (λ j. drop j items) none ∙ drop_none items) done)
 
 -- counts that were set and are taken again
 pub given_back : (counts : TextMap ℕ) (slot : ℕ) (old table new : NumberTable) → ((q : List ℕ) → number_at old q slot ≡ None)

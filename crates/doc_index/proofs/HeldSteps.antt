@@ -89,12 +89,13 @@ module _ {T : Type 0} where
   known_at slots (Some i) = option_map known (slot_at slots i)
 
   -- what is held under a path and a stamp is what is known in the slot to which they lead
-  pub held_at : (slots : List (Option (Held T))) (places postings : NumberTable) → IsIndex slots places postings
+  pub held_at : {last : ℕ} (slots : List (Option (Held T))) (places postings : NumberTable) → IsIndex last slots places postings
       → (path : List ℕ) (stamp : ℕ) → map.get (held slots) (path, stamp) ≡ known_at slots (number_at places path stamp)
   held_at slots places postings is path stamp =
       map.get-from_entries pairs_total (entries_of slots) (path, stamp) ∙ by (number_at places path stamp) refl
     where
-      leads_to : (i : ℕ) (other : Held T) → slot_at slots i ≡ Some other → pair_of other ≡ (path, stamp) → number_at places path stamp ≡ Some i
+      leads_to : (i : ℕ) (other : Held T) → slot_at slots i ≡ Some other → pair_of other ≡ (path, stamp)
+          → number_at places path stamp ≡ Some i
       leads_to i other at same = ap (λ p. number_at places p.0 p.1) (sym same) ∙ is.placed i other at
 
       by : (x : Option ℕ) → number_at places path stamp ≡ x → found (path, stamp) slots ≡ known_at slots x
@@ -107,8 +108,9 @@ module _ {T : Type 0} where
           ∙ sym (ap (option_map known) there.1)
 
   -- an empty index
-  pub nothing_held : IsIndex {T = T} [] map.empty map.empty
+  pub nothing_held : IsIndex {T = T} 0 [] map.empty map.empty
   nothing_held = record {
+    within = λ i above. refl;
     placed = λ i page at. absurd (not_some page at);
     leads = λ path stamp i at. absurd (not_some i (sym (no_number path stamp) ∙ at));
     counted = λ key i. no_number key i;
@@ -118,21 +120,22 @@ module _ {T : Type 0} where
       no_number text n = ap (λ r. number_in r n) (map.get-empty (slice_cmp nat_cmp) text)
 
   -- where a path and a stamp lead, and to what
-  pub known_none : (slots : List (Option (Held T))) (places postings : NumberTable) → IsIndex slots places postings
+  pub known_none : {last : ℕ} (slots : List (Option (Held T))) (places postings : NumberTable) → IsIndex last slots places postings
       → (path text : List ℕ) (stamp : ℕ) → text ≡ path → None ≡ number_at places text stamp → None ≡ map.get (held slots) (path, stamp)
   known_none slots places postings is path text stamp same e =
       sym (held_at slots places postings is path stamp ∙ ap (known_at slots) (sym (e ∙ ap (λ t. number_at places t stamp) same)))
 
-  pub known_some : (slots : List (Option (Held T))) (places postings : NumberTable) → IsIndex slots places postings
+  pub known_some : {last : ℕ} (slots : List (Option (Held T))) (places postings : NumberTable) → IsIndex last slots places postings
       → (path text : List ℕ) (stamp i : ℕ) → text ≡ path → Some i ≡ number_at places text stamp
       → option_map known (slot_at slots i) ≡ map.get (held slots) (path, stamp)
   known_some slots places postings is path text stamp i same e =
       sym (held_at slots places postings is path stamp ∙ ap (known_at slots) (sym (e ∙ ap (λ t. number_at places t stamp) same)))
 
   -- tables that have the same
-  pub same_index : (slots : List (Option (Held T))) (places postings later : NumberTable) → HasSame postings later
-      → IsIndex slots places postings → IsIndex slots places later
+  pub same_index : {last : ℕ} (slots : List (Option (Held T))) (places postings later : NumberTable) → HasSame postings later
+      → IsIndex last slots places postings → IsIndex last slots places later
   same_index slots places postings later same is = record {
+    within = is.within;
     placed = is.placed;
     leads = is.leads;
     counted = λ key i. same key i ∙ is.counted key i;

@@ -1,9 +1,10 @@
 -- An index after a page enters it, and after one leaves it.
-use Rattle.std.proofs.Common.{◌≡◌, ◌≢◌, ℕ, List, Bool, true, false, cond, ◌&&◌, refl, ap, ap₂, sym, subst, ◌∙◌, true≢false}
-use Rattle.std.specs.Prelude.{Option, Some, None, option_map, is_some}
+use Rattle.std.proofs.Common.{◌≡◌, ◌≢◌, ◌<◌, ◌≤◌, lt_of_le_of_lt, arith, ℕ, List, Bool, true, false, cond, ◌&&◌, refl, ap, ap₂, sym, subst, ◌∙◌, true≢false}
+use Rattle.std.specs.Borrow.{Bor}
+use Rattle.std.specs.Prelude.{IfSome, option_copied, Option, Some, None, option_map, is_some}
 use Rattle.std.specs.FinMap as map
 use Rattle.doc_index.specs.declared.held.Held.{Held}
-use Rattle.doc_index.specs.Held.{Known, count_in, held, known, slot_at}
+use Rattle.doc_index.specs.Held.{AreApart, Known, count_in, held, known, slot_at}
 use Rattle.doc_index.specs.IndexSteps.{IsIndex}
 use Rattle.doc_index.specs.TableSteps.{HasCounts, LacksCounts, NumberTable, number_at, same_number, with_number, without_number}
 use Rattle.doc_index.proofs.CountSteps.{at_set, at_taken, number_is, number_itself}
@@ -25,7 +26,8 @@ not_same i v e is = true≢false (sym (ap (λ j. same_number j v) is ∙ number_
 other_pair : (p q : List ℕ × ℕ) → same_pair p q ≡ false → p ≢ q
 other_pair p q e is = true≢false (sym (ap (λ r. same_pair r q) is ∙ pair_itself q) ∙ e)
 
-module _ {T : Type 0} (slots : List (Option (Held T))) (places postings : NumberTable) (is : IsIndex slots places postings) where
+module _ {T : Type 0} {last : ℕ} (slots : List (Option (Held T))) (places postings : NumberTable)
+    (is : IsIndex last slots places postings) where
   -- no path and stamp that are free lead to a slot
   unplaced : (p : List ℕ × ℕ) → map.get (held slots) p ≡ None → number_at places p.0 p.1 ≡ None
   unplaced p free = by (number_at places p.0 p.1) refl
@@ -41,6 +43,7 @@ module _ {T : Type 0} (slots : List (Option (Held T))) (places postings : Number
   module _ (v : ℕ) (page : Held T) (vacant : slot_at slots v ≡ None) (free : map.get (held slots) (pair_of page) ≡ None)
       (after : List (Option (Held T))) (places_after postings_after : NumberTable) (key : ℕ) (at_key : key ≡ v)
       (changed : slot_at after key ≡ Some page) (others : (j : ℕ) → j ≢ key → slot_at after j ≡ slot_at slots j)
+      (last_after : ℕ) (grown : last ≤ last_after) (reached : v ≤ last_after)
       (placed : places_after ≡ with_number places page.path page.stamp v)
       (counts : HasCounts page.counts v postings postings_after) where
     there : slot_at after v ≡ Some page
@@ -52,13 +55,18 @@ module _ {T : Type 0} (slots : List (Option (Held T))) (places postings : Number
     place_after : (q : List ℕ × ℕ) → number_at places_after q.0 q.1 ≡ cond (same_pair q (pair_of page)) (Some v) (number_at places q.0 q.1)
     place_after q = ap (λ t. number_at t q.0 q.1) placed ∙ place_set places (pair_of page) q v
 
-    pub entered : IsIndex after places_after postings_after
+    pub entered : IsIndex last_after after places_after postings_after
     entered = record {
+      within = λ i above. elsewhere i (λ e. above_all i above (subst (λ j. j ≤ last_after) (sym e) reached))
+          ∙ is.within i (lt_of_le_of_lt grown above);
       placed = λ i other at. by_slot i other at (same_number i v) refl;
       leads = λ path stamp i at. by_pair path stamp i at (same_pair (path, stamp) (pair_of page)) refl;
       counted = λ q i. counts q i ∙ by_count q i (same_number i v) refl;
     }
       where
+        above_all : (i : ℕ) → last_after < i → i ≤ last_after → ⊥
+        above_all i above below = omega (arith, above, below)
+
         by_other : (i : ℕ) (other : Held T) → slot_at slots i ≡ Some other → (b : Bool) → same_pair (pair_of other) (pair_of page) ≡ b
             → cond b (Some v) (number_at places other.path other.stamp) ≡ Some i
         by_other i other at true e =
@@ -130,13 +138,18 @@ module _ {T : Type 0} (slots : List (Option (Held T))) (places postings : Number
         let there = is.leads p.0 p.1 v leads in
         ap pair_of (some_is page there.0 (sym stood ∙ there.1)) ∙ ap₂ (λ a b. (a, b)) there.2 there.3
 
-    pub left : IsIndex after places_after postings_after
+    pub left : IsIndex last after places_after postings_after
     left = record {
+      within = λ i above. by_last i above (same_number i v) refl;
       placed = λ i other at. by_slot i other at (same_number i v) refl;
       leads = λ path stamp i at. by_pair path stamp i at (same_pair (path, stamp) p) refl;
       counted = λ q i. counts q i ∙ by_count q i (same_number i v) refl;
     }
       where
+        by_last : (i : ℕ) → last < i → (b : Bool) → same_number i v ≡ b → slot_at after i ≡ None
+        by_last i above true e = ap (slot_at after) (number_is i v e) ∙ changed
+        by_last i above false e = others i (not_same i v e) ∙ is.within i above
+
         by_other : (i : ℕ) (other : Held T) → i ≢ v → slot_at slots i ≡ Some other → (b : Bool) → same_pair (pair_of other) p ≡ b
             → cond b None (number_at places other.path other.stamp) ≡ Some i
         by_other i other apart at true e =
@@ -199,6 +212,15 @@ module _ {T : Type 0} (slots : List (Option (Held T))) (places postings : Number
   pub stands : (p : List ℕ × ℕ) (v : ℕ) (page : Held T) → number_at places p.0 p.1 ≡ Some v → slot_at slots v ≡ Some page
       → map.get (held slots) p ≡ Some (known page)
   stands p v page leads stood = held_at slots places postings is p.0 p.1 ∙ ap (known_at slots) leads ∙ ap (option_map known) stood
+
+  pub in_slot : (i : ℕ) (found : Option (Bor (Held T))) → option_copied found ≡ slot_at slots i
+      → IfSome found (λ page. map.get (held slots) (pair_of page.now) ≡ Some (known page.now))
+  in_slot i None e = tt
+  in_slot i (Some page) e = stands (pair_of page.now) i page.now (is.placed i page.now (sym e)) (sym e)
+
+  pub apart : AreApart slots
+  apart i j page other at at_other paths stamps =
+      some_is i j (sym (is.placed i page at) ∙ ap₂ (λ p s. number_at places p s) paths stamps ∙ is.placed j other at_other)
 
 -- what is not held is not taken away
 pub absent : {T : Type 0} (slots : List (Option (Held T))) (p : List ℕ × ℕ) → None ≡ map.get (held slots) p

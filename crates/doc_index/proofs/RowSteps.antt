@@ -14,7 +14,8 @@ use Rattle.std.proofs.lemmas.Cmp.{nat_cmp_total}
 use Rattle.std.proofs.lemmas.Map.Lookups.{CmpEqualImpliesEq, exact_unsigned}
 use Rattle.doc_page.proofs.Maps.{looked_up}
 
-pub looked_up_number : {X : Type 0} (es : List (ℕ × X)) (q : ℕ) → lookup (is_at (nat_cmp q)) es ≡ map.get (map.from_entries {R = nat_cmp} es) q
+pub looked_up_number : {X : Type 0} (es : List (ℕ × X)) (q : ℕ)
+    → lookup (is_at (nat_cmp q)) es ≡ map.get (map.from_entries {R = nat_cmp} es) q
 looked_up_number es q = looked_up nat_cmp_total exact_unsigned es q
 
 module _ {K X : Type 0} {R : K → K → Ordering} (total : IsTotalOrder R) (exact : CmpEqualImpliesEq R) where

@@ -24,7 +24,8 @@ looked_up_bytes (e ∷ es) text = ap (cond (is_eq (slice_cmp nat_cmp text (strin
 
 -- a look-up by bytes is one in the map
 pub looked_up_text : {A X : Type 0} (es : List (String A × X)) (text : List ℕ)
-    → lookup (is_at (λ k. slice_cmp nat_cmp text (string_bytes k))) es ≡ map.get (map.from_entries {R = slice_cmp nat_cmp} (by_bytes es)) text
+    → lookup (is_at (λ k. slice_cmp nat_cmp text (string_bytes k))) es
+    ≡ map.get (map.from_entries {R = slice_cmp nat_cmp} (by_bytes es)) text
 looked_up_text es text = looked_up_bytes es text ∙ looked_up nat_list_cmp_total exact_bytes (by_bytes es) text
 
 module _ {A X : Type 0} (m n : BTreeMap (String A) X) (text : List ℕ) where

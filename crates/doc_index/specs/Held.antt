@@ -1,5 +1,5 @@
 -- The pages that are held, by path and stamp, and the numbers of their slots.
-use Rattle.std.specs.Prelude.{ℕ, List, [], ◌∷◌, Option, Some, None, option_map, slice_index_or, refl}
+use Rattle.std.specs.Prelude.{◌≡◌, ℕ, List, [], ◌∷◌, Option, Some, None, option_map, slice_index_or, refl}
 use Rattle.std.specs.Coded.{Coded, code_by, coded×, coded_list, coded_ℕ}
 use Rattle.std.specs.FinMap as map
 use Rattle.doc_index.specs.declared.held.Held.{Held}
@@ -23,6 +23,11 @@ known_as value counts = record { value = value; counts = counts }
 abbrev pub known : {T : Type 0} → Held T → Known T
 known page = known_as page.value page.counts
 
+-- the counts of what is known, none of nothing
+abbrev pub counts_of : {T : Type 0} → Option (Known T) → TextMap ℕ
+counts_of None = map.empty
+counts_of (Some page) = page.counts
+
 abbrev pub entries_of : {T : Type 0} → List (Option (Held T)) → List ((List ℕ × ℕ) × Known T)
 entries_of [] = []
 entries_of (None ∷ slots) = entries_of slots
@@ -40,3 +45,9 @@ slot_at slots i = slice_index_or slots i None
 abbrev pub count_in : {T : Type 0} → Option (Held T) → List ℕ → Option ℕ
 count_in None key = None
 count_in (Some page) key = map.get page.counts key
+
+-- no two slots have pages with the same path and stamp
+abbrev pub AreApart : {T : Type 0} → List (Option (Held T)) → Type 0
+AreApart {T} slots =
+    (i j : ℕ) (page other : Held T) → slot_at slots i ≡ Some page → slot_at slots j ≡ Some other
+    → page.path ≡ other.path → page.stamp ≡ other.stamp → i ≡ j

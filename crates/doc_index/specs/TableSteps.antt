@@ -1,5 +1,5 @@
 -- Numbers by text and number, as rows by text.
-use Rattle.std.specs.Prelude.{◌≡◌, ℕ, List, Option, Some, None, Bool, ◌==◌, ◌&&◌, if◌then◌else◌}
+use Rattle.std.specs.Prelude.{◌≡◌, ℕ, List, [], ◌∷◌, ◌++◌, map as mapped, Option, Some, None, Bool, ◌==◌, ◌&&◌, if◌then◌else◌}
 use Rattle.std.specs.Cmp.Lexicographic.{slice_cmp}
 use Rattle.std.specs.FinMap as map
 use Rattle.std.specs.Ordering.{eq_by_cmp, nat_cmp}
@@ -53,3 +53,8 @@ abbrev pub LacksCounts : TextMap ℕ → ℕ → NumberTable → NumberTable →
 LacksCounts counts slot old new =
     (text : List ℕ) (n : ℕ)
     → number_at new text n ≡ (if same_number n slot && map.contains_key counts text then None else number_at old text n)
+
+-- the numbers of rows, one row after another
+abbrev pub numbers_of : List (NumberMap ℕ) → List ℕ
+numbers_of [] = []
+numbers_of (row ∷ rows) = mapped (λ e. e.1) (map.entries row) ++ numbers_of rows

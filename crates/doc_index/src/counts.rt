@@ -31,6 +31,14 @@ impl Model for Counts {
 }
 
 impl Counts {
+    pub(crate) fn none(heap: Heap) -> Counts
+        ensures { result ≡ map.empty }
+    {
+        Counts {
+            entries: Vec::new(heap),
+        }
+    }
+
     /// The counts of a map.
     pub(crate) fn copy_of(heap: Heap, keys: &BTreeMap<String, u64>) -> Result<Counts, Memory>
         ensures { IfOk result (λ counts. counts ≡ text_map keys.now) }

@@ -5,6 +5,7 @@ ghost use Rattle.std.specs.FinMap as map;
 
 use doc_heap::{BTreeMap, Heap};
 use doc_page::failure::Memory;
+use std::collections::btree_map::Iter;
 use std::marker::Model;
 
 /// Numbers by number. Contracts see the map.
@@ -46,6 +47,13 @@ impl Row {
         ensures { result ≡ map.get self.now number }
     {
         self.entries.get(&number).copied()
+    }
+
+    /// The numbers in their order, each with its number.
+    pub fn iter(&self) -> Iter<'_, u64, u64>
+        ensures { result ≡ map.entries self.now }
+    {
+        self.entries.iter()
     }
 
     /// Sets the number of a number.

@@ -1,11 +1,11 @@
 //! Rows of numbers by text.
 
-ghost use Rattle.std.specs.Prelude.{◌≡◌, ◌≢◌, OnOk, OnErr, IsTrue, option_copied, string_bytes};
+ghost use Rattle.std.specs.Prelude.{◌≡◌, ◌≢◌, ◌++◌, map as mapped, IfOk, OnOk, OnErr, IsTrue, option_copied, string_bytes};
 ghost use Rattle.std.specs.FinMap as map;
-ghost use Rattle.doc_index.specs.TableSteps.{left_in_row, number_at, with_number, without_number};
+ghost use Rattle.doc_index.specs.TableSteps.{left_in_row, number_at, numbers_of, with_number, without_number};
 
 use crate::row::Row;
-use doc_heap::{BTreeMap, Heap, String};
+use doc_heap::{BTreeMap, Heap, String, Vec};
 use doc_page::failure::Memory;
 use std::marker::Model;
 
@@ -57,6 +57,17 @@ impl Table {
         self.row(text)?.get(number)
     }
 
+    /// The numbers, by text and then by number.
+    pub fn numbers(&self, heap: Heap) -> Result<Vec<u64>, Memory>
+        ensures { IfOk result (λ numbers. numbers.items ≡ numbers_of (map.values self.now)) }
+    {
+        let mut numbers = Vec::new(heap);
+        for row in self.rows.values() {
+            push_numbers(&mut numbers, row)?;
+        }
+        Ok(numbers)
+    }
+
     /// Sets the number of a text and a number.
     pub fn set(&mut self, heap: Heap, text: &str, number: u64, value: u64) -> Result<(), Memory>
         ensures ok { OnOk result (self.new ≡ with_number self.old text.now number value) }
@@ -90,8 +101,8 @@ impl Table {
         row.set(number, value)
     }
 
-    /// Takes the number of a text and a number away, if there is one, and the row once it is empty. It
-    /// takes no memory.
+    /// Takes the number of a text and a number away, if there is one, and the row once it is empty.
+    /// It takes no memory.
     pub fn take(&mut self, text: &str, number: u64)
         ensures { self.new ≡ without_number self.old text.now number }
     {
@@ -110,7 +121,8 @@ impl Table {
     fn take_in_row(&mut self, text: &str, number: u64) -> usize
         ensures left { result ≡ map.len (left_in_row self.old text.now number) }
         ensures rest { map.remove self.new text.now ≡ map.remove self.old text.now }
-        ensures row { result ≢ 0 → self.new ≡ map.insert self.old text.now (left_in_row self.old text.now number) }
+        ensures row { result ≢ 0
+            → self.new ≡ map.insert self.old text.now (left_in_row self.old text.now number) }
     {
         let Some(row) = self.rows.get_mut(text) else {
             return 0;
@@ -118,4 +130,14 @@ impl Table {
         row.take(number);
         row.len()
     }
+}
+
+/// Adds the numbers of a row.
+fn push_numbers(numbers: &mut Vec<u64>, row: &Row) -> Result<(), Memory>
+    ensures { OnOk result (numbers.new.items ≡ numbers.old.items ++ mapped (λ e. e.1) (map.entries row.now)) }
+{
+    for (_, number) in row.iter() {
+        numbers.push(*number)?;
+    }
+    Ok(())
 }

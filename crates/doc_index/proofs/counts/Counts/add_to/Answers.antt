@@ -1,4 +1,4 @@
-use Rattle.std.proofs.Common.{arith, drop, refl, ap, sym, subst, ◌∙◌}
+use Rattle.std.proofs.Common.{arith, drop, sym, subst, ◌∙◌}
 use Rattle.doc_index.proofs.CountSteps.{HasEntries, err_then, ok_then, set_next, set_first, undone}
 use Rattle.doc_index.proofs.counts.Counts.add_to.Goals as goal
 

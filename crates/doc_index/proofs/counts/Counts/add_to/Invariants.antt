@@ -1,4 +1,4 @@
-use Rattle.std.proofs.Common.{◌≡◌, ◌≤◌, drop, length}
+use Rattle.std.proofs.Common.{◌≤◌, drop, length}
 use Rattle.doc_index.proofs.CountSteps.{HasEntries}
 use Rattle.doc_index.proofs.counts.Counts.add_to.Given as goal
 

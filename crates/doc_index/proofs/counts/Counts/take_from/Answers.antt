@@ -1,4 +1,4 @@
-use Rattle.std.proofs.Common.{arith, drop, refl, ap, sym, subst, ◌∙◌}
+use Rattle.std.proofs.Common.{arith}
 use Rattle.doc_index.proofs.CountSteps.{taken_next, taken_first}
 use Rattle.doc_index.proofs.counts.Counts.take_from.Goals as goal
 

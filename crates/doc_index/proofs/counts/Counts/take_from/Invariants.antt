@@ -1,4 +1,4 @@
-use Rattle.std.proofs.Common.{◌≡◌, ◌≤◌, drop, length}
+use Rattle.std.proofs.Common.{◌≤◌, drop, length}
 use Rattle.doc_index.proofs.CountSteps.{LacksEntries}
 use Rattle.doc_index.proofs.counts.Counts.take_from.Given as goal
 

@@ -1,4 +1,4 @@
-use Rattle.std.proofs.Common.{refl, ap, sym, is_some, ◌∙◌}
+use Rattle.std.proofs.Common.{ap, sym, is_some, ◌∙◌}
 use Rattle.std.specs.FinMap as map
 use Rattle.doc_index.specs.Held.{held}
 use Rattle.doc_index.specs.TableSteps.{number_at, without_number}

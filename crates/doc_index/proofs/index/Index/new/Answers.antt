@@ -1,5 +1,3 @@
-use Rattle.std.proofs.Common.{◌∙◌, ap, sym, subst}
-use Rattle.doc_index.specs.IndexSteps.{IsIndex}
 use Rattle.doc_index.proofs.HeldSteps.{nothing_held}
 use Rattle.doc_index.proofs.index.Index.new.Goals as goal
 

@@ -1,4 +1,4 @@
-use Rattle.std.proofs.Common.{◌∙◌, ap, sym, refl, string_bytes}
+use Rattle.std.proofs.Common.{◌∙◌, ap, string_bytes}
 use Rattle.std.specs.FinMap as map
 use Rattle.doc_index.proofs.TableSteps.{inserted_text}
 use Rattle.doc_index.proofs.table.Table.insert.Goals as goal

@@ -1,4 +1,4 @@
-use Rattle.std.proofs.Common.{◌∙◌, ap, sym, refl, string_bytes}
+use Rattle.std.proofs.Common.{◌∙◌, ap}
 use Rattle.std.specs.FinMap as map
 use Rattle.doc_index.proofs.TableSteps.{removed_text}
 use Rattle.doc_index.proofs.table.Table.remove.Goals as goal

@@ -1,4 +1,4 @@
-use Rattle.std.proofs.Common.{◌∙◌, ap, sym, refl, string_bytes}
+use Rattle.std.proofs.Common.{◌∙◌, ap}
 use Rattle.std.specs.FinMap as map
 use Rattle.doc_index.proofs.TableSteps.{looked_up_text}
 use Rattle.doc_index.proofs.table.Table.row.Goals as goal

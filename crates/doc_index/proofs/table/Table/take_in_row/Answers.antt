@@ -1,5 +1,5 @@
-use Rattle.std.proofs.Common.{◌≡◌, ◌∙◌, ap, sym, refl, string_bytes}
-use Rattle.std.specs.Prelude.{Some, None}
+use Rattle.std.proofs.Common.{◌≡◌, ◌∙◌, ap, sym, refl}
+use Rattle.std.specs.Prelude.{Some}
 use Rattle.std.specs.FinMap as map
 use Rattle.doc_index.proofs.TableSteps.{inserted_text, looked_up_text, left_is, nothing_left, set_and_removed}
 use Rattle.doc_index.proofs.table.Table.take_in_row.Goals as goal
