@@ -1,7 +1,7 @@
 -- The pages of an index in the order of their paths and stamps.
 use Rattle.std.proofs.lemmas.Map.Lookups.{exact_bytes}
 use Rattle.std.proofs.Common.{String, string_bytes, ◌≡◌, ℕ, List, [], ◌∷◌, ◌++◌, Bool, true, false, cond, ◌&&◌, T, is_eq, is_lt, refl, ap, ap₂, sym, subst, ◌∙◌}
-use Rattle.std.specs.Prelude.{IfOk, Result, Ok, Err, Option, Some, None, option_map, map as mapped}
+use Rattle.std.specs.Prelude.{IfOk, OnOk, Result, Ok, Err, Option, Some, None, option_map, map as mapped}
 use Rattle.std.specs.declared.cmp.Ordering.{Ordering}
 use Rattle.std.specs.declared.cmp.Ordering.TheVariants.{Less, Equal, Greater}
 use Rattle.std.specs.Cmp.{IsTotalOrder, eq_by_cmp_equiv}
@@ -218,6 +218,10 @@ module _ (places : NumberTable) where
 pub told : {X E : Type 0} {P Q : X → Type 0} (r : Result X E) → ((x : X) → P x → Q x) → IfOk r P → IfOk r Q
 told (Ok x) f h = f x h
 told (Err e) f h = tt
+
+pub told_in_order : {X E Q : Type 0} {P S : X → Type 0} (r : Result X E) → (Q → (x : X) → P x → S x) → OnOk r Q → IfOk r P → IfOk r S
+told_in_order (Ok x) f q h = f q x h
+told_in_order (Err e) f q h = tt
 
 -- `String` keys in order, by their bytes
 module _ {A X : Type 0} where

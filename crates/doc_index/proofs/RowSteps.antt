@@ -1,5 +1,5 @@
 -- Maps by numbers that a `BTreeMap` keeps, and how many keys a map has.
-use Rattle.std.proofs.Common.{◌≡◌, ℕ, ◌+◌, List, [], ◌∷◌, Bool, false, cond, length, add-one, is_some, refl, sym, ap, ◌∙◌, arith}
+use Rattle.std.proofs.Common.{append_assoc, ◌++◌, ◌≡◌, ℕ, ◌+◌, List, [], ◌∷◌, Bool, false, cond, length, add-one, is_some, refl, sym, ap, ◌∙◌, arith}
 use Rattle.std.specs.Prelude.{Option, Some, None}
 use Rattle.std.specs.declared.cmp.Ordering.{Ordering}
 use Rattle.std.specs.declared.cmp.Ordering.TheVariants.{Less}
@@ -51,3 +51,6 @@ module _ {K X : Type 0} {R : K → K → Ordering} (total : IsTotalOrder R) (exa
       put_first : (e : K × X) (es : List (K × X)) → AllByRecursion (λ y. R e.0 y ≡ Less) (keys_of es) → map.put R e.0 e.1 es ≡ e ∷ es
       put_first e [] before = refl
       put_first e (f ∷ fs) before = rw before.0 refl
+
+pub joined : (xs ys zs : List ℕ) → xs ++ ys ++ zs ≡ xs ++ (ys ++ zs)
+joined xs ys zs = append_assoc xs ys zs

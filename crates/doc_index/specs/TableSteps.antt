@@ -54,7 +54,10 @@ LacksCounts counts slot old new =
     (text : List ℕ) (n : ℕ)
     → number_at new text n ≡ (if same_number n slot && map.contains_key counts text then None else number_at old text n)
 
+abbrev pub row_numbers : NumberMap ℕ → List ℕ
+row_numbers row = mapped (λ e. e.1) (map.entries row)
+
 -- the numbers of rows, one row after another
 abbrev pub numbers_of : List (NumberMap ℕ) → List ℕ
 numbers_of [] = []
-numbers_of (row ∷ rows) = mapped (λ e. e.1) (map.entries row) ++ numbers_of rows
+numbers_of (row ∷ rows) = row_numbers row ++ numbers_of rows

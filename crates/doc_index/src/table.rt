@@ -1,8 +1,10 @@
 //! Rows of numbers by text.
 
-ghost use Rattle.std.specs.Prelude.{◌≡◌, ◌≢◌, ◌++◌, map as mapped, IfOk, OnOk, OnErr, IsTrue, option_copied, string_bytes};
+ghost use Rattle.std.specs.Prelude.{◌≡◌, ◌≢◌, ◌++◌, IfOk, OnOk, OnErr, IsTrue, option_copied, string_bytes};
+ghost use Rattle.std.specs.BTreeMap.{IsOrdered, values};
 ghost use Rattle.std.specs.FinMap as map;
-ghost use Rattle.doc_index.specs.TableSteps.{left_in_row, number_at, numbers_of, with_number, without_number};
+ghost use Rattle.std.specs.String.{string_cmp};
+ghost use Rattle.doc_index.specs.TableSteps.{left_in_row, number_at, numbers_of, row_numbers, with_number, without_number};
 
 use crate::row::Row;
 use doc_heap::{BTreeMap, Heap, String, Vec};
@@ -61,11 +63,7 @@ impl Table {
     pub fn numbers(&self, heap: Heap) -> Result<Vec<u64>, Memory>
         ensures { IfOk result (λ numbers. numbers.items ≡ numbers_of (map.values self.now)) }
     {
-        let mut numbers = Vec::new(heap);
-        for row in self.rows.values() {
-            push_numbers(&mut numbers, row)?;
-        }
-        Ok(numbers)
+        numbers_in(heap, &self.rows)
     }
 
     /// Sets the number of a text and a number.
@@ -132,9 +130,22 @@ impl Table {
     }
 }
 
+/// The numbers of rows, one row after another.
+#[tactic(auto, using(crate::proofs::RowSteps::joined))]
+fn numbers_in(heap: Heap, rows: &BTreeMap<String, Row>) -> Result<Vec<u64>, Memory>
+    ensures numbers { IfOk result (λ numbers. numbers.items ≡ numbers_of (values rows.now)) }
+    ensures ordered { OnOk result (IsOrdered string_cmp rows.now) }
+{
+    let mut numbers = Vec::with_capacity(heap, rows.len())?;
+    for row in rows.values() {
+        push_numbers(&mut numbers, row)?;
+    }
+    Ok(numbers)
+}
+
 /// Adds the numbers of a row.
 fn push_numbers(numbers: &mut Vec<u64>, row: &Row) -> Result<(), Memory>
-    ensures { OnOk result (numbers.new.items ≡ numbers.old.items ++ mapped (λ e. e.1) (map.entries row.now)) }
+    ensures { OnOk result (numbers.new.items ≡ numbers.old.items ++ row_numbers row.now) }
 {
     for (_, number) in row.iter() {
         numbers.push(*number)?;

@@ -7,7 +7,8 @@ returns-then-is_err-clause-err c =
     let same = err_then c.set.result (sym c.is_err.ensures.value ∙ c.if-is_err.true) c.set.ensures.err in
     undone c.args.slot c.args.table.now c.set.new.self c.self.inside.entries.items c.loop-left.left c.args.self.now c.take_from.new.table
     c.self.view_is c.requires
-    (subst (HasEntries (drop c.loop-left.left c.self.inside.entries.items) c.args.slot c.args.table.now) (sym same) c.loop-left.invariant.done)
+    (subst (HasEntries (drop c.loop-left.left c.self.inside.entries.items) c.args.slot c.args.table.now) (sym same)
+    c.loop-left.invariant.done)
     c.take_from.ensures
 
 pub loop-left-preserved : goal.loop-left-preserved

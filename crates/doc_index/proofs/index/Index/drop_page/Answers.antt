@@ -31,7 +31,8 @@ invariant_of-self-2 g c =
 
 pub returns-clause-answer : goal.returns-clause-answer
 returns-clause-answer g c =
-    ap is_some (sym (stands c.self.inside.slots.slots c.self.inside.places c.self.inside.postings c.self.invariant (c.args.path.now, c.args.stamp)
+    ap is_some (sym (stands c.self.inside.slots.slots c.self.inside.places c.self.inside.postings c.self.invariant
+    (c.args.path.now, c.args.stamp)
     c.in-Some.slot c.in-Some-try_remove.page
     (sym (c.in-Some.ensures ∙ ap (λ t. number_at c.self.inside.places t c.args.stamp) c.text.ensures))
     (sym c.in-Some-try_remove.ensures.value))

@@ -25,7 +25,7 @@ invariant_of-self-2 g c =
     c.insert_reserved.new.self.slots c.place.new.places c.place.new.postings c.insert_reserved.result
     (c.insert_reserved.ensures.key ∙ sym c.vacant_key-slot.ensures.value)
     c.insert_reserved.ensures.updates.changed c.insert_reserved.ensures.updates.others
-    c.later.result c.later.ensures.first c.later.ensures.second
+    c.later-self-inside.result c.later-self-inside.ensures.first c.later-self-inside.ensures.second
     c.in_ok-place.ensures.places c.in_ok-place.ensures.postings
 
 pub returns-clause-ok : goal.returns-clause-ok
@@ -37,6 +37,6 @@ returns-clause-ok g c =
     c.insert_reserved.new.self.slots c.place.new.places c.place.new.postings c.insert_reserved.result
     (c.insert_reserved.ensures.key ∙ sym c.vacant_key-slot.ensures.value)
     c.insert_reserved.ensures.updates.changed c.insert_reserved.ensures.updates.others
-    c.later.result c.later.ensures.first c.later.ensures.second
+    c.later-self-inside.result c.later-self-inside.ensures.first c.later-self-inside.ensures.second
     c.in_ok-place.ensures.places c.in_ok-place.ensures.postings
     ∙ ap (λ s. map.insert (held s) (pair_of c.args.page) (known c.args.page)) (kept ∙ c.self.view_is)

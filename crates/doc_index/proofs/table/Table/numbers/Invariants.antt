@@ -1,8 +1,0 @@
-use Rattle.std.proofs.Common.{◌≡◌, ◌++◌}
-use Rattle.std.specs.Map.{values_of}
-use Rattle.doc_index.specs.TableSteps.{numbers_of}
-use Rattle.doc_index.proofs.table.Table.numbers.Given as goal
-
--- what is left of the rows is still to be added
-abbrev pub invariant-loop-row : goal.invariant-loop-row
-invariant-loop-row l = numbers_of (values_of l.self-inside.rows.entries) ≡ l.numbers.items ++ numbers_of l.row-iterator
