@@ -1,0 +1,7 @@
+mod Examples
+pub mod CountSteps
+pub mod HeldSteps
+pub mod IndexSteps
+pub mod OrderSteps
+pub mod RowSteps
+pub mod TableSteps

@@ -1,0 +1,4 @@
+pub mod Held
+pub mod IndexSteps
+pub mod Maps
+pub mod TableSteps

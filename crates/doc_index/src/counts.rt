@@ -1,0 +1,91 @@
+//! The keys of a page with their counts.
+
+ghost use Rattle.std.specs.Prelude.{◌≡◌, List as Seq, ℕ, None, IfOk, OnOk, OnErr};
+ghost use Rattle.std.specs.FinMap as map;
+ghost use Rattle.doc_index.specs.Maps.{text_map};
+ghost use Rattle.doc_index.specs.TableSteps.{HasCounts, HasSame, LacksCounts, number_at};
+
+use crate::table::Table;
+use doc_heap::{BTreeMap, Heap, String, Vec};
+use doc_page::failure::Memory;
+use doc_page::text::Text;
+use std::marker::Model;
+
+/// The keys of a page, each with its count. Contracts see the map.
+#[derive(Drop)]
+pub struct Counts {
+    entries: Vec<(Text, u64)>,
+}
+
+impl Model for Counts {
+    ghost use Rattle.std.specs.Prelude.{ℕ};
+    ghost use Rattle.std.specs.Coded.{coded_ℕ, coded_list};
+    ghost use Rattle.std.specs.FinMap as map;
+    ghost use Rattle.doc_index.specs.Maps.{TextMap};
+
+    ghost Value = { TextMap ℕ };
+
+    ghost coded = { map.code (coded_list coded_ℕ) coded_ℕ };
+
+    ghost view = { λ c. map.from_entries c.entries.items };
+}
+
+impl Counts {
+    pub(crate) fn none(heap: Heap) -> Counts
+        ensures { result ≡ map.empty }
+    {
+        Counts {
+            entries: Vec::new(heap),
+        }
+    }
+
+    /// The counts of a map.
+    pub(crate) fn copy_of(heap: Heap, keys: &BTreeMap<String, u64>) -> Result<Counts, Memory>
+        ensures { IfOk result (λ counts. counts ≡ text_map keys.now) }
+    {
+        let mut entries = Vec::with_capacity(heap, keys.len())?;
+        for (key, count) in keys.iter() {
+            entries.push((Text::copy_of(heap, key.as_str())?, *count))?;
+        }
+        Ok(Counts { entries })
+    }
+
+    pub(crate) fn copy(&self, heap: Heap) -> Result<Counts, Memory>
+        ensures { IfOk result (λ counts. counts ≡ self.now) }
+    {
+        let mut entries = Vec::with_capacity(heap, self.entries.len())?;
+        for (key, count) in self.entries.iter() {
+            entries.push((key.copy(heap)?, *count))?;
+        }
+        Ok(Counts { entries })
+    }
+
+    /// Sets in a table the count of each key under a slot. A refusal leaves the table as it was.
+    pub(crate) fn add_to(&self, heap: Heap, table: &mut Table, slot: u64) -> Result<(), Memory>
+        requires { (text : Seq ℕ) → number_at table.old text slot ≡ None }
+        ensures ok { OnOk result (HasCounts self.now slot table.old table.new) }
+        ensures err { OnErr result (HasSame table.old table.new) }
+    {
+        let mut left = self.entries.len();
+        while left > 0 {
+            left -= 1;
+            let (key, count) = &self.entries[left];
+            if table.set(heap, key.get(), slot, *count).is_err() {
+                self.take_from(table, slot);
+                return Err(Memory);
+            }
+        }
+        Ok(())
+    }
+
+    /// Takes from a table what it has at each key under a slot. It takes no memory.
+    pub(crate) fn take_from(&self, table: &mut Table, slot: u64)
+        ensures { LacksCounts self.now slot table.old table.new }
+    {
+        let mut left = self.entries.len();
+        while left > 0 {
+            left -= 1;
+            table.take(self.entries[left].0.get(), slot);
+        }
+    }
+}

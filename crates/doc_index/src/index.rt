@@ -1,0 +1,260 @@
+//! Pages held under a path and a stamp, and asked by key.
+
+ghost use Rattle.std.specs.Prelude.{◌≡◌, ◌<◌, ◌≤◌, ℕ, List as Seq, [], Some, None, IfOk, IfSome, OnOk, OnErr};
+ghost use Rattle.std.specs.Prelude.{map as mapped, count_by, is_some, option_copied, option_map};
+ghost use Rattle.std.specs.FinMap as map;
+ghost use Rattle.doc_index.specs.Held.{AreApart, count_in, counts_of, entries_of, held, known, known_as, slot_at};
+ghost use Rattle.doc_index.specs.Maps.{text_map};
+ghost use Rattle.doc_index.specs.TableSteps.{HasCounts, HasSame, number_at, number_in, with_number};
+
+use crate::counts::Counts;
+use crate::held::Held;
+use crate::row::Row;
+use crate::table::Table;
+use doc_heap::{BTreeMap, Heap, String, Vec};
+use doc_page::failure::Memory;
+use doc_page::path::Path;
+use slab::Slab;
+use std::marker::Model;
+
+/// Pages, each held under a path and a stamp in a slot of its own. Contracts see the slots.
+#[derive(Drop)]
+pub struct Index<T> {
+    heap: Heap,
+    slots: Slab<Held<T>, Heap>,
+    last: usize,
+    places: Table,
+    postings: Table,
+}
+
+impl<T> Model for Index<T> {
+    ghost use Rattle.std.specs.Prelude.{List as Seq, Option as Maybe};
+    ghost use Rattle.doc_index.specs.declared.held.Held.{Held as Page};
+    ghost use Rattle.std.specs.Coded.{coded_list, coded_option};
+    ghost use Rattle.doc_index.specs.Held.{held_code};
+
+    ghost Value = { Seq (Maybe (Page T)) };
+
+    ghost coded = { coded_list (coded_option (held_code T.code)) };
+
+    ghost use Rattle.doc_index.specs.IndexSteps.{IsIndex};
+
+    ghost view = { λ i. i.slots.slots };
+
+    ghost invariant = { λ i. IsIndex i.last i.slots.slots i.places i.postings };
+}
+
+impl<T> Index<T> {
+    /// An index that holds no page. It takes no memory.
+    pub fn new(heap: Heap) -> Index<T>
+        ensures { result ≡ [] }
+    {
+        Index {
+            heap,
+            slots: Slab::new(heap),
+            last: 0,
+            places: Table::new(heap),
+            postings: Table::new(heap),
+        }
+    }
+
+    /// The page in a slot, which is the one held under its path and stamp.
+    pub fn slot(&self, slot: usize) -> Option<&Held<T>>
+        ensures page { option_copied result ≡ slot_at self.now slot }
+        ensures held { IfSome result (λ page.
+            map.get (held self.now) (page.now.path, page.now.stamp) ≡ Some (known page.now)) }
+    {
+        self.slots.get(slot)
+    }
+
+    /// How many pages are held: each in one slot.
+    pub fn len(&self) -> usize
+        ensures len { result ≡ count_by is_some self.now }
+        ensures apart { AreApart self.now }
+    {
+        self.slots.len()
+    }
+
+    /// The slots of the pages by path and then by stamp: what their pages are known for is what is
+    /// held, in its order.
+    pub fn in_order(&self, heap: Heap) -> Result<Vec<u64>, Memory>
+        ensures { IfOk result (λ slots.
+            entries_of (mapped (slot_at self.now) slots.items) ≡ map.entries (held self.now)) }
+    {
+        self.places.numbers(heap)
+    }
+
+    /// A slot after which none has a page.
+    pub fn last_slot(&self) -> usize
+        ensures { (slot : ℕ) → result < slot → slot_at self.now slot ≡ None }
+    {
+        self.last
+    }
+
+    /// The value of the page under a path and a stamp.
+    pub fn get(&self, path: &Path, stamp: u64) -> Option<&T>
+        ensures { option_copied result
+            ≡ option_map (λ page. page.value) (map.get (held self.now) (path.now, stamp)) }
+    {
+        let Some(page) = self.page(path, stamp) else {
+            return None;
+        };
+        Some(&page.value)
+    }
+
+    /// The page under a path and a stamp.
+    fn page(&self, path: &Path, stamp: u64) -> Option<&Held<T>>
+        ensures { option_map known (option_copied result) ≡ map.get (held self.now) (path.now, stamp) }
+    {
+        let Some(slot) = self.places.get(path.text(), stamp) else {
+            return None;
+        };
+        self.slots.get(slot as usize)
+    }
+
+    /// The slots of the pages that have a key, each with the count of the key in its page.
+    pub fn of_key(&self, key: &str) -> Option<&Row>
+        ensures { (slot : ℕ)
+            → number_in (option_copied result) slot ≡ count_in (slot_at self.now slot) key.now }
+    {
+        self.postings.row(key)
+    }
+
+    /// Holds a page under a path and a stamp that none has. A refusal leaves the index as it was.
+    pub fn add(
+        &mut self,
+        path: &Path,
+        stamp: u64,
+        value: T,
+        keys: &BTreeMap<String, u64>,
+    ) -> Result<(), Memory>
+    where
+        T: Drop,
+        requires free { map.get (held self.old) (path.now, stamp) ≡ None }
+        ensures ok { OnOk result (held self.new
+            ≡ map.insert (held self.old) (path.now, stamp) (known_as value (text_map keys.now))) }
+        ensures err { OnErr result (self.new ≡ self.old) }
+    {
+        let counts = Counts::copy_of(self.heap, keys)?;
+        let path = path.copy(self.heap)?;
+        self.enter(Held {
+            path,
+            stamp,
+            value,
+            counts,
+        })
+    }
+
+    /// Holds a page under a path and a stamp that none has, with the keys of the page under another
+    /// path and stamp. A refusal leaves the index as it was.
+    pub fn add_copy(
+        &mut self,
+        from: &Path,
+        from_stamp: u64,
+        to: &Path,
+        stamp: u64,
+        value: T,
+    ) -> Result<(), Memory>
+    where
+        T: Drop,
+        requires free { map.get (held self.old) (to.now, stamp) ≡ None }
+        ensures ok { OnOk result (held self.new ≡ map.insert (held self.old) (to.now, stamp)
+            (known_as value (counts_of (map.get (held self.old) (from.now, from_stamp))))) }
+        ensures err { OnErr result (self.new ≡ self.old) }
+    {
+        let counts = self.counts_of(from, from_stamp)?;
+        let path = to.copy(self.heap)?;
+        self.enter(Held {
+            path,
+            stamp,
+            value,
+            counts,
+        })
+    }
+
+    /// A copy of the counts of the page under a path and a stamp: none where no page is.
+    fn counts_of(&self, path: &Path, stamp: u64) -> Result<Counts, Memory>
+        ensures { IfOk result (λ counts. counts ≡ counts_of (map.get (held self.now) (path.now, stamp))) }
+    {
+        let Some(page) = self.page(path, stamp) else {
+            return Ok(Counts::none(self.heap));
+        };
+        page.counts.copy(self.heap)
+    }
+
+    /// Holds a page whose path and stamp none has.
+    fn enter(&mut self, page: Held<T>) -> Result<(), Memory>
+    where
+        T: Drop,
+        requires free { map.get (held self.old) (page.path, page.stamp) ≡ None }
+        ensures ok { OnOk result (held self.new
+            ≡ map.insert (held self.old) (page.path, page.stamp) (known page)) }
+        ensures err { OnErr result (self.new ≡ self.old) }
+    {
+        self.slots.reserve(1)?;
+        let slot = self.slots.vacant_key();
+        place(
+            self.heap,
+            &mut self.places,
+            &mut self.postings,
+            &page,
+            slot as u64,
+        )?;
+        self.last = later(self.last, slot);
+        self.slots.insert_reserved(page);
+        Ok(())
+    }
+
+    /// Lets the page under a path and a stamp go, and tells whether there was one. It takes no
+    /// memory.
+    pub fn drop_page(&mut self, path: &Path, stamp: u64) -> bool
+    where
+        T: Drop,
+        ensures answer { result ≡ map.contains_key (held self.old) (path.now, stamp) }
+        ensures rest { held self.new ≡ map.remove (held self.old) (path.now, stamp) }
+    {
+        let Some(slot) = self.places.get(path.text(), stamp) else {
+            return false;
+        };
+        let Some(page) = self.slots.try_remove(slot as usize) else {
+            return false;
+        };
+        self.places.take(path.text(), stamp);
+        page.counts.take_from(&mut self.postings, slot);
+        true
+    }
+}
+
+/// The later of two slots.
+fn later(a: usize, b: usize) -> usize
+    ensures first { a ≤ result }
+    ensures second { b ≤ result }
+{
+    if a < b { b } else { a }
+}
+
+/// Leads a page's path and stamp, and each of its keys, to a slot. A refusal leaves both tables as
+/// they were.
+fn place<T>(
+    heap: Heap,
+    places: &mut Table,
+    postings: &mut Table,
+    page: &Held<T>,
+    slot: u64,
+) -> Result<(), Memory>
+    requires { (text : Seq ℕ) → number_at postings.old text slot ≡ None }
+    ensures places { OnOk result (places.new ≡ with_number places.old page.now.path page.now.stamp slot) }
+    ensures postings { OnOk result (HasCounts page.now.counts slot postings.old postings.new) }
+    ensures places_err { OnErr result (places.new ≡ places.old) }
+    ensures postings_err { OnErr result (HasSame postings.old postings.new) }
+{
+    page.counts.add_to(heap, postings, slot)?;
+    if places
+        .set(heap, page.path.text(), page.stamp, slot)
+        .is_err()
+    {
+        page.counts.take_from(postings, slot);
+        return Err(Memory);
+    }
+    Ok(())
+}
