@@ -5,6 +5,7 @@ mod Examples
 pub mod JoinSteps
 mod LetterExamples
 pub mod LinkLaws
+pub mod LongPaths
 pub mod ReferenceSteps
 mod ShownExamples
 pub mod WrittenPathLaws

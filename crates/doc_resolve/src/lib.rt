@@ -20,3 +20,4 @@ pub use reference::Reference;
 pub use resolution::resolve;
 pub use resolved::Resolved;
 pub use site_linker::SiteLinker;
+pub use written_paths::written_path;

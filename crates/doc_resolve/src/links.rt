@@ -12,7 +12,7 @@ use crate::encoding::encoded_path;
 use crate::link_kind::LinkKind;
 use crate::reference::Reference;
 use crate::resolution::path_on;
-use crate::written_paths::written_path;
+use crate::written_paths::path_of_segments;
 use doc_heap::{Heap, Vec};
 use doc_page::failure::Memory;
 use doc_page::path::Path;
@@ -55,7 +55,7 @@ fn target_on(heap: Heap, base: &str, path: &str) -> Result<Option<Path>, Memory>
     let Some((_, written)) = found.as_slice().split_first() else {
         return Ok(None);
     };
-    written_path(heap, written)
+    path_of_segments(heap, written)
 }
 
 /// The path of a reference, on `/` and a path.
