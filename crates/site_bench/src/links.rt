@@ -39,7 +39,8 @@ fn gone_through<S: Sight>(
     sight: &S,
 ) -> Result<u64, Fault> {
     let mut count = 0u64;
-    for goal in decisions(heap, page, rendered, sight)?.iter() {
+    let goals = decisions(heap, page, rendered, sight)?;
+    for goal in goals.get() {
         count = count.wrapping_add(u64::from(goal.is_some()));
     }
     let linker = SiteLinker::new(page, sight);
