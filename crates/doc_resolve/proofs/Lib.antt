@@ -1,6 +1,5 @@
 pub mod DecisionLaws
 pub mod DotSteps
-pub mod EncodingLaws
 mod Examples
 pub mod JoinSteps
 mod LetterExamples

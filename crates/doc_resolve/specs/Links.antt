@@ -6,7 +6,7 @@ use Rattle.percent_encoding.specs.Percent.{percent_decode}
 use Rattle.doc_page.specs.Paths.{segments}
 use Rattle.doc_page.specs.declared.rendered.Piece.{Piece}
 use Rattle.doc_page.specs.declared.rendered.Piece.TheVariants.{Html, Link}
-use Rattle.doc_resolve.specs.Encoding.{encoded}
+use Rattle.doc_page_encoding.specs.Encoding.{encoded}
 use Rattle.doc_resolve.specs.References.{Uri, reference}
 use Rattle.doc_resolve.specs.Resolution.{resolve}
 use Rattle.doc_resolve.specs.WrittenPaths.{path_written}

@@ -8,7 +8,6 @@ ghost use Rattle.doc_resolve.specs.LinkSteps.{leaves_site, target_on, kind_insid
 ghost use Rattle.doc_resolve.specs.References.{uri_of};
 
 use crate::dot_segments::push_segments;
-use crate::encoding::encoded_path;
 use crate::link_kind::LinkKind;
 use crate::reference::Reference;
 use crate::resolution::path_on;
@@ -18,6 +17,7 @@ use doc_page::failure::Memory;
 use doc_page::path::Path;
 use doc_page::rendered::Piece;
 use doc_page::text::Text;
+use doc_page_encoding::encoding::encoded_path;
 use percent_encoding::{DecodeError, percent_decode};
 
 /// The segments of `/` and a page's path at most.

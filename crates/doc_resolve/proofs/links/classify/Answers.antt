@@ -1,11 +1,11 @@
 use Rattle.std.proofs.Common.{◌≡◌, ◌∙◌, ◌∷◌, [], ap, sym, subst, List, ℕ}
 use Rattle.std.specs.Result.{IfOk}
 use Rattle.doc_page.specs.Paths.{segments}
-use Rattle.doc_resolve.specs.Encoding.{encoded_path}
+use Rattle.doc_page_encoding.specs.Encoding.{encoded_path}
+use Rattle.doc_page_encoding.proofs.EncodingLaws.{paths_by_segments}
 use Rattle.doc_resolve.specs.Links.{base_of, kind_on, on_path}
 use Rattle.doc_resolve.specs.References.{uri_of}
 use Rattle.doc_resolve.proofs.DotSteps.{texts}
-use Rattle.doc_resolve.proofs.EncodingLaws.{segments-encoded_path}
 use Rattle.doc_resolve.proofs.LinkLaws.{kind_on-outside, kind_on-inside_ok}
 use Rattle.doc_resolve.proofs.links.classify.Goals as goal
 
@@ -17,7 +17,7 @@ returns-then-leaves_site c =
 pub returns : goal.returns
 returns c =
     let path = c.as_str.ensures.value ∙ c.in_ok-path.ensures ∙ ap encoded_path c.text.ensures in
-    let same = ap (λ p. [] ∷ p) (ap segments path ∙ segments-encoded_path c.args.page.now) in
+    let same = ap (λ p. [] ∷ p) (ap segments path ∙ paths_by_segments c.args.page.now) in
     let base = ap texts c.deref.ensures.value ∙ c.in_ok-base.ensures ∙ same in
     let stays = sym c.if-leaves_site.ensures in
     let r = uri_of c.parse-reference.result in
