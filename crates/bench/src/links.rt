@@ -39,7 +39,8 @@ fn gone_through<S: Sight>(
     sight: &S,
 ) -> Result<usize, Fault> {
     let mut count = 0usize;
-    for goal in decisions(heap, page, rendered, sight)?.iter() {
+    let goals = decisions(heap, page, rendered, sight)?;
+    for goal in goals.get() {
         count = count.wrapping_add(usize::from(goal.is_some()));
     }
     let linker = SiteLinker::new(page, sight);

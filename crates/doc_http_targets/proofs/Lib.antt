@@ -1,6 +1,4 @@
 mod OriginParts
-mod PathLaws
-mod PathSteps
 mod Routing
 mod TargetExamples
 mod TargetSteps

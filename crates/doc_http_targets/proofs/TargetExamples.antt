@@ -4,6 +4,7 @@ use Rattle.std.specs.Str.{chars, is_utf8}
 use lib.Utf8.{encode}
 use Rattle.percent_encoding.specs.Percent.{percent_decode}
 use Rattle.doc_page.specs.Paths.{is_path}
+use Rattle.doc_resolve.specs.WrittenPaths.{path_written as path_of_segments}
 use Rattle.doc_http_targets.specs.Targets.{origin_form, page_rest}
 use Rattle.doc_http_targets.specs.WrittenPaths.{path_written}
 
@@ -92,69 +93,69 @@ authority_alone = refl
 -- ---- the path that is written
 
 plain : path_written (codes "a.md") ≡ Some (codes "a.md")
-unfolding path_written percent_decode is_utf8 chars is_path encode
+unfolding path_written path_of_segments percent_decode is_utf8 chars is_path encode
 plain = refl
 
 encoded_dots : path_written (codes "%2e%2e") ≡ None
-unfolding path_written percent_decode is_utf8 chars is_path encode
+unfolding path_written path_of_segments percent_decode is_utf8 chars is_path encode
 encoded_dots = refl
 
 encoded_slash : path_written (codes "x%2Fy") ≡ None
-unfolding path_written percent_decode is_utf8 chars is_path encode
+unfolding path_written path_of_segments percent_decode is_utf8 chars is_path encode
 encoded_slash = refl
 
 encoded_slash_at_end : path_written (codes "x%2F") ≡ None
-unfolding path_written percent_decode is_utf8 chars is_path encode
+unfolding path_written path_of_segments percent_decode is_utf8 chars is_path encode
 encoded_slash_at_end = refl
 
 lone_percent : path_written (codes "a%") ≡ None
-unfolding path_written percent_decode is_utf8 chars is_path encode
+unfolding path_written path_of_segments percent_decode is_utf8 chars is_path encode
 lone_percent = refl
 
 encoded_percent : path_written (codes "a%25") ≡ None
-unfolding path_written percent_decode is_utf8 chars is_path encode
+unfolding path_written path_of_segments percent_decode is_utf8 chars is_path encode
 encoded_percent = refl
 
 folder : path_written (codes "guide/") ≡ Some (codes "guide/index.md")
-unfolding path_written percent_decode is_utf8 chars is_path encode
+unfolding path_written path_of_segments percent_decode is_utf8 chars is_path encode
 folder = refl
 
 top_folder : path_written (codes "") ≡ Some (codes "index.md")
-unfolding path_written percent_decode is_utf8 chars is_path encode
+unfolding path_written path_of_segments percent_decode is_utf8 chars is_path encode
 top_folder = refl
 
 slash_alone : path_written (codes "/") ≡ None
-unfolding path_written percent_decode is_utf8 chars is_path encode
+unfolding path_written path_of_segments percent_decode is_utf8 chars is_path encode
 slash_alone = refl
 
 empty_segment : path_written (codes "a//b") ≡ None
-unfolding path_written percent_decode is_utf8 chars is_path encode
+unfolding path_written path_of_segments percent_decode is_utf8 chars is_path encode
 empty_segment = refl
 
 dot_segment : path_written (codes "./a.md") ≡ None
-unfolding path_written percent_decode is_utf8 chars is_path encode
+unfolding path_written path_of_segments percent_decode is_utf8 chars is_path encode
 dot_segment = refl
 
 fragment : path_written (codes "a.md#x") ≡ None
-unfolding path_written percent_decode is_utf8 chars is_path encode
+unfolding path_written path_of_segments percent_decode is_utf8 chars is_path encode
 fragment = refl
 
 two_bytes : path_written (codes "caf%C3%A9.md") ≡ Some (codes "caf" ++ 0xC3 ∷ 0xA9 ∷ codes ".md")
-unfolding path_written percent_decode is_utf8 chars is_path encode
+unfolding path_written path_of_segments percent_decode is_utf8 chars is_path encode
 two_bytes = refl
 
 not_utf8 : path_written (codes "%ff") ≡ None
-unfolding path_written percent_decode is_utf8 chars is_path encode
+unfolding path_written path_of_segments percent_decode is_utf8 chars is_path encode
 not_utf8 = refl
 
 character_across_segments : path_written (codes "%C3/%A9") ≡ None
-unfolding path_written percent_decode is_utf8 chars is_path encode
+unfolding path_written path_of_segments percent_decode is_utf8 chars is_path encode
 character_across_segments = refl
 
 space : path_written (codes "a%20b") ≡ Some (codes "a b")
-unfolding path_written percent_decode is_utf8 chars is_path encode
+unfolding path_written path_of_segments percent_decode is_utf8 chars is_path encode
 space = refl
 
 two_segments : path_written (codes "guide/start.md") ≡ Some (codes "guide/start.md")
-unfolding path_written percent_decode is_utf8 chars is_path encode
+unfolding path_written path_of_segments percent_decode is_utf8 chars is_path encode
 two_segments = refl

@@ -4,10 +4,10 @@ use Rattle.std.specs.List.{flat_map}
 use Rattle.doc_page.specs.Pages.{opening_tag, filled_piece, filled}
 use Rattle.doc_page.specs.declared.rendered.Piece.{Piece}
 use Rattle.doc_page.specs.declared.rendered.Piece.TheVariants.{Html, Link}
-use Rattle.doc_resolve.specs.Decisions.{goal_of, decisions_in, decisions}
+use Rattle.doc_resolve.specs.Decisions.{goal_of, goals_of, decisions_in, decisions}
 use Rattle.doc_resolve.specs.Hrefs.{shown_page, shown_by, shown}
-use Rattle.doc_resolve.specs.Laws.{LinksAreDecided}
-use Rattle.doc_resolve.specs.Links.{base_of, kind_on}
+use Rattle.doc_resolve.specs.Laws.{DecisionsAreGoals, LinksAreDecided}
+use Rattle.doc_resolve.specs.Links.{base_of, kind_on, kinds, kinds_in}
 use Rattle.doc_resolve.specs.declared.link_kind.LinkKind.{LinkKind}
 use Rattle.doc_resolve.specs.declared.link_kind.LinkKind.TheVariants.{External, Page, Nowhere}
 
@@ -33,3 +33,14 @@ same_filled one other page (Link spot ∷ pieces) same =
 pub links_are_decided : LinksAreDecided
 unfolding decisions filled
 links_are_decided one other page rendered same = same_filled one other page rendered.pieces same
+
+same_goals : (goals : List ℕ → Option (List ℕ)) (page : List ℕ) (pieces : List Piece)
+    → flat_map (decisions_in goals (base_of page)) pieces ≡ goals_of goals (flat_map (kinds_in (base_of page)) pieces)
+same_goals goals page [] = refl
+same_goals goals page (Html text ∷ pieces) = same_goals goals page pieces
+same_goals goals page (Link spot ∷ pieces) =
+    ap (λ rest. goal_of goals (kind_on (base_of page) spot.dest) ∷ rest) (same_goals goals page pieces)
+
+pub decisions_are_goals : DecisionsAreGoals
+unfolding decisions kinds
+decisions_are_goals goals page rendered = same_goals goals page rendered.pieces

@@ -1,10 +1,10 @@
 pub mod DecisionLaws
 pub mod DotSteps
-pub mod EncodingLaws
 mod Examples
 pub mod JoinSteps
 mod LetterExamples
 pub mod LinkLaws
+pub mod LongPaths
 pub mod ReferenceSteps
 mod ShownExamples
 pub mod WrittenPathLaws

@@ -11,8 +11,8 @@ use Rattle.doc_page.specs.declared.rendered.Piece.TheVariants.{Html, Link}
 use Rattle.doc_page.specs.declared.rendered.Rendered.{Rendered}
 use Rattle.doc_resolve.specs.Decisions.{decisions}
 use Rattle.doc_resolve.specs.DotSegments.{put_all, without_dots}
-use Rattle.doc_resolve.specs.Encoding.{encoded, encoded_path}
-use Rattle.doc_resolve.specs.Hrefs.{destination, shown}
+use Rattle.doc_page_encoding.specs.Encoding.{encoded, encoded_path, destination}
+use Rattle.doc_resolve.specs.Hrefs.{shown}
 use Rattle.doc_resolve.specs.Links.{kind_on}
 use Rattle.doc_resolve.specs.References.{reference}
 use Rattle.doc_resolve.specs.Resolution.{resolve}

@@ -43,7 +43,7 @@ is_utf8-slash xs ys =
     is_utf8-from_IsUtf8 all (IsUtf8-append xs (47 ∷ ys) (IsUtf8-from_is_utf8 xs parts.0) back))
 
 -- the texts in a row, each after a `/`
-abbrev flat : List (List ℕ) → List ℕ
+abbrev pub flat : List (List ℕ) → List ℕ
 flat texts = flat_map (λ text. 47 ∷ text) texts
 
 and-true : (b : Bool) → (b && true) ≡ b
@@ -61,13 +61,13 @@ is_utf8-flat [] = is_utf8-from_IsUtf8 [] IsUtf8-nil
 is_utf8-flat (text ∷ texts) = is_utf8-rest text texts
 
 -- without the first `/` they are joined by `/`
-drop-flat : (texts : List (List ℕ)) → drop 1 (flat texts) ≡ join_with_byte 47 texts
+pub drop-flat : (texts : List (List ℕ)) → drop 1 (flat texts) ≡ join_with_byte 47 texts
 drop-flat [] = refl
 drop-flat (text ∷ []) = append-nil text
 drop-flat (text ∷ next ∷ texts) = ap (λ rest. text ++ 47 ∷ rest) (drop-flat (next ∷ texts))
 
 -- the decoded segments, where none holds a `/`
-decoded-flat : (parts : List (List ℕ)) → decoded_segments parts ≡ cond (list_any holds_slash (map percent_decode parts)) None
+pub decoded-flat : (parts : List (List ℕ)) → decoded_segments parts ≡ cond (list_any holds_slash (map percent_decode parts)) None
     (Some (flat (map percent_decode parts)))
 decoded-flat [] = refl
 decoded-flat (part ∷ parts) =
@@ -121,7 +121,7 @@ path-flat texts =
     ]
 
 -- the path, by the decoded segments
-path_written-decoded : (parts : List (List ℕ)) → path_written parts
+pub path_written-decoded : (parts : List (List ℕ)) → path_written parts
     ≡ option_and_then (λ decoded. path_of_bytes (drop 1 decoded)) (decoded_segments (with_index parts))
 unfolding path_written
 path_written-decoded parts =

@@ -1,5 +1,5 @@
 -- Which pages the links of a page lead to for a reader. `goals` is as in Hrefs.
-use Rattle.std.specs.Prelude.{ℕ, List, [], ◌∷◌, Option, None}
+use Rattle.std.specs.Prelude.{ℕ, List, [], ◌∷◌, map, Option, None}
 use Rattle.std.specs.List.{flat_map}
 use Rattle.doc_page.specs.declared.rendered.Piece.{Piece}
 use Rattle.doc_page.specs.declared.rendered.Piece.TheVariants.{Html, Link}
@@ -14,6 +14,10 @@ abbrev pub goal_of : (List ℕ → Option (List ℕ)) → LinkKind → Option (L
 goal_of goals External = None
 goal_of goals (Page path anchor) = goals path
 goal_of goals Nowhere = None
+
+-- the pages that links lead to
+abbrev pub goals_of : (List ℕ → Option (List ℕ)) → List LinkKind → List (Option (List ℕ))
+goals_of goals kinds = map (goal_of goals) kinds
 
 -- of a piece, where it is a link
 abbrev pub decisions_in : (List ℕ → Option (List ℕ)) → Uri → Piece → List (Option (List ℕ))

@@ -1,23 +1,12 @@
 -- How a link is shown to a reader. `goals` says which page a path leads to for that reader, and none where they see none there.
-use Rattle.std.specs.Prelude.{ℕ, List, [], ◌∷◌, ◌++◌, Bool, ◌||◌, ◌==◌, codes, Option, Some, None, if◌then◌else◌}
-use Rattle.std.specs.List.{flat_map, list_any}
-use Rattle.std.specs.Char.{is_ascii_alphanumeric}
-use Rattle.percent_encoding.specs.Percent.{percent_encode_byte}
+use Rattle.std.specs.Prelude.{ℕ, List, [], ◌++◌, codes, Option, Some, None}
 use Rattle.doc_page.specs.Escaping.{escaped}
 use Rattle.doc_page.specs.declared.linker.Shown.{Shown}
 use Rattle.doc_page.specs.declared.linker.Shown.TheVariants.{Href, Missing}
-use Rattle.doc_resolve.specs.Encoding.{encoded, encoded_path}
+use Rattle.doc_page_encoding.specs.Encoding.{encoded, encoded_path, destination}
 use Rattle.doc_resolve.specs.Links.{classify}
 use Rattle.doc_resolve.specs.declared.link_kind.LinkKind.{LinkKind}
 use Rattle.doc_resolve.specs.declared.link_kind.LinkKind.TheVariants.{External, Page, Nowhere}
-
--- a byte that is written in the href of a destination as it is (this project's choice)
-abbrev pub is_kept : ℕ → Bool
-is_kept b = is_ascii_alphanumeric b || list_any (λ c. c == b) (codes "-_.+!*'(),%#@?=;:/&$~")
-
--- a destination with its other bytes percent-encoded (RFC 3986, section 2.1)
-unfoldable pub destination : List ℕ → List ℕ
-destination dest = flat_map (λ b. if is_kept b then b ∷ [] else percent_encode_byte b) dest
 
 -- `#` and the anchor, where there is one (RFC 3986, section 3.5)
 abbrev pub fragment_of : Option (List ℕ) → List ℕ

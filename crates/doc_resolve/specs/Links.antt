@@ -1,22 +1,25 @@
 -- What a link's destination leads to.
 use Rattle.std.specs.Prelude.{ℕ, List, [], ◌∷◌, map, drop, Option, Some, None, if◌then◌else◌}
+use Rattle.std.specs.List.{flat_map}
 use Rattle.std.specs.Str.{is_utf8}
 use Rattle.percent_encoding.specs.Percent.{percent_decode}
 use Rattle.doc_page.specs.Paths.{segments}
-use Rattle.doc_resolve.specs.Encoding.{encoded}
+use Rattle.doc_page.specs.declared.rendered.Piece.{Piece}
+use Rattle.doc_page.specs.declared.rendered.Piece.TheVariants.{Html, Link}
+use Rattle.doc_page_encoding.specs.Encoding.{encoded}
 use Rattle.doc_resolve.specs.References.{Uri, reference}
 use Rattle.doc_resolve.specs.Resolution.{resolve}
 use Rattle.doc_resolve.specs.WrittenPaths.{path_written}
 use Rattle.doc_resolve.specs.declared.link_kind.LinkKind.{LinkKind}
 use Rattle.doc_resolve.specs.declared.link_kind.LinkKind.TheVariants.{External, Page, Nowhere}
 
--- `/` and a path of these segments, as a base
-abbrev pub rooted : List (List ℕ) → Uri
-rooted path = record { scheme = None; authority = None; path = [] ∷ path; query = None; fragment = None }
+-- a path of these segments, as a base
+abbrev pub on_path : List (List ℕ) → Uri
+on_path path = record { scheme = None; authority = None; path = path; query = None; fragment = None }
 
 -- the base of a page's links: `/` and its path, whose segments are percent-encoded
 abbrev pub base_of : List ℕ → Uri
-base_of page = rooted (map encoded (segments page))
+base_of page = on_path ([] ∷ map encoded (segments page))
 
 -- what the text stands for, where that is UTF-8, or else the text
 abbrev pub decoded_text : List ℕ → List ℕ
@@ -49,3 +52,12 @@ kind_on base dest = let r = reference dest in kind_by base r r.scheme r.authorit
 -- what a destination in the page at this path leads to (this project's choice)
 abbrev pub classify : List ℕ → List ℕ → LinkKind
 classify page dest = kind_on (base_of page) dest
+
+-- what a piece leads to on this base, where it is a link
+abbrev pub kinds_in : Uri → Piece → List LinkKind
+kinds_in base (Html text) = []
+kinds_in base (Link spot) = kind_on base spot.dest ∷ []
+
+-- what each link of these pieces of the page at this path leads to, in order
+unfoldable pub kinds : List ℕ → List Piece → List LinkKind
+kinds page pieces = flat_map (kinds_in (base_of page)) pieces

@@ -18,19 +18,53 @@ pub fn push_segments<'a>(out: &mut Vec<&'a str>, path: &'a str) -> Result<(), Me
     Ok(())
 }
 
-/// The path without its dot segments (RFC 3986, section 5.2.4).
-#[tactic(auto, unfolding(crate::specs::DotSegments::without_dots))]
-pub fn without_dots<'a>(heap: Heap, path: &[&'a str]) -> Result<Vec<&'a str>, Memory>
-    ensures { IfOk result (λ out. map (λ s. s.now) out.items ≡ without_dots (map (λ s. s.now) path.entry.now)) }
+/// A path without its dot segments (RFC 3986, section 5.2.4): these segments, and those of a text behind them.
+pub fn without_dots<'a>(
+    heap: Heap,
+    front: &[&'a str],
+    path: &'a str,
+) -> Result<Vec<&'a str>, Memory>
+    ensures { IfOk result
+        (λ out. map (λ s. s.now) out.items ≡ without_dots (map (λ s. s.now) front.now ++ segments path.entry.now)) }
 {
-    let mut out = Vec::new(heap);
-    for segment in path {
-        put_out(&mut out, segment)?;
+    let mut out = Vec::with_capacity(heap, room_of(front, path))?;
+    put_each(&mut out, front)?;
+    if !put_segments(&mut out, path)? {
+        return Ok(out);
     }
-    if ends_in_dots(path) {
-        out.push("")?;
-    }
+    out.push("")?;
     Ok(out)
+}
+
+/// How many segments these are at most, and one more: a guess, on which nothing rests.
+fn room_of(front: &[&str], path: &str) -> usize {
+    let slashes = path.bytes().filter(|b| *b == b'/').count();
+    front.len().saturating_add(slashes).saturating_add(2)
+}
+
+/// Puts segments out.
+fn put_each<'a>(out: &mut Vec<&'a str>, segments: &[&'a str]) -> Result<(), Memory>
+    ensures { OnOk result
+        (map (λ s. s.now) out.new.items ≡ put_all (map (λ s. s.now) out.old.items) (map (λ s. s.now) segments.now)) }
+{
+    for segment in segments {
+        put_out(out, segment)?;
+    }
+    Ok(())
+}
+
+/// Puts the segments of a text out, and answers whether the last one is a dot segment.
+fn put_segments<'a>(out: &mut Vec<&'a str>, path: &'a str) -> Result<bool, Memory>
+    ensures out { OnOk result
+        (map (λ s. s.now) out.new.items ≡ put_all (map (λ s. s.now) out.old.items) (segments path.entry.now)) }
+    ensures dots { IfOk result (λ dots. dots ≡ ends_in_dots (segments path.entry.now)) }
+{
+    let mut dots = false;
+    for segment in path.split('/') {
+        put_out(out, segment)?;
+        dots = is_dots(segment);
+    }
+    Ok(dots)
 }
 
 /// Puts one segment more out.
@@ -58,15 +92,6 @@ fn back<'a>(out: &mut Vec<&'a str>)
         return;
     }
     out.pop();
-}
-
-fn ends_in_dots(path: &[&str]) -> bool
-    ensures { result ≡ ends_in_dots (map (λ s. s.now) path.now) }
-{
-    match path.split_last() {
-        Some((last, _)) => is_dots(last),
-        None => false,
-    }
 }
 
 fn is_dots(segment: &str) -> bool

@@ -13,10 +13,11 @@ mod resolved;
 mod site_linker;
 mod written_paths;
 
-pub use goals::decisions;
+pub use goals::{decisions, goals_of};
 pub use link_kind::LinkKind;
-pub use links::classify;
+pub use links::{classify, kinds};
 pub use reference::Reference;
 pub use resolution::resolve;
 pub use resolved::Resolved;
 pub use site_linker::SiteLinker;
+pub use written_paths::written_path;

@@ -1,6 +1,6 @@
 //! References, resolved on a base.
 
-ghost use Rattle.std.specs.Prelude.{◌≡◌, ◌&&◌, map, IfOk, is_some, option_copied};
+ghost use Rattle.std.specs.Prelude.{◌≡◌, ◌≤◌, ◌&&◌, length, take, map, IfOk, is_some, option_copied};
 ghost use Rattle.doc_page.specs.Paths.{segments};
 ghost use Rattle.doc_resolve.specs.DotSegments.{without_dots};
 ghost use Rattle.doc_resolve.specs.References.{uri_of};
@@ -59,7 +59,7 @@ fn on_base<'a>(
 {
     let mut parts = Vec::new(heap);
     push_segments(&mut parts, base.path)?;
-    let path = path_on(heap, base.authority, parts, reference.path)?;
+    let path = path_on(heap, base.authority, &parts, reference.path)?;
     Ok(Resolved {
         scheme: base.scheme,
         authority: base.authority,
@@ -84,39 +84,37 @@ fn query_on<'a>(base: Option<&'a str>, reference: &Reference<'a>) -> Option<&'a 
 pub fn path_on<'a>(
     heap: Heap,
     authority: Option<&str>,
-    mut base: Vec<&'a str>,
+    base: &[&'a str],
     path: &'a str,
 ) -> Result<Vec<&'a str>, Memory>
-    ensures { IfOk result (λ out. map (λ s. s.now) out.items ≡ path_on (option_copied authority.entry) (map (λ s. s.now) base.entry.items) (segments path.entry.now)) }
+    ensures { IfOk result (λ out. map (λ s. s.now) out.items ≡ path_on (option_copied authority.entry) (map (λ s. s.now) base.now) (segments path.entry.now)) }
 {
     if is_no_path(path) {
-        return Ok(base);
+        return Ok(Vec::from_slice(heap, base)?);
     }
     if is_rooted(path) {
         return own_path(heap, path);
     }
-    leave_folder(authority, &mut base);
-    push_segments(&mut base, path)?;
-    without_dots(heap, &base)
+    without_dots(heap, &base[..folder_len(authority, base)], path)
 }
 
 /// The path without its dot segments.
 fn own_path<'a>(heap: Heap, path: &'a str) -> Result<Vec<&'a str>, Memory>
     ensures { IfOk result (λ out. map (λ s. s.now) out.items ≡ without_dots (segments path.entry.now)) }
 {
-    let mut parts = Vec::new(heap);
-    push_segments(&mut parts, path)?;
-    without_dots(heap, &parts)
+    without_dots(heap, &[], path)
 }
 
-/// Takes the last segment of the base's path away, but of an empty path after an authority (RFC 3986, section 5.2.3).
-fn leave_folder<'a>(authority: Option<&str>, base: &mut Vec<&'a str>)
-    ensures { map (λ s. s.now) base.new.items ≡ folder (option_copied authority.entry) (map (λ s. s.now) base.old.items) }
+/// How many segments of the base's path stay: all but the last one, but of an empty path after an authority that too (RFC 3986, section
+/// 5.2.3).
+fn folder_len(authority: Option<&str>, base: &[&str]) -> usize
+    ensures within { result ≤ length base.now }
+    ensures folder { map (λ s. s.now) (take result base.now) ≡ folder (option_copied authority.entry) (map (λ s. s.now) base.now) }
 {
     if stays(authority, base) {
-        return;
+        return base.len();
     }
-    base.pop();
+    base.len().saturating_sub(1)
 }
 
 /// Whether the base has an authority and no path.

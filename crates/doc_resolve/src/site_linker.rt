@@ -3,18 +3,18 @@
 ghost use Rattle.std.specs.Prelude.{◌≡◌, ◌++◌, string_bytes, option_copied, IfOk, OnOk};
 ghost use Rattle.doc_page.specs.Escaping.{escaped};
 ghost use Rattle.doc_page.specs.declared.linker.Shown.TheVariants.{Href};
-ghost use Rattle.doc_resolve.specs.Hrefs.{shown_by, shown_page, page_href, destination, fragment_of};
+ghost use Rattle.doc_page_encoding.specs.Encoding.{destination};
+ghost use Rattle.doc_resolve.specs.Hrefs.{shown_by, shown_page, page_href, fragment_of};
 
-use crate::encoding::{push_encoded, push_encoded_path, written_destination};
 use crate::link_kind::LinkKind;
 use crate::links::classify;
 use doc_heap::{Heap, String};
-use doc_page::escaping::push_escaped;
 use doc_page::failure::Memory;
 use doc_page::linker::{Linker, Shown};
 use doc_page::path::Path;
 use doc_page::sight::Sight;
 use doc_page::text::Text;
+use doc_page_encoding::encoding::{push_destination, push_encoded, push_encoded_path};
 
 /// Shows the links of one page to one reader: a link to a page that the reader sees with that page's address, a link out of the site as
 /// its destination stands, and any other as one that leads nowhere, whether there is such a page or not.
@@ -60,9 +60,8 @@ fn shown_by<S: Sight>(heap: Heap, sight: &S, dest: &str, kind: &LinkKind) -> Res
 fn external(heap: Heap, dest: &str) -> Result<Shown, Memory>
     ensures { IfOk result (λ how. how ≡ Href (escaped (destination dest.now))) }
 {
-    let written = written_destination(heap, dest)?;
     let mut out = String::new(heap);
-    push_escaped(&mut out, written.as_str())?;
+    push_destination(heap, &mut out, dest)?;
     Ok(Shown::Href(Text::new(out)))
 }
 
@@ -73,11 +72,20 @@ fn shown_page(heap: Heap, goal: Option<&Path>, anchor: &Option<Text>) -> Result<
     let Some(path) = goal else {
         return Ok(Shown::Missing);
     };
-    let mut out = String::new(heap);
+    let mut out = String::with_capacity(heap, room_of(path, anchor))?;
     out.push_str("/page/")?;
     push_encoded_path(&mut out, path.text())?;
     push_fragment(&mut out, anchor)?;
     Ok(Shown::Href(Text::new(out)))
+}
+
+/// How many bytes the address of a page takes, where no byte has to be encoded: a guess, on which nothing rests.
+fn room_of(path: &Path, anchor: &Option<Text>) -> usize {
+    let fragment = match anchor {
+        Some(anchor) => anchor.get().len().saturating_add(1),
+        None => 0,
+    };
+    path.text().len().saturating_add(fragment).saturating_add(6)
 }
 
 /// Writes `#` and the anchor, where there is one.

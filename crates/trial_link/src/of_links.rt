@@ -9,7 +9,7 @@ use doc_page::list::List;
 use doc_page::path::Path;
 use doc_page::rendered::{LinkSpot, Piece, Rendered};
 use doc_page::text::Text;
-use doc_resolve::{SiteLinker, decisions};
+use doc_resolve::{LinkKind, SiteLinker, decisions, goals_of, kinds};
 use doc_store::reader::Reader;
 use std::fmt;
 
@@ -25,9 +25,23 @@ impl fmt::Debug for Decisions {
     }
 }
 
+/// What the links of a page lead to, which is printed as it is.
+#[derive(Drop)]
+struct Kinds {
+    all: Vec<LinkKind>,
+}
+
+impl fmt::Debug for Kinds {
+    fn fmt<W: fmt::Write>(&self, f: &mut fmt::Formatter<W>) -> fmt::Result {
+        fmt::Debug::fmt(&self.all, f)
+    }
+}
+
 /// What a call of this name answers, if there is one.
 pub fn called(trial: &Trial, name: &str, given: &str) -> Option<Result<String, Stop>> {
     match name {
+        "kinds" => Some(kinds_told(trial, given)),
+        "goals" => Some(goals_told(trial, given)),
         "decisions" => Some(decided(trial, given)),
         "show" => Some(shown(trial, given)),
         _ => None,
@@ -55,6 +69,35 @@ fn decisions_of<'a>(
 ) -> Result<Decisions, Memory> {
     let sight = trial.store.sight(&reading.reader);
     let all = decisions(trial.heaps.tried, &reading.page, rendered, &sight)?;
+    Ok(Decisions {
+        all: all.into_inner(),
+    })
+}
+
+/// `PAGE | DESTINATION | ..`: what the links of a page lead to.
+fn kinds_told(trial: &Trial, given: &str) -> Result<String, Stop> {
+    let (page, dests) = two(given)?;
+    let page = Path::new(trial.heaps.desk, page)?;
+    let rendered = page_of_links(trial.heaps.desk, dests)?;
+    let all = kinds(trial.heaps.tried, &page, rendered.pieces.get())?;
+    written(trial.heaps.desk, Kinds { all })
+}
+
+/// `READER | PAGE | DESTINATION | ..`: the pages that they lead to for a reader, who is asked once it is known what they lead to.
+fn goals_told(trial: &Trial, given: &str) -> Result<String, Stop> {
+    let (reading, dests) = reading_of(trial.heaps.desk, given)?;
+    let rendered = page_of_links(trial.heaps.desk, dests)?;
+    let links = kinds(trial.heaps.desk, &reading.page, rendered.pieces.get())?;
+    written(trial.heaps.desk, goals_for(trial, &reading, &links)?)
+}
+
+fn goals_for<'a>(
+    trial: &'a Trial,
+    reading: &'a Reading,
+    links: &[LinkKind],
+) -> Result<Decisions, Memory> {
+    let sight = trial.store.sight(&reading.reader);
+    let all = goals_of(trial.heaps.tried, links, &sight)?;
     Ok(Decisions { all })
 }
 

@@ -8,7 +8,7 @@ use Rattle.doc_resolve.proofs.written_paths.decoded_segments.Goals as goal
 pub loop-segment-init : goal.loop-segment-init
 loop-segment-init c =
     let decoded = decoded_segments (texts c.args.parts.now) in
-    onto-nil decoded ∙ ap (λ text. onto text decoded) (sym c.new-text.ensures.items)
+    onto-nil decoded ∙ ap (λ text. onto text decoded) (sym c.in_ok-text.ensures.items)
 
 pub returns-then-not-branch : goal.returns-then-not-branch
 returns-then-not-branch c =

@@ -1,0 +1,2 @@
+pub mod DestinationLaws
+pub mod EncodingLaws

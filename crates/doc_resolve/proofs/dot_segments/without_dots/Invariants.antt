@@ -1,7 +1,0 @@
-use Rattle.std.proofs.Common.{◌≡◌, take, map, []}
-use Rattle.doc_resolve.specs.DotSegments.{put_all}
-use Rattle.doc_resolve.proofs.dot_segments.without_dots.Given as goal
-
--- the segments so far are put out
-abbrev pub invariant-loop-segment : goal.invariant-loop-segment
-invariant-loop-segment l = map (λ s. s.now) l.out.items ≡ put_all [] (map (λ s. s.now) (take l.segment-index l.path))

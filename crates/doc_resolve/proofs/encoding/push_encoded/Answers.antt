@@ -1,9 +1,0 @@
-use Rattle.std.proofs.Common.{◌∙◌, ◌++◌, ap, string_bytes, arith}
-use Rattle.doc_resolve.proofs.EncodingLaws.{encoded-by_set}
-use Rattle.doc_resolve.proofs.encoding.push_encoded.Goals as goal
-
-pub returns : goal.returns
-returns c =
-    c.in_ok-append_to.ensures.ok
-    ∙ ap (λ t. string_bytes c.args.out.now ++ t) (c.utf8_percent_encode.ensures.text
-    ∙ encoded-by_set c.args.text.now (λ i within. omega (arith, c.type_inv.text i)))
