@@ -4,8 +4,8 @@
 //!   alive. It answers `()`, or what refuses it; then no calls follow.
 //! - `next BYTES` and `drip BYTES` (`requests`), an event (`events`), and `ask ID BYTES`, `run EVENT ; EVENT ..` and `witness ID BYTES`
 //!   (`hubs`) are the calls.
-//! - `times N CALL` makes a call N times, and `only N CALL` with one growth refused; a call whose name begins with `grow_` is made with
-//!   each of its growths refused (`rounds`).
+//! - `times N CALL` makes a call N times, and `only N CALL` with one growth refused; a call whose name begins with `grow_` is made with each
+//!   of its growths refused (`rounds`).
 //!
 //! Bytes are those of a text, in which `\xff` is the byte with that hexadecimal number: so `\\xff` in a line. An answer is a word with what
 //! the call gave, or `refused: ` with what the refusal prints. Bytes are written in it as in a line, but those that are no printable ASCII
@@ -49,10 +49,16 @@ fn run<R: AllocGlobal + Print>(rt: &R, desk: Heap, text: &str) -> io::Result<()>
     let (comments, worlds) = text.split_once("\nworld ").unwrap_or((text, ""));
     println!(rt; "{comments}")?;
     for lines in worlds.split("\nworld ") {
-        let heaps = new_heaps(rt, desk)?;
-        run_world::<Brand, R>(rt, heaps, Blank::new(1), lines)?;
+        begin_world(rt, desk, lines)?;
     }
     Ok(())
+}
+
+/// Makes a world and its calls on a new heap.
+fn begin_world<R: AllocGlobal + Print>(rt: &R, desk: Heap, lines: &str) -> io::Result<()> {
+    let heaps = new_heaps(rt, desk)?;
+    let (line, calls) = lines.split_once('\n').unwrap_or((lines, ""));
+    run_world::<Brand, R>(rt, heaps, Blank::new(1), &[line, calls])
 }
 
 /// The heaps of one world.
@@ -61,16 +67,20 @@ fn new_heaps<R: AllocGlobal>(rt: &R, desk: Heap) -> Result<Heaps, AllocError> {
     Ok(Heaps { tried, desk })
 }
 
-/// Makes a world as the first line says, and the calls of the other lines.
-fn run_world<L: Ledger, P: Print>(rt: &P, heaps: Heaps, blank: Blank, lines: &str) -> io::Result<()>
+/// Makes a world as the first of two texts says, and the calls of the lines of the second.
+fn run_world<L: Ledger, P: Print>(
+    rt: &P,
+    heaps: Heaps,
+    blank: Blank,
+    texts: &[&str; 2],
+) -> io::Result<()>
     requires name { blank.name ≡ L.name }
     requires parts { blank.parts ≡ L.parts }
     requires some { 0 < L.parts }
 {
     let renderer: PlainRenderer<L> = PlainRenderer::new(blank);
-    let (line, calls) = lines.split_once('\n').unwrap_or((lines, ""));
-    match new_world(heaps, renderer, line) {
-        Ok(mut world) => run_calls(rt, &mut world, calls),
+    match new_world(heaps, renderer, texts[0]) {
+        Ok(mut world) => run_calls(rt, &mut world, texts[1]),
         Err(stop) => println!(rt; "{stop}"),
     }
 }
