@@ -13,3 +13,4 @@ pub mod UrlSteps
 pub mod TellingLaws
 pub mod PageLaws
 pub mod PlainLinkSteps
+pub mod ByteLaws

@@ -1,8 +1,8 @@
 -- What is written step by step is what the definitions of HTML write.
-use Rattle.std.proofs.Common.{◌≡◌, ℕ, Bool, true, false, List, [], ◌∷◌, ◌++◌, map, refl, ap, sym, ◌∙◌, append_assoc, append-nil, subst}
-use Rattle.std.specs.Prelude.{codes, decimal, flat_map, encode_utf8_all, Option, Some, None}
+use Rattle.std.proofs.Common.{◌≡◌, ℕ, Bool, true, false, List, [], ◌∷◌, ◌++◌, map, refl, ap, sym, ◌∙◌, append_assoc, append-nil}
+use Rattle.std.specs.Prelude.{codes, decimal, flat_map, Option, Some, None}
 use Rattle.doc_page.specs.declared.linker.Shown.{Shown}
-use Rattle.doc_rules.specs.Laws.{ShowsAlike}
+use Rattle.doc_html.specs.HtmlBytes.{written_bytes, html_bytes}
 use Rattle.doc_html.specs.WrittenSteps.{HoldsHtml}
 use Rattle.doc_rules.specs.Characters.{Text}
 use Rattle.doc_rules.specs.Anchors.{anchor_name, free_anchor, anchors_behind}
@@ -16,7 +16,7 @@ use Rattle.doc_rules.specs.Blocks.{ListBlock, ListItem, Blocks}
 use Rattle.doc_rules.specs.PlainTexts.{headings_in, leaf_headings, text_in}
 use Rattle.doc_rules.specs.Html.{Output, Writing, characters, inlines_html, is_fresh, write, write_text, new_line, paragraph_html}
 use Rattle.doc_rules.specs.Html.{id_attribute, heading_html, code_html, leaf_html, class_attribute, is_tight_inside, container_start}
-use Rattle.doc_rules.specs.Html.{container_end, blocks_html, output_of, html_of, Linker, written_text}
+use Rattle.doc_rules.specs.Html.{container_end, blocks_html, output_of}
 use Rattle.doc_html.specs.ProgressSteps.{Progress, begun, told, on_new_line, text_met, anchored, heading_met_at}
 use Rattle.doc_html.specs.TellingSteps.{paragraph_told, heading_told, code_told, leaf_told, start_told, end_told, blocks_told}
 use Rattle.doc_html.proofs.WriterSteps.{characters_append}
@@ -205,11 +205,12 @@ unfolding output_of writing_of anchors_for
 output_told table refs blocks shown = ap (λ w. w.output) (sym (blocks_at table refs false blocks (begun shown None) []))
 
 pub html_told : (table : Table) (refs : List Definition) (blocks : Blocks) (shown last : List ℕ
-    → Shown) (bytes : List ℕ) (fresh : Bool) (rule : Linker) →
-    HoldsHtml last bytes fresh (blocks_told table refs false blocks (begun shown None)) → ShowsAlike shown rule →
-    bytes ≡ encode_utf8_all (html_of table rule [] (record { blocks = blocks; refs = refs }))
-unfolding html_of
-html_told table refs blocks shown last bytes fresh rule h alike =
+    → Shown) (bytes : List ℕ) (fresh : Bool) →
+    HoldsHtml last bytes fresh (blocks_told table refs false blocks (begun shown None)) →
+    bytes ≡ html_bytes table shown [] (record { blocks = blocks; refs = refs })
+unfolding html_bytes
+html_told table refs blocks shown last bytes fresh h =
     let same : last ≡ shown = sym h.shows ∙ blocks_keep table refs false blocks (begun shown None) in
-    h.spelled rule (subst (λ s. ShowsAlike s rule) (sym same) alike)
-    ∙ ap (λ o. encode_utf8_all (flat_map (written_text rule) o)) (output_told table refs blocks shown)
+    h.spelled
+    ∙ (ap (λ s. flat_map (written_bytes s) (blocks_told table refs false blocks (begun shown None)).output) same
+    ∙ ap (flat_map (written_bytes shown)) (output_told table refs blocks shown))

@@ -6,18 +6,16 @@ use Rattle.std.specs.Char.{encode_utf8}
 use Rattle.std.specs.Str.{chars, IsUtf8}
 use Rattle.std.proofs.lemmas.Bool.{ne_eqb, cases_eq}
 use Rattle.std.proofs.lemmas.List.Concat.{flat_map-append}
-use Rattle.std.proofs.lemmas.Str.{encodes-append, encodes-chars}
-use Rattle.doc_page.specs.declared.linker.Shown.{Shown as PageShown}
+use Rattle.std.proofs.lemmas.Str.{encodes-chars}
+use Rattle.doc_page.specs.declared.linker.Shown.{Shown}
 use Rattle.doc_page.specs.Escaping.{escaped}
-use Rattle.doc_page.specs.Pages.{title_attribute, opening_tag, filled as page_filled}
+use Rattle.doc_page.specs.Pages.{title_attribute, opening_tag}
 use Rattle.doc_rules.specs.Characters.{Text}
 use Rattle.doc_rules.specs.Destinations.{Target}
 use Rattle.doc_rules.specs.Escaping.{escaped_char, html_escape}
-use Rattle.doc_rules.specs.Html.{Written, Character, LinkTag, Output, characters, is_fresh, Linker, written_text}
-use Rattle.doc_rules.specs.Pages.{Page, LinkPiece, filled, piece_text, encoded, encoded_piece}
-use Rattle.doc_rules.specs.Laws.{ShowsAlike}
+use Rattle.doc_rules.specs.Html.{Written, Character, LinkTag, Output, characters, is_fresh}
 use Rattle.doc_rules.proofs.EscapingLaws.{escaping_is_by_bytes}
-use Rattle.doc_rules.proofs.FillingLaws.{filling_is_by_bytes}
+use Rattle.doc_html.specs.HtmlBytes.{written_bytes}
 use Rattle.doc_html.specs.ProgressSteps.{Progress, begun, told, on_new_line, text_met, heading_met, heading_met_at}
 use Rattle.doc_html.specs.WrittenSteps.{HoldsHtml, fresh_behind, read_again}
 
@@ -128,39 +126,28 @@ fresh_none b text e = sym (ap (fresh_behind b) e)
 
 -- ---- what is spelled
 
-spells : (linker : Linker) (text : Text) → text ≡ flat_map (written_text linker) (characters text)
-unfolding characters written_text
-spells linker [] = refl
-spells linker (c ∷ rest) = ap (λ t. c ∷ t) (spells linker rest)
+spells : (shown : List ℕ → Shown) (text : Text) → encode_utf8_all text ≡ flat_map (written_bytes shown) (characters text)
+unfolding characters written_bytes
+spells shown [] = refl
+spells shown (c ∷ rest) = ap (λ t. encode_utf8 c ++ t) (spells shown rest)
 
-pub spells_text : (linker : Linker) (bytes : List ℕ) → IsUtf8 bytes
-    → bytes ≡ encode_utf8_all (flat_map (written_text linker) (characters (chars bytes)))
-spells_text linker bytes u = sym (encodes-chars bytes u) ∙ ap encode_utf8_all (spells linker (chars bytes))
+pub spells_text : (shown : List ℕ → Shown) (bytes : List ℕ) → IsUtf8 bytes
+    → bytes ≡ flat_map (written_bytes shown) (characters (chars bytes))
+spells_text shown bytes u = sym (encodes-chars bytes u) ∙ spells shown (chars bytes)
 
-pub spells_escape : (linker : Linker) (bytes : List ℕ) → IsUtf8 bytes
-    → escaped bytes ≡ encode_utf8_all (flat_map (written_text linker) (characters (html_escape (chars bytes))))
-spells_escape linker bytes u =
-    ap escaped (sym (encodes-chars bytes u)) ∙ (sym (escaping_is_by_bytes (chars bytes))
-    ∙ ap encode_utf8_all (spells linker (html_escape (chars bytes))))
+pub spells_escape : (shown : List ℕ → Shown) (bytes : List ℕ) → IsUtf8 bytes
+    → escaped bytes ≡ flat_map (written_bytes shown) (characters (html_escape (chars bytes)))
+spells_escape shown bytes u =
+    ap escaped (sym (encodes-chars bytes u)) ∙ (sym (escaping_is_by_bytes (chars bytes)) ∙ spells shown (html_escape (chars bytes)))
 
-page_of_link : Target → Page
-page_of_link target = record { pieces = LinkPiece target ∷ []; headings = []; texts = [] }
-
-pub spells_tag : (linker : Linker) (shown : List ℕ → PageShown) → ShowsAlike shown linker → (target : Target) →
-    opening_tag (option_map encode_utf8_all target.title) (shown (encode_utf8_all target.dest))
-    ≡ encode_utf8_all (flat_map (written_text linker) (LinkTag target ∷ []))
-unfolding page_of_link page_filled filled piece_text encoded encoded_piece written_text
-spells_tag linker shown alike target =
-    sym (append-nil (opening_tag (option_map encode_utf8_all target.title) (shown (encode_utf8_all target.dest))))
-    ∙ filling_is_by_bytes linker shown alike (page_of_link target)
-
-pub link_spells : (title : Option (List ℕ)) (dest got : List ℕ) (how : PageShown) (shown : List ℕ → PageShown) → how ≡ shown got
-    → got ≡ dest → IsUtf8 got → (linker : Linker) → ShowsAlike shown linker →
-    opening_tag (read_again title) how ≡ encode_utf8_all (flat_map (written_text linker)
-    (LinkTag (record { dest = chars dest; title = option_map chars title }) ∷ []))
-link_spells title dest got how shown e f u linker alike =
+pub link_spells : (title : Option (List ℕ)) (dest got : List ℕ) (how : Shown) (shown : List ℕ → Shown) → how ≡ shown got
+    → got ≡ dest → IsUtf8 got →
+    opening_tag (read_again title) how
+    ≡ flat_map (written_bytes shown) (LinkTag (record { dest = chars dest; title = option_map chars title }) ∷ [])
+unfolding written_bytes
+link_spells title dest got how shown e f u =
     ap (opening_tag (read_again title)) (e ∙ ap shown (sym (encodes-chars got u) ∙ ap (λ d. encode_utf8_all (chars d)) f))
-    ∙ spells_tag linker shown alike (record { dest = chars dest; title = option_map chars title })
+    ∙ sym (append-nil (opening_tag (read_again title) (shown (encode_utf8_all (chars dest)))))
 
 pub no_title : (bytes : List ℕ) (title : Option (List ℕ)) → title ≡ None → bytes ≡ bytes ++ title_attribute (read_again title)
 no_title bytes title e = sym (append-nil bytes) ∙ ap (λ t. bytes ++ title_attribute (read_again t)) (sym e)
@@ -179,22 +166,18 @@ some_title old a b c title text got e f u x y z =
 
 -- ---- what is held
 
-pub holds_more : (shown : List ℕ → PageShown) (old new add : List ℕ) (fresh after : Bool) (p : Progress) (x : Output)
+pub holds_more : (shown : List ℕ → Shown) (old new add : List ℕ) (fresh after : Bool) (p : Progress) (x : Output)
     → HoldsHtml shown old fresh p → new ≡ old ++ add →
-    after ≡ is_fresh (p.output ++ x) → ((linker : Linker) → ShowsAlike shown linker
-    → add ≡ encode_utf8_all (flat_map (written_text linker) x)) → HoldsHtml shown new after (told x p)
+    after ≡ is_fresh (p.output ++ x) → add ≡ flat_map (written_bytes shown) x → HoldsHtml shown new after (told x p)
 holds_more shown old new add fresh after p x h e f g = record {
   shows = h.shows;
   unnamed = h.unnamed;
   begins = f;
-  spelled = λ linker alike.
-      e ∙ (ap (λ t. t ++ add) (h.spelled linker alike)
-      ∙ (ap (λ t. encode_utf8_all (flat_map (written_text linker) p.output) ++ t) (g linker alike)
-      ∙ (sym (encodes-append (flat_map (written_text linker) p.output) (flat_map (written_text linker) x))
-      ∙ ap encode_utf8_all (sym (flat_map-append (written_text linker) p.output x)))));
+  spelled = e ∙ (ap (λ t. t ++ add) h.spelled
+      ∙ (ap (λ t. flat_map (written_bytes shown) p.output ++ t) g ∙ sym (flat_map-append (written_bytes shown) p.output x)));
 }
 
-pub holds_line : (shown : List ℕ → PageShown) (bytes : List ℕ) (fresh : Bool) (p : Progress) → HoldsHtml shown bytes fresh p → fresh ≡ true
+pub holds_line : (shown : List ℕ → Shown) (bytes : List ℕ) (fresh : Bool) (p : Progress) → HoldsHtml shown bytes fresh p → fresh ≡ true
     → HoldsHtml shown bytes fresh (on_new_line p)
 unfolding on_new_line
 holds_line shown bytes fresh p h e = at (is_fresh p.output) (sym h.begins ∙ e)
@@ -204,7 +187,7 @@ holds_line shown bytes fresh p h e = at (is_fresh p.output) (sym h.begins ∙ e)
     at true f = h
     at false f = cc
 
-pub holds_new_line : (shown : List ℕ → PageShown) (old new : List ℕ) (fresh after : Bool) (p : Progress) → HoldsHtml shown old fresh p
+pub holds_new_line : (shown : List ℕ → Shown) (old new : List ℕ) (fresh after : Bool) (p : Progress) → HoldsHtml shown old fresh p
     → fresh ≡ false → new ≡ old ++ codes "\n" → after ≡ true →
     HoldsHtml shown new after (on_new_line p)
 unfolding on_new_line fresh_behind encode_utf8
@@ -212,25 +195,25 @@ holds_new_line shown old new fresh after p h e n t = at (is_fresh p.output) (sym
   where
     more : HoldsHtml shown new after (told (characters (codes "\n")) p)
     more = holds_more shown old new (codes "\n") fresh after p (characters (codes "\n")) h n (t ∙ fresh_text p.output (codes "\n"))
-        (λ linker alike. ap encode_utf8_all (spells linker (codes "\n")))
+        (spells shown (codes "\n"))
 
     at : (b : Bool) → b ≡ false
         → HoldsHtml shown new after (elim b as (λ _. Progress) [ true ↦ p | false ↦ told (characters (codes "\n")) p ])
     at true f = cc
     at false f = more
 
-pub holds_text : (shown : List ℕ → PageShown) (bytes : List ℕ) (fresh : Bool) (p : Progress) (text : Text) → HoldsHtml shown bytes fresh p
+pub holds_text : (shown : List ℕ → Shown) (bytes : List ℕ) (fresh : Bool) (p : Progress) (text : Text) → HoldsHtml shown bytes fresh p
     → HoldsHtml shown bytes fresh (text_met text p)
 unfolding text_met
 holds_text shown bytes fresh p text h = record { shows = h.shows; unnamed = h.unnamed; begins = h.begins; spelled = h.spelled }
 
-pub holds_heading : (shown : List ℕ → PageShown) (bytes : List ℕ) (fresh : Bool) (p : Progress) (level : ℕ) (text : Text)
+pub holds_heading : (shown : List ℕ → Shown) (bytes : List ℕ) (fresh : Bool) (p : Progress) (level : ℕ) (text : Text)
     → HoldsHtml shown bytes fresh p →
     HoldsHtml shown bytes fresh (heading_met level text p)
 unfolding heading_met_at
 holds_heading shown bytes fresh p level text h =
     subst (λ u. HoldsHtml shown bytes fresh (heading_met_at u level text p)) (sym h.unnamed) (holds_text shown bytes fresh p text h)
 
-pub holds_nothing : (shown : List ℕ → PageShown) (bytes : List ℕ) → bytes ≡ [] → HoldsHtml shown bytes true (begun shown None)
+pub holds_nothing : (shown : List ℕ → Shown) (bytes : List ℕ) → bytes ≡ [] → HoldsHtml shown bytes true (begun shown None)
 unfolding is_fresh
-holds_nothing shown bytes e = record { shows = refl; unnamed = refl; begins = refl; spelled = λ linker alike. e }
+holds_nothing shown bytes e = record { shows = refl; unnamed = refl; begins = refl; spelled = e }

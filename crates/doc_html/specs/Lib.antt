@@ -4,3 +4,4 @@ pub mod TellingSteps
 pub mod WrittenSteps
 pub mod WrittenPageSteps
 pub mod PlainLinks
+pub mod HtmlBytes

@@ -1,17 +1,17 @@
 -- What writers hold.
 use Rattle.std.specs.Prelude.{◌≡◌, ℕ, Bool, List, [], ◌∷◌, flat_map, encode_utf8_all, chars, ◌==◌, Option, None, option_map}
-use Rattle.doc_page.specs.declared.linker.Shown.{Shown as PageShown}
+use Rattle.doc_page.specs.declared.linker.Shown.{Shown}
 use Rattle.doc_rules.specs.Characters.{Text}
-use Rattle.doc_rules.specs.Html.{Linker, written_text, is_fresh}
-use Rattle.doc_rules.specs.Laws.{ShowsAlike}
+use Rattle.doc_rules.specs.Html.{is_fresh}
+use Rattle.doc_html.specs.HtmlBytes.{written_bytes}
 use Rattle.doc_html.specs.ProgressSteps.{Progress}
 
 -- these bytes are what was written, its links as the linker shows them, in UTF-8; headings get no anchors
-pub record HoldsHtml (shown : List ℕ → PageShown) (bytes : List ℕ) (fresh : Bool) (p : Progress) : Type 0 where
+pub record HoldsHtml (shown : List ℕ → Shown) (bytes : List ℕ) (fresh : Bool) (p : Progress) : Type 0 where
   pub shows : p.shown ≡ shown
   pub unnamed : p.used ≡ None
   pub begins : fresh ≡ is_fresh p.output
-  pub spelled : (linker : Linker) → ShowsAlike shown linker → bytes ≡ encode_utf8_all (flat_map (written_text linker) p.output)
+  pub spelled : bytes ≡ flat_map (written_bytes shown) p.output
 
 -- a LF stands last, where before the text it did or not
 unfoldable pub fresh_behind : Bool → Text → Bool

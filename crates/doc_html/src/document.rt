@@ -6,6 +6,7 @@ ghost use Rattle.doc_rules.specs.Html as rules;
 ghost use Rattle.doc_rules.specs.Laws.{ShowsAlike};
 ghost use Rattle.doc_refs.specs.Targets.{targets_of};
 ghost use Rattle.doc_blocks_leaves.specs.Views.{blocks_shown};
+ghost use Rattle.doc_html.specs.HtmlBytes.{html_bytes};
 
 use crate::blocks::push_all;
 use crate::html_writer::HtmlWriter;
@@ -18,19 +19,24 @@ use doc_page::linker::Linker;
 use doc_page::text::Text;
 
 /// The document as HTML in the form of the examples of CommonMark 0.31.2, its links as the linker shows them. Headings carry no anchors.
+/// Where a rule over characters shows links as the linker does, the HTML is that of the rule.
 pub fn to_html<L: Linker>(
     heap: Heap,
     document: &Document,
     entities: &Entities,
     linker: &L,
 ) -> Result<Text, Memory>
-    ensures { (definitions : List Definition) (rule : rules.Linker)
+    ensures bytes { (definitions : List Definition) → document.now.refs ≡ targets_of definitions →
+        IfOk result (λ html. html ≡ html_bytes entities.now (L.shown linker.now) []
+        (record { blocks = blocks_shown document.now.blocks.items; refs = definitions })) }
+    ensures alike { (definitions : List Definition) (rule : rules.Linker)
         → document.now.refs ≡ targets_of definitions → ShowsAlike (L.shown linker.now) rule →
         IfOk result (λ html. html ≡ encode_utf8_all
         (html_of entities.now rule []
         (record { blocks = blocks_shown document.now.blocks.items; refs = definitions }))) }
 {
-    write_html(heap, document, entities, linker, 0)
+    let html = write_html(heap, document, entities, linker, 0)?;
+    Ok(html)
 }
 
 /// The same, with room for so many bytes of HTML: a guess, on which nothing rests.
@@ -41,11 +47,9 @@ pub(crate) fn write_html<L: Linker>(
     linker: &L,
     room: usize,
 ) -> Result<Text, Memory>
-    ensures { (definitions : List Definition) (rule : rules.Linker)
-        → document.now.refs ≡ targets_of definitions → ShowsAlike (L.shown linker.now) rule →
-        IfOk result (λ html. html ≡ encode_utf8_all
-        (html_of entities.now rule []
-        (record { blocks = blocks_shown document.now.blocks.items; refs = definitions }))) }
+    ensures { (definitions : List Definition) → document.now.refs ≡ targets_of definitions →
+        IfOk result (λ html. html ≡ html_bytes entities.now (L.shown linker.now) []
+        (record { blocks = blocks_shown document.now.blocks.items; refs = definitions })) }
 {
     let source = Source {
         heap,

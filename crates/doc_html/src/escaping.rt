@@ -1,25 +1,16 @@
-//! How texts and destinations are written in HTML, as contracts over characters see them.
+//! How destinations are written in HTML, as contracts over characters see them.
 ghost use Rattle.std.specs.Prelude.{◌≡◌, ◌==◌, ◌<◌, ◌||◌, [], ◌∷◌, ◌++◌, chars, codes, flat_map, string_bytes, IfOk, OnOk};
 ghost use Rattle.std.specs.Char.{is_ascii_alphanumeric};
 ghost use Rattle.doc_rules.specs.Characters.{one_of};
-ghost use Rattle.doc_rules.specs.Escaping.{html_escape, url_char, url_escape, hex_digit, percent};
+ghost use Rattle.doc_rules.specs.Escaping.{url_char, url_escape, hex_digit, percent};
 
 use doc_heap::{Heap, String};
 use doc_lines::pushing::{push_char, push_text};
 use doc_lines::scan::character::next_char;
 use doc_lines::scan::front::front;
 use doc_lines::scan::run::many;
-use doc_page::escaping::push_escaped;
 use doc_page::failure::Memory;
 use doc_page::text::Text;
-
-/// Adds the text with `&`, `<`, `>` and `"` as references.
-pub(crate) fn push_html(out: &mut String, text: &str) -> Result<(), Memory>
-    ensures { OnOk result (chars (string_bytes out.new) ≡ chars (string_bytes out.old)
-        ++ html_escape (chars text.now)) }
-{
-    push_escaped(out, text)
-}
 
 /// The destination as it is written in an attribute (CommonMark 0.31.2, section 6.3; which characters stay is this project's choice).
 pub(crate) fn url(heap: Heap, dest: &str) -> Result<Text, Memory>

@@ -10,7 +10,8 @@ use doc_page::failure::Memory;
 use std::marker::Model;
 
 /// What labels name, by the labels as [`crate::normalize_label`] gives them: of several definitions of a label the first.
-/// Contracts see a finite map of targets by labels.
+/// Contracts see a finite map of targets by labels. Outside this crate there are only maps of definitions: a new one, those of
+/// [`crate::take_definitions`], and what was joined from them.
 #[derive(Drop)]
 pub struct RefMap {
     entries: BTreeMap<String, Entry>,
@@ -57,7 +58,7 @@ impl RefMap {
     }
 
     /// Lets a label name a target, where it names none yet.
-    pub fn add(&mut self, label: String, target: Target) -> Result<(), Memory>
+    pub(crate) fn add(&mut self, label: String, target: Target) -> Result<(), Memory>
         ensures ok { OnOk result (self.new
             ≡ joined self.old (single (chars (string_bytes label.entry)) (target_shown target))) }
         ensures err { OnErr result (self.new ≡ self.old) }

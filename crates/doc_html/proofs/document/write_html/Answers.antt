@@ -1,7 +1,7 @@
 use Rattle.std.proofs.Common.{◌∙◌, ap}
-use Rattle.std.specs.Prelude.{encode_utf8_all, string_bytes, None, [], false}
-use Rattle.doc_rules.specs.Html.{html_of}
+use Rattle.std.specs.Prelude.{string_bytes, None, [], false}
 use Rattle.doc_blocks_leaves.specs.Views.{blocks_shown}
+use Rattle.doc_html.specs.HtmlBytes.{html_bytes}
 use Rattle.doc_html.specs.ProgressSteps.{begun}
 use Rattle.doc_html.specs.TellingSteps.{blocks_told}
 use Rattle.doc_html.specs.WrittenSteps.{HoldsHtml}
@@ -9,7 +9,7 @@ use Rattle.doc_html.proofs.TellingLaws.{html_told}
 use Rattle.doc_html.proofs.document.write_html.Goals as goal
 
 pub returns : goal.returns
-returns g c = λ definitions rule is alike.
+returns g c = λ definitions is.
     let held : HoldsHtml (g.L.Linker.shown c.push_all.new.writer.linker.now) (string_bytes c.push_all.new.writer.out)
     c.push_all.new.writer.fresh
     (blocks_told c.args.entities.now definitions false (blocks_shown c.as_slice.result.now)
@@ -18,6 +18,8 @@ returns g c = λ definitions rule is alike.
     c.into_text.ensures
     ∙ (html_told c.args.entities.now definitions (blocks_shown c.as_slice.result.now) (g.L.Linker.shown c.args.linker.now)
     (g.L.Linker.shown c.push_all.new.writer.linker.now) _
-    c.push_all.new.writer.fresh rule held alike
-    ∙ ap (λ items. encode_utf8_all (html_of c.args.entities.now rule [] (record { blocks = blocks_shown items; refs = definitions })))
-    c.as_slice.ensures.value)
+    c.push_all.new.writer.fresh held
+    ∙ ap (λ items. html_bytes c.args.entities.now (g.L.Linker.shown c.args.linker.now) [] (record {
+      blocks = blocks_shown items;
+      refs = definitions;
+    })) c.as_slice.ensures.value)

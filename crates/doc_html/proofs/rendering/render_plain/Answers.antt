@@ -1,12 +1,14 @@
 use Rattle.std.proofs.Common.{◌∙◌, ap, chars}
-use Rattle.std.specs.Prelude.{encode_utf8_all}
+use Rattle.std.specs.Prelude.{[], encode_utf8_all}
 use Rattle.doc_rules.specs.Blocks.{document_of}
 use Rattle.doc_rules.specs.Html.{plain_linker}
+use Rattle.doc_html.specs.PlainLinks.{plain_shown}
+use Rattle.doc_html.proofs.ByteLaws.{html_by_bytes}
 use Rattle.doc_html.proofs.PlainLinkSteps.{plain_alike, plain_told}
 use Rattle.doc_html.proofs.rendering.render_plain.Goals as goal
 
 pub returns : goal.returns
 returns c =
-    c.in_ok-html.ensures (document_of c.args.entities.now (chars c.args.text.now)).refs plain_linker c.in_ok-document.ensures.refs
-    plain_alike
-    ∙ ap encode_utf8_all (plain_told c.args.entities.now (chars c.args.text.now) _ c.in_ok-document.ensures.blocks)
+    c.in_ok-html.ensures (document_of c.args.entities.now (chars c.args.text.now)).refs c.in_ok-document.ensures.refs
+    ∙ (html_by_bytes c.args.entities.now [] _ plain_linker plain_shown plain_alike
+    ∙ ap encode_utf8_all (plain_told c.args.entities.now (chars c.args.text.now) _ c.in_ok-document.ensures.blocks))

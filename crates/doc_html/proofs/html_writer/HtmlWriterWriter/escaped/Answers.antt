@@ -11,4 +11,4 @@ returns g c = λ p h.
     p (characters (html_escape (chars c.args.text.now))) h
     c.in_ok-push_escaped.ensures.ok (escape_begins c.fresh_behind-self.result c.args.self.now.fresh p.output (chars c.args.text.now)
     c.fresh_behind-self.ensures h.begins)
-    (λ linker alike. spells_escape linker c.args.text.now c.utf8.text)
+    (spells_escape (g.L.Linker.shown c.args.self.now.linker.now) c.args.text.now c.utf8.text)

@@ -11,7 +11,5 @@ returns g c = λ p h.
     holds_more (g.L.Linker.shown c.args.self.now.linker.now) _ _ (opening_tag (read_again c.args.target.now.title) c.in_ok-shown.shown)
     c.args.self.now.fresh _ p
     (LinkTag (target_shown c.args.target.now) ∷ []) h c.in_ok-push_tag.ensures (tag_last p.output (target_shown c.args.target.now))
-    (λ linker alike.
-    link_spells c.args.target.now.title c.args.target.now.dest c.get.result.now c.in_ok-shown.shown
-    (g.L.Linker.shown c.args.self.now.linker.now) c.in_ok-shown.ensures c.get.ensures c.get.utf8
-    linker alike)
+    (link_spells c.args.target.now.title c.args.target.now.dest c.get.result.now c.in_ok-shown.shown
+    (g.L.Linker.shown c.args.self.now.linker.now) c.in_ok-shown.ensures c.get.ensures c.get.utf8)

@@ -9,4 +9,4 @@ returns g c = λ p h.
     (characters (chars c.args.text.now)) h
     c.in_ok-push_str.ensures.bytes (text_begins c.fresh_behind-self.result c.args.self.now.fresh p.output (chars c.args.text.now)
     c.fresh_behind-self.ensures h.begins)
-    (λ linker alike. spells_text linker c.args.text.now c.utf8.text)
+    (spells_text (g.L.Linker.shown c.args.self.now.linker.now) c.args.text.now c.utf8.text)
