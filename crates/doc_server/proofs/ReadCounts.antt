@@ -13,14 +13,14 @@ too_few : most_reads ≤ 4194304 → ⊥
 too_few le = omega (arith, le)
 
 -- an input of at most 4,194,304 bytes isn't given up
-pub never_given_up : (X Y : Type 0) (input : Option (List ℕ)) (before after : ℕ) (fault : Fault)
-    → ReadsFailed {X = X} (IsTooLong 4194304 input) before after (Err fault) → ReadsFailed {X = Y} ⊥ before after (Err fault)
-never_given_up X Y input before after faults.Usage reads = reads
-never_given_up X Y input before after (faults.CannotRead name) (inl one) = inl one
-never_given_up X Y input before after (faults.CannotRead name) (inr (same, long)) = absurd (too_few long.0)
-never_given_up X Y input before after faults.CannotWrite reads = reads
-never_given_up X Y input before after faults.Refused reads = reads
-never_given_up X Y input before after faults.Memory reads = reads
+pub never_given_up : (input : Option (List ℕ)) (before after : ℕ) (fault : Fault)
+    → ReadsFailed {X = Unit {0}} (IsTooLong 4194304 input) before after (Err fault) → ReadsFailed {X = Unit {0}} ⊥ before after (Err fault)
+never_given_up input before after faults.Usage reads = reads
+never_given_up input before after (faults.CannotRead name) (inl one) = inl one
+never_given_up input before after (faults.CannotRead name) (inr (same, long)) = absurd (too_few long.0)
+never_given_up input before after faults.CannotWrite reads = reads
+never_given_up input before after faults.Refused reads = reads
+never_given_up input before after faults.Memory reads = reads
 
 -- the input was read before
 pub read_before : {X : Type 0} (r : Result X Fault) (before after : ℕ) → after ≡ before → IfErr r IsRead → ReadsFailed ⊥ before after r

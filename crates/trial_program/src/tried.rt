@@ -43,19 +43,22 @@ fn told(heap: Heap, came: Came) -> Result<String, Memory> {
 
 /// What is printed for a command whose growths are refused in turn.
 pub fn grown(heap: Heap, command: Command, given: &str) -> Result<String, Memory> {
-    match read_given(given) {
-        Some(given) => refused_each(heap, |refusal| run_refused(heap, command, given, refusal)),
-        None => no_call(heap),
+    if read_given(given).is_none() {
+        return no_call(heap);
     }
+    refused_each(heap, |refusal| run_refused(heap, command, given, refusal))
 }
 
 /// What came of a command with growths refused: `Memory` where memory ran out before anything was written.
 fn run_refused(
     heap: Heap,
     command: Command,
-    given: Given<'_>,
+    given: &str,
     refusal: Refusal,
 ) -> Result<Came, Memory> {
+    let Some(given) = read_given(given) else {
+        return Err(Memory);
+    };
     let came = run(heap, command, given, refusal)?;
     match &came.ended {
         Err(Fault::Memory) if came.wrote.is_empty() => Err(Memory),

@@ -38,7 +38,7 @@ returns-clause-fault g c =
 pub returns-in_err-bytes-clause-reads : goal.returns-in_err-bytes-clause-reads
 returns-in_err-bytes-clause-reads g c =
     let p = err_from_is_err_and c.from_residual-in_err-bytes.result c.from_residual-in_err-bytes.ensures.1 in
-    rw (p.1, p.2) (never_given_up _ _ (g.I.Input.unread c.args.input.now) _ _ c.in_err-bytes.field-0.0 c.in_err-bytes.ensures.reads)
+    rw (p.1, p.2) (never_given_up (g.I.Input.unread c.args.input.now) _ _ c.in_err-bytes.field-0.0 c.in_err-bytes.ensures.reads)
 
 pub returns-clause-reads : goal.returns-clause-reads
 returns-clause-reads g c = read_before c.answer_all.result _ _ c.in_ok-bytes.ensures.reads c.answer_all.ensures.read
