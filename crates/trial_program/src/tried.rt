@@ -46,7 +46,10 @@ pub fn grown(heap: Heap, command: Command, given: &str) -> Result<String, Memory
     if read_given(given).is_none() {
         return no_call(heap);
     }
-    refused_each(heap, |refusal| run_refused(heap, command, given, refusal))
+    refused_each(
+        heap,
+        move |refusal| run_refused(heap, command, given, refusal),
+    )
 }
 
 /// What came of a command with growths refused: `Memory` where memory ran out before anything was written.
