@@ -22,7 +22,7 @@ use Rattle.doc_store.specs.declared.reader.Reader.{Reader}
 use Rattle.doc_http.specs.Replies.{reason_of, field_line, reply_head, reply_bytes}
 use Rattle.doc_http.specs.declared.request.Request.{Request}
 use Rattle.doc_resolve.specs.DotSegments.{put_all, without_dots}
-use Rattle.doc_resolve.specs.Encoding.{encoded, encoded_path}
+use Rattle.doc_page_encoding.specs.Encoding.{encoded, encoded_path}
 use Rattle.doc_resolve.specs.Links.{kind_on}
 use Rattle.doc_resolve.specs.References.{reference}
 use Rattle.doc_resolve.specs.Resolution.{resolve}
