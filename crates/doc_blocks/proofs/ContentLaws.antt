@@ -2,7 +2,7 @@
 use Rattle.std.proofs.Common.{◌≡◌, ◌∙◌, ℕ, Bool, true, false, not, ◌==◌, ◌&&◌, ◌||◌, if◌then◌else◌, List, [], ◌∷◌, ◌++◌, map, append_assoc}
 use Rattle.std.proofs.Common.{append-nil, refl, ap, sym, arith, Option, Some, None}
 use Rattle.std.specs.List.{list_all}
-use Rattle.std.proofs.lemmas.Bool.{both_ways}
+use Rattle.std.proofs.lemmas.Bool.{both_ways, and_parts, not-true}
 use Rattle.std.proofs.lemmas.Bool.Decides.{nat_tests}
 use Rattle.std.proofs.lemmas.List.{append_cancel_right}
 use Rattle.doc_rules.specs.Characters.{Text, is_ending}
@@ -10,22 +10,7 @@ use Rattle.doc_rules.specs.Parsers.{is}
 use Rattle.doc_rules.specs.Lines.{without_ending, secure_char, line_content}
 use Rattle.doc_lines.specs.RestSteps.{IsCutBefore, begins_in, IsAsciiClass}
 use Rattle.doc_blocks.specs.ContentSteps.{ends_plain}
-
-both_hold : (a b : Bool) → (a && b) ≡ true → (a ≡ true) × (b ≡ true)
-both_hold true b e = (refl, e)
-both_hold false b e = absurd (both_ways false refl e)
-
-not_true : (a : Bool) → not a ≡ true → a ≡ false
-not_true true e = sym e
-not_true false e = refl
-
-neither_first : (a b : Bool) → (a || b) ≡ false → a ≡ false
-neither_first true b e = cc
-neither_first false b e = refl
-
-neither_second : (a b : Bool) → (a || b) ≡ false → b ≡ false
-neither_second true b e = cc
-neither_second false b e = e
+use Rattle.doc_page.proofs.Bools.{or_first, or_second}
 
 pub endings_are_ascii : IsAsciiClass is_ending
 endings_are_ascii c e = grind (arith, nat_tests)
@@ -44,8 +29,8 @@ past_front : (class : ℕ → Bool) → ((c : ℕ) → class c ≡ false → is_
 unfolding without_ending cut_by
 past_front class within [] rest all ends = ends
 past_front class within (c ∷ front) rest all ends =
-    let parts = both_hold (not (class c)) (list_all (λ c. not (class c)) front) all in
-    ap (cut_by c (front ++ rest)) (within c (not_true (class c) parts.0))
+    let parts = and_parts (not (class c)) (list_all (λ c. not (class c)) front) all in
+    ap (cut_by c (front ++ rest)) (within c (not-true (class c) parts.0))
     ∙ ap (λ (xs : Text). c ∷ xs) (past_front class within front rest parts.1 ends)
 
 -- nothing of a line stands before an ending, or behind its end
@@ -69,13 +54,13 @@ secure_same : (text : Text) → list_all (λ c. not (ends_plain c)) text ≡ tru
 unfolding ends_plain
 secure_same [] e = refl
 secure_same (c ∷ text) e =
-    let parts = both_hold (not (ends_plain c)) (list_all (λ d. not (ends_plain d)) text) e in
-    ap (λ (x : ℕ). x ∷ map secure_char text) (secure_one c (neither_first (c == 0) (is_ending c) (not_true (ends_plain c) parts.0)))
+    let parts = and_parts (not (ends_plain c)) (list_all (λ d. not (ends_plain d)) text) e in
+    ap (λ (x : ℕ). x ∷ map secure_char text) (secure_one c (or_first (c == 0) (is_ending c) (not-true (ends_plain c) parts.0)))
     ∙ ap (λ (xs : Text). c ∷ xs) (secure_same text parts.1)
 
 is_null_or_ending : (c : ℕ) → ends_plain c ≡ false → is_ending c ≡ false
 unfolding ends_plain
-is_null_or_ending c e = neither_second (c == 0) (is_ending c) e
+is_null_or_ending c e = or_second (c == 0) (is_ending c) e
 
 one_of_both : (a b : Bool) → (a || b) ≡ true → a ≡ false → b ≡ true
 one_of_both true b e f = absurd (both_ways true f refl)

@@ -17,12 +17,9 @@ use Rattle.doc_rules.specs.Trees.{LeafStart, NewLeaf, Underline, text_begins, at
 use Rattle.doc_rules.specs.Trees.{break_begins}
 use Rattle.doc_blocks_leaves.specs.Starts.{or_else}
 use Rattle.doc_blocks_leaves.proofs.Tests.{by_false}
+use Rattle.doc_page.proofs.Bools.{and_false}
 
 -- ---- starts that need another first character
-
-and_false : (a : Bool) → (a && false) ≡ false
-and_false true = refl
-and_false false = refl
 
 no_some : (k c : ℕ) (rest : Text) → (c == k) ≡ false → some (λ d. d == k) (c ∷ rest) ≡ None
 no_some k c rest e = ap (λ (b : Bool). option_and_then (many (λ d. d == k)) (elim b [ true ↦ Some rest | false ↦ None ])) e

@@ -4,7 +4,7 @@ use Rattle.std.proofs.Common.{◌∙◌, subst, arith}
 use Rattle.std.specs.Prelude.{◌==◌, ◌||◌, ◌&&◌, encode_utf8_all, codes}
 use Rattle.std.specs.List.{list_all}
 use Rattle.std.specs.Str.{chars, IsUtf8}
-use Rattle.std.proofs.lemmas.Bool.{ne_eqb, cases_lt}
+use Rattle.std.proofs.lemmas.Bool.{ne_eqb, cases_lt, and_parts}
 use Rattle.std.proofs.lemmas.Str.{encodes-chars}
 use Rattle.doc_rules.specs.Characters.{one_of}
 use Rattle.doc_rules.specs.Characters as rules
@@ -42,16 +42,11 @@ stays : (c : ℕ) → not (one_of (codes "&<>\"") c) ≡ true → escaped_char c
 unfolding escaped_char
 stays c h = stays_at c (c == 38) (c == 60) (c == 62) (c == 34) h
 
-two : (a b : Bool) → a && b ≡ true → (a ≡ true) × (b ≡ true)
-two true true h = (refl, refl)
-two true false h = cc
-two false b h = cc
-
 all_stay : (text : rules.Text) → list_all (λ c. not (one_of (codes "&<>\"") c)) text ≡ true → html_escape text ≡ text
 unfolding html_escape
 all_stay [] h = refl
 all_stay (c ∷ rest) h =
-    let both : _ = two (not (one_of (codes "&<>\"") c)) (list_all (λ d. not (one_of (codes "&<>\"") d)) rest) h in
+    let both : _ = and_parts (not (one_of (codes "&<>\"") c)) (list_all (λ d. not (one_of (codes "&<>\"") d)) rest) h in
     ap (λ front. front ++ html_escape rest) (stays c both.0) ∙ ap (λ more. c ∷ more) (all_stay rest both.1)
 
 -- ---- a text that is longer than a byte

@@ -4,7 +4,7 @@ use Rattle.std.specs.Prelude.{◌||◌, ◌&&◌, ◌==◌, ◌/◌, ◌%◌, na
 use Rattle.std.specs.Char.{encode_utf8, is_ascii_alphanumeric}
 use Rattle.std.specs.Str.{chars, IsUtf8}
 use Rattle.std.specs.List.{AllByRecursion}
-use Rattle.std.proofs.lemmas.Bool.{ne_eqb, lt-ltb, le-ltb, cases_lt}
+use Rattle.std.proofs.lemmas.Bool.{ne_eqb, lt-ltb, le-ltb, cases_lt, and_parts}
 use Rattle.std.proofs.lemmas.Bool.Decides.{nat_tests}
 use Rattle.std.proofs.lemmas.List.Concat.{flat_map-append}
 use Rattle.std.proofs.lemmas.Str.{encodes-chars}
@@ -19,15 +19,10 @@ use Rattle.doc_rules.specs.Laws.{ShowsAlike}
 use Rattle.doc_html.specs.InlineSteps.{is_ascii}
 use Rattle.doc_html.specs.PlainLinks.{url_byte, plain_shown}
 
-two : (a b : Bool) → a && b ≡ true → (a ≡ true) × (b ≡ true)
-two true true h = (refl, refl)
-two true false h = cc
-two false b h = cc
-
 pub no_mark : (set : Text) (c : ℕ) → is_ascii set ≡ true → 128 ≤ c → one_of set c ≡ false
 no_mark [] c h g = refl
 no_mark (d ∷ set) c h g =
-    let both : _ = two (nat_lt d 128) (is_ascii set) h in
+    let both : _ = and_parts (nat_lt d 128) (is_ascii set) h in
     let low : d < 128 = grind (arith, nat_tests, both.0) in
     ap (λ b. b || one_of set c) (ne_eqb c d (λ e. omega arith)) ∙ no_mark set c both.1 g
 

@@ -6,7 +6,7 @@ use Rattle.std.specs.Str.{chars}
 use Rattle.std.proofs.lemmas.Str.{chars-IsAscii}
 use Rattle.std.proofs.lemmas.List.{map-append}
 use Rattle.std.proofs.lemmas.List.Concat.{flat_map-append}
-use Rattle.std.proofs.lemmas.Bool.{ltb-true}
+use Rattle.std.proofs.lemmas.Bool.{ltb-true, and_parts}
 use Rattle.doc_page.specs.Escaping.{escaped}
 use Rattle.doc_page.specs.Pages.{title_attribute}
 use Rattle.doc_rules.specs.Characters.{Text}
@@ -53,15 +53,10 @@ no_escapes holds a = nothing holds a
 
 -- ---- texts in ASCII
 
-two : (a b : Bool) → a && b ≡ true → (a ≡ true) × (b ≡ true)
-two true true h = (refl, refl)
-two true false h = cc
-two false b h = cc
-
 each_ascii : (text : List ℕ) → is_ascii text ≡ true → (i : ℕ) → slice_index text i < 128
 each_ascii [] h i = omega arith
-each_ascii (b ∷ text) h zero = ltb-true b 128 (two (nat_lt b 128) (is_ascii text) h).0
-each_ascii (b ∷ text) h (suc i) = each_ascii text (two (nat_lt b 128) (is_ascii text) h).1 i
+each_ascii (b ∷ text) h zero = ltb-true b 128 (and_parts (nat_lt b 128) (is_ascii text) h).0
+each_ascii (b ∷ text) h (suc i) = each_ascii text (and_parts (nat_lt b 128) (is_ascii text) h).1 i
 
 pub ascii_chars : (text : List ℕ) → is_ascii text ≡ true → chars text ≡ text
 ascii_chars text h = chars-IsAscii text (each_ascii text h)

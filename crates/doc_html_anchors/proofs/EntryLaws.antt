@@ -18,17 +18,13 @@ use Rattle.doc_rules.specs.Anchors.{is_used, with_number}
 use Rattle.doc_html_anchors.specs.Numbers.{name_of, names, AreNumbered, AreUsed, IsNext}
 use Rattle.doc_html_anchors.specs.Uses.{Uses, IsAnchor}
 use Rattle.doc_html_anchors.proofs.NumberLaws.{own_name, first_number, all_below}
+use Rattle.doc_page.proofs.Bools.{same_bool}
+use Rattle.std.proofs.lemmas.Bool.{or_right}
 
 -- ---- names, and the keys that spell them
 
 same_bytes : (xs ys : List ℕ) → IsUtf8 xs → IsUtf8 ys → chars xs ≡ chars ys → xs ≡ ys
 same_bytes xs ys u v e = sym (encodes-chars xs u) ∙ ap encode_utf8_all e ∙ encodes-chars ys v
-
-same_bool : (a b : Bool) → (a ≡ true → b ≡ true) → (b ≡ true → a ≡ true) → a ≡ b
-same_bool true true f g = refl
-same_bool true false f g = sym (f refl)
-same_bool false true f g = g refl
-same_bool false false f g = refl
 
 same_test : (xs ys : List ℕ) → IsUtf8 xs → IsUtf8 ys → bytes_eq (chars xs) (chars ys) ≡ is_eq (slice_cmp nat_cmp xs ys)
 same_test xs ys u v =
@@ -103,10 +99,6 @@ pick : (b : Bool) (v n : ℕ) (o : Option ℕ) (P : ℕ → Type 0) → cond b (
 pick true v n o P e f g = let same : v ≡ n = cc in subst P same (f refl)
 pick false v n o P e f g = g e
 
-or_true : (a b : Bool) → b ≡ true → (a || b) ≡ true
-or_true true b e = refl
-or_true false b e = e
-
 -- with a new anchor, behind which no number is used yet
 pub numbered_more : {A : Type 0} (old new : BTreeMap (String A) ℕ) (key : String A)
     → new.entries ≡ insert_entry string_cmp old.entries key 1
@@ -120,7 +112,7 @@ numbered_more old new key e updates h bytes n is =
       (h bytes n there).0,
       λ k i j.
           sym (uses_more old new key 1 e (with_number (chars bytes) k))
-          ∙ or_true (bytes_eq (with_number (chars bytes) k) (name_of key)) (is_used (names old) (with_number (chars bytes) k))
+          ∙ or_right (bytes_eq (with_number (chars bytes) k) (name_of key)) (is_used (names old) (with_number (chars bytes) k))
           ((h bytes n there).1 k i j),
     ))
 

@@ -21,6 +21,7 @@ use Rattle.doc_http_bodies.specs.declared.reader.Reading.{Reading}
 use Rattle.doc_http_bodies.specs.Faults.{code_of}
 use Rattle.doc_http_bodies.specs.Framings.{framing_of}
 use Rattle.doc_http_bodies.specs.Readings.{reading_of}
+use Rattle.doc_page.proofs.Bools.{or_true}
 
 method_byte_is_ascii : (b : ℕ) → is_token_byte b ≡ true → b < 128
 unfolding is_token_byte
@@ -35,10 +36,6 @@ method_is_text bytes token =
 
 pub with_bare_line_feed : (text : List ℕ) (head : RequestHead) → has_bare_line_feed text ≡ true → is_bad text (Some head) ≡ true
 with_bare_line_feed text head bare = ap (λ t. t || not (has_good_counts head.minor (fields_of head))) bare
-
-or_true : (t : Bool) → t || true ≡ true
-or_true true = refl
-or_true false = refl
 
 module _ (text : List ℕ) (headers : List HeaderSpan) (spans : RequestSpans) (head : RequestHead) (at : IsRequestAt text headers spans head)
   where

@@ -1,7 +1,7 @@
 -- What the router finds, in closed form.
 use Rattle.std.proofs.Common.{◌≡◌, ℕ, zero, suc, ◌-◌, ◌==◌, ◌&&◌, not, Bool, true, false, cond, List, [], ◌∷◌, ◌++◌, length, Option, Some}
 use Rattle.std.proofs.Common.{None, option_map, option_and_then, codes, refl, sym, ap, ◌∙◌}
-use Rattle.std.proofs.lemmas.Bool.{and_parts, cond_both}
+use Rattle.std.proofs.lemmas.Bool.{and_parts, cond_both, not-true}
 use Rattle.std.proofs.lemmas.Bool.Decides.{Decides-eqb}
 use Rattle.matchit.specs.Router.{RouteOf, Refused}
 use Rattle.matchit.specs.Rows.{RowsOf, catch_all_token, param_token}
@@ -18,11 +18,6 @@ use Rattle.doc_http_targets.specs.declared.routes.Place.TheVariants.{Page}
 abbrev pub is_literal : List ℕ → Bool
 is_literal [] = true
 is_literal (b ∷ text) = (not (b == param_token) && not (b == catch_all_token)) && is_literal text
-
--- what is not true is false
-flip : (b : Bool) → not b ≡ true → b ≡ false
-flip true h = absurd (cc)
-flip false h = refl
 
 module _ {K : Type 0} where
   -- no route goes on after a parameter
@@ -65,8 +60,8 @@ module _ {K : Type 0} where
       let parts = and_parts (not (x == param_token) && not (x == catch_all_token)) (is_literal front) h in
       let tokens = and_parts (not (x == param_token)) (not (x == catch_all_token)) parts.0 in
       let rows : RowsOf K = ((x ∷ front) ++ tail, key) ∷ [] in
-      by_byte rows b path (ap (λ v. cond v ((front ++ tail, key) ∷ []) []) (flip (x == param_token) tokens.0))
-      (ap (λ v. cond v ((front ++ tail, key) ∷ []) []) (flip (x == catch_all_token) tokens.1))
+      by_byte rows b path (ap (λ v. cond v ((front ++ tail, key) ∷ []) []) (not-true (x == param_token) tokens.0))
+      (ap (λ v. cond v ((front ++ tail, key) ∷ []) []) (not-true (x == catch_all_token) tokens.1))
       ∙ elim (x == b) as (λ v. seek 0 (cond v ((front ++ tail, key) ∷ []) []) path ≡ on_after tail key (cond v (after front path) None))
       [ true ↦ one_route front tail key path parts.1 | false ↦ no_rows 0 path ]
 

@@ -21,6 +21,7 @@ use Rattle.doc_inlines.specs.ReaderSteps.{is_uncut, state_made, outcome, IsReade
 use Rattle.doc_inlines.proofs.ReadingLaws.{before_is, item_taken}
 use Rattle.doc_inlines.proofs.PlainLaws.{plain_reads, other_item}
 use Rattle.doc_inlines.proofs.ReaderLaws.{before_both, own_slice}
+use Rattle.std.proofs.lemmas.Bool.{not_from_false, not-true, or_parts, or_from, and_parts, and_from}
 
 -- an item goes on where the new state has what it makes, and its rest
 pub goes_on : (table : Table) (targets : Targets) (old new : Reader) (c : ℕ) (more next : Text) (made : List Inline) → IsReader old
@@ -118,34 +119,10 @@ run_goes_on table targets old new next o n t r p m =
     let a : length (chars new.rest.now) ≡ length next = ap length r in
     record { sound = n; text = t; reads = on.reads; shorter = omega (arith, p.shorter) }
 
-not_false : (b : Bool) → b ≡ false → not b ≡ true
-not_false true e = absurd cc
-not_false false e = refl
-
-not_true : (b : Bool) → not b ≡ true → b ≡ false
-not_true true e = absurd cc
-not_true false e = refl
-
-or_parts : (a b : Bool) → (a || b) ≡ false → (a ≡ false) × (b ≡ false)
-or_parts true b e = absurd cc
-or_parts false b e = (refl, e)
-
-or_both : (a b : Bool) → a ≡ false → b ≡ false → (a || b) ≡ false
-or_both true b e f = absurd cc
-or_both false b e f = f
-
-and_split : (a b : Bool) → (a && b) ≡ true → (a ≡ true) × (b ≡ true)
-and_split true b e = (refl, e)
-and_split false b e = absurd cc
-
-and_join : (a b : Bool) → a ≡ true → b ≡ true → (a && b) ≡ true
-and_join true b e f = f
-and_join false b e f = absurd cc
-
 -- plain characters stay as they are in HTML
 plain_uncut : (c : ℕ) → is_plain c ≡ true → is_uncut c ≡ true
 plain_uncut c h =
-    let p0 = or_parts (c == 10) _ (not_true _ h) in
+    let p0 = or_parts (c == 10) _ (not-true _ h) in
     let p1 = or_parts (c == 42) _ p0.1 in
     let p2 = or_parts (c == 95) _ p1.1 in
     let p3 = or_parts (c == 91) _ p2.1 in
@@ -156,13 +133,13 @@ plain_uncut c h =
     let p8 = or_parts (c == 92) _ p7.1 in
     let p9 = or_parts (c == 33) _ p8.1 in
     let pa = or_parts (c == 62) _ p9.1 in
-    not_false _ (or_both (c == 38) _ p7.0 (or_both (c == 60) _ p6.0 (or_both (c == 62) _ pa.0 pa.1)))
+    not_from_false _ (or_from (c == 38) _ p7.0 (or_from (c == 60) _ p6.0 (or_from (c == 62) _ pa.0 pa.1)))
 
 pub run_uncut : (run : Text) → list_all is_plain run ≡ true → list_all is_uncut run ≡ true
 run_uncut [] h = refl
 run_uncut (c ∷ run) h =
-    let p = and_split (is_plain c) (list_all is_plain run) h in
-    and_join (is_uncut c) (list_all is_uncut run) (plain_uncut c p.0) (run_uncut run p.1)
+    let p = and_parts (is_plain c) (list_all is_plain run) h in
+    and_from (is_uncut c) (list_all is_uncut run) (plain_uncut c p.0) (run_uncut run p.1)
 
 -- ---- characters that begin nothing
 

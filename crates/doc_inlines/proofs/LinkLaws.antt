@@ -13,6 +13,7 @@ use Rattle.doc_inlines_pass.proofs.BracketLaws.{brackets_are_text, plain_append,
 use Rattle.doc_inlines_pass.proofs.Finals.{AreFinal, final_stretch}
 use Rattle.doc_inlines.specs.MadeSteps.{OpenBracket, bracket_shown, text_of_bracket, made_below, AreBrackets}
 use Rattle.doc_inlines.proofs.MadeLaws.{onto_both, placed_joined, seen_joined, seen_one, made_joined, brackets_joined, brackets_placed}
+use Rattle.std.proofs.Math.Bool.{or-false}
 
 -- ---- the nearest bracket
 
@@ -124,10 +125,6 @@ without_links_onto xs made h =
     map-append without_links (reverse xs) made ∙ ap (λ t. t ++ map without_links made) (map-reverse without_links xs
     ∙ ap reverse (without_no_links xs h))
 
-or_nothing : (b : Bool) → (b || false) ≡ b
-or_nothing true = refl
-or_nothing false = refl
-
 pub made_dead : (marks : Marks) (end dead new : ℕ) (runs : List Placed) (brackets : List OpenBracket) → AreFinal marks
     → length brackets ≤ new →
     map without_links (made_below marks end dead runs brackets) ≡ made_below marks end new runs brackets
@@ -139,7 +136,7 @@ made_dead marks end dead new runs (bracket ∷ more) h l =
     let xs : List Placed = take bracket.runs runs in
     let s : List Inline = seen marks (suc bracket.mark) end (drop bracket.runs runs) in
     let live : (bracket.image || nat_le new (length more)) ≡ bracket.image = ap (λ b. bracket.image || b)
-    (lt-leb new (length more) (omega arith)) ∙ or_nothing bracket.image in
+    (lt-leb new (length more) (omega arith)) ∙ or-false bracket.image in
     without_links_onto s (Open (bracket_shown dead (length more) bracket) ∷ made_below marks bracket.mark dead xs more)
     (no_bracket_seen marks (suc bracket.mark) end (drop bracket.runs runs) h)
     ∙ ap₂ (λ b t. onto s (Open (record { image = bracket.image; live = b; behind = bracket.behind }) ∷ t)) (sym live)

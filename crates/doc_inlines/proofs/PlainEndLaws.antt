@@ -9,7 +9,7 @@ use Rattle.std.proofs.lemmas.List.Folds.{list_all-append}
 use Rattle.std.proofs.lemmas.List.{take-append-drop, append_cancel_right}
 use Rattle.std.proofs.lemmas.Bool.Decides.{nat_tests}
 use Rattle.std.proofs.Math.Seq.{take-append_seam}
-use Rattle.std.proofs.lemmas.Bool.{ne_eqb, eqb-true}
+use Rattle.std.proofs.lemmas.Bool.{ne_eqb, eqb-true, and_parts, and_from, not_from_false, or_from}
 use Rattle.std.proofs.lemmas.Str.{encodes-chars, encodes-append, chars-append, IsCharBoundary-from_take}
 use Rattle.doc_rules.specs.Characters.{Text, last_or}
 use Rattle.doc_rules.specs.Parsers.{before, is}
@@ -29,10 +29,6 @@ use Rattle.doc_inlines.proofs.RunLaws.{behind_first}
 
 -- ---- the front of a text, without the spaces at its end
 
-both_hold : (a b : Bool) → (a && b) ≡ true → (a ≡ true) × (b ≡ true)
-both_hold true b e = (refl, e)
-both_hold false b e = absurd cc
-
 front_is_plain : (text rest front : Text) → IsCutBefore begins_something text rest → text ≡ front ++ rest → list_all is_plain front ≡ true
 front_is_plain text rest front cut e =
     let same : front ≡ cut.front = append_cancel_right front cut.front rest (sym e ∙ cut.split) in
@@ -45,7 +41,7 @@ pub plain_until : (text rest front words end : Text) → IsCutBefore begins_some
     → IsWithoutSpaces front words → text ≡ words ++ end → IsPlainEnd text end
 plain_until text rest front words end cut e w f =
     let plain : list_all is_plain front ≡ true = front_is_plain text rest front cut e in
-    let parts = both_hold (list_all is_plain words) (list_all is_plain w.stands.rest) (sym (list_all-append is_plain words w.stands.rest)
+    let parts = and_parts (list_all is_plain words) (list_all is_plain w.stands.rest) (sym (list_all-append is_plain words w.stands.rest)
     ∙ (sym (ap (list_all is_plain) w.stands.split) ∙ plain)) in
     let passed : before end text ≡ words = ap (before end) f ∙ before_is words end in
     record {
@@ -144,10 +140,6 @@ agree_in_table table b less h = agree_at (λ k. not (nat_eq (get_or table k 0) 4
 
 -- ---- a run of plain characters
 
-and_join : (a b : Bool) → a ≡ true → b ≡ true → (a && b) ≡ true
-and_join true b e f = f
-and_join false b e f = absurd cc
-
 true_is_false : true ≡ false → ⊥
 true_is_false e = absurd cc
 
@@ -159,7 +151,7 @@ plain_run whole more end c e p s u =
     let k : length whole ≡ length (c ∷ more) = ap length e in
     record {
       behind = behind_first c more whole end e u.behind;
-      plain = ap (list_all is_plain) run ∙ and_join (is_plain c) (list_all is_plain (before end more)) p u.plain;
+      plain = ap (list_all is_plain) run ∙ and_from (is_plain c) (list_all is_plain (before end more)) p u.plain;
       quiet = subst (λ t. Quiet t end) (sym run) (λ f. absurd (true_is_false (sym f ∙ s)), u.quiet);
       shorter = omega arith;
     }
@@ -170,7 +162,7 @@ quiet_both : (spaces run end : Text) → list_all is_plain spaces ≡ true → b
     → Quiet (spaces ++ run) end
 quiet_both [] run end h e q = q
 quiet_both (c ∷ spaces) run end h e q =
-    let more = (both_hold (is_plain c) (list_all is_plain spaces) h).1 in
+    let more = (and_parts (is_plain c) (list_all is_plain spaces) h).1 in
     (λ _. ap breaks (append_assoc spaces run end) ∙ plain_breaks spaces (run ++ end) more e, quiet_both spaces run end more e q)
 
 pub run_goes_further : (whole rest end : Text) → IsPlainRun whole rest → breaks rest ≡ false → IsPlainStop rest end → IsPlainRun whole end
@@ -181,7 +173,7 @@ run_goes_further whole rest end r e u =
     record {
       behind = is_rest_again whole rest end u.behind r.behind;
       plain = ap (list_all is_plain) both ∙ (list_all-append is_plain (before rest whole) (before end rest)
-          ∙ and_join (list_all is_plain (before rest whole)) (list_all is_plain (before end rest)) r.plain u.plain);
+          ∙ and_from (list_all is_plain (before rest whole)) (list_all is_plain (before end rest)) r.plain u.plain);
       quiet = subst (λ t. Quiet t end) (sym both) (quiet_both (before rest whole) (before end rest) end r.plain
           (sym (ap breaks (before_rest end rest u.behind)) ∙ e) u.quiet);
       shorter = omega arith;
@@ -189,26 +181,18 @@ run_goes_further whole rest end r e u =
 
 -- ---- which characters are plain
 
-not_false : (b : Bool) → b ≡ false → not b ≡ true
-not_false true e = absurd cc
-not_false false e = refl
-
-or_both : (a b : Bool) → a ≡ false → b ≡ false → (a || b) ≡ false
-or_both true b e f = absurd cc
-or_both false b e f = f
-
 abbrev Is : ℕ → ℕ → Type 0
 Is c d = c ≡ d → ⊥
 
 pub plain_is : (c : ℕ) → Is c 10 → Is c 42 → Is c 95 → Is c 91 → Is c 93 → Is c 96 → Is c 60 → Is c 38 → Is c 92 → Is c 33 → Is c 62
     → Is c 34 → is_plain c ≡ true
 plain_is c a b d e f g h i j k l m =
-    not_false _ (or_both (c == 10) _ (ne_eqb c 10 a) (or_both (c == 42) _ (ne_eqb c 42 b)
-    (or_both (c == 95) _ (ne_eqb c 95 d) (or_both (c == 91) _ (ne_eqb c 91 e)
-    (or_both (c == 93) _ (ne_eqb c 93 f) (or_both (c == 96) _ (ne_eqb c 96 g)
-    (or_both (c == 60) _ (ne_eqb c 60 h) (or_both (c == 38) _ (ne_eqb c 38 i)
-    (or_both (c == 92) _ (ne_eqb c 92 j) (or_both (c == 33) _ (ne_eqb c 33 k)
-    (or_both (c == 62) _ (ne_eqb c 62 l) (or_both (c == 34) _ (ne_eqb c 34 m) refl))))))))))))
+    not_from_false _ (or_from (c == 10) _ (ne_eqb c 10 a) (or_from (c == 42) _ (ne_eqb c 42 b)
+    (or_from (c == 95) _ (ne_eqb c 95 d) (or_from (c == 91) _ (ne_eqb c 91 e)
+    (or_from (c == 93) _ (ne_eqb c 93 f) (or_from (c == 96) _ (ne_eqb c 96 g)
+    (or_from (c == 60) _ (ne_eqb c 60 h) (or_from (c == 38) _ (ne_eqb c 38 i)
+    (or_from (c == 92) _ (ne_eqb c 92 j) (or_from (c == 33) _ (ne_eqb c 33 k)
+    (or_from (c == 62) _ (ne_eqb c 62 l) (or_from (c == 34) _ (ne_eqb c 34 m) refl))))))))))))
 
 -- ---- what is so for all targets
 

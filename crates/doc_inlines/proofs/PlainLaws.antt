@@ -4,7 +4,7 @@ use Rattle.std.proofs.Common.{reverse, refl, ap, ap₂, sym, ◌∙◌, append_a
 use Rattle.std.specs.Prelude.{nat_le, if◌then◌else◌}
 use Rattle.std.specs.List.{list_all}
 use Rattle.std.proofs.lemmas.List.{reverse-append}
-use Rattle.std.proofs.lemmas.Bool.{eqb-true, eq-eqb}
+use Rattle.std.proofs.lemmas.Bool.{eqb-true, eq-eqb, or_parts, not-true, and_parts}
 use Rattle.doc_rules.specs.Characters.{Text, last_or}
 use Rattle.doc_rules.specs.Parsers.{run_length}
 use Rattle.doc_rules.specs.Entities.{Table}
@@ -17,14 +17,6 @@ use Rattle.doc_inlines.specs.ReadingSteps.{is_plain, breaks, Quiet}
 
 true_is_false : true ≡ false → ⊥
 true_is_false e = absurd cc
-
-or_false : (a b : Bool) → (a || b) ≡ false → (a ≡ false) × (b ≡ false)
-or_false true b e = absurd cc
-or_false false b e = (refl, e)
-
-not_true : (b : Bool) → not b ≡ true → b ≡ false
-not_true true e = absurd cc
-not_true false e = refl
 
 abbrev AreOthers : List (ℕ × Kind) → ℕ → Type 0
 AreOthers [] c = Unit {0}
@@ -39,20 +31,20 @@ in_no_entry (entry ∷ more) c h = ap (λ b. elim b [ true ↦ entry.1 | false �
 pub plain_begins_nothing : (c : ℕ) → is_plain c ≡ true → (c == 32) ≡ false → kind_in kinds c ≡ Other
 unfolding kinds
 plain_begins_nothing c h space =
-    let p0 = or_false (c == 10) _ (not_true _ h) in
-    let p1 = or_false (c == 42) _ p0.1 in
-    let p2 = or_false (c == 95) _ p1.1 in
-    let p3 = or_false (c == 91) _ p2.1 in
-    let p4 = or_false (c == 93) _ p3.1 in
-    let p5 = or_false (c == 96) _ p4.1 in
-    let p6 = or_false (c == 60) _ p5.1 in
-    let p7 = or_false (c == 38) _ p6.1 in
-    let p8 = or_false (c == 92) _ p7.1 in
-    let p9 = or_false (c == 33) _ p8.1 in
+    let p0 = or_parts (c == 10) _ (not-true _ h) in
+    let p1 = or_parts (c == 42) _ p0.1 in
+    let p2 = or_parts (c == 95) _ p1.1 in
+    let p3 = or_parts (c == 91) _ p2.1 in
+    let p4 = or_parts (c == 93) _ p3.1 in
+    let p5 = or_parts (c == 96) _ p4.1 in
+    let p6 = or_parts (c == 60) _ p5.1 in
+    let p7 = or_parts (c == 38) _ p6.1 in
+    let p8 = or_parts (c == 92) _ p7.1 in
+    let p9 = or_parts (c == 33) _ p8.1 in
     in_no_entry kinds c (p8.0, (p7.0, (p5.0, (p6.0, (p1.0, (p2.0, (p3.0, (p9.0, (p4.0, (space, (p0.0, tt)))))))))))
 
 pub plain_is_no_ending : (c : ℕ) → is_plain c ≡ true → (c == 10) ≡ false
-plain_is_no_ending c h = (or_false (c == 10) _ (not_true _ h)).0
+plain_is_no_ending c h = (or_parts (c == 10) _ (not-true _ h)).0
 
 pub other_item : (table : Table) (refs : List Definition) (last : ℕ) (made : List Inline) (c : ℕ) (rest : Text) → kind_in kinds c ≡ Other
     → read_item table refs last made c rest ≡ (Literal c ∷ made, 0)
@@ -84,10 +76,6 @@ unfolding read_item item_of_kind kinds kind_in gap run_length breaks
 space_item table refs last made rest e = no_break (32 ∷ rest) (suc (run_length 32 rest)) made 32 e
 
 -- ---- plain characters
-
-and_parts : (a b : Bool) → (a && b) ≡ true → (a ≡ true) × (b ≡ true)
-and_parts true b e = (refl, e)
-and_parts false b e = absurd cc
 
 plain_item : (table : Table) (refs : List Definition) (last : ℕ) (made : List Inline) (c : ℕ) (rest : Text) → is_plain c ≡ true
     → ((c == 32) ≡ true → breaks rest ≡ false) →

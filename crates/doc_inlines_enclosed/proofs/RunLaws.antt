@@ -7,6 +7,8 @@ use Rattle.doc_rules.specs.Characters.{Text}
 use Rattle.doc_rules.specs.Parsers.{run_length}
 use Rattle.doc_rules.specs.CodeSpans.{before_backticks}
 use Rattle.doc_inlines_enclosed.specs.RunSteps.{IsPlain}
+use Rattle.doc_page.proofs.Bools.{and_first, and_second}
+use Rattle.std.proofs.lemmas.Bool.{not-true}
 
 -- ---- tests and answers
 
@@ -37,18 +39,6 @@ added m n (Some k) = ap Some (omega arith)
 pub nowhere : (m : ℕ) (found : Option ℕ) → option_map (λ k. m + k) found ≡ None → found ≡ None
 nowhere m None e = refl
 nowhere m (Some k) e = absurd cc
-
-pub and_left : (a b : Bool) → (a && b) ≡ true → a ≡ true
-and_left true b e = refl
-and_left false b e = e
-
-pub and_right : (a b : Bool) → (a && b) ≡ true → b ≡ true
-and_right true b e = e
-and_right false b e = absurd cc
-
-pub not_true : (b : Bool) → not b ≡ true → b ≡ false
-not_true true e = sym e
-not_true false e = refl
 
 -- ---- one character
 
@@ -93,17 +83,17 @@ pub over_gap : (n last : ℕ) (gap rest : Text) → IsPlain gap → (last == 96)
     → before_backticks n last (gap ++ rest) ≡ option_map (λ k. length gap + k) (before_backticks n 0 rest)
 over_gap n last [] rest h e = last_is_other n last rest e ∙ sym (none_further (before_backticks n 0 rest))
 over_gap n last (c ∷ gap) rest h e =
-    let other : (c == 96) ≡ false = not_true (c == 96) (and_left (not (c == 96)) (list_all (λ d. not (d == 96)) gap) h) in
+    let other : (c == 96) ≡ false = not-true (c == 96) (and_first (not (c == 96)) (list_all (λ d. not (d == 96)) gap) h) in
     over_other n last c (gap ++ rest) other
-    ∙ (ap (option_map suc) (over_gap n c gap rest (and_right (not (c == 96)) (list_all (λ d. not (d == 96)) gap) h) other)
+    ∙ (ap (option_map suc) (over_gap n c gap rest (and_second (not (c == 96)) (list_all (λ d. not (d == 96)) gap) h) other)
     ∙ further (length gap) (before_backticks n 0 rest))
 
 pub none_in_plain : (n last : ℕ) (text : Text) → IsPlain text → before_backticks n last text ≡ None
 unfolding before_backticks
 none_in_plain n last [] h = refl
 none_in_plain n last (c ∷ rest) h =
-    over_other n last c rest (not_true (c == 96) (and_left (not (c == 96)) (list_all (λ d. not (d == 96)) rest) h))
-    ∙ ap (option_map suc) (none_in_plain n c rest (and_right (not (c == 96)) (list_all (λ d. not (d == 96)) rest) h))
+    over_other n last c rest (not-true (c == 96) (and_first (not (c == 96)) (list_all (λ d. not (d == 96)) rest) h))
+    ∙ ap (option_map suc) (none_in_plain n c rest (and_second (not (c == 96)) (list_all (λ d. not (d == 96)) rest) h))
 
 -- the inside of a run is gone over
 inside_run : (n m : ℕ) (rest : Text) → run_length 96 rest ≡ 0

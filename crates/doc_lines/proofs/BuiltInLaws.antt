@@ -14,8 +14,9 @@ use Rattle.doc_rules.specs.Entities.{Entity, Table, built_in}
 use Rattle.doc_rules.specs.Escapes.{find_entity}
 use Rattle.doc_lines.specs.declared.entities.names.TheConstants.{NAMES, ROWS}
 use Rattle.doc_lines.specs.Entities.{row_entity, is_within, Rises, has_ascii_names}
-use Rattle.doc_lines.proofs.TableLaws.{choice, find_cons, find_none, and_parts}
+use Rattle.doc_lines.proofs.TableLaws.{choice, find_cons, find_none}
 use Rattle.doc_lines.proofs.SearchLaws.{rising, from_rising}
+use Rattle.std.proofs.lemmas.Bool.{and_parts}
 
 -- ---- tables with the same names
 

@@ -3,7 +3,7 @@ use Rattle.std.proofs.Common.{◌≡◌, ℕ, zero, suc, ◌+◌, ◌<◌, ◌�
 use Rattle.std.proofs.Common.{drop, Some, chars, refl, sym, ap, ◌∙◌, subst, arith, append-nil}
 use Rattle.std.specs.List.{list_all}
 use Rattle.std.specs.Str.{IsUtf8, IsCharBoundary, IsAscii, encode_utf8_all}
-use Rattle.std.proofs.lemmas.Bool.{both_ways}
+use Rattle.std.proofs.lemmas.Bool.{both_ways, and_parts}
 use Rattle.std.proofs.lemmas.List.{get_or-take, length-take, take-append-drop, drop_more, drop_all, take_all}
 use Rattle.std.proofs.lemmas.Grind.{get_or_default_zero}
 use Rattle.std.proofs.lemmas.List.Folds.{list_all-append, list_all_at}
@@ -13,10 +13,6 @@ use Rattle.std.proofs.lemmas.Str.{IsUtf8-take, IsUtf8-drop, IsCharBoundary-befor
 use Rattle.doc_rules.specs.Characters.{Text}
 use Rattle.doc_rules.specs.Rests.{IsRest}
 use Rattle.doc_lines.specs.RestSteps.{IsAsciiClass, IsCutBefore, begins_in}
-
-both_hold : (a b : Bool) → (a && b) ≡ true → (a ≡ true) × (b ≡ true)
-both_hold true b e = (refl, e)
-both_hold false b e = absurd (both_ways false refl e)
 
 one_is_ascii : (c : ℕ) → c < 128 → IsAscii (c ∷ [])
 one_is_ascii c h zero = h
@@ -30,7 +26,7 @@ one_outside class only c all =
       | true ↦ λ e.
           let same = encodes-IsAscii (c ∷ []) (one_is_ascii c (only c e)) in
           let one : (not (class c) && true) ≡ true = ap (list_all (λ b. not (class b))) (sym same) ∙ all in
-          ap not (sym e) ∙ (both_hold (not (class c)) true one).0
+          ap not (sym e) ∙ (and_parts (not (class c)) true one).0
       | false ↦ λ e. refl
     ] refl
 
@@ -40,7 +36,7 @@ pub outside : (class : ℕ → Bool) → IsAsciiClass class → (cs : Text) → 
 outside class only [] all = refl
 outside class only (c ∷ cs) all =
     let test : ℕ → Bool = λ b. not (class b) in
-    let parts = both_hold _ _ (sym (list_all-append test (encode_utf8_all (c ∷ [])) (encode_utf8_all cs))
+    let parts = and_parts _ _ (sym (list_all-append test (encode_utf8_all (c ∷ [])) (encode_utf8_all cs))
     ∙ ap (list_all test) (sym (encodes-append (c ∷ []) cs)) ∙ all) in
     rw (one_outside class only c parts.0) (outside class only cs parts.1)
 

@@ -10,12 +10,9 @@ use Rattle.std.proofs.Math.Nat.{min-eq_left, min-eq_right}
 use Rattle.doc_rules.specs.Characters.{Text, is_space_or_tab}
 use Rattle.doc_rules.specs.Columns.{Line, Cell, width_at, columns_from, cell_of, cells_from, is_gap, spaces, skip, indent}
 use Rattle.doc_lines.specs.Cursors.{Position, position_at, first, behind, skipped_in, skipped, cells_at, left_of, IsSoundAt, IsSound}
+use Rattle.doc_page.proofs.Bools.{and_false}
 
 -- ---- widths
-
-no_zero : (b : Bool) → (b && false) ≡ false
-no_zero true = refl
-no_zero false = refl
 
 -- a tab that is used in part has its other columns left
 tab_width : (at n : ℕ) → n < 4 - at % 4 → 4 - (at + n) % 4 ≡ 4 - at % 4 - n
@@ -60,7 +57,7 @@ space = record { char = 32; width = 1 }
 skip_none : (line : Line) → skip 0 line ≡ line
 unfolding skip
 skip_none [] = refl
-skip_none (cell ∷ rest) = ap (λ (t : Bool). skip_choice t (nat_le cell.width 0) 0 cell rest) (no_zero (is_gap cell))
+skip_none (cell ∷ rest) = ap (λ (t : Bool). skip_choice t (nat_le cell.width 0) 0 cell rest) (and_false (is_gap cell))
 
 skip_spaces : (w n : ℕ) (line : Line) → w ≤ n → skip n (spaces w ++ line) ≡ skip (n - w) line
 unfolding skip
@@ -167,7 +164,7 @@ none_in : (rest : Text) (from : Position) → skipped_in from 0 rest ≡ from
 unfolding skipped_in
 none_in [] from = refl
 none_in (c ∷ rest) from = ap (λ (t : Bool). skipped_choice t (nat_le (width_at c from.column) 0) from 0 c rest)
-    (no_zero (is_space_or_tab c))
+    (and_false (is_space_or_tab c))
 
 -- what is left of a tab and of what is behind it
 abbrev behind_tab : ℕ → Text → Line

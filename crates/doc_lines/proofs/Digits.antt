@@ -8,7 +8,7 @@ use Rattle.std.specs.Char.{digit_value, is_ascii_digit, is_ascii_hexdigit}
 use Rattle.std.specs.Str.{IsUtf8, IsAscii}
 use Rattle.std.specs.Str.Parse.{AllDigits, IsNumeral, digits_value_after, digits_value, without_leading_plus, ParsesUnsigned}
 use Rattle.std.proofs.Math.Seq.{take-append_seam}
-use Rattle.std.proofs.lemmas.Bool.{eqb-true}
+use Rattle.std.proofs.lemmas.Bool.{eqb-true, and_parts}
 use Rattle.std.proofs.lemmas.Bool.Decides.{nat_tests}
 use Rattle.std.proofs.lemmas.List.{append_cancel_right}
 use Rattle.std.proofs.lemmas.Str.{encodes-chars, encodes-IsAscii}
@@ -109,32 +109,28 @@ digit_is_small c e = grind (arith, nat_tests)
 hexdigit_is_small : (c : ℕ) → is_ascii_hexdigit c ≡ true → (47 < c) × (c < 128) × (digit_value c < 16)
 hexdigit_is_small c e = grind (arith, nat_tests)
 
-both : (a b : Bool) → (a && b) ≡ true → (a ≡ true) × (b ≡ true)
-both true b e = (refl, e)
-both false b e = absurd cc
-
 -- each character of this class is one of ASCII
 abbrev IsAsciiClass : (ℕ → Bool) → Type 0
 IsAsciiClass class = (c : ℕ) → class c ≡ true → (47 < c) × (c < 128)
 
 digits_are_ascii : (class : ℕ → Bool) → IsAsciiClass class → (digits : Text) → list_all class digits ≡ true → IsAscii digits
 digits_are_ascii class h [] e i = omega arith
-digits_are_ascii class h (c ∷ more) e zero = (h c (both (class c) (list_all class more) e).0).1
-digits_are_ascii class h (c ∷ more) e (suc i) = digits_are_ascii class h more (both (class c) (list_all class more) e).1 i
+digits_are_ascii class h (c ∷ more) e zero = (h c (and_parts (class c) (list_all class more) e).0).1
+digits_are_ascii class h (c ∷ more) e (suc i) = digits_are_ascii class h more (and_parts (class c) (list_all class more) e).1 i
 
 all_digits : (class : ℕ → Bool) (radix : ℕ) → ((c : ℕ) → class c ≡ true → digit_value c < radix) → (digits : Text)
     → list_all class digits ≡ true → AllDigits radix digits
 all_digits class radix h [] e = tt
 all_digits class radix h (c ∷ more) e = (
-  h c (both (class c) (list_all class more) e).0,
+  h c (and_parts (class c) (list_all class more) e).0,
   all_digits class radix h more
-      (both (class c) (list_all class more) e).1,
+      (and_parts (class c) (list_all class more) e).1,
 )
 
 no_plus : (class : ℕ → Bool) → IsAsciiClass class → (digits : Text) → list_all class digits ≡ true → without_leading_plus digits ≡ digits
 no_plus class h [] e = refl
 no_plus class h (c ∷ more) e =
-    let large : 47 < c = (h c (both (class c) (list_all class more) e).0).0 in
+    let large : 47 < c = (h c (and_parts (class c) (list_all class more) e).0).0 in
     ap (λ b. drop (cond b 1 0) (c ∷ more)) (ne_eqb c 43 (λ same. let f : c ≡ 43 = same in omega arith))
 
 -- ---- the number that they write

@@ -15,15 +15,7 @@ use Rattle.doc_page.proofs.LineSteps.{onto_front, onto_front-nil, onto_front-con
 use Rattle.doc_rules.specs.Characters.{Text}
 use Rattle.doc_rules.specs.Lines as rules
 use Rattle.doc_lines.specs.Lines.{LinesAreLines}
-
-and_left : (x y : Bool) → (x && y) ≡ true → x ≡ true
-and_left true y e = refl
-and_left false y e = e
-
-and_right : (x y : Bool) → (x && y) ≡ true → y ≡ true
-and_right true y e = e
-and_right false true e = refl
-and_right false false e = e
+use Rattle.doc_page.proofs.Bools.{and_first, and_second}
 
 -- ---- the bytes of a character
 
@@ -138,7 +130,7 @@ step c cs s e = elim (cases_lt c 128) [
 all_steps : (cs : Text) → scalars cs ≡ true → map chars (bytewise.lines (encode_utf8_all cs)) ≡ rules.lines_of cs
 unfolding bytewise.lines rules.lines_of
 all_steps [] s = refl
-all_steps (c ∷ cs) s = step c cs (and_left (scalar c) (scalars cs) s) (all_steps cs (and_right (scalar c) (scalars cs) s))
+all_steps (c ∷ cs) s = step c cs (and_first (scalar c) (scalars cs) s) (all_steps cs (and_second (scalar c) (scalars cs) s))
 
 pub lines_are_lines : LinesAreLines
 lines_are_lines text utf8 = ap (λ bs. map chars (bytewise.lines bs)) (sym (encodes-chars text utf8))

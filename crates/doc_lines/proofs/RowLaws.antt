@@ -12,7 +12,7 @@ use Rattle.doc_rules.specs.Characters.{Text}
 use Rattle.doc_rules.specs.Entities.{Entity}
 use Rattle.doc_rules.specs.Escapes.{number}
 use Rattle.doc_lines.specs.Tables.{is_name, at_space, fields_entity, fields_characters, entity_of}
-use Rattle.doc_lines.proofs.TableLaws.{and_parts}
+use Rattle.std.proofs.lemmas.Bool.{and_parts}
 
 -- one more digit
 pub number_more : (digits : List ℕ) (i n v : ℕ) → i < length digits → n ≡ number 16 (take i digits) → v ≡ digit_value (get_or digits i 0)

@@ -17,7 +17,8 @@ use Rattle.doc_rules.specs.Entities.{Entity, Table}
 use Rattle.doc_rules.specs.Escapes.{find_entity}
 use Rattle.doc_lines.specs.declared.entities.names.Row.{Row}
 use Rattle.doc_lines.specs.Entities.{characters, row_entity, is_within, RisesFrom, Rises}
-use Rattle.doc_lines.proofs.TableLaws.{choice, find_cons, find_none, and_parts}
+use Rattle.doc_lines.proofs.TableLaws.{choice, find_cons, find_none}
+use Rattle.std.proofs.lemmas.Bool.{and_parts}
 
 -- ---- the order of names
 

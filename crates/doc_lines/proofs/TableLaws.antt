@@ -18,12 +18,7 @@ use Rattle.doc_rules.specs.Escapes.{find_entity}
 use Rattle.doc_lines.specs.Entities.{characters, entities_shown, has_ascii_names}
 use Rattle.doc_lines.specs.Tables.{is_row, bad_line, entity_of, entities_in, contradicts, line_contradicts, twice_line, with_entity}
 use Rattle.doc_lines.specs.Tables.{with_entities}
-
--- both of two tests
-pub and_parts : (x y : Bool) → (x && y) ≡ true → (x ≡ true) × (y ≡ true)
-and_parts true true e = (refl, refl)
-and_parts true false e = absurd cc
-and_parts false y e = absurd cc
+use Rattle.std.proofs.lemmas.Bool.{and_parts}
 
 both : {x y : Bool} → x ≡ true → y ≡ true → (x && y) ≡ true
 both {x = x} {y = y} e h = ap (λ (b : Bool). b && y) e ∙ h
@@ -134,10 +129,6 @@ contradicts_is : (table : Table) (entity : Entity) → contradicts table entity 
 contradicts_is table entity = elim (find_entity table entity.0) as
     (λ (o : Option Text). elim o [ None ↦ false | Some those ↦ not (bytes_eq those entity.1) ] ≡ verdict_on o entity.1)
     [ None ↦ refl | Some those ↦ refl ]
-
-not_false : (b : Bool) → not b ≡ false → b ≡ true
-not_false true e = refl
-not_false false e = sym e
 
 or_else-none : (o : Option Text) → or_else o None ≡ o
 or_else-none None = refl

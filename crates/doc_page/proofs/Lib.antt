@@ -1,3 +1,4 @@
+pub mod Bools
 pub mod BufferSteps
 pub mod EscapingSteps
 pub mod Examples

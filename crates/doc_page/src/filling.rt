@@ -79,8 +79,10 @@ fn push_piece<L: Linker>(
     }
 }
 
+/// Writes the opening tag of a link (the HTML of CommonMark 0.31.2, section 6.3) at the end of the buffer, where after a refusal part of it
+/// may stand. A link that leads nowhere has no title.
 #[tactic(auto, using(crate::proofs::BufferSteps::front_same, crate::proofs::BufferSteps::front_more))]
-fn push_opening_tag(out: &mut String, title: &Option<Text>, shown: &Shown) -> Result<(), Memory>
+pub fn push_opening_tag(out: &mut String, title: &Option<Text>, shown: &Shown) -> Result<(), Memory>
     ensures ok { OnOk result
         (string_bytes out.new ≡ string_bytes out.old ++ opening_tag title.now shown.now) }
     ensures err { OnErr result (StartsWith (string_bytes out.new) (string_bytes out.old)) }
@@ -98,8 +100,9 @@ fn push_opening_tag(out: &mut String, title: &Option<Text>, shown: &Shown) -> Re
     Ok(())
 }
 
+/// Writes the attribute of a title, where there is one, at the end of the buffer, where after a refusal part of it may stand.
 #[tactic(auto, using(crate::proofs::BufferSteps::front_same, crate::proofs::BufferSteps::front_more))]
-fn push_title(out: &mut String, title: &Option<Text>) -> Result<(), Memory>
+pub fn push_title(out: &mut String, title: &Option<Text>) -> Result<(), Memory>
     ensures ok { OnOk result
         (string_bytes out.new ≡ string_bytes out.old ++ title_attribute title.now) }
     ensures err { OnErr result (StartsWith (string_bytes out.new) (string_bytes out.old)) }

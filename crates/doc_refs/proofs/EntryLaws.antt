@@ -25,17 +25,12 @@ use Rattle.doc_refs.specs.Targets.{Targets, target_shown, joined, single}
 use Rattle.doc_refs.specs.declared.ref_map.Entry.{Entry}
 use Rattle.doc_refs.specs.declared.target.Target.{Target}
 use Rattle.doc_refs.proofs.MapLaws.{named, is_name, is_name-same, same_targets, first_of, get-joined, get-single}
+use Rattle.doc_page.proofs.Bools.{same_bool}
 
 -- ---- names of labels
 
 same_bytes : (xs ys : List ℕ) → IsUtf8 xs → IsUtf8 ys → chars xs ≡ chars ys → xs ≡ ys
 same_bytes xs ys u v e = sym (encodes-chars xs u) ∙ ap encode_utf8_all e ∙ encodes-chars ys v
-
-same_bool : (a b : Bool) → (a ≡ true → b ≡ true) → (b ≡ true → a ≡ true) → a ≡ b
-same_bool true true f g = refl
-same_bool true false f g = sym (f refl)
-same_bool false true f g = g refl
-same_bool false false f g = refl
 
 same_test : (xs ys : List ℕ) → IsUtf8 xs → IsUtf8 ys → is_name (chars xs) (chars ys) ≡ is_eq (slice_cmp nat_cmp xs ys)
 same_test xs ys u v =

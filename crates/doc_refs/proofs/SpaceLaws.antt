@@ -11,24 +11,14 @@ use Rattle.doc_rules.specs.Characters.{Text, is_space_tab_or_ending, first_or, s
 use Rattle.doc_rules.specs.Parsers.{many}
 use Rattle.doc_rules.specs.Labels.{collapse}
 use Rattle.doc_rules.proofs.ParserLaws.{rest_is_shorter, many_leaves}
+use Rattle.std.proofs.lemmas.Bool.{not-true, not-false, and_left}
 
 -- a character of a word
 abbrev pub is_word_char : ℕ → Bool
 is_word_char c = not (is_space_tab_or_ending c)
 
-not_true : (b : Bool) → not b ≡ true → b ≡ false
-not_true true e = sym e
-not_true false e = refl
-
-not_false : (b : Bool) → not b ≡ false → b ≡ true
-not_false true e = refl
-not_false false e = sym e
-
 both : (x y : Bool) → x ≡ true → (x && y) ≡ y
 both x y e = ap (λ (b : Bool). b && y) e
-
-neither : (x y : Bool) → x ≡ false → (x && y) ≡ false
-neither x y e = ap (λ (b : Bool). b && y) e
 
 -- ---- one step of each
 
@@ -130,7 +120,7 @@ longer_word : (c : ℕ) (text gap : Text) → is_space_tab_or_ending c ≡ false
 longer_word c text gap e h = (
   c ∷ h.0,
   ap (λ more. c ∷ more) h.1,
-  ap collapse (end_keeps is_space_tab_or_ending c text (neither (is_space_tab_or_ending c) (list_all is_space_tab_or_ending text) e))
+  ap collapse (end_keeps is_space_tab_or_ending c text (and_left (is_space_tab_or_ending c) (list_all is_space_tab_or_ending text) e))
       ∙ collapse_char c (strip_end is_space_tab_or_ending text) e ∙ ap (λ more. c ∷ more) h.2,
 )
 
@@ -139,7 +129,7 @@ word_stays [] gap e = let same : [] ≡ gap = cc (many_nil is_word_char) in no_w
 word_stays (c ∷ text) gap e = at (λ k. word_stays text gap k) (is_word_char c) refl
   where
     at : (many is_word_char text ≡ Some gap → Word text gap) → (b : Bool) → is_word_char c ≡ b → Word (c ∷ text) gap
-    at go true f = longer_word c text gap (not_true (is_space_tab_or_ending c) f)
+    at go true f = longer_word c text gap (not-true (is_space_tab_or_ending c) f)
         (go (sym (many_cons is_word_char c text ∙ ap (many_choice is_word_char c text) f) ∙ e))
     at go false f =
         let left : Some (c ∷ text) ≡ Some gap = sym (many_cons is_word_char c text ∙ ap (many_choice is_word_char c text) f) ∙ e in
@@ -164,7 +154,7 @@ gap_begins (c ∷ text) (d ∷ more) e = at (λ k. gap_begins text (d ∷ more) 
     at go false f =
         let left : Some (c ∷ text) ≡ Some (d ∷ more) = sym (many_cons is_word_char c text ∙ ap (many_choice is_word_char c text) f) ∙ e in
         let same : c ≡ d = cc in
-        ap is_space_tab_or_ending (sym same) ∙ not_false (is_space_tab_or_ending c) f
+        ap is_space_tab_or_ending (sym same) ∙ not-false (is_space_tab_or_ending c) f
 
 all_white : (text : Text) → many is_space_tab_or_ending text ≡ Some [] → list_all is_space_tab_or_ending text ≡ true
 all_white [] e = refl
@@ -190,7 +180,7 @@ not_all_white (c ∷ text) d more e = at (λ k. not_all_white text d more k) (is
     at go true f =
         both (is_space_tab_or_ending c) (list_all is_space_tab_or_ending text) f
         ∙ go (sym (many_cons is_space_tab_or_ending c text ∙ ap (many_choice is_space_tab_or_ending c text) f) ∙ e)
-    at go false f = neither (is_space_tab_or_ending c) (list_all is_space_tab_or_ending text) f
+    at go false f = and_left (is_space_tab_or_ending c) (list_all is_space_tab_or_ending text) f
 
 -- white space before another word is one space
 gap_is_one_space : (c : ℕ) (text : Text) (d : ℕ) (more : Text) → is_space_tab_or_ending c ≡ true
@@ -281,7 +271,7 @@ word_takes (c ∷ text) gap rest e f n = at (is_word_char c) refl
     at false g =
         let left : Some (c ∷ text) ≡ Some gap = sym (many_cons is_word_char c text ∙ ap (many_choice is_word_char c text) g) ∙ sym e in
         let same : c ∷ text ≡ gap = cc in
-        let white : is_space_tab_or_ending c ≡ true = not_false (is_space_tab_or_ending c) g in
+        let white : is_space_tab_or_ending c ≡ true = not-false (is_space_tab_or_ending c) g in
         let on : many is_space_tab_or_ending text ≡ Some rest = sym (many_cons is_space_tab_or_ending c text
         ∙ ap (many_choice is_space_tab_or_ending c text) white) ∙ ap (many is_space_tab_or_ending) same ∙ sym f in
         let a : length rest ≤ length text = run_is_no_longer is_space_tab_or_ending text rest on in

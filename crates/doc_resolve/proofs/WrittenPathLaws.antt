@@ -12,12 +12,8 @@ use Rattle.doc_page.specs.Pages.{is_empty}
 use Rattle.doc_page.specs.Paths.{is_path}
 use Rattle.doc_resolve.specs.WrittenPaths.{with_index, segment_of, all_of, if_path, path_written, holds_slash}
 use Rattle.doc_resolve.specs.WrittenPathSteps.{with_decoded, decoded_segments, ends_empty, index_of, path_of_bytes}
-
--- two tests that say the same
-same_test : (a b : Bool) → (a ≡ true → b ≡ true) → (b ≡ true → a ≡ true) → a ≡ b
-same_test true b f g = sym (f refl)
-same_test false true f g = g refl
-same_test false false f g = refl
+use Rattle.doc_page.proofs.Bools.{same_bool}
+use Rattle.std.proofs.Math.Bool.{and-true}
 
 slash_utf8 : IsUtf8 (47 ∷ [])
 slash_utf8 = subst IsUtf8 (encode_ascii 47 (lit< tt)) (IsUtf8-encode 47 refl)
@@ -30,7 +26,7 @@ is_utf8-slash xs ys =
     let at : get_or all n 0 ≡ 47 = get_or_at xs 47 ys 0 n refl in
     let len : length all ≡ n + length (47 ∷ ys) = length-append xs (47 ∷ ys) in
     let rest : drop (n + 1) all ≡ ys = sym (drop-drop 1 n all) ∙ ap (drop 1) (drop_at xs (47 ∷ ys) n refl) in
-    same_test (is_utf8 all) (is_utf8 xs && is_utf8 ys)
+    same_bool (is_utf8 all) (is_utf8 xs && is_utf8 ys)
     (λ whole.
     let utf8 = IsUtf8-from_is_utf8 all whole in
     let front = IsUtf8-take all n utf8 (IsCharBoundary-before_ascii all n (omega arith) (omega arith)) in
@@ -45,10 +41,6 @@ is_utf8-slash xs ys =
 -- the texts in a row, each after a `/`
 abbrev pub flat : List (List ℕ) → List ℕ
 flat texts = flat_map (λ text. 47 ∷ text) texts
-
-and-true : (b : Bool) → (b && true) ≡ b
-and-true true = refl
-and-true false = refl
 
 is_utf8-rest : (text : List ℕ) (texts : List (List ℕ)) → is_utf8 (text ++ flat texts) ≡ (is_utf8 text && list_all is_utf8 texts)
 is_utf8-rest text [] = ap is_utf8 (append-nil text) ∙ sym (and-true (is_utf8 text))

@@ -12,6 +12,7 @@ use Rattle.std.proofs.lemmas.Map.Made.{length-le_from_is_member}
 use Rattle.doc_rules.specs.Characters.{Text}
 use Rattle.doc_rules.specs.Anchors.{is_used, with_number, free_number, free_anchor, anchor_name, anchors_behind}
 use Rattle.doc_rules.specs.Laws.{AnchorsDiffer}
+use Rattle.doc_page.proofs.Bools.{or_first, or_second}
 
 -- NAME-n, .., NAME-(n+most)
 names_from : ℕ → ℕ → Text → List Text
@@ -101,25 +102,17 @@ fresh_free used name h = at (is_used used name) refl
 abbrev AllFree : List Text → List Text → Type 0
 AllFree used names = AllByRecursion (λ y. is_used used y ≡ false) names
 
-first_free : (a b : Bool) → (a || b) ≡ false → a ≡ false
-first_free true b e = e
-first_free false b e = refl
-
-second_free : (a b : Bool) → (a || b) ≡ false → b ≡ false
-second_free true b e = absurd cc
-second_free false b e = e
-
 -- free of one more is free, and differs from it
 still_free : (used : List Text) (a : Text) (names : List Text) → AllFree (a ∷ used) names → AllFree used names
 still_free used a [] h = tt
-still_free used a (name ∷ more) h = (second_free (bytes_eq name a) (is_used used name) h.0, still_free used a more h.1)
+still_free used a (name ∷ more) h = (or_second (bytes_eq name a) (is_used used name) h.0, still_free used a more h.1)
 
 differs_from : (used : List Text) (a : Text) (names : List Text) → AllFree (a ∷ used) names
     → AllByRecursion (λ y. bytes_eq a y ≡ false) names
 differs_from used a [] h = tt
 differs_from used a (name ∷ more) h = (
   nat_list_eq_equiv.symm a name
-      ∙ first_free (bytes_eq name a) (is_used used name) h.0,
+      ∙ or_first (bytes_eq name a) (is_used used name) h.0,
   differs_from used a more h.1,
 )
 

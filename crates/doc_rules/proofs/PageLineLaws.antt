@@ -10,16 +10,13 @@ use Rattle.doc_page.specs.Lines.{lines, ends_line as page_ends_line, without_end
 use Rattle.doc_rules.specs.Characters.{Text, is_ending}
 use Rattle.doc_rules.specs.Lines.{ends_line, onto_first, lines_of, without_ending}
 use Rattle.doc_rules.specs.Laws.{PageLinesAgree}
+use Rattle.std.proofs.Math.Bool.{and-true}
 
 -- ---- lines
 
-and_true : (b : Bool) → (b && true) ≡ b
-and_true true = refl
-and_true false = refl
-
 same_end : (c : ℕ) (rest : Text) → page_ends_line c rest ≡ ends_line c rest
 unfolding ends_line
-same_end c [] = ap (λ b. (c == 10) || b) (and_true (c == 13))
+same_end c [] = ap (λ b. (c == 10) || b) (and-true (c == 13))
 same_end c (d ∷ rest) = refl
 
 same_front : (c : ℕ) (some : List Text) → std_onto_first c some ≡ onto_first c some

@@ -14,20 +14,10 @@ use Rattle.doc_rules.specs.Lists.{listed}
 use Rattle.doc_rules.specs.Blocks.{container_of, blocks_of, references_of, tree_document}
 use Rattle.doc_rules.specs.Laws.{has_tab, QuotedTree, QuotedDocument, quote_over}
 use Rattle.doc_rules.proofs.QuoteLines.{marked_line, quoted_has}
+use Rattle.doc_page.proofs.Bools.{or_first, or_second, and_false}
+use Rattle.std.proofs.lemmas.Bool.{or_from}
 
 -- ---- texts without tabs
-
-left_false : (a b : Bool) → (a || b) ≡ false → a ≡ false
-left_false true b e = e
-left_false false b e = refl
-
-right_false : (a b : Bool) → (a || b) ≡ false → b ≡ false
-right_false true b e = absurd cc
-right_false false b e = e
-
-both_false : (a b : Bool) → a ≡ false → b ≡ false → (a || b) ≡ false
-both_false true b e f = e
-both_false false b e f = f
 
 safe_at : (c : ℕ) (b : Bool) → (c == 9) ≡ false → ((if b then 0xFFFD else c) == 9) ≡ false
 safe_at c true e = refl
@@ -40,13 +30,13 @@ safe_no_tab c e = safe_at c (c == 0) e
 content_at : (c : ℕ) (rest : Text) → (c == 9) ≡ false → has_tab (line_content rest) ≡ false → (b : Bool) →
     has_tab (map secure_char (elim b [ true ↦ [] | false ↦ c ∷ without_ending rest ])) ≡ false
 content_at c rest e f true = refl
-content_at c rest e f false = both_false (secure_char c == 9) (has_tab (line_content rest)) (safe_no_tab c e) f
+content_at c rest e f false = or_from (secure_char c == 9) (has_tab (line_content rest)) (safe_no_tab c e) f
 
 content_no_tab : (line : Text) → has_tab line ≡ false → has_tab (line_content line) ≡ false
 unfolding without_ending
 content_no_tab [] e = refl
 content_no_tab (c ∷ rest) e =
-    content_at c rest (left_false (c == 9) (has_tab rest) e) (content_no_tab rest (right_false (c == 9) (has_tab rest) e))
+    content_at c rest (or_first (c == 9) (has_tab rest) e) (content_no_tab rest (or_second (c == 9) (has_tab rest) e))
     ((c == 10) || (c == 13))
 
 abbrev NoTabs : List Text → Type 0
@@ -54,19 +44,19 @@ NoTabs = AllByRecursion (λ line. has_tab line ≡ false)
 
 onto_no_tab : (c : ℕ) (lines : List Text) → (c == 9) ≡ false → NoTabs lines → NoTabs (onto_first c lines)
 unfolding onto_first
-onto_no_tab c [] e h = (both_false (c == 9) false e refl, tt)
-onto_no_tab c (line ∷ more) e h = (both_false (c == 9) (has_tab line) e h.0, h.1)
+onto_no_tab c [] e h = (or_from (c == 9) false e refl, tt)
+onto_no_tab c (line ∷ more) e h = (or_from (c == 9) (has_tab line) e h.0, h.1)
 
 lines_at : (c : ℕ) (rest : Text) → (c == 9) ≡ false → NoTabs (lines_of rest) → (b : Bool) →
     NoTabs (elim b [ true ↦ (c ∷ []) ∷ lines_of rest | false ↦ onto_first c (lines_of rest) ])
-lines_at c rest e h true = (both_false (c == 9) false e refl, h)
+lines_at c rest e h true = (or_from (c == 9) false e refl, h)
 lines_at c rest e h false = onto_no_tab c (lines_of rest) e h
 
 lines_no_tab : (text : Text) → has_tab text ≡ false → NoTabs (lines_of text)
 unfolding lines_of
 lines_no_tab [] e = tt
 lines_no_tab (c ∷ rest) e =
-    lines_at c rest (left_false (c == 9) (has_tab rest) e) (lines_no_tab rest (right_false (c == 9) (has_tab rest) e)) (ends_line c rest)
+    lines_at c rest (or_first (c == 9) (has_tab rest) e) (lines_no_tab rest (or_second (c == 9) (has_tab rest) e)) (ends_line c rest)
 
 -- ---- columns shift
 
@@ -77,15 +67,11 @@ shifted : (text : Text) (a b : ℕ) → has_tab text ≡ false → map cell_of (
 unfolding columns_from cell_of
 shifted [] a b e = refl
 shifted (c ∷ rest) a b e =
-    let first : (c == 9) ≡ false = left_false (c == 9) (has_tab rest) e in
+    let first : (c == 9) ≡ false = or_first (c == 9) (has_tab rest) e in
     ap (λ w. record { char = c; width = w } ∷ map cell_of (columns_from (a + width_at c a) rest)) (one_wide c a first
     ∙ sym (one_wide c b first))
     ∙ ap (λ more. record { char = c; width = width_at c b } ∷ more)
-    (shifted rest (a + width_at c a) (b + width_at c b) (right_false (c == 9) (has_tab rest) e))
-
-and_false : (a : Bool) → (a && false) ≡ false
-and_false true = refl
-and_false false = refl
+    (shifted rest (a + width_at c a) (b + width_at c b) (or_second (c == 9) (has_tab rest) e))
 
 skip_none : (line : Line) → skip 0 line ≡ line
 unfolding skip

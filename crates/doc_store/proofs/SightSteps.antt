@@ -11,10 +11,7 @@ use Rattle.doc_store.specs.Maps.{TextMap, map_values}
 use Rattle.doc_store.specs.Pages.{Page, StampedPage}
 use Rattle.doc_store.specs.Sites.{Site, IsSite, View, may_see, may_see_at, page_of_alias, goal_by, goal_in, view_of}
 use Rattle.doc_store.specs.Store.{site_with}
-
-clash : (b : Bool) → b ≡ true → b ≡ false → ⊥
-clash true e f = cc
-clash false e f = cc
+use Rattle.doc_page.proofs.Bools.{clash}
 
 nothing : {X : Type 0} (b : Bool) → ◌≡◌ {A = Option X} (cond b None None) None
 nothing true = refl

@@ -8,6 +8,8 @@ use Rattle.std.specs.Ordering.{nat_cmp, match_ordering, ordering_reverse}
 use Rattle.std.proofs.lemmas.Cmp.{nat_list_cmp_total}
 use Rattle.std.proofs.lemmas.List.{length-map}
 use Rattle.doc_store.specs.Groups.{IsGroups, is_group, with_name, with_names, group_limit}
+use Rattle.doc_page.proofs.Bools.{and_first, and_second}
+use Rattle.std.proofs.lemmas.Bool.{and_from}
 
 -- the name is below each of these
 abbrev pub IsBelow : List ℕ → List (List ℕ) → Type 0
@@ -52,35 +54,24 @@ sorted-with_names before (name ∷ names) sorted = sorted-with_names (with_name 
 
 -- ---- they are names of groups
 
-left : (a b : Bool) → (a && b) ≡ true → a ≡ true
-left true b both = refl
-left false b both = both
-
-right : (a b : Bool) → (a && b) ≡ true → b ≡ true
-right true b both = both
-right false b both = absurd (cc)
-
-both_hold : (a b : Bool) → a ≡ true → b ≡ true → (a && b) ≡ true
-both_hold a b one other = rw one other
-
 good-with_name : (name : List ℕ) (names : List (List ℕ)) → is_group name ≡ true → list_all is_group names ≡ true
     → list_all is_group (with_name name names) ≡ true
-good-with_name name [] good all = both_hold (is_group name) true good refl
+good-with_name name [] good all = and_from (is_group name) true good refl
 good-with_name name (first ∷ rest) good all =
     elim (slice_cmp nat_cmp name first) as (λ order. list_all is_group
     (match_ordering order (name ∷ first ∷ rest) (first ∷ rest) (first ∷ with_name name rest)) ≡ true) [
-      | Less ↦ both_hold (is_group name) (list_all is_group (first ∷ rest)) good all
+      | Less ↦ and_from (is_group name) (list_all is_group (first ∷ rest)) good all
       | Equal ↦ all
-      | Greater ↦ both_hold (is_group first) (list_all is_group (with_name name rest)) (left (is_group first) (list_all is_group rest) all)
-          (good-with_name name rest good (right (is_group first) (list_all is_group rest) all))
+      | Greater ↦ and_from (is_group first) (list_all is_group (with_name name rest)) (and_first (is_group first) (list_all is_group rest) all)
+          (good-with_name name rest good (and_second (is_group first) (list_all is_group rest) all))
     ]
 
 good-with_names : (before names : List (List ℕ)) → list_all is_group before ≡ true → list_all is_group names ≡ true
     → list_all is_group (with_names before names) ≡ true
 good-with_names before [] good all = good
 good-with_names before (name ∷ names) good all =
-    good-with_names (with_name name before) names (good-with_name name before (left (is_group name) (list_all is_group names) all) good)
-    (right (is_group name) (list_all is_group names) all)
+    good-with_names (with_name name before) names (good-with_name name before (and_first (is_group name) (list_all is_group names) all) good)
+    (and_second (is_group name) (list_all is_group names) all)
 
 -- ---- so they are groups, where they are few
 

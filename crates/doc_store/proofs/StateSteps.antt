@@ -15,6 +15,7 @@ use Rattle.doc_store.specs.MoveSteps.{restamped, with_stamped, with_stamped_at}
 use Rattle.doc_store.specs.Pages.{Page, StampedPage}
 use Rattle.doc_store.specs.Store.{StoreState, IsStore, empty_store, state_of, with_page, put_by, fits, fits_in, without_goal, without_page}
 use Rattle.doc_store.specs.Store.{aliases_after, may_move, move_fits, with_key_at, with_move, moved_by, moved_in}
+use Rattle.doc_page.proofs.Bools.{clash}
 
 -- ---- a new store
 
@@ -160,10 +161,6 @@ module _ (pages pages' : TextMap StampedPage) (aliases aliases' : TextMap (List 
         stamps = changed (λ p. p.stamp) pages pages' from to (restamped puts page) set i;
         puts = puts + 1;
       }
-
-clash : (b : Bool) → b ≡ true → b ≡ false → ⊥
-clash true e f = cc
-clash false e f = cc
 
 -- the path of a page is no alias
 pub alias_of_none : (pages : TextMap StampedPage) (aliases : TextMap (List ℕ)) (puts : ℕ) (path : List ℕ)

@@ -14,10 +14,7 @@ use Rattle.doc_store.specs.Pages.{Page}
 use Rattle.doc_store.specs.Sites.{Site, IsSite}
 use Rattle.doc_store.specs.Store.{StoreState, IsStore, empty_store, is_goal, without_goal, goal_after, aliases_after, with_page, with_move}
 use Rattle.doc_store.specs.Store.{with_key_at}
-
-differ : (b : Bool) → b ≡ true → b ≡ false → ⊥
-differ true e f = cc
-differ false e f = cc
+use Rattle.doc_page.proofs.Bools.{clash}
 
 -- ---- stamps
 
@@ -197,7 +194,7 @@ module _ (site : Site) (from to : List ℕ) (page : Page) (is : IsSite site) (st
   apart_paths = by (same_key from to) refl
     where
       by : (b : Bool) → same_key from to ≡ b → b ≡ false
-      by true e = absurd (differ (map.contains_key site.pages from) stands (ap (map.contains_key site.pages) (same_from from to e) ∙ free))
+      by true e = absurd (clash (map.contains_key site.pages from) stands (ap (map.contains_key site.pages) (same_from from to e) ∙ free))
       by false e = refl
 
   abbrev moved_site : Site
