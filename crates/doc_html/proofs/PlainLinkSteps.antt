@@ -144,9 +144,11 @@ bytes_are_ascii [] small = refl
 bytes_are_ascii (b ∷ dest) small =
     let here = and_parts (bytes_eq (destination_byte b) (url_byte b)) (is_ascii (url_byte b)) (byte_agrees b (small 0 (omega arith))) in
     list_all-append (λ c. nat_lt c 128) (url_byte b) (flat_map url_byte dest)
-    ∙ and_from (is_ascii (url_byte b)) (is_ascii (flat_map url_byte dest)) here.1 (bytes_are_ascii dest (λ i within. small (suc i) (omega arith)))
+    ∙ and_from (is_ascii (url_byte b)) (is_ascii (flat_map url_byte dest)) here.1
+    (bytes_are_ascii dest (λ i within. small (suc i) (omega arith)))
 
-pub url_characters : (url dest : List ℕ) → IsUtf8 dest → IsBytes dest → url ≡ escaped (destination dest) → chars url ≡ url_escape (chars dest)
+pub url_characters : (url dest : List ℕ) → IsUtf8 dest → IsBytes dest → url ≡ escaped (destination dest)
+    → chars url ≡ url_escape (chars dest)
 url_characters url dest u small e =
     ap chars (e ∙ destinations_by_bytes dest ∙ bytes_agree dest small)
     ∙ ascii_chars (flat_map url_byte dest) (bytes_are_ascii dest small)
