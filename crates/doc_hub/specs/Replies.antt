@@ -28,7 +28,6 @@ use Rattle.doc_hub.specs.declared.method.Method.{Method}
 use Rattle.doc_hub.specs.declared.method.Method.TheVariants.{Get, Head, Put, Delete, Other}
 use Rattle.doc_hub.specs.declared.response.Edit.{Edit}
 use Rattle.doc_hub.specs.declared.response.Edit.TheVariants as edits
-use Rattle.doc_hub.specs.declared.response.Response.{Response}
 
 -- what a renderer makes of each text
 abbrev pub Renders : Type 0
@@ -78,6 +77,10 @@ at_path render view None = status_reply 404
 at_path render view (Some path) = page_or_goal render view path (page_at view.pages path) (goal_in view path)
 
 -- ---- responses: a reply, and the edit of the site that goes with it
+
+pub record Response : Type 0 where
+  pub reply : Reply
+  pub edit : Option Edit
 
 abbrev pub only_reply : Reply → Response
 only_reply reply = record { reply = reply; edit = None }
