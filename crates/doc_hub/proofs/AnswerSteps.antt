@@ -49,11 +49,10 @@ module _ (exchange : Exchange) (old new : StoreState) (text : List ℕ) where
   pub sent_edited : (done told : Answer) (code : ℕ) (edit : Edit) (given : Response) → done ≡ sent_in exchange (refused code)
       → told ≡ after_edit done edit → edited code edit ≡ given → new ≡ store_after old text (Some edit)
       → AnsweredSo text old (sent_in exchange given) new (Ok told)
-  sent_edited done told code edit given done_is told_is same made =
-      (
-        told_is ∙ ap (λ d. after_edit d edit) done_is ∙ ap (sent_in exchange) same,
-        made ∙ sym (ap (λ (a : Answer). store_after old text a.edit) told_is),
-      )
+  sent_edited done told code edit given done_is told_is same made = (
+    told_is ∙ ap (λ d. after_edit d edit) done_is ∙ ap (sent_in exchange) same,
+    made ∙ sym (ap (λ (a : Answer). store_after old text a.edit) told_is),
+  )
 
 -- ---- the answer to a request, by the response to it
 

@@ -1,13 +1,11 @@
 -- What the unread bytes of a connection begin with, as a step finds it.
-use Rattle.std.proofs.Common.{◌≡◌, ◌≤◌, ℕ, List, Bool, length, ap, ◌∙◌, subst}
-use Rattle.std.specs.Prelude.{IsTrue, Option, Some}
+use Rattle.std.proofs.Common.{◌≡◌, ℕ, List, Bool, subst}
+use Rattle.std.specs.Prelude.{IsTrue}
 use Rattle.doc_http.specs.Laws.{is_fault_code}
-use Rattle.doc_http.specs.Requests.{IsNext, UsesAtMost}
+use Rattle.doc_http.specs.Requests.{IsNext}
 use Rattle.doc_http.specs.declared.request.Next.{Next}
 use Rattle.doc_http.specs.declared.request.Next.TheVariants as nexts
-use Rattle.doc_http.specs.declared.request.Request.{Request}
 use Rattle.doc_http.proofs.FaultLemmas.{faults_have_codes}
-use Rattle.doc_hub.specs.declared.connection.Connection.{Connection}
 
 pub has_fault_code : (bytes : List ℕ) (next : Next) (code : ℕ) (bare : Bool) → next ≡ nexts.Fault code bare → IsNext bytes next
     → IsTrue (is_fault_code code)

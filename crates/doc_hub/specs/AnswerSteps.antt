@@ -1,5 +1,5 @@
 -- What is said of answers as they are made.
-use Rattle.std.specs.Prelude.{◌≡◌, ℕ, List, Bool, true, false, Option, Some, Result, Ok, Err}
+use Rattle.std.specs.Prelude.{◌≡◌, ℕ, List, Bool, true, false, Some, Result, Ok, Err}
 use Rattle.doc_page.specs.declared.failure.Memory.{Memory}
 use Rattle.doc_store.specs.Store.{StoreState}
 use Rattle.doc_http.specs.Replies.{reply_bytes}

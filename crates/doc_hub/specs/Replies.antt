@@ -1,10 +1,9 @@
 -- The reply to a request. It is a function of the reader's view, the reader's entry, the request, the
 -- keep-alive setting and whether a put is left, and never of the whole site: that is what makes
 -- noninterference true.
-use Rattle.std.specs.Prelude.{ℕ, List, [], ◌∷◌, Bool, true, false, not, ◌||◌, ◌&&◌, bytes_eq, codes, is_some, length, nat_lt, nat_le}
+use Rattle.std.specs.Prelude.{ℕ, List, [], Bool, true, false, not, ◌||◌, ◌&&◌, bytes_eq, codes, is_some, length, nat_lt, nat_le}
 use Rattle.std.specs.Prelude.{Option, Some, None, Result, Ok, Err, if◌then◌else◌}
 use Rattle.std.specs.Str.{is_utf8}
-use Rattle.doc_page.specs.Paths.{segments}
 use Rattle.doc_page.specs.Pages.{body_of}
 use Rattle.doc_page.specs.declared.linker.Shown.{Shown}
 use Rattle.doc_page.specs.declared.rendered.Rendered.{Rendered}

@@ -45,8 +45,7 @@ impl Serving<'_> {
         store: &mut Store,
         request: &Request,
     ) -> Result<Answer, Memory>
-        ensures answer {
-            let reader = option_and_then (map.get self.now.readers.now) (bearer_of request.now) in
+        ensures answer { let reader = option_and_then (map.get self.now.readers.now) (bearer_of request.now) in
             AnsweredSo request.now.body store.old
             (answer_of (R.page renderer.old) (view_of store.old.site reader) reader
             (puts_left store.old.puts) self.now.keep_alive request.now) store.new result }

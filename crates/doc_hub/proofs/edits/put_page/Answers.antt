@@ -1,4 +1,4 @@
-use Rattle.std.proofs.Common.{Some, sym, ap, refl, ◌∙◌, subst, codes}
+use Rattle.std.proofs.Common.{Some, sym, refl, ◌∙◌, subst, codes}
 use Rattle.std.specs.Str.{IsUtf8}
 use Rattle.doc_store.specs.Groups.{groups_of}
 use Rattle.doc_store.specs.Sites.{view_of}
