@@ -1,8 +1,13 @@
 -- What is said of answers as they are made.
-use Rattle.std.specs.Prelude.{◌≡◌, ℕ, List, Bool, true, false, Some, Result, Ok, Err}
+use Rattle.std.specs.Prelude.{◌≡◌, ℕ, List, Bool, true, false, Option, Some, option_and_then, Result, Ok, Err}
+use Rattle.std.specs.FinMap as map
 use Rattle.doc_page.specs.declared.failure.Memory.{Memory}
+use Rattle.doc_store.specs.Readers.{ReaderTable}
 use Rattle.doc_store.specs.Store.{StoreState}
+use Rattle.doc_store.specs.declared.reader.Reader.{Reader}
+use Rattle.doc_http.specs.Bearers.{bearer_of}
 use Rattle.doc_http.specs.Replies.{reply_bytes}
+use Rattle.doc_http.specs.declared.request.Request.{Request}
 use Rattle.doc_hub.specs.declared.answer.Answer.{Answer}
 use Rattle.doc_hub.specs.declared.exchange.Exchange.{Exchange}
 use Rattle.doc_hub.specs.declared.method.Method.{Method}
@@ -10,6 +15,10 @@ use Rattle.doc_hub.specs.declared.method.Method.TheVariants.{Head}
 use Rattle.doc_hub.specs.declared.response.Edit.{Edit}
 use Rattle.doc_hub.specs.Edits.{store_after}
 use Rattle.doc_hub.specs.Replies.{Response}
+
+-- the entry of a request's token
+abbrev pub entry_of : ReaderTable → Request → Option Reader
+entry_of readers request = option_and_then (map.get readers) (bearer_of request)
 
 -- whether the reply to the method is its head alone
 abbrev pub is_head : Method → Bool

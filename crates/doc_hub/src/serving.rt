@@ -1,10 +1,8 @@
 //! How requests are answered: each from what its reader may see.
 
-ghost use Rattle.std.specs.Prelude.{◌≡◌, ◌||◌, not, Some, option_copied, option_and_then};
-ghost use Rattle.std.specs.FinMap as map;
+ghost use Rattle.std.specs.Prelude.{◌≡◌, ◌||◌, not, Some, option_copied};
 ghost use Rattle.doc_store.specs.Sites.{view_of};
-ghost use Rattle.doc_http.specs.Bearers.{bearer_of};
-ghost use Rattle.doc_hub.specs.AnswerSteps.{Answered, AnsweredSo};
+ghost use Rattle.doc_hub.specs.AnswerSteps.{Answered, AnsweredSo, entry_of};
 ghost use Rattle.doc_hub.specs.Edits.{puts_left};
 ghost use Rattle.doc_hub.specs.Replies.{answer_of, by_method, method_of};
 
@@ -45,7 +43,7 @@ impl Serving<'_> {
         store: &mut Store,
         request: &Request,
     ) -> Result<Answer, Memory>
-        ensures answer { let reader = option_and_then (map.get self.now.readers.now) (bearer_of request.now) in
+        ensures answer { let reader = entry_of self.now.readers.now request.now in
             AnsweredSo request.now.body store.old
             (answer_of (R.page renderer.old) (view_of store.old.site reader) reader
             (puts_left store.old.puts) self.now.keep_alive request.now) store.new result }
@@ -83,8 +81,7 @@ impl Serving<'_> {
 
     /// The entry of the request's token.
     fn reader_of(&self, request: &Request) -> Option<&Reader>
-        ensures { option_copied result
-            ≡ option_and_then (map.get self.now.readers.now) (bearer_of request.now) }
+        ensures { option_copied result ≡ entry_of self.now.readers.now request.now }
     {
         match bearer(request) {
             Some(token) => self.readers.find(token),

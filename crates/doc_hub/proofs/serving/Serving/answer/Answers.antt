@@ -1,9 +1,7 @@
 use Rattle.std.proofs.Common.{Some, ap, ◌∙◌}
-use Rattle.std.specs.Prelude.{option_and_then}
-use Rattle.std.specs.FinMap as map
 use Rattle.doc_store.specs.Sites.{view_of}
-use Rattle.doc_http.specs.Bearers.{bearer_of}
 use Rattle.doc_http_targets.specs.Targets.{page_rest}
+use Rattle.doc_hub.specs.AnswerSteps.{entry_of}
 use Rattle.doc_hub.specs.Edits.{puts_left}
 use Rattle.doc_hub.specs.Replies.{by_method}
 use Rattle.doc_hub.proofs.AnswerSteps.{answered_so, refused_so, routed, unknown, unrouted}
@@ -14,7 +12,7 @@ returns-in_default-clause-answer g c =
     let render = g.R.Renderer.page c.args.renderer.now in
     let request = c.args.request.now in
     let store = c.args.store.now in
-    let entry = option_and_then (map.get c.args.self.now.readers.now) (bearer_of request) in
+    let entry = entry_of c.args.self.now.readers.now request in
     let view = view_of store.site entry in
     let left = puts_left store.puts in
     refused_so c.exchange-exchange.result request render view entry left c.args.self.now.keep_alive c.exchange-exchange.ensures.request
@@ -26,7 +24,7 @@ returns-in_default-rest_of_page-clause-answer g c =
     let render = g.R.Renderer.page c.args.renderer.now in
     let request = c.args.request.now in
     let store = c.args.store.now in
-    let entry = option_and_then (map.get c.args.self.now.readers.now) (bearer_of request) in
+    let entry = entry_of c.args.self.now.readers.now request in
     let view = view_of store.site entry in
     let left = puts_left store.puts in
     refused_so c.exchange-exchange.result request render view entry left c.args.self.now.keep_alive c.exchange-exchange.ensures.request
@@ -40,7 +38,7 @@ returns-clause-answer g c =
     let render = g.R.Renderer.page c.args.renderer.now in
     let request = c.args.request.now in
     let store = c.args.store.now in
-    let entry = option_and_then (map.get c.args.self.now.readers.now) (bearer_of request) in
+    let entry = entry_of c.args.self.now.readers.now request in
     let reader = c.in-Some.reader.now in
     let exchange = c.exchange-exchange.result in
     let left = puts_left store.puts in
@@ -48,5 +46,6 @@ returns-clause-answer g c =
     answered_so exchange request render (view_of store.site entry) entry left c.args.self.now.keep_alive c.exchange-exchange.ensures.request
     c.exchange-exchange.ensures.method c.exchange-exchange.ensures.close store c.by_method.new.store
     (by_method render (view_of store.site (Some reader)) reader.owner left rest exchange.request.now exchange.method) c.by_method.result
-    (routed exchange request render store.site left reader entry rest c.exchange-exchange.ensures.request c.exchange-exchange.ensures.method c.in-Some.ensures
+    (routed exchange request render store.site left reader entry rest c.exchange-exchange.ensures.request
+    c.exchange-exchange.ensures.method c.in-Some.ensures
     (c.in-Some-rest_of_page.ensures ∙ ap page_rest c.get.ensures)) c.by_method.ensures.answer
