@@ -3,8 +3,6 @@
 //!
 //! - `lines`, `unescape`, `definitions`, `blocks` and `inlines` read CommonMark (`of_texts`, `scripts/commonmark_bench.sh`).
 //! - `puts`, `store`, `links`, `moved` and `moves` are calls of a site (`of_sites`, `scripts/site_bench.sh`).
-//! - `site`, `made`, `linked`, `relinked`, `sources`, `contents`, `broken`, `worded`, `reworded`, `rare` and `common` are calls of the
-//!   indexes of links and of words (`of_indexes`, `scripts/index_bench.sh`).
 //! - `length`, `chunks`, `pipelined`, `steps`, `growths` and `more-growths` read requests and make steps of a hub (`of_requests`,
 //!   `scripts/http_bench.sh`).
 //!
@@ -14,20 +12,16 @@
 
 mod bodies;
 mod fault;
-mod linked;
 mod links;
 mod lookups;
 mod moves;
-mod of_indexes;
 mod of_requests;
 mod of_sites;
 mod of_texts;
 mod pipelined;
-mod rendered;
 mod site;
 mod steps;
 mod task;
-mod worded;
 
 use doc_heap::{Heap, String, heap};
 use fault::Fault;
@@ -122,9 +116,6 @@ fn counted(heap: Heap, task: Task) -> Result<usize, Fault> {
         return count;
     }
     if let Some(count) = of_sites::count(heap, task) {
-        return count;
-    }
-    if let Some(count) = of_indexes::count(heap, task) {
         return count;
     }
     of_requests::count(heap, task).unwrap_or(Err(Fault::NoTask))
