@@ -40,9 +40,9 @@ returns-then-depth-clause-line c =
     let g = c.go_down-depth.new.self in
     let old = state_of c.args.self.now in
     let s : State = record old { stack = stack_of g } in
-    let depth = c.go_down-depth.result.0 in
+    let depth = c.go_down-depth.result in
     let within : depth ≤ length s.stack.outer = omega (arith, length_outers g.outer.items g.inner.base g.done.items) in
-    leaves.line_begins c.args.entities.now (left_of c.args.line.now) (left_of c.go_down-depth.result.1) depth old s
+    leaves.line_begins c.args.entities.now (left_of c.args.line.now) (left_of c.go_down-depth.new.line) depth old s
     (state_of c.begin.new.self) c.go_down-depth.ensures.goes refl refl within
     (λ e. absurd (omega (arith, ap length e, length-drop depth s.stack.outer, length_outers g.outer.items g.inner.base g.done.items)))
     c.in_ok-begin.ensures.reached
@@ -52,10 +52,10 @@ returns-then-branch-clause-line c =
     let g = c.go_down-depth.new.self in
     let old = state_of c.args.self.now in
     let s : State = record old { stack = stack_of g } in
-    let depth = c.go_down-depth.result.0 in
+    let depth = c.go_down-depth.result in
     let within : depth ≤ length s.stack.outer = omega (arith, length_outers g.outer.items g.inner.base g.done.items) in
     let all : length s.stack.outer ≤ depth = omega (arith, length_outers g.outer.items g.inner.base g.done.items) in
-    leaves.line_taken c.args.entities.now (left_of c.args.line.now) (left_of c.go_down-depth.result.1) depth old s
+    leaves.line_taken c.args.entities.now (left_of c.args.line.now) (left_of c.go_down-depth.new.line) depth old s
     (state_of c.is_taken.new.self) c.go_down-depth.ensures.goes refl refl within all
     (λ room nothing. c.in_ok-is_taken.ensures.yes c.if-branch.true room depth nothing)
 
@@ -64,8 +64,8 @@ returns-clause-line c =
     let g = c.go_down-depth.new.self in
     let old = state_of c.args.self.now in
     let s : State = record old { stack = stack_of g } in
-    let depth = c.go_down-depth.result.0 in
-    let rest = left_of c.go_down-depth.result.1 in
+    let depth = c.go_down-depth.result in
+    let rest = left_of c.go_down-depth.new.line in
     let table = c.args.entities.now in
     let n = state_of c.begin-2.new.self in
     let within : depth ≤ length s.stack.outer = omega (arith, length_outers g.outer.items g.inner.base g.done.items) in

@@ -39,7 +39,7 @@ pub returns-in-None-clause-reached : goal.returns-in-None-clause-reached
 returns-in-None-clause-reached c =
     let s = state_of c.containers.self in
     let n = state_of c.begin_one.new.self in
-    let line = left_of c.containers.rest in
+    let line = left_of c.containers.line in
     let table = c.args.entities.now in
     let depth = c.containers.depth in
     let room : 100 - depth ≡ suc (100 - (depth + 1)) = omega arith in
@@ -52,7 +52,7 @@ pub containers-preserved : goal.containers-preserved
 containers-preserved c =
     let s = state_of c.containers.self in
     let n = state_of c.begin_one.new.self in
-    let line = left_of c.containers.rest in
+    let line = left_of c.containers.line in
     let table = c.args.entities.now in
     let depth = c.containers.depth in
     let room : 100 - depth ≡ suc (100 - (depth + 1)) = omega arith in
@@ -69,7 +69,7 @@ pub returns-clause-reached : goal.returns-clause-reached
 unfolding start_step
 returns-clause-reached c =
     let s = state_of c.containers.self in
-    let line = left_of c.containers.rest in
+    let line = left_of c.containers.line in
     let table = c.args.entities.now in
     let depth = c.containers.depth in
     let room : 100 - depth ≡ 0 = omega arith in

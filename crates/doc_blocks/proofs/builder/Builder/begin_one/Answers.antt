@@ -35,6 +35,15 @@ use Rattle.doc_blocks.specs.StateSteps.{item_met}
 use Rattle.doc_blocks.specs.BuilderSteps.{IsBegun}
 use Rattle.doc_blocks.proofs.builder.Builder.begin_one.Goals as goal
 
+pub returns-then-begins_nothing-clause-steps : goal.returns-then-begins_nothing-clause-steps
+returns-then-begins_nothing-clause-steps c =
+    let s = state_of c.args.self.now in
+    let line = left_of c.args.line.now in
+    let table = c.args.entities.now in
+    let nothing = c.begins_nothing.ensures c.if-begins_nothing.true in
+    λ room. states.steps_text table room c.args.depth s (state_of c.put_text.new.self) line nothing.quote
+    (nothing.leaf table (met c.args.depth s)) (sym (ap (item_met (met c.args.depth s)) nothing.item)) c.in_ok-put_text.ensures.reached
+
 pub returns-in-Some-clause-steps : goal.returns-in-Some-clause-steps
 returns-in-Some-clause-steps c =
     let s = state_of c.args.self.now in
