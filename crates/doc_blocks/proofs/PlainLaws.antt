@@ -103,7 +103,7 @@ margin_false : (line : Line) → None ≡ marker_text line → nat_le (indent li
 unfolding marker_text
 margin_false line e = at (nat_le (indent line) 3) e
   where
-    at : (b : Bool) → None ≡ (elim b [ true ↦ Some (text_of (after_indent line)) | false ↦ None ]) → b ≡ false
+    at : (b : Bool) → ◌≡◌ {A = Option Text} None (elim b [ true ↦ Some (text_of (after_indent line)) | false ↦ None ]) → b ≡ false
     at true f = absurd cc
     at false f = refl
 
@@ -138,8 +138,8 @@ nothing_at_end line text e none =
     }
 
 pub marks_none : (a b : Bool) → a ≡ b → IsTrue (not a) → b ≡ false
-marks_none true b e yes = absurd cc
-marks_none false b e yes = sym e
+marks_none true b e holds = absurd cc
+marks_none false b e holds = sym e
 
 neither : (a b : Bool) → (a || b) ≡ false → (a ≡ false) × (b ≡ false)
 neither true b e = absurd cc

@@ -1,5 +1,5 @@
 -- Lines that begin no block.
-use Rattle.std.specs.Prelude.{◌≡◌, ℕ, Bool, ◌||◌, Option, None, codes}
+use Rattle.std.specs.Prelude.{◌≡◌, ℕ, Bool, ◌||◌, None, codes}
 use Rattle.std.specs.Char.{is_ascii_digit}
 use Rattle.doc_rules.specs.Characters.{one_of}
 use Rattle.doc_rules.specs.Columns.{Line}

@@ -1,6 +1,4 @@
-use Rattle.std.proofs.Common.{ap, ◌∙◌}
-use Rattle.doc_rules.specs.Columns.{after_indent}
-use Rattle.doc_lines.specs.Cursors.{Position, left_of}
+use Rattle.doc_lines.specs.Cursors.{left_of}
 use Rattle.doc_blocks_starts.proofs.CellLaws.{front_is_plain}
 use Rattle.doc_blocks_starts.proofs.indentation.behind_indent.Goals as goal
 

@@ -1,11 +1,9 @@
-use Rattle.std.proofs.Common.{◌≡◌, Bool, take, drop, ◌<◌, ◌≤◌, ◌∙◌, ap, sym, arith, ℕ, length, refl}
-use Rattle.std.proofs.Common.{◌+◌}
+use Rattle.std.proofs.Common.{Bool, take, drop, ◌≤◌, ◌∙◌, ap, sym, arith, length}
 use Rattle.doc_blocks.specs.LevelSteps.{stack_of}
 use Rattle.doc_blocks.specs.StackSteps.{Outer, Stack}
 use Rattle.doc_blocks.specs.PathSteps.{Descent}
 use Rattle.doc_blocks.specs.Containers.{inside_of}
 use Rattle.std.specs.Prelude.{List}
-use Rattle.doc_rules.specs.Columns.{Line}
 use Rattle.doc_lines.specs.Cursors.{Position, left_of}
 use Rattle.doc_blocks.proofs.LevelLemmas.{length_outers}
 use Rattle.doc_blocks.proofs.PathLaws.{goes_further, goes_no_further, goes_through}

@@ -1,4 +1,4 @@
-use Rattle.std.proofs.Common.{rules, ◌≡◌, ◌<◌, ◌≤◌, ◌∙◌, ◌++◌, ◌∷◌, [], List, ap, sym, arith, ℕ, length, refl, chars}
+use Rattle.std.proofs.Common.{◌<◌, arith, length}
 use Rattle.doc_blocks.specs.Containers.{container_shown}
 use Rattle.doc_blocks.proofs.LevelLemmas.{outers_at}
 use Rattle.doc_blocks.proofs.levels.Levels.matched_at.Goals as goal
