@@ -1,16 +1,15 @@
 -- What the calls on a document that is read line by line do to its state, from what they do to its parts.
-use Rattle.std.proofs.Common.{◌≡◌, ◌∙◌, ℕ, suc, ◌+◌, ◌<◌, ◌≤◌, Bool, true, false, not, List, [], ◌∷◌, drop, length, refl, ap, sym, arith}
+use Rattle.std.proofs.Common.{◌≡◌, ◌∙◌, ℕ, ◌<◌, ◌≤◌, Bool, true, false, List, [], ◌∷◌, length, refl, ap, arith}
 use Rattle.std.proofs.Common.{Option, Some, None}
 use Rattle.doc_rules.specs.Characters.{Text}
 use Rattle.doc_rules.specs.Columns.{Line}
 use Rattle.doc_rules.specs.Entities.{Table}
 use Rattle.doc_rules.specs.ContainerStarts.{ItemStart, item_may_interrupt}
 use Rattle.doc_rules.specs.Trees.{Situation, NoParagraph, InParagraph, LazyParagraph, has_no_paragraph, item_may_begin, LeafLines}
-use Rattle.doc_rules.specs.Trees.{line_text}
 use Rattle.doc_rules.specs.Blocks.{Blocks}
 use Rattle.doc_refs.specs.Targets.{Targets, targets_of, joined}
 use Rattle.doc_blocks_pass.specs.Leaves.{OpenLeaf, NoLeaf, OpenParagraph, OpenCode, OpenFence, OpenHtml, open_of}
-use Rattle.doc_blocks_pass.specs.Paths.{Level, Path, Here, finished, finished_list}
+use Rattle.doc_blocks_pass.specs.Paths.{Level, Here, finished, finished_list}
 use Rattle.doc_blocks_pass.specs.OpenBlocks.{paragraph_continued}
 use Rattle.doc_blocks_leaves.specs.OpenLeaves.{is_open, paragraph_text, leaf_continued, underlined, with_underlined, underlined_references}
 use Rattle.doc_blocks_leaves.specs.OpenLeaves.{with_begun}

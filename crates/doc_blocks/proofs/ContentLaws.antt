@@ -1,5 +1,5 @@
 -- What is read of a line.
-use Rattle.std.proofs.Common.{◌≡◌, ◌∙◌, ℕ, Bool, true, false, not, ◌==◌, ◌&&◌, ◌||◌, if◌then◌else◌, List, [], ◌∷◌, ◌++◌, map, append_assoc}
+use Rattle.std.proofs.Common.{◌≡◌, ◌∙◌, ℕ, Bool, true, false, not, ◌==◌, ◌||◌, if◌then◌else◌, [], ◌∷◌, ◌++◌, map, append_assoc}
 use Rattle.std.proofs.Common.{append-nil, refl, ap, sym, arith, Option, Some, None}
 use Rattle.std.specs.List.{list_all}
 use Rattle.std.proofs.lemmas.Bool.{both_ways, and_parts, not-true}

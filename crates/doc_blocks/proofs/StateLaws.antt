@@ -1,27 +1,26 @@
 -- The steps on a state are the steps on its path.
-use Rattle.std.proofs.Common.{◌≡◌, ◌∙◌, ℕ, zero, suc, ◌+◌, ◌-◌, ◌<◌, ◌≤◌, Bool, true, false, List, [], ◌∷◌, ◌++◌, take, drop, length, refl}
-use Rattle.std.proofs.Common.{ap, sym, arith, add-one, append-nil, length-append, Option, Some, None}
-use Rattle.std.specs.FinMap.{empty, get}
-use Rattle.std.proofs.lemmas.List.{take-append-le, take_all, drop_all, length-take-le}
-use Rattle.doc_rules.specs.Characters.{Text}
+use Rattle.std.proofs.Common.{◌≡◌, ◌∙◌, ℕ, suc, ◌+◌, ◌≤◌, Bool, true, false, List, [], ◌∷◌, ◌++◌, take, drop, length, refl}
+use Rattle.std.proofs.Common.{ap, sym, arith, length-append, Option, Some, None}
+use Rattle.std.specs.FinMap.{get}
+use Rattle.std.proofs.lemmas.List.{take_all, drop_all, length-take-le}
 use Rattle.doc_rules.specs.Columns.{Line, is_blank_line}
 use Rattle.doc_rules.specs.Entities.{Table}
 use Rattle.doc_rules.specs.Definitions.{Definition}
 use Rattle.doc_rules.specs.Destinations.{Target}
 use Rattle.doc_rules.specs.ContainerStarts.{ListKind, ItemStart, quote_start, item_start}
-use Rattle.doc_rules.specs.Trees.{Situation, NoParagraph, InParagraph, LazyParagraph, LeafStart, leaf_begins, item_may_begin}
+use Rattle.doc_rules.specs.Trees.{Situation, NoParagraph, LeafStart, leaf_begins, item_may_begin}
 use Rattle.doc_refs.specs.Targets.{Targets, targets_of, joined}
 use Rattle.doc_refs.proofs.MapLaws.{same_targets, first_of, get-joined, joined-empty, joins_definitions}
-use Rattle.doc_blocks_pass.specs.Leaves.{OpenLeaf, NoLeaf, OpenParagraph, OpenCode, OpenFence, OpenHtml, open_references}
-use Rattle.doc_blocks_pass.specs.Paths.{Level, OpenContainer, OpenQuote, OpenItem, Path, Here, Inside, empty_path, begun_at, item_begun_at}
-use Rattle.doc_blocks_pass.specs.Closing.{leaf_closed, closed, path_blank, path_references}
-use Rattle.doc_blocks_pass.specs.OpenBlocks.{Moved, level_for, quote_put, item_put, item_first, start_step, leaf_begun, text_put, item_step}
+use Rattle.doc_blocks_pass.specs.Leaves.{NoLeaf, open_references}
+use Rattle.doc_blocks_pass.specs.Paths.{Level, OpenQuote, OpenItem, Path, Inside, empty_path, begun_at, item_begun_at}
+use Rattle.doc_blocks_pass.specs.Closing.{closed, path_blank, path_references}
+use Rattle.doc_blocks_pass.specs.OpenBlocks.{Moved, quote_put, item_put, item_first, start_step, leaf_begun, text_put, item_step}
 use Rattle.doc_blocks_pass.specs.OpenBlocks.{leaf_or_item_step, leaf_step}
-use Rattle.doc_blocks.specs.StackSteps.{Outer, Stack, inside, path_at}
-use Rattle.doc_blocks.specs.PathSteps.{situation_in, closed_in, blank_in, closed_to, item_moved}
-use Rattle.doc_blocks.specs.StateSteps.{State, below, met, shown, reached, leaf_done, all_closed, quote_opened, item_opened, leaf_opened}
-use Rattle.doc_blocks.specs.StateSteps.{blank_met, item_met, StepsTo}
-use Rattle.doc_blocks.proofs.PathLaws.{closes_inside, blank_inside, references_inside, inside_append, inside_parts}
+use Rattle.doc_blocks.specs.StackSteps.{Outer, inside, path_at}
+use Rattle.doc_blocks.specs.PathSteps.{situation_in, item_moved}
+use Rattle.doc_blocks.specs.StateSteps.{State, below, met, shown, reached, all_closed, quote_opened, item_opened}
+use Rattle.doc_blocks.specs.StateSteps.{item_met, StepsTo}
+use Rattle.doc_blocks.proofs.PathLaws.{closes_inside, blank_inside, references_inside, inside_append}
 
 -- ---- the definitions' choices, at what is chosen by
 

@@ -1,14 +1,13 @@
 -- What a line does on a path, said of the open containers in a row: those that go on with it, and the rest.
-use Rattle.std.specs.Prelude.{◌≡◌, ℕ, zero, suc, ◌+◌, ◌-◌, Bool, true, false, List, [], ◌∷◌, ◌++◌, take, drop, Option, Some, None}
+use Rattle.std.specs.Prelude.{◌≡◌, ℕ, zero, suc, ◌+◌, ◌-◌, Bool, List, [], ◌∷◌, ◌++◌, take, drop, Option, Some, None}
 use Rattle.doc_rules.specs.Columns.{Line}
 use Rattle.doc_rules.specs.Entities.{Table}
-use Rattle.doc_rules.specs.Definitions.{Definition}
 use Rattle.doc_rules.specs.ContainerStarts.{ListKind}
 use Rattle.doc_rules.specs.Trees.{Situation, NoParagraph, InParagraph, LazyParagraph}
 use Rattle.doc_blocks_pass.specs.Leaves.{OpenLeaf, OpenParagraph, taken}
-use Rattle.doc_blocks_pass.specs.Paths.{Level, OpenContainer, OpenItem, Path, Here, Inside, item_begun_at, matched_open, gone_on}
+use Rattle.doc_blocks_pass.specs.Paths.{Level, OpenItem, Path, Here, Inside, item_begun_at, matched_open, gone_on}
 use Rattle.doc_blocks_pass.specs.Paths.{lazy_path_situation}
-use Rattle.doc_blocks_pass.specs.Closing.{container_closed, leaf_closed, closed, path_blank, path_references}
+use Rattle.doc_blocks_pass.specs.Closing.{container_closed, closed, path_blank, path_references}
 use Rattle.doc_blocks_pass.specs.OpenBlocks.{Moved, start_step, leaf_takes}
 use Rattle.doc_blocks.specs.StackSteps.{Outer, Stack, inside, container_blank}
 

@@ -1,5 +1,5 @@
 -- What is known of a document after some of its lines, and what a line changes of it.
-use Rattle.std.specs.Prelude.{◌≡◌, ℕ, suc, ◌+◌, ◌-◌, Bool, true, false, List, [], ◌∷◌, take, drop, Option, Some, None}
+use Rattle.std.specs.Prelude.{◌≡◌, ℕ, suc, ◌+◌, Bool, true, false, List, [], ◌∷◌, take, drop, Option, Some, None}
 use Rattle.doc_rules.specs.Characters.{Text}
 use Rattle.doc_rules.specs.Lines.{line_content}
 use Rattle.doc_rules.specs.Columns.{Line, cells_of}
@@ -10,10 +10,10 @@ use Rattle.doc_rules.specs.Blocks.{Blocks, Heading, with_leaf, with_text}
 use Rattle.doc_rules.specs.Definitions.{definitions_of}
 use Rattle.doc_refs.specs.Targets.{Targets, targets_of, joined}
 use Rattle.doc_blocks_pass.specs.Leaves.{OpenLeaf, NoLeaf, open_references, open_of}
-use Rattle.doc_blocks_pass.specs.Paths.{OpenContainer, OpenQuote, OpenItem, Path, Here, finished}
+use Rattle.doc_blocks_pass.specs.Paths.{OpenQuote, OpenItem, Path, Here, finished}
 use Rattle.doc_blocks_pass.specs.Closing.{leaf_closed, closed, path_references}
 use Rattle.doc_blocks_pass.specs.OpenBlocks.{Moved, start_step, line_step}
-use Rattle.doc_blocks.specs.StackSteps.{Outer, Stack, inside, path_at, with_inner_blocks, block_begun, item_begun, container_opened}
+use Rattle.doc_blocks.specs.StackSteps.{Stack, inside, path_at, with_inner_blocks, block_begun, item_begun, container_opened}
 use Rattle.doc_blocks.specs.PathSteps.{situation_in, closed_to}
 
 -- the path without its leaf, the open leaf, and what labels name so far

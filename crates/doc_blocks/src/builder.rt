@@ -24,6 +24,7 @@ ghost use Rattle.doc_blocks.specs.LevelSteps.{IsSound};
 
 use crate::container::Container;
 use crate::levels::Levels;
+use crate::plain_line::begins_nothing;
 use doc_blocks_leaves::leaf::{LineTaken, OpenLeaf};
 use doc_blocks_leaves::line::is_indented;
 use doc_blocks_leaves::start::{LeafStart, NewLeaf, Situation, leaf_start};
@@ -312,6 +313,10 @@ impl Builder {
             (state_of self.new) (line_of rest)) }
         ensures ready { IfOk result (λ rest. IsBegun self.new (depth + 1) (line_of rest)) }
     {
+        if begins_nothing(line) {
+            self.put_text(heap, entities, depth, line)?;
+            return Ok(None);
+        }
         if let Some(rest) = quote_start(line) {
             self.begin_quote(heap, entities, depth)?;
             return Ok(Some(rest));
@@ -356,50 +361,49 @@ impl Builder {
         heap: Heap,
         entities: &Entities,
         from: usize,
-        line: Cursor<'a>,
+        line: &mut Cursor<'a>,
     ) -> Result<(), Memory>
         requires { IsReady self.old from }
         ensures reached { OnOk result
             (reached from (state_of self.old)
             (start_step (100 - from) entities.now (met from (state_of self.old))
-            (left_of line.entry) (below from (state_of self.old))) ≡ shown (state_of self.new)) }
+            (left_of line.old) (below from (state_of self.old))) ≡ shown (state_of self.new)) }
         ensures sound { OnOk result (IsSound self.new.levels) }
     {
         let mut depth = from;
-        let mut rest = line;
         'containers: while depth < MOST {
-            let inside = match self.begin_one(heap, entities, depth, &rest)? {
+            let inside = match self.begin_one(heap, entities, depth, line)? {
                 Some(inside) => inside,
                 None => return Ok(()),
             };
-            rest = inside;
+            *line = inside;
             depth += 1;
         }
-        self.put_leaf(heap, entities, depth, &rest)?;
+        self.put_leaf(heap, entities, depth, line)?;
         Ok(())
     }
 
-    /// A line, without its ending.
-    pub(crate) fn add(
+    /// A line, without its ending. The cursor goes down to what it begins.
+    pub(crate) fn add<'a>(
         &mut self,
         heap: Heap,
         entities: &Entities,
-        line: &Cursor,
+        line: &mut Cursor<'a>,
     ) -> Result<(), Memory>
         requires { IsSound self.old.levels }
-        ensures line { OnOk result (after_line entities.now (state_of self.old) (left_of line.now)
+        ensures line { OnOk result (after_line entities.now (state_of self.old) (left_of line.old)
             ≡ shown (state_of self.new)) }
         ensures sound { OnOk result (IsSound self.new.levels) }
     {
-        let (depth, rest) = self.levels.go_down(line);
+        let depth = self.levels.go_down(line);
         if depth < self.levels.depth() {
-            self.begin(heap, entities, depth, rest)?;
+            self.begin(heap, entities, depth, line)?;
             return Ok(());
         }
-        if self.is_taken(heap, entities, &rest)? {
+        if self.is_taken(heap, entities, line)? {
             return Ok(());
         }
-        self.begin(heap, entities, depth, rest)?;
+        self.begin(heap, entities, depth, line)?;
         Ok(())
     }
 

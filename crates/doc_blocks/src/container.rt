@@ -1,11 +1,10 @@
 //! Open containers: quotes and list items, and whether a line goes on with one (CommonMark 0.31.2, sections 5.1 and 5.2): with a quote by
 //! its marker, with an item by its columns or by being blank, but for the second line of an item that started blank.
-ghost use Rattle.std.specs.Prelude.{◌≡◌, nat_le, ◌&&◌, ◌||◌, not};
+ghost use Rattle.std.specs.Prelude.{◌≡◌, nat_le, false, ◌&&◌, ◌||◌, not};
 ghost use Rattle.doc_rules.specs.Columns.{indent, is_blank_line};
-ghost use Rattle.doc_blocks_pass.specs.Paths.{OpenItem, matched_open, gone_on};
+ghost use Rattle.doc_blocks_pass.specs.Paths.{OpenItem, OpenQuote, matched_open, gone_on};
 ghost use Rattle.doc_lines.specs.Cursors.{left_of};
-ghost use Rattle.doc_blocks_starts.specs.Lines.{line_of};
-ghost use Rattle.doc_blocks.specs.Containers.{container_shown};
+ghost use Rattle.doc_blocks.specs.Containers.{container_shown, inside_of};
 
 use doc_blocks_starts::indentation::{indent_up_to, is_blank_line};
 use doc_blocks_starts::quote::quote_start;
@@ -20,13 +19,14 @@ pub(crate) enum Container {
 }
 
 impl Container {
-    /// The line inside the container, where the line goes on with it (CommonMark 0.31.2, sections 5.1 and 5.2).
-    #[tactic(auto, unfolding(doc_blocks_pass::specs::Paths::matched_open))]
-    pub(crate) fn matched<'a>(self, line: &Cursor<'a>) -> Option<Cursor<'a>>
-        ensures { line_of result ≡ matched_open (container_shown self) (left_of line.now) }
+    /// Whether a line goes on with the container (CommonMark 0.31.2, sections 5.1 and 5.2). Where it does, it is inside then.
+    pub(crate) fn matched<'a>(self, line: &mut Cursor<'a>) -> bool
+        ensures inside { inside_of result line.new
+            ≡ matched_open (container_shown self) (left_of line.old) }
+        ensures stays { result ≡ false → line.new ≡ line.old }
     {
         match self {
-            Container::Quote => quote_start(line),
+            Container::Quote => matched_quote(line),
             Container::Item { columns, is_empty } => matched_item(line, columns, is_empty),
         }
     }
@@ -45,17 +45,31 @@ impl Container {
     }
 }
 
-/// The line inside an item.
+/// The same for a quote.
 #[tactic(auto, unfolding(doc_blocks_pass::specs::Paths::matched_open))]
-fn matched_item<'a>(line: &Cursor<'a>, columns: usize, is_empty: bool) -> Option<Cursor<'a>>
-    ensures { line_of result ≡ matched_open (OpenItem columns is_empty) (left_of line.now) }
+fn matched_quote<'a>(line: &mut Cursor<'a>) -> bool
+    ensures inside { inside_of result line.new ≡ matched_open OpenQuote (left_of line.old) }
+    ensures stays { result ≡ false → line.new ≡ line.old }
+{
+    let Some(inside) = quote_start(line) else {
+        return false;
+    };
+    *line = inside;
+    true
+}
+
+/// The same for an item.
+#[tactic(auto, unfolding(doc_blocks_pass::specs::Paths::matched_open))]
+fn matched_item(line: &mut Cursor, columns: usize, is_empty: bool) -> bool
+    ensures inside { inside_of result line.new
+        ≡ matched_open (OpenItem columns is_empty) (left_of line.old) }
+    ensures stays { result ≡ false → line.new ≡ line.old }
 {
     if !goes_on_in(line, columns, is_empty) {
-        return None;
+        return false;
     }
-    let mut rest = line.copy();
-    let _ = rest.skip(columns);
-    Some(rest)
+    let _ = line.skip(columns);
+    true
 }
 
 /// Whether a line is indented far enough to go on with an item, or blank, and then not the second line of an item that started blank.

@@ -56,11 +56,11 @@ fn add_line(
     ensures sound { OnOk result (IsSound builder.new.levels) }
 {
     if let Some(content) = plain_content(line) {
-        builder.add(heap, entities, &Cursor::new(content))?;
+        builder.add(heap, entities, &mut Cursor::new(content))?;
         return Ok(());
     }
     let content = secure_content(heap, line)?;
-    builder.add(heap, entities, &Cursor::new(content.as_str()))?;
+    builder.add(heap, entities, &mut Cursor::new(content.as_str()))?;
     Ok(())
 }
 

@@ -22,8 +22,7 @@ ghost use Rattle.doc_blocks_leaves.specs.Views.{with_block, blocks_shown};
 ghost use Rattle.doc_blocks.specs.StackSteps.{empty_stack, with_inner_blocks, block_begun, item_begun, container_opened, quote_put, item_put, IsNotOf, ClosesLast};
 ghost use Rattle.doc_blocks.specs.PathSteps.{gone_on_at, closed_to, GoesDown, MatchesAt};
 ghost use Rattle.doc_lines.specs.Cursors.{left_of};
-ghost use Rattle.doc_blocks_starts.specs.Lines.{line_of};
-ghost use Rattle.doc_blocks.specs.Containers.{container_shown};
+ghost use Rattle.doc_blocks.specs.Containers.{container_shown, inside_of};
 ghost use Rattle.doc_blocks.specs.LevelSteps.{stack_of, IsSound, Leaves};
 
 use crate::container::Container;
@@ -312,32 +311,31 @@ impl Levels {
         Ok(())
     }
 
-    /// A line goes down the open containers that it goes on with. The answer is how many there are, and the line inside them.
-    pub(crate) fn go_down<'a>(&mut self, line: &Cursor<'a>) -> (usize, Cursor<'a>)
+    /// A line goes down the open containers that it goes on with, and is inside them then. The answer is how many there are.
+    pub(crate) fn go_down<'a>(&mut self, line: &mut Cursor<'a>) -> usize
         requires { IsSound self.old }
-        ensures goes { GoesDown (stack_of self.old) (left_of line.now) (stack_of self.new) result.0
-            (left_of result.1) }
+        ensures goes { GoesDown (stack_of self.old) (left_of line.old) (stack_of self.new) result
+            (left_of line.new) }
         ensures sound { IsSound self.new }
-        ensures depth { result.0 ≤ vec_len self.new.outer }
+        ensures depth { result ≤ vec_len self.new.outer }
     {
         let mut depth = 0;
-        let mut rest = line.copy();
         'containers: while depth < self.outer.len() {
-            let inside = match self.matched_at(depth, &rest) {
-                Some(inside) => inside,
-                None => return (depth, rest),
-            };
+            if !self.matched_at(depth, line) {
+                return depth;
+            }
             self.go_on_at(depth);
-            rest = inside;
             depth += 1;
         }
-        (depth, rest)
+        depth
     }
 
-    /// The line inside the container at this place, where it goes on with it.
-    fn matched_at<'a>(&self, place: usize, line: &Cursor<'a>) -> Option<Cursor<'a>>
+    /// Whether a line goes on with the container at this place. Where it does, it is inside then.
+    fn matched_at<'a>(&self, place: usize, line: &mut Cursor<'a>) -> bool
         requires { place < vec_len self.now.outer }
-        ensures { MatchesAt place (stack_of self.now).outer (left_of line.now) (line_of result) }
+        ensures inside { MatchesAt place (stack_of self.now).outer (left_of line.old)
+            (inside_of result line.new) }
+        ensures stays { result ≡ false → line.new ≡ line.old }
     {
         self.outer[place].container.matched(line)
     }

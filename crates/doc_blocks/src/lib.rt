@@ -20,6 +20,7 @@ mod container;
 mod content;
 mod document;
 mod levels;
+mod plain_line;
 
 pub use doc_blocks_leaves::block::Block;
 pub use document::{Document, blocks};

@@ -15,22 +15,21 @@ const MOST: usize = 3;
 pub fn indent_up_to(line: &Cursor, most: usize) -> usize
     ensures { result ≡ min most (indent (left_of line.now)) }
 {
-    let mut ahead = line.copy();
-    ahead.skip(most)
+    line.indent_up_to(most)
 }
 
 /// Whether no more than spaces and tabs are left of the line (section 2.1).
 pub fn is_blank_line(line: &Cursor) -> bool
     ensures { result ≡ is_blank_line (left_of line.now) }
 {
-    behind_indent(line).peek().is_none()
+    line.is_blank()
 }
 
 /// What is left of the line behind its indentation.
 pub fn after_indent<'a>(line: &Cursor<'a>) -> &'a str
     ensures { chars result.now ≡ text_of (after_indent (left_of line.now)) }
 {
-    behind_indent(line).rest()
+    line.text()
 }
 
 /// The same where the indentation has at most 3 columns: so far in may the markers of blocks stand.
@@ -61,12 +60,12 @@ fn is_too_far_in(line: &Cursor) -> bool
     indent_up_to(line, MOST + 1) > MOST
 }
 
-/// The place behind the indentation, which can have more columns than one `skip` takes.
+/// The place behind the indentation.
 fn behind_indent<'a>(line: &Cursor<'a>) -> Cursor<'a>
     ensures line { left_of result ≡ after_indent (left_of line.now) }
     ensures plain { IsPlain result }
 {
     let mut ahead = line.copy();
-    'columns: while ahead.skip(usize::MAX) > 0 {}
+    ahead.pass_indent();
     ahead
 }

@@ -18,7 +18,7 @@ use Rattle.doc_page.proofs.Bools.{and_false}
 tab_width : (at n : ℕ) → n < 4 - at % 4 → 4 - (at + n) % 4 ≡ 4 - at % 4 - n
 tab_width at n h = omega arith
 
-width_in_tab : (c at n : ℕ) → is_space_or_tab c ≡ true → 0 < n → n < width_at c at
+pub width_in_tab : (c at n : ℕ) → is_space_or_tab c ≡ true → 0 < n → n < width_at c at
     → (c ≡ 9) × (width_at c (at + n) ≡ width_at c at - n) × (at + n + width_at c (at + n) ≡ at + width_at c at)
 width_in_tab c at n gap more less = elim (cases_Bool (c == 9)) [
   | inl tab ↦
@@ -85,7 +85,7 @@ skip_in_spaces (suc n) (suc w) line h =
     ∙ ap (λ (f : Bool). skip_choice true f (suc n) space (spaces w ++ line)) fits
     ∙ ap (λ k. skip k (spaces w ++ line)) one ∙ skip_in_spaces n w line (omega arith) ∙ ap (λ k. spaces k ++ line) rest
 
-indent_spaces : (w : ℕ) (line : Line) → indent (spaces w ++ line) ≡ w + indent line
+pub indent_spaces : (w : ℕ) (line : Line) → indent (spaces w ++ line) ≡ w + indent line
 unfolding indent
 indent_spaces zero line = omega arith
 indent_spaces (suc w) line = let more : indent (spaces w ++ line) ≡ w + indent line = indent_spaces w line in omega arith
@@ -145,7 +145,7 @@ part_step from n c rest gap more less =
     ap (λ (t : Bool). skipped_choice t (nat_le (width_at c from.column) n) from n c rest) goes
     ∙ ap (λ (f : Bool). skipped_choice true f from n c rest) part
 
-whole_step : (from : Position) (n c : ℕ) (rest : Text) → is_space_or_tab c ≡ true → 0 < n → width_at c from.column ≤ n →
+pub whole_step : (from : Position) (n c : ℕ) (rest : Text) → is_space_or_tab c ≡ true → 0 < n → width_at c from.column ≤ n →
     skipped_in from n (c ∷ rest) ≡ skipped_in (behind from c rest) (n - width_at c from.column) rest
 unfolding skipped_in
 whole_step from n c rest gap more fits =
@@ -154,7 +154,7 @@ whole_step from n c rest gap more fits =
     ap (λ (t : Bool). skipped_choice t (nat_le (width_at c from.column) n) from n c rest) goes
     ∙ ap (λ (f : Bool). skipped_choice true f from n c rest) all
 
-no_step : (from : Position) (n c : ℕ) (rest : Text) → is_space_or_tab c ≡ false → skipped_in from n (c ∷ rest) ≡ from
+pub no_step : (from : Position) (n c : ℕ) (rest : Text) → is_space_or_tab c ≡ false → skipped_in from n (c ∷ rest) ≡ from
 unfolding skipped_in
 no_step from n c rest other =
     let stays : (is_space_or_tab c && nat_lt 0 n) ≡ false = ap (λ (b : Bool). b && nat_lt 0 n) other in
@@ -191,7 +191,7 @@ tab_left rest n from inside here =
       ]
     ]
 
-tab_in_front : (text : Text) → first text ≡ Some 9 → (rest : Text) × (text ≡ 9 ∷ rest)
+pub tab_in_front : (text : Text) → first text ≡ Some 9 → (rest : Text) × (text ≡ 9 ∷ rest)
 tab_in_front [] e = absurd cc
 tab_in_front (c ∷ rest) e = (rest, let same : c ≡ 9 = cc in ap (λ d. d ∷ rest) same)
 
@@ -319,7 +319,7 @@ behind_is line_length bs after column c in_tab within e =
     (arith, ap length e, length-append (encode_utf8 c) after, length-encode c) in
     ap (λ k. record { place = k; column = column + width_at c column; in_tab = false; rest = chars after }) far
 
-width_le : (c at : ℕ) → width_at c at ≤ 4
+pub width_le : (c at : ℕ) → width_at c at ≤ 4
 width_le c at = grind (arith, nat_tests)
 
 -- and it is one that a cursor takes

@@ -1,5 +1,6 @@
 mod CursorExamples
 mod TableExamples
+pub mod AheadLaws
 pub mod AnswerLaws
 pub mod BuiltInLaws
 pub mod ByteSearch

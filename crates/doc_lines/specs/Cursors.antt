@@ -51,6 +51,15 @@ skipped_in from n (c ∷ rest) =
 abbrev pub skipped : ℕ → Position → Position
 skipped n from = skipped_in from n from.rest
 
+-- the place behind the spaces and tabs that are next, where these characters are left
+unfoldable pub passed_in : Position → Text → Position
+passed_in from [] = from
+passed_in from (c ∷ rest) = elim (is_space_or_tab c) [ true ↦ passed_in (behind from c rest) rest | false ↦ from ]
+
+-- the place behind the spaces and tabs that are next
+abbrev pub passed : Position → Position
+passed from = passed_in from from.rest
+
 -- this text at this column as cells; where that is inside a tab, the columns that are left of the tab are spaces
 abbrev pub cells_at : Bool → ℕ → Text → Line
 cells_at true at (c ∷ rest) = spaces (width_at c at) ++ cells_from (at + width_at c at) rest
@@ -83,3 +92,7 @@ IsSoundAt false place column rest = column ≤ 4 * place
 
 abbrev pub IsSound : Position → Type 0
 IsSound from = IsSoundAt from.in_tab from.place from.column from.rest
+
+-- a cursor at this place of a line of this length knows the text behind the spaces and tabs that are next, and the column of that text
+abbrev pub IsAhead : ℕ → List ℕ → ℕ → Position → Type 0
+IsAhead line_length text column from = (length text ≤ line_length) × (position_at line_length text column false ≡ passed from)

@@ -1,5 +1,5 @@
 -- What a scanner answers: the text behind what it took, as a list of characters.
-use Rattle.std.specs.Prelude.{◌≡◌, ◌<◌, ℕ, Bool, true, not, List, [], ◌∷◌, ◌++◌, Option, Some, None, chars}
+use Rattle.std.specs.Prelude.{◌≡◌, ◌<◌, ℕ, Bool, true, not, [], ◌∷◌, ◌++◌, Option, Some, None, chars}
 use Rattle.std.specs.List.{list_all}
 use denote.Ref.{Bor}
 use Rattle.doc_rules.specs.Characters.{Text}

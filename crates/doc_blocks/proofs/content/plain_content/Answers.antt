@@ -1,5 +1,4 @@
-use Rattle.std.proofs.Common.{◌≡◌, sym, ap, ◌∙◌, rules, None}
-use Rattle.doc_rules.specs.Parsers.{is}
+use Rattle.std.proofs.Common.{◌≡◌, sym, ◌∙◌, rules, None}
 use Rattle.doc_lines.specs.RestSteps.{rest_of}
 use Rattle.doc_blocks.specs.ContentSteps.{ends_plain}
 use Rattle.doc_blocks.proofs.ContentLaws.{front_is_content, ends_are_ascii}

@@ -1,4 +1,4 @@
-use Rattle.std.proofs.Common.{rules, ◌≡◌, ◌<◌, ◌≤◌, ◌∙◌, ◌++◌, ◌∷◌, [], List, ap, sym, arith, ℕ, length, refl, chars}
+use Rattle.std.proofs.Common.{rules, ◌∙◌, ◌++◌, ◌∷◌, [], ap, refl, chars}
 use Rattle.std.proofs.lemmas.Str.{chars-nil}
 use Rattle.doc_blocks.proofs.ContentLaws.{secured, secured_all}
 use Rattle.doc_blocks.proofs.content.secure_text.Goals as goal

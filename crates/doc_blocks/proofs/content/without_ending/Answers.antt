@@ -1,4 +1,3 @@
-use Rattle.std.proofs.Common.{sym}
 use Rattle.doc_rules.specs.Characters.{is_ending}
 use Rattle.doc_blocks.proofs.ContentLaws.{front_of_line, endings_are_ascii}
 use Rattle.doc_blocks.proofs.content.without_ending.Goals as goal

@@ -1,6 +1,5 @@
-use Rattle.std.proofs.Common.{◌≡◌, ◌∙◌, ℕ, List, [], ◌∷◌, map, chars, ap, sym}
+use Rattle.std.proofs.Common.{◌≡◌, ◌∙◌, ℕ, List, [], map, chars, ap, sym}
 use Rattle.doc_rules.specs.Characters.{Text}
-use Rattle.doc_rules.specs.Lines.{lines_of}
 use Rattle.doc_refs.specs.Targets.{targets_of}
 use Rattle.doc_page.specs.Lines.{lines}
 use Rattle.doc_lines.proofs.LineLaws.{lines_are_lines}

@@ -10,7 +10,7 @@ invariant-containers l = record {
   ready : IsReady l.self l.depth;
   reached : reached l.from (state_of l.fn.self) (start_step (100 - l.from) l.entities (met l.from (state_of l.fn.self)) (left_of l.fn.line)
       (below l.from (state_of l.fn.self)))
-      ≡ reached l.depth (state_of l.self) (start_step (100 - l.depth) l.entities (met l.depth (state_of l.self)) (left_of l.rest)
+      ≡ reached l.depth (state_of l.self) (start_step (100 - l.depth) l.entities (met l.depth (state_of l.self)) (left_of l.line)
       (below l.depth (state_of l.self)));
 }
 

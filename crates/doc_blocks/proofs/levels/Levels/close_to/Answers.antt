@@ -1,4 +1,4 @@
-use Rattle.std.proofs.Common.{◌≡◌, ◌<◌, ◌≤◌, ◌∙◌, ap, sym, arith, ℕ, length, refl}
+use Rattle.std.proofs.Common.{◌≤◌, ◌∙◌, sym, arith, length, refl}
 use Rattle.doc_blocks.specs.LevelSteps.{stack_of}
 use Rattle.doc_blocks.proofs.LevelLemmas.{length_outers}
 use Rattle.doc_blocks.proofs.PathLaws.{closes_one_more, closes_no_more}

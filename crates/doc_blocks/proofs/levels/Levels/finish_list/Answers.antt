@@ -1,13 +1,6 @@
 use Rattle.doc_blocks_leaves.specs.declared.block.Block.TheVariants as variants
-use Rattle.std.proofs.Common.{rules, ◌≡◌, ◌+◌, ◌<◌, ◌≤◌, ◌∙◌, ap, sym, arith, ℕ, Bool, true, false, List, [], ◌∷◌, ◌++◌, length, take, drop}
-use Rattle.std.proofs.Common.{refl, Option, Some, None}
-use Rattle.doc_rules.specs.Blocks.{Blocks}
-use Rattle.doc_blocks_pass.specs.Paths as paths
-use Rattle.doc_blocks_starts.specs.Items.{kind_of}
+use Rattle.std.proofs.Common.{◌∙◌, ap, sym, List, [], ◌∷◌, ◌++◌}
 use Rattle.doc_blocks_leaves.specs.declared.block.Block.{Block}
-use Rattle.doc_blocks_leaves.specs.Views.{behind, with_block, blocks_shown}
-use Rattle.doc_blocks.specs.StackSteps.{Stack, with_inner_blocks}
-use Rattle.doc_blocks.specs.LevelSteps.{stack_of, level_shown, level_at}
 use Rattle.doc_blocks.proofs.LevelLemmas.{stack_bare, stack_listed}
 use Rattle.doc_blocks.proofs.levels.Levels.finish_list.Goals as goal
 

@@ -8,8 +8,8 @@ abbrev pub invariant-containers : goal.invariant-containers
 invariant-containers l = record {
   sound : IsSound l.self;
   within : l.depth ≤ vec_len l.self.outer;
-  descent : descended (stack_of l.fn.self).outer (left_of l.line) ≡ behind_these (take l.depth (stack_of l.self).outer)
-      (descended (drop l.depth (stack_of l.self).outer) (left_of l.rest));
+  descent : descended (stack_of l.fn.self).outer (left_of l.fn.line) ≡ behind_these (take l.depth (stack_of l.self).outer)
+      (descended (drop l.depth (stack_of l.self).outer) (left_of l.line));
   inner : (stack_of l.self).inner ≡ (stack_of l.fn.self).inner;
   blank : (stack_of l.self).blank ≡ (stack_of l.fn.self).blank;
 }

@@ -1,4 +1,4 @@
-use Rattle.std.proofs.Common.{rules, ◌≡◌, ◌<◌, ◌≤◌, ◌∙◌, ◌++◌, ◌∷◌, [], List, ap, sym, arith, ℕ, length, refl, chars}
+use Rattle.std.proofs.Common.{◌<◌, List, ap, arith, length, refl}
 use Rattle.doc_blocks.specs.StackSteps.{Outer}
 use Rattle.doc_blocks.specs.LevelSteps.{stack_of}
 use Rattle.doc_blocks.proofs.LevelLemmas.{outers_gone, sound_gone}

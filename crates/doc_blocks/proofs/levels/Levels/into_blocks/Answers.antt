@@ -1,4 +1,4 @@
-use Rattle.std.proofs.Common.{◌≡◌, ◌∙◌, ap, sym}
+use Rattle.std.proofs.Common.{◌∙◌, ap, sym}
 use Rattle.doc_blocks.specs.StackSteps.{Stack}
 use Rattle.doc_blocks_leaves.specs.Views.{blocks_shown}
 use Rattle.doc_blocks.proofs.LevelLemmas.{bare_blocks}

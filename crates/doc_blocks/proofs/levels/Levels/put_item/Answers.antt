@@ -1,4 +1,3 @@
-use Rattle.std.proofs.Common.{◌≡◌, ◌<◌, ◌≤◌, ◌∙◌, ap, sym, arith, ℕ, length, refl}
 use Rattle.doc_blocks_leaves.specs.Views.{blocks_shown}
 use Rattle.doc_blocks.proofs.LevelLemmas.{item_put_bare, stack_item_put}
 use Rattle.doc_blocks.proofs.levels.Levels.put_item.Goals as goal

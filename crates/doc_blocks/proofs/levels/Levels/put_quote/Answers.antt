@@ -1,4 +1,4 @@
-use Rattle.std.proofs.Common.{◌≡◌, ◌<◌, ◌≤◌, ◌∙◌, ap, sym, arith, ℕ, length, refl}
+use Rattle.std.proofs.Common.{◌∙◌}
 use Rattle.doc_blocks_leaves.specs.Views.{with_block}
 use Rattle.doc_blocks.specs.LevelSteps.{stack_of}
 use Rattle.doc_blocks.proofs.LevelLemmas.{quote_behind}

@@ -1,20 +1,31 @@
-use Rattle.std.proofs.Common.{◌≡◌, ◌+◌, ◌-◌, ℕ, false, length, chars, ap, sym, ◌∙◌, arith, length-append}
-use Rattle.std.specs.Char.{encode_utf8, len_utf8}
-use Rattle.std.proofs.lemmas.Str.{length-encode, len_utf8_bounds}
+use Rattle.std.proofs.Common.{◌≡◌, ◌+◌, ◌-◌, ℕ, true, false, length, chars, ap, sym, ◌∙◌, arith}
+use Rattle.doc_rules.specs.Characters.{is_space_or_tab}
 use Rattle.doc_lines.specs.Cursors.{position_at, behind_first, after_next}
-use Rattle.doc_lines.proofs.CursorLaws.{behind_is, sound_behind}
+use Rattle.doc_lines.proofs.AheadLaws.{ahead_behind, within_behind}
+use Rattle.doc_lines.proofs.CursorLaws.{behind_is}
 use Rattle.doc_lines.proofs.cursor.Cursor.next.Goals as goal
 
 pub invariant_of-self : goal.invariant_of-self
 invariant_of-self c =
-    let bytes : length c.self.inside.rest.now ≡ len_utf8 c.in_ok-c.c + length c.in_ok-c.rest.now
-    = ap length c.in_ok-c.ensures.bytes ∙ length-append (encode_utf8 c.in_ok-c.c) c.in_ok-c.rest.now
-    ∙ ap (λ n. n + length c.in_ok-c.rest.now) (length-encode c.in_ok-c.c) in
-    let sound = sound_behind c.self.inside.in_tab _ c.self.inside.column c.in_ok-c.c (len_utf8 c.in_ok-c.c) _ (chars c.in_ok-c.rest.now)
-    c.self.invariant.1 c.in_ok-c.ensures.characters (len_utf8_bounds c.in_ok-c.c).0 in (
-      (omega (arith, bytes, c.self.invariant.0.0), c.self.invariant.0.1),
-      omega
-          (arith, bytes, sound, c.self.invariant.0.0, c.width_at.ensures),
+    let there = within_behind c.self.inside.line_length c.self.inside.rest.now c.in_ok-c.rest.now c.self.inside.column c.in_ok-c.c
+    c.width_at.result c.self.inside.in_tab c.self.invariant.0 c.self.invariant.1 c.in_ok-c.ensures.bytes c.in_ok-c.ensures.characters
+    c.width_at.ensures in
+    let gap : is_space_or_tab c.in_ok-c.c ≡ true = sym c.is_space_or_tab.ensures ∙ c.if-is_space_or_tab.true in (
+      there.0,
+      there.1,
+      ahead_behind c.self.inside.line_length c.self.inside.rest.now c.in_ok-c.rest.now c.self.inside.text.now c.self.inside.column
+          c.self.inside.text_column c.in_ok-c.c c.width_at.result c.self.inside.in_tab c.self.invariant.0.0 c.in_ok-c.ensures.bytes
+          c.in_ok-c.ensures.characters c.width_at.ensures gap c.self.invariant.2,
+    )
+
+pub invariant_of-self-2 : goal.invariant_of-self-2
+invariant_of-self-2 c =
+    let there = within_behind c.self.inside.line_length c.self.inside.rest.now c.in_ok-c.rest.now c.self.inside.column c.in_ok-c.c
+    c.width_at.result c.self.inside.in_tab c.self.invariant.0 c.self.invariant.1 c.in_ok-c.ensures.bytes c.in_ok-c.ensures.characters
+    c.width_at.ensures in (
+      there.0,
+      there.1,
+      (omega (arith, there.0.0, c.behind_gap-text_column.ensures.within), c.behind_gap-text_column.ensures.place c.self.inside.line_length there.0.0),
     )
 
 pub returns-clause-place : goal.returns-clause-place

@@ -1,6 +1,9 @@
-use Rattle.std.proofs.Common.{◌≡◌, ap, sym, ◌∙◌, subst, arith}
-use Rattle.doc_lines.specs.Cursors.{IsSound, skipped}
-use Rattle.doc_lines.proofs.CursorLaws.{skipped_none, skip_ends}
+use Rattle.std.proofs.Common.{◌≡◌, ◌+◌, ◌≤◌, min, ap, sym, ◌∙◌, subst, arith}
+use Rattle.std.proofs.Math.Nat.{min-eq_right}
+use Rattle.doc_rules.specs.Columns.{indent}
+use Rattle.doc_lines.specs.Cursors.{IsSound, skipped, position_at, left_of}
+use Rattle.doc_lines.proofs.AheadLaws.{text_column_is, all_skipped}
+use Rattle.doc_lines.proofs.CursorLaws.{skipped_none, skip_ends, left_of_skipped}
 use Rattle.doc_lines.proofs.cursor.Cursor.skip.Goals as goal
 
 pub returns-then-taken-eq0-clause-line : goal.returns-then-taken-eq0-clause-line
@@ -42,3 +45,40 @@ returns-clause-columns c =
     let taken = (skip_ends c.args.columns c.loop-left.left c.args.self.now c.loop-left.self sound c.loop-left.invariant.0 there
     c.loop-left.invariant.2).1 in
     omega (arith, taken, none)
+
+pub overflow_sub-all : goal.overflow_sub-all
+overflow_sub-all c =
+    let known : c.self.inside.text_column ≡ c.self.inside.column + indent (left_of c.args.self.now) = text_column_is
+    c.self.inside.line_length c.self.inside.text.now c.self.inside.text_column (position_at c.self.inside.line_length
+    c.self.inside.rest.now c.self.inside.column c.self.inside.in_tab) c.args.self.now c.self.view_is c.self.invariant.1
+    c.self.invariant.2 in
+    omega (arith, known)
+
+pub returns-then-all-columns-clause-place : goal.returns-then-all-columns-clause-place
+returns-then-all-columns-clause-place c =
+    let known : c.self.inside.text_column ≡ c.self.inside.column + indent (left_of c.args.self.now) = text_column_is
+    c.self.inside.line_length c.self.inside.text.now c.self.inside.text_column (position_at c.self.inside.line_length
+    c.self.inside.rest.now c.self.inside.column c.self.inside.in_tab) c.args.self.now c.self.view_is c.self.invariant.1
+    c.self.invariant.2 in
+    let sound : IsSound c.args.self.now = subst IsSound c.self.view_is c.self.invariant.1 in
+    c.pass_indent.ensures.place ∙ all_skipped c.args.columns c.args.self.now sound (omega (arith, known, c.if-all-columns.true))
+
+pub returns-then-all-columns-clause-line : goal.returns-then-all-columns-clause-line
+returns-then-all-columns-clause-line c =
+    let known : c.self.inside.text_column ≡ c.self.inside.column + indent (left_of c.args.self.now) = text_column_is
+    c.self.inside.line_length c.self.inside.text.now c.self.inside.text_column (position_at c.self.inside.line_length
+    c.self.inside.rest.now c.self.inside.column c.self.inside.in_tab) c.args.self.now c.self.view_is c.self.invariant.1
+    c.self.invariant.2 in
+    let sound : IsSound c.args.self.now = subst IsSound c.self.view_is c.self.invariant.1 in
+    ap left_of (c.pass_indent.ensures.place ∙ all_skipped c.args.columns c.args.self.now sound (omega (arith, known, c.if-all-columns.true)))
+    ∙ left_of_skipped c.args.columns c.args.self.now sound
+
+pub returns-then-all-columns-clause-columns : goal.returns-then-all-columns-clause-columns
+returns-then-all-columns-clause-columns c =
+    let known : c.self.inside.text_column ≡ c.self.inside.column + indent (left_of c.args.self.now) = text_column_is
+    c.self.inside.line_length c.self.inside.text.now c.self.inside.text_column (position_at c.self.inside.line_length
+    c.self.inside.rest.now c.self.inside.column c.self.inside.in_tab) c.args.self.now c.self.view_is c.self.invariant.1
+    c.self.invariant.2 in
+    let few : indent (left_of c.args.self.now) ≤ c.args.columns = omega (arith, known, c.if-all-columns.true) in
+    let least : min c.args.columns (indent (left_of c.args.self.now)) ≡ indent (left_of c.args.self.now) = min-eq_right few in
+    omega (arith, known, least)

@@ -2,6 +2,7 @@ use Rattle.std.proofs.Common.{◌≡◌, ◌+◌, ◌-◌, ◌≤◌, ◌<◌, �
 use Rattle.doc_rules.specs.Characters.{is_space_or_tab}
 use Rattle.doc_rules.specs.Columns.{width_at}
 use Rattle.doc_lines.specs.Cursors.{Position, position_at, skipped}
+use Rattle.doc_lines.proofs.AheadLaws.{sound_part, ahead_part, ahead_behind, within_behind}
 use Rattle.doc_lines.proofs.CursorLaws.{skipped_at_end, skipped_at_other, skipped_part, skipped_whole, behind_is}
 use Rattle.doc_lines.proofs.cursor.Cursor.skip_one.Goals as goal
 
@@ -37,3 +38,29 @@ returns-clause-place c =
     c.self.inside.in_tab c.self.invariant.0.0 c.in-Some.ensures.bytes))
     ∙ ap (λ (w : ℕ). skipped (c.args.columns - w) (position_at c.self.inside.line_length c.in-Some.rest.now (c.self.inside.column + w)
     false)) (sym c.width_at-width.ensures)
+
+pub invariant_of-self : goal.invariant_of-self
+invariant_of-self c =
+    let from : Position = position_at c.self.inside.line_length c.self.inside.rest.now c.self.inside.column c.self.inside.in_tab in
+    let gap : is_space_or_tab c.in-Some.c ≡ true = sym c.is_space_or_tab.ensures ∙ c.if-not-is_space_or_tab.false in
+    let less : c.args.columns < width_at c.in-Some.c c.self.inside.column = omega
+    (arith, c.width_at-width.ensures, c.if-columns-width.true) in (
+      c.self.invariant.0,
+      sound_part c.self.inside.in_tab from.place c.self.inside.column c.args.columns c.in-Some.c from.rest (chars c.in-Some.rest.now)
+          c.self.invariant.1 c.in-Some.ensures.characters gap c.requires less,
+      ahead_part c.self.inside.line_length c.self.inside.text.now c.self.inside.text_column from c.args.columns c.in-Some.c
+          (chars c.in-Some.rest.now) c.in-Some.ensures.characters gap c.requires less c.self.invariant.2,
+    )
+
+pub invariant_of-self-2 : goal.invariant_of-self-2
+invariant_of-self-2 c =
+    let gap : is_space_or_tab c.in-Some.c ≡ true = sym c.is_space_or_tab.ensures ∙ c.if-not-is_space_or_tab.false in
+    let there = within_behind c.self.inside.line_length c.self.inside.rest.now c.in-Some.rest.now c.self.inside.column c.in-Some.c
+    c.width_at-width.result c.self.inside.in_tab c.self.invariant.0 c.self.invariant.1 c.in-Some.ensures.bytes
+    c.in-Some.ensures.characters c.width_at-width.ensures in (
+      there.0,
+      there.1,
+      ahead_behind c.self.inside.line_length c.self.inside.rest.now c.in-Some.rest.now c.self.inside.text.now c.self.inside.column
+          c.self.inside.text_column c.in-Some.c c.width_at-width.result c.self.inside.in_tab c.self.invariant.0.0 c.in-Some.ensures.bytes
+          c.in-Some.ensures.characters c.width_at-width.ensures gap c.self.invariant.2,
+    )
