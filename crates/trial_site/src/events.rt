@@ -6,6 +6,7 @@ use crate::stop::Stop;
 use doc_heap::{Heap, Vec};
 use doc_hub::event::Event;
 use doc_page::bytes::Bytes;
+use doc_page::path::Path;
 
 /// Events with ` ; ` between two.
 pub fn events_of(desk: Heap, given: &str) -> Result<Vec<Event>, Stop> {
@@ -69,8 +70,11 @@ fn disconnect(given: &str) -> Result<Event, Stop> {
 fn put(desk: Heap, given: &str) -> Result<Event, Stop> {
     let (path, rest) = two(given)?;
     let (groups, text) = two(rest)?;
-    let page = both(groups_of(desk, groups), text_of(desk, text));
-    let (path, (groups, text)) = both(path_of(desk, path), page)?;
+    put_at(desk, path_of(desk, path)?, groups, text)
+}
+
+fn put_at(desk: Heap, path: Path, groups: &str, text: &str) -> Result<Event, Stop> {
+    let (groups, text) = both(groups_of(desk, groups), text_of(desk, text))?;
     Ok(Event::Put(path, groups, text))
 }
 
