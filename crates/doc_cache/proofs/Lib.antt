@@ -1,0 +1,3 @@
+pub mod CacheLaws
+pub mod CacheSteps
+mod Examples

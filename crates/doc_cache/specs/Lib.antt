@@ -1,0 +1,3 @@
+pub mod Caches
+pub mod Laws
+pub mod Lending

@@ -1,0 +1,37 @@
+//! What the index of links answers.
+
+use doc_page::list::List;
+use doc_page::path::Path;
+use doc_page::rendered::Heading;
+use doc_page::text::Text;
+
+/// Why a link is broken.
+#[derive(Clone, Copy, Debug, PartialEq, Eq)]
+pub enum Reason {
+    /// Its path leads to no page that is seen.
+    Page,
+    /// The page that it leads to has no heading with its anchor.
+    Anchor,
+    /// It writes no path of a page.
+    Path,
+}
+
+/// A broken link.
+#[derive(Debug, PartialEq, Eq, Drop)]
+pub struct Broken {
+    /// The page that has the link.
+    pub source: Path,
+    /// The number of the link among all links of its page, from 1.
+    pub place: u64,
+    pub reason: Reason,
+    /// What the link leads to, as it is written and not by its goal: the path; with `Anchor` the path, `#` and the encoded anchor;
+    /// with `Path` the text `-`.
+    pub target: Text,
+}
+
+/// A page and its headings, in their order.
+#[derive(Debug, PartialEq, Eq, Drop)]
+pub struct Entry {
+    pub path: Path,
+    pub headings: List<Heading>,
+}
