@@ -46,10 +46,18 @@ impl Trial {
 }
 
 fn new_cache(heap: Heap) -> Result<PageCache, Stop> {
-    PageCache::new(heap, 1).map_err(|_| Stop::Memory)
+    match PageCache::new(heap, 1) {
+        Ok(cache) => Ok(cache),
+        Err(_) => Err(Stop::Memory),
+    }
 }
 
 /// Two texts that a call is given, or one and further ones.
 pub fn two(given: &str) -> Result<(&str, &str), Stop> {
     two_texts(given).ok_or(Stop::NoCall)
+}
+
+/// The number that a text writes.
+pub fn number_of(text: &str) -> Result<u64, Stop> {
+    text.parse::<u64>().ok().ok_or(Stop::NoCall)
 }

@@ -11,7 +11,6 @@ mod digest;
 mod given;
 mod growths;
 mod indexes;
-mod listing;
 mod of_answers;
 mod of_cache;
 mod of_keys;

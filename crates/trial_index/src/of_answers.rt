@@ -2,10 +2,10 @@
 
 use crate::counting::Counting;
 use crate::given::{Heaps, Trial, two};
-use crate::listing::{backlinks_text, contents_text, report_text, search_text};
 use crate::of_site::Site;
 use crate::stop::{Stop, written};
 use doc_heap::{Heap, String};
+use doc_listings::{push_backlinks, push_contents, push_hits, push_report};
 use doc_page::path::Path;
 use doc_store::groups::Groups;
 use doc_store::reader::Reader;
@@ -71,23 +71,26 @@ fn answer_of<'a>(
 /// The text of the contents.
 fn contents(heaps: Heaps, site: &Site, sight: &Counting) -> Result<String, Stop> {
     let all = site.indexes.links().contents(sight)?;
-    let text = contents_text(heaps.tried, all.get())?;
-    written(heaps.desk, text.as_str())
+    let mut out = String::new(heaps.tried);
+    push_contents(heaps.tried, &mut out, all.get())?;
+    written(heaps.desk, out.as_str())
 }
 
 /// The text of the report.
 fn report(heaps: Heaps, site: &Site, sight: &Counting) -> Result<String, Stop> {
     let all = site.indexes.links().broken(sight)?;
-    let text = report_text(heaps.tried, all.get())?;
-    written(heaps.desk, text.as_str())
+    let mut out = String::new(heaps.tried);
+    push_report(heaps.tried, &mut out, all.get())?;
+    written(heaps.desk, out.as_str())
 }
 
 /// `PATH`: the text of the pages with links to it.
 fn backlinks(heaps: Heaps, site: &Site, sight: &Counting, target: &str) -> Result<String, Stop> {
     let target = Path::new(heaps.desk, target)?;
     let all = site.indexes.links().backlinks(&target, sight)?;
-    let text = backlinks_text(heaps.tried, all.get())?;
-    written(heaps.desk, text.as_str())
+    let mut out = String::new(heaps.tried);
+    push_backlinks(heaps.tried, &mut out, all.get())?;
+    written(heaps.desk, out.as_str())
 }
 
 /// `QUERY`: the text of the pages that have its words, or why it has none.
@@ -101,6 +104,7 @@ fn search(heaps: Heaps, site: &Site, sight: &Counting, text: &str) -> Result<Str
 
 fn found(heaps: Heaps, site: &Site, sight: &Counting, words: &[Word]) -> Result<String, Stop> {
     let all = site.indexes.words().search(heaps.tried, words, sight)?;
-    let text = search_text(heaps.tried, all.get())?;
-    written(heaps.desk, text.as_str())
+    let mut out = String::new(heaps.tried);
+    push_hits(heaps.tried, &mut out, all.get())?;
+    written(heaps.desk, out.as_str())
 }

@@ -1,6 +1,6 @@
 //! Calls of a cache. A key is a stamp and, behind its space, the goals of a page's links, with spaces between: `-` where one has none.
 
-use crate::given::{Heaps, two};
+use crate::given::{Heaps, number_of, two};
 use crate::stop::{Stop, answered, written};
 use doc_cache::cache::PageCache;
 use doc_cache::failure::CacheError;
@@ -27,7 +27,7 @@ pub fn called(
 
 /// `CAPACITY`: begins an empty cache.
 fn renewed(heaps: Heaps, cache: &mut PageCache, given: &str) -> Result<String, Stop> {
-    let capacity = given.parse::<usize>().map_err(|_| Stop::NoCall)?;
+    let capacity = given.parse::<usize>().ok().ok_or(Stop::NoCall)?;
     answered(heaps.desk, renew(heaps.tried, cache, capacity))
 }
 
@@ -55,7 +55,7 @@ fn looked(desk: Heap, cache: &mut PageCache, given: &str) -> Result<String, Stop
 
 fn key_of(desk: Heap, given: &str) -> Result<Key, Stop> {
     let (stamp, goals) = given.split_once(' ').ok_or(Stop::NoCall)?;
-    let stamp = stamp.parse::<u64>().map_err(|_| Stop::NoCall)?;
+    let stamp = number_of(stamp)?;
     let mut decisions = Vec::new(desk);
     for goal in goals.split(' ') {
         if !goal.is_empty() {

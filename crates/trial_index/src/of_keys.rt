@@ -1,6 +1,6 @@
 //! Calls of an index of pages, each held under a path and a stamp with a number as its value. Paths and keys have no spaces here.
 
-use crate::given::Heaps;
+use crate::given::{Heaps, number_of};
 use crate::stop::{Stop, written};
 use doc_heap::{BTreeMap, Heap, String};
 use doc_index::held::Held;
@@ -46,10 +46,6 @@ fn place_of(desk: Heap, given: &str) -> Result<(Place, &str), Stop> {
     let path = Path::new(desk, path)?;
     let stamp = number_of(stamp)?;
     Ok((Place { path, stamp }, rest))
-}
-
-fn number_of(text: &str) -> Result<u64, Stop> {
-    text.parse::<u64>().map_err(|_| Stop::NoCall)
 }
 
 /// `PATH STAMP VALUE KEY:COUNT ..`: holds a page, and answers whether there was none under that path and stamp.
@@ -98,23 +94,27 @@ fn pages(heaps: Heaps, index: &Index<u64>) -> Result<String, Stop> {
     let mut out = String::new(heaps.desk);
     for slot in index.in_order(heaps.tried)? {
         let page = index.slot(slot as usize);
-        push_page(&mut out, page, page.map(|page| page.value))?;
+        push_page(&mut out, page, value_of(page))?;
     }
     Ok(out)
 }
 
+fn value_of(page: Option<&Held<u64>>) -> Option<u64> {
+    Some(page?.value)
+}
+
 /// `KEY`: the pages that have it, with its counts.
-fn with_key(heaps: Heaps, index: &Index<u64>, given: &str) -> Result<String, Stop> {
+fn with_key(heaps: Heaps, index: &Index<u64>, key: &str) -> Result<String, Stop> {
     let mut out = String::new(heaps.desk);
-    let row = index.of_key(given);
     for slot in index.in_order(heaps.tried)? {
-        push_page(
-            &mut out,
-            index.slot(slot as usize),
-            row.and_then(|row| row.get(slot)),
-        )?;
+        let page = index.slot(slot as usize);
+        push_page(&mut out, page, count_of(index, key, slot))?;
     }
     Ok(out)
+}
+
+fn count_of(index: &Index<u64>, key: &str, slot: u64) -> Option<u64> {
+    index.of_key(key)?.get(slot)
 }
 
 /// Writes a page with its number, if it has one.

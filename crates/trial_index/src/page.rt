@@ -64,7 +64,7 @@ impl Draft {
     fn add_heading(&mut self, given: &str) -> Result<(), Stop> {
         let (level, rest) = given.split_once(' ').ok_or(Stop::NoCall)?;
         let (anchor, text) = rest.split_once(' ').ok_or(Stop::NoCall)?;
-        let level = level.parse::<u8>().map_err(|_| Stop::NoCall)?;
+        let level = level.parse::<u8>().ok().ok_or(Stop::NoCall)?;
         self.headings
             .push(heading(self.heap, level, anchor, text)?)?;
         Ok(self.add_text(text)?)

@@ -1,12 +1,9 @@
 //! Why a line has no answer.
 
-use doc_cache::failure::CacheError;
 use doc_heap::{Heap, String};
 use doc_page::failure::Memory;
 use doc_page::path::PathError;
 use doc_store::groups::GroupsError;
-use doc_store::moving::MoveError;
-use doc_store::store::EditError;
 use std::alloc::{AllocError, AllocFailed};
 use std::fmt::Debug;
 use trial::answer::shown;
@@ -56,39 +53,16 @@ impl From<GroupsError> for Stop {
     }
 }
 
-/// Why a call is refused.
-pub trait Refused {
-    /// Whether it is for memory.
-    fn is_memory(&self) -> bool;
-}
-
-impl Refused for EditError {
-    fn is_memory(&self) -> bool {
-        *self == EditError::Memory
-    }
-}
-
-impl Refused for MoveError {
-    fn is_memory(&self) -> bool {
-        *self == MoveError::Memory
-    }
-}
-
-impl Refused for CacheError {
-    fn is_memory(&self) -> bool {
-        *self == CacheError::Memory
-    }
-}
-
-/// What is printed for what a call answers or is refused for.
-pub fn answered<T: Debug + Drop, E: Refused + Debug + Drop>(
+/// What is printed for what a call answers or is refused for, which may be `Memory`.
+pub fn answered<T: Debug + Drop, E: Debug + Drop>(
     desk: Heap,
     answer: Result<T, E>,
 ) -> Result<String, Stop> {
-    match &answer {
-        Err(e) if e.is_memory() => Err(Stop::Memory),
-        _ => Ok(shown(desk, answer)?),
+    let text = shown(desk, answer)?;
+    if text.as_str() == "Err(Memory)" {
+        return Err(Stop::Memory);
     }
+    Ok(text)
 }
 
 /// What is printed for a value.
