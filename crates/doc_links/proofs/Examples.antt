@@ -18,11 +18,12 @@ use Rattle.doc_resolve.specs.WrittenPaths.{path_written}
 use Rattle.doc_resolve.specs.declared.link_kind.LinkKind.{LinkKind}
 use Rattle.doc_resolve.specs.declared.link_kind.LinkKind.TheVariants.{External, Page, Nowhere}
 use Rattle.doc_links.specs.Links.{backlinks, broken, contents}
-use Rattle.doc_links.specs.PageLinks.{PageLinks, page_links}
+use Rattle.doc_links.specs.PageLinks.{page_links}
 use Rattle.doc_links.specs.declared.answers.Broken.{Broken}
 use Rattle.doc_links.specs.declared.answers.Entry.{Entry}
 use Rattle.doc_links.specs.declared.answers.Reason.{Reason}
 use Rattle.doc_links.specs.declared.answers.Reason.TheVariants as reasons
+use Rattle.doc_links.specs.declared.page_links.PageLinks.{PageLinks}
 
 abbrev to : List ℕ → Piece
 to dest = Link (record { dest = dest; title = None })
@@ -33,9 +34,9 @@ heading anchor = record { level = 1; anchor = anchor; text = codes "Heading" }
 -- a page with links of all kinds
 abbrev all_kinds : PageLinks
 all_kinds = page_links (codes "a.md")
-  (Html (codes "<p>") ∷ to (codes "b.md") ∷ to (codes "https://h/x") ∷ to (codes "hidden.md") ∷ to (codes "old.md#top")
-  ∷ to (codes "a%2Fb.md") ∷ to (codes "b.md#top") ∷ to (codes "b.md#low%2F") ∷ to (codes "old.md#%ff") ∷ to (codes "c.md#top")
-  ∷ to (codes "#self") ∷ to (codes "absent.md#top") ∷ Html (codes "</p>") ∷ []) (heading (codes "self") ∷ [])
+    (Html (codes "<p>") ∷ to (codes "b.md") ∷ to (codes "https://h/x") ∷ to (codes "hidden.md") ∷ to (codes "old.md#top")
+    ∷ to (codes "a%2Fb.md") ∷ to (codes "b.md#top") ∷ to (codes "b.md#low%2F") ∷ to (codes "old.md#%ff") ∷ to (codes "c.md#top")
+    ∷ to (codes "#self") ∷ to (codes "absent.md#top") ∷ Html (codes "</p>") ∷ []) (heading (codes "self") ∷ [])
 
 -- what its links lead to: a text between them is none, and one out of the site is one
 kinds_of_links : all_kinds.links
@@ -52,14 +53,16 @@ with_links links = record { links = links; headings = [] }
 
 -- a site, and a reader who sees all of it but `hidden.md`, and who is led to a page that is none of its
 abbrev site : List (List ℕ × PageLinks)
-site =
-    (codes "a.md", record {
-      links = Page (codes "b.md") None ∷ External ∷ Page (codes "hidden.md") None ∷ Page (codes "old.md") (Some (codes "top")) ∷ Nowhere
-          ∷ Page (codes "b.md") (Some (codes "top")) ∷ Page (codes "b.md") (Some (codes "low/"))
-          ∷ Page (codes "old.md") (Some (codes "%ff")) ∷ Page (codes "c.md") (Some (codes "top"))
-          ∷ Page (codes "a.md") (Some (codes "self")) ∷ Page (codes "absent.md") (Some (codes "top")) ∷ [];
-      headings = heading (codes "self") ∷ [];
-    })
+site = (
+  codes "a.md",
+  record {
+    links = Page (codes "b.md") None ∷ External ∷ Page (codes "hidden.md") None ∷ Page (codes "old.md") (Some (codes "top")) ∷ Nowhere
+        ∷ Page (codes "b.md") (Some (codes "top")) ∷ Page (codes "b.md") (Some (codes "low/"))
+        ∷ Page (codes "old.md") (Some (codes "%ff")) ∷ Page (codes "c.md") (Some (codes "top"))
+        ∷ Page (codes "a.md") (Some (codes "self")) ∷ Page (codes "absent.md") (Some (codes "top")) ∷ [];
+    headings = heading (codes "self") ∷ [];
+  },
+)
     ∷ (codes "b.md", record { links = []; headings = heading (codes "top") ∷ heading (codes "end") ∷ [] })
     ∷ (codes "c.md", with_links (External ∷ Nowhere ∷ Page (codes "a.md") None ∷ Page (codes "elsewhere.md") None ∷ []))
     ∷ (codes "hidden.md", with_links (Page (codes "a.md") None ∷ Nowhere ∷ []))

@@ -1,1 +1,6 @@
+pub mod AnswerSteps
 mod Examples
+pub mod HeldSteps
+pub mod MapSteps
+pub mod OrderSteps
+pub mod SourceSteps

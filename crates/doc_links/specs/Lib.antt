@@ -1,2 +1,4 @@
+pub mod IndexSteps
 pub mod Links
 pub mod PageLinks
+pub mod SeenPages

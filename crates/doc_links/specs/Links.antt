@@ -7,11 +7,11 @@ use Rattle.doc_page.specs.declared.rendered.Heading.{Heading}
 use Rattle.doc_page_encoding.specs.Encoding.{encoded}
 use Rattle.doc_resolve.specs.declared.link_kind.LinkKind.{LinkKind}
 use Rattle.doc_resolve.specs.declared.link_kind.LinkKind.TheVariants.{External, Page, Nowhere}
-use Rattle.doc_links.specs.PageLinks.{PageLinks}
 use Rattle.doc_links.specs.declared.answers.Broken.{Broken}
 use Rattle.doc_links.specs.declared.answers.Entry.{Entry}
 use Rattle.doc_links.specs.declared.answers.Reason.{Reason}
 use Rattle.doc_links.specs.declared.answers.Reason.TheVariants as reasons
+use Rattle.doc_links.specs.declared.page_links.PageLinks.{PageLinks}
 
 -- the page at this path, where it is one of these
 abbrev pub page_at : List (List ℕ × PageLinks) → List ℕ → Option (List ℕ × PageLinks)
@@ -68,6 +68,9 @@ unfoldable pub backlinks : (List ℕ → Option (List ℕ)) → List (List ℕ �
 backlinks goals pages target =
     filter (λ source. not (source.1 == 0)) (map (λ page. (page.0, count_by (leads_to goals pages target) page.1.links)) pages)
 
+abbrev pub entry_of : List ℕ × PageLinks → Entry
+entry_of page = record { path = page.0; headings = page.1.headings }
+
 -- the pages with their headings
 unfoldable pub contents : List (List ℕ × PageLinks) → List Entry
-contents pages = map (λ page. record { path = page.0; headings = page.1.headings }) pages
+contents pages = map entry_of pages

@@ -1,6 +1,18 @@
 //! The links of pages: which of them are broken, which pages link to a page, and what pages there are.
+//!
+//! An index holds of each page, under a path and a stamp, what its links lead to and its headings. It is asked by what a reader sees:
+//! of the pages that the reader doesn't see nothing is told, and a link to one of them is as a link to none.
 #![tactic(auto)]
 
 mod answers;
+mod known;
+mod link_index;
+mod page_links;
+mod report;
+mod seen;
+mod sources;
 
 pub use answers::{Broken, Entry, Reason};
+pub use link_index::LinkIndex;
+pub use page_links::PageLinks;
+pub use seen::SeenPage;

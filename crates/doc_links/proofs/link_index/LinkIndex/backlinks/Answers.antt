@@ -1,0 +1,9 @@
+use Rattle.std.proofs.Common.{ap, ◌∙◌}
+use Rattle.doc_links.specs.SeenPages.{seen_pages}
+use Rattle.doc_links.proofs.OrderSteps.{seen_in_order}
+use Rattle.doc_links.proofs.link_index.LinkIndex.backlinks.Goals as goal
+
+pub sources_in-requires : goal.sources_in-requires
+sources_in-requires g c =
+    seen_in_order (g.S.Sight.goals c.args.sight.now) c.args.self.now (seen_pages c.deref.result.now) c.requires.once
+    (ap seen_pages c.deref.ensures.value ∙ c.in_ok-pages.ensures)

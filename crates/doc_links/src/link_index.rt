@@ -1,0 +1,148 @@
+//! Pages held under a path and a stamp, and asked for their links.
+
+ghost use Rattle.std.specs.Prelude.{◌≡◌, None, IfOk, OnOk, OnErr, option_copied, option_map};
+ghost use Rattle.std.specs.FinMap as map;
+ghost use Rattle.doc_page.specs.Sights.{seen};
+ghost use Rattle.doc_links.specs.Links.{backlinks, broken, contents};
+ghost use Rattle.doc_links.specs.PageLinks.{IsOnce, page_links, pages_of};
+ghost use Rattle.doc_links.specs.SeenPages.{seen_pages};
+
+use crate::answers::{Broken, Entry};
+use crate::known::Known;
+use crate::report::broken_in;
+use crate::seen::{SeenPage, entries_of, seen_in};
+use crate::sources::sources_in;
+use doc_heap::{BTreeMap, Heap, String, Vec};
+use doc_index::index::Index;
+use doc_page::failure::Memory;
+use doc_page::list::List;
+use doc_page::path::Path;
+use doc_page::rendered::{Heading, Piece, Rendered};
+use doc_page::sight::Sight;
+use doc_resolve::LinkKind;
+use std::marker::Model;
+
+/// What is known of pages, each held under a path and a stamp. Contracts see the map from these.
+///
+/// The queries answer for the pages that a sight sees. They take time for these pages and what they answer, and for the pages that
+/// are hidden only a look at their paths.
+#[derive(Drop)]
+pub struct LinkIndex {
+    heap: Heap,
+    pages: Index<Known>,
+}
+
+impl Model for LinkIndex {
+    ghost use Rattle.std.specs.Coded.{coded_ℕ, coded_list, coded×};
+    ghost use Rattle.std.specs.FinMap as map;
+    ghost use Rattle.doc_index.specs.Maps.{PairMap};
+    ghost use Rattle.doc_links.specs.contracts.page_links.PageLinks as one;
+    ghost use Rattle.doc_links.specs.declared.page_links.PageLinks.{PageLinks};
+    ghost use Rattle.doc_links.specs.IndexSteps.{without_counts};
+
+    ghost Value = { PairMap PageLinks };
+
+    ghost coded = { map.code (coded× (coded_list coded_ℕ) coded_ℕ) one.the_row.coded };
+
+    ghost view = { λ i. without_counts i.pages };
+}
+
+impl LinkIndex {
+    /// An index that holds no page. It takes no memory.
+    pub fn new(heap: Heap) -> LinkIndex
+        ensures { result ≡ map.empty }
+    {
+        LinkIndex {
+            heap,
+            pages: Index::new(heap),
+        }
+    }
+
+    /// Holds a page under a path and a stamp that none has. A refusal leaves the index as it was.
+    pub fn add(&mut self, path: &Path, stamp: u64, rendered: &Rendered) -> Result<(), Memory>
+        requires free { map.get self.old (path.now, stamp) ≡ None }
+        ensures ok { OnOk result (self.new ≡ map.insert self.old (path.now, stamp)
+            (page_links path.now rendered.now.pieces rendered.now.headings)) }
+        ensures err { OnErr result (self.new ≡ self.old) }
+    {
+        self.add_parts(path, stamp, rendered.pieces.get(), rendered.headings.get())
+    }
+
+    /// Holds the page of these pieces and headings, as `add`.
+    pub fn add_parts(
+        &mut self,
+        path: &Path,
+        stamp: u64,
+        pieces: &[Piece],
+        headings: &[Heading],
+    ) -> Result<(), Memory>
+        requires free { map.get self.old (path.now, stamp) ≡ None }
+        ensures ok { OnOk result (self.new ≡ map.insert self.old (path.now, stamp)
+            (page_links path.now pieces.now headings.now)) }
+        ensures err { OnErr result (self.new ≡ self.old) }
+    {
+        let known = Known::new(self.heap, path, pieces, headings)?;
+        let keys = no_keys(self.heap);
+        self.pages.add(path, stamp, known, &keys)
+    }
+
+    /// Lets the page under a path and a stamp go, and tells whether there was one. It takes no memory.
+    pub fn drop_page(&mut self, path: &Path, stamp: u64) -> bool
+        ensures answer { result ≡ map.contains_key self.old (path.now, stamp) }
+        ensures rest { self.new ≡ map.remove self.old (path.now, stamp) }
+    {
+        self.pages.drop_page(path, stamp)
+    }
+
+    /// What each link of the page under a path and a stamp leads to, in order, also out of the site.
+    pub fn links_of(&self, path: &Path, stamp: u64) -> Option<&[LinkKind]>
+        ensures { option_copied result ≡ option_map (λ page. page.links) (map.get self.now (path.now, stamp)) }
+    {
+        let Some(known) = self.pages.get(path, stamp) else {
+            return None;
+        };
+        Some(known.links())
+    }
+
+    /// The pages that a sight sees, by path.
+    pub fn pages_seen<S: Sight>(&self, sight: &S) -> Result<Vec<SeenPage<'_>>, Memory>
+        ensures { IfOk result (λ all. seen_pages all.items ≡ seen (S.goals sight.now) (pages_of self.now)) }
+    {
+        let slots = self.pages.in_order(self.heap)?;
+        seen_in(self.heap, &self.pages, &slots, sight)
+    }
+
+    /// The pages that a sight sees, by path, with their headings.
+    pub fn contents<S: Sight>(&self, sight: &S) -> Result<List<Entry>, Memory>
+        ensures { IfOk result (λ all. all ≡ contents (seen (S.goals sight.now) (pages_of self.now))) }
+    {
+        let pages = self.pages_seen(sight)?;
+        entries_of(self.heap, &pages)
+    }
+
+    /// The broken links of the pages that a sight sees, by page and place.
+    pub fn broken<S: Sight>(&self, sight: &S) -> Result<List<Broken>, Memory>
+        requires once { IsOnce self.now }
+        ensures { IfOk result (λ all.
+            all ≡ broken (S.goals sight.now) (seen (S.goals sight.now) (pages_of self.now))) }
+    {
+        let pages = self.pages_seen(sight)?;
+        broken_in(self.heap, &pages, sight)
+    }
+
+    /// The pages that a sight sees and that have links to a page which it sees, by path, each with the number of these links. There
+    /// are none where it doesn't see the page.
+    pub fn backlinks<S: Sight>(&self, target: &Path, sight: &S) -> Result<List<(Path, u64)>, Memory>
+        requires once { IsOnce self.now }
+        ensures { IfOk result (λ all.
+            all ≡ backlinks (S.goals sight.now) (seen (S.goals sight.now) (pages_of self.now)) target.now) }
+    {
+        let pages = self.pages_seen(sight)?;
+        sources_in(self.heap, &pages, target, sight)
+    }
+}
+
+/// Pages are held without keys.
+fn no_keys(heap: Heap) -> BTreeMap<String, u64> {
+    BTreeMap::new(heap)
+}
