@@ -1,0 +1,7 @@
+pub mod CountSteps
+mod Examples
+pub mod HeldSteps
+pub mod MapSteps
+pub mod RankSteps
+pub mod RunSteps
+pub mod SearchSteps

@@ -1,0 +1,18 @@
+use Rattle.std.proofs.Common.{ap, ap₂, ◌∙◌}
+use Rattle.std.specs.FinMap as map
+use Rattle.doc_index.proofs.TableSteps.{on_ok}
+use Rattle.doc_words.proofs.HeldSteps.{none_held, words_inserted}
+use Rattle.doc_words.proofs.index.WordIndex.add.Goals as goal
+
+pub add-requires : goal.add-requires
+add-requires c = record {
+  free = none_held c.self.inside.pages (c.args.path.now, c.args.stamp)
+      (ap (λ m. map.get m (c.args.path.now, c.args.stamp)) c.self.view_is ∙ c.requires.free);
+}
+
+pub returns-clause-ok : goal.returns-clause-ok
+returns-clause-ok c =
+    on_ok c.add.result (λ is.
+    words_inserted c.self.inside.pages c.add.new.self (c.args.path.now, c.args.stamp) _ is
+    ∙ ap₂ (λ m counts. map.insert m (c.args.path.now, c.args.stamp) counts) c.self.view_is (c.get.ensures ∙ c.in_ok-counter.ensures))
+    c.add.ensures.ok

@@ -1,0 +1,10 @@
+//! What a search finds.
+
+use doc_page::path::Path;
+
+/// A page that a search found, with its score.
+#[derive(Debug, PartialEq, Eq, Drop)]
+pub struct Hit {
+    pub path: Path,
+    pub score: u64,
+}

@@ -1,0 +1,109 @@
+//! Pages held under a path and a stamp, and searched by their words.
+
+ghost use Rattle.std.specs.Prelude.{◌≡◌, None, IfOk, OnOk, OnErr};
+ghost use Rattle.std.specs.FinMap as map;
+ghost use Rattle.doc_page.specs.Sights.{seen};
+ghost use Rattle.doc_words.specs.Held.{counts_or_none};
+ghost use Rattle.doc_words.specs.Searches.{pages_of, search};
+ghost use Rattle.doc_words.specs.Words.{word_counts};
+
+use crate::hit::Hit;
+use crate::search::{search_among, seen_among};
+use crate::word::Word;
+use crate::words::counted;
+use doc_heap::Heap;
+use doc_index::index::Index;
+use doc_page::failure::Memory;
+use doc_page::list::List;
+use doc_page::path::Path;
+use doc_page::rendered::Rendered;
+use doc_page::sight::Sight;
+use std::marker::Model;
+
+/// Pages, each held under a path and a stamp with the counts of its words. Contracts see the map.
+#[derive(Drop)]
+pub struct WordIndex {
+    heap: Heap,
+    pages: Index<()>,
+}
+
+impl Model for WordIndex {
+    ghost use Rattle.std.specs.Prelude.{ℕ};
+    ghost use Rattle.std.specs.Coded.{coded×, coded_list, coded_ℕ};
+    ghost use Rattle.std.specs.FinMap as map;
+    ghost use Rattle.doc_index.specs.Maps.{PairMap, TextMap};
+    ghost use Rattle.doc_words.specs.Held.{words_held};
+
+    ghost Value = { PairMap (TextMap ℕ) };
+
+    ghost coded = { map.code (coded× (coded_list coded_ℕ) coded_ℕ)
+        (map.code (coded_list coded_ℕ) coded_ℕ) };
+
+    ghost view = { λ w. words_held w.pages };
+}
+
+impl WordIndex {
+    /// An index that holds no page. It takes no memory.
+    pub fn new(heap: Heap) -> WordIndex
+        ensures { result ≡ map.empty }
+    {
+        WordIndex {
+            heap,
+            pages: Index::new(heap),
+        }
+    }
+
+    /// Holds a page under a path and a stamp that none has. A refusal leaves the index as it was.
+    pub fn add(&mut self, path: &Path, stamp: u64, page: &Rendered) -> Result<(), Memory>
+        requires free { map.get self.old (path.now, stamp) ≡ None }
+        ensures ok { OnOk result (self.new
+            ≡ map.insert self.old (path.now, stamp) (word_counts page.now)) }
+        ensures err { OnErr result (self.new ≡ self.old) }
+    {
+        let counter = counted(self.heap, page)?;
+        self.pages.add(path, stamp, (), counter.get())
+    }
+
+    /// Holds a page under a path and a stamp that none has, with the words of the page under another
+    /// path and stamp: with none where no page is there. A refusal leaves the index as it was.
+    pub fn add_copy(
+        &mut self,
+        from: &Path,
+        from_stamp: u64,
+        to: &Path,
+        stamp: u64,
+    ) -> Result<(), Memory>
+        requires free { map.get self.old (to.now, stamp) ≡ None }
+        ensures ok { OnOk result (self.new ≡ map.insert self.old (to.now, stamp)
+            (counts_or_none (map.get self.old (from.now, from_stamp)))) }
+        ensures err { OnErr result (self.new ≡ self.old) }
+    {
+        self.pages.add_copy(from, from_stamp, to, stamp, ())
+    }
+
+    /// Lets the page under a path and a stamp go, and tells whether there was one. It takes no
+    /// memory.
+    pub fn drop_page(&mut self, path: &Path, stamp: u64) -> bool
+        ensures answer { result ≡ map.contains_key self.old (path.now, stamp) }
+        ensures rest { self.new ≡ map.remove self.old (path.now, stamp) }
+    {
+        self.pages.drop_page(path, stamp)
+    }
+
+    /// Searches the held pages that are seen for those that have each word: the first 100 by score
+    /// falling, then by path. The list may be empty, and a word may stand in it twice. The sight is
+    /// asked once a page.
+    pub fn search<S: Sight>(
+        &self,
+        heap: Heap,
+        words: &[Word],
+        sight: &S,
+    ) -> Result<List<Hit>, Memory>
+        ensures { IfOk result (λ hits. hits
+            ≡ search (seen (S.goals sight.now) (pages_of self.now)) words.now) }
+    {
+        let slots = self.pages.in_order(heap)?;
+        let seen = seen_among(heap, &self.pages, &slots, sight)?;
+        search_among(heap, &self.pages, &seen, words)
+    }
+}
