@@ -1,18 +1,23 @@
 -- What the router finds, in closed form.
 use Rattle.std.proofs.Common.{◌≡◌, ℕ, zero, suc, ◌-◌, ◌==◌, ◌&&◌, not, Bool, true, false, cond, List, [], ◌∷◌, ◌++◌, length, Option, Some}
-use Rattle.std.proofs.Common.{None, option_map, option_and_then, codes, refl, sym, ap, ◌∙◌}
-use Rattle.std.proofs.lemmas.Bool.{and_parts, cond_both, not-true}
+use Rattle.std.proofs.Common.{None, Result, Ok, Err, option_map, option_and_then, codes, refl, sym, ap, ◌∙◌, subst, inl, inr}
+use Rattle.std.specs.Bool.{⊤}
+use Rattle.std.specs.Option.{option_or}
+use Rattle.std.specs.Str.{bytes_eq}
+use Rattle.std.proofs.lemmas.Bool.{and_parts, cond_both, cases_eq, false_from_ne_true, not-true}
 use Rattle.std.proofs.lemmas.Bool.Decides.{Decides-eqb}
-use Rattle.matchit.specs.Router.{RouteOf, Refused}
+use Rattle.matchit.specs.Route.{Scan}
+use Rattle.matchit.specs.Router.{RouteOf, InsertsRead}
 use Rattle.matchit.specs.Rows.{RowsOf, catch_all_token, param_token}
 use Rattle.matchit.specs.Seek.{seek, step, or_else, param_step, has_slash}
 use Rattle.matchit.specs.declared.error.InsertError.{InsertError}
 use Rattle.matchit.specs.declared.error.InsertError.TheVariants.{Conflict, InvalidParam, InvalidParamSegment, InvalidCatchAll, OutOfMemory}
-use Rattle.doc_http_targets.specs.RouteSteps.{place_of}
-use Rattle.doc_http_targets.specs.Targets.{after, if_not_empty, route_of}
-use Rattle.doc_http_targets.specs.TargetSteps.{after_slash}
+use Rattle.doc_http_targets.specs.RouteSteps.{CanStand, leads_to, place_of, route_table}
+use Rattle.doc_http_targets.specs.Targets.{Route, after, at_path, if_not_empty, origin_form, page_of, page_rest, path_part, rest_behind}
+use Rattle.doc_http_targets.specs.Targets.{route_at, route_of}
+use Rattle.doc_http_targets.specs.Targets as targets
 use Rattle.doc_http_targets.specs.declared.routes.Place.{Place}
-use Rattle.doc_http_targets.specs.declared.routes.Place.TheVariants.{Page}
+use Rattle.doc_http_targets.specs.declared.routes.Place.TheVariants.{Page, Backlinks, Contents, Search, Broken}
 
 -- no byte of the text stands for a parameter or a catch-all
 abbrev pub is_literal : List ℕ → Bool
@@ -81,19 +86,131 @@ module _ {K : Type 0} where
       (elim (catch_all_token == b) as (λ v. or_else (seek 0 (cond v (([], key) ∷ []) []) rest) (Some key) ≡ Some key)
       [ true ↦ at_any key rest | false ↦ ap (λ o. or_else o (Some key)) (no_rows 0 rest) ])
 
--- what a route with a rest answers
-on_rest : (key : RouteOf Place) (o : Option (List ℕ)) → option_map (λ found. found.value) (on_after (catch_all_token ∷ []) key o)
-    ≡ option_map (λ _. key.value) (if_not_empty o)
-unfolding seek
-on_rest key None = refl
-on_rest key (Some []) = refl
-on_rest key (Some (b ∷ rest)) = ap (option_map (λ found. found.value)) (at_rest key b rest)
+-- ---- the five routes
 
--- the router finds a page just where a path has a rest
-pub place_of-closed : (path : List ℕ) → place_of path ≡ option_map (λ _. Page) (route_of path)
-place_of-closed path =
-    ap (option_map (λ found. found.value)) (one_route (codes "/page/") (catch_all_token ∷ []) _ path refl)
-    ∙ on_rest _ (after (codes "/page/") path)
+-- two numbers that differ, as a test
+unequal : {a b : ℕ} → (a ≡ b → ⊥) → (a == b) ≡ false
+unequal {a} {b} n = false_from_ne_true (a == b) (λ e. n ((Decides-eqb a b).0 e))
+
+abbrev value_of : Option (RouteOf Place) → Option Place
+value_of o = option_map (λ found. found.value) o
+
+-- the place of a route with a rest, by what follows its front, and of one without
+abbrev pub on_rest : Place → Option (List ℕ) → Option Place
+on_rest place None = None
+on_rest place (Some []) = None
+on_rest place (Some (b ∷ rest)) = Some place
+
+abbrev pub on_end : Place → Option (List ℕ) → Option Place
+on_end place None = None
+on_end place (Some []) = Some place
+on_end place (Some (b ∷ rest)) = None
+
+-- the place that the path has
+abbrev pub place_at : List ℕ → Option Place
+place_at path =
+    or_else (on_rest Backlinks (after (codes "/backlinks/") path))
+    (or_else (on_end Broken (after (codes "/broken") path))
+    (or_else (on_end Contents (after (codes "/contents") path))
+    (or_else (on_rest Page (after (codes "/page/") path))
+    (on_end Search (after (codes "/search") path)))))
+
+go_rest : (key : RouteOf Place) (o : Option (List ℕ)) → value_of (on_after (catch_all_token ∷ []) key o) ≡ on_rest key.value o
+unfolding seek
+go_rest key None = refl
+go_rest key (Some []) = refl
+go_rest key (Some (b ∷ rest)) = ap value_of (at_rest key b rest)
+
+go_end : (key : RouteOf Place) (o : Option (List ℕ)) → value_of (on_after [] key o) ≡ on_end key.value o
+unfolding seek
+go_end key None = refl
+go_end key (Some []) = refl
+go_end key (Some (b ∷ rest)) = ap value_of (at_end key b rest)
+
+-- what one route answers, with a rest and without
+rest_row : (front : List ℕ) (key : RouteOf Place) (path : List ℕ) → is_literal front ≡ true
+    → value_of (seek 0 ((front ++ catch_all_token ∷ [], key) ∷ []) path) ≡ on_rest key.value (after front path)
+rest_row front key path h = ap value_of (one_route front (catch_all_token ∷ []) key path h) ∙ go_rest key (after front path)
+
+end_row : (front : List ℕ) (key : RouteOf Place) (path : List ℕ) → is_literal front ≡ true
+    → value_of (seek 0 ((front ++ [], key) ∷ []) path) ≡ on_end key.value (after front path)
+end_row front key path h = ap value_of (one_route front [] key path h) ∙ go_end key (after front path)
+
+none_or : (o : Option Place) → o ≡ or_else o None
+none_or None = refl
+none_or (Some place) = refl
+
+module _ (linked broken : RouteOf Place) where
+  abbrev behind_b : RowsOf (RouteOf Place)
+  behind_b = (codes "acklinks/" ++ catch_all_token ∷ [], linked) ∷ (codes "roken", broken) ∷ []
+
+  abbrev named_b : List ℕ → Option Place
+  named_b path = or_else (on_rest linked.value (after (codes "acklinks/") path)) (on_end broken.value (after (codes "roken") path))
+
+  -- behind the `b` of two routes
+  two : (path : List ℕ) → value_of (seek 0 behind_b path) ≡ named_b path
+  unfolding seek
+  two [] = refl
+  two (b ∷ path) =
+      ap value_of (by_byte behind_b b path refl refl)
+      ∙ elim (cases_eq 97 b) [
+        | inl e ↦ subst (λ x. value_of (seek 0 (step x behind_b) path) ≡ named_b (x ∷ path)) e
+            (rest_row (codes "cklinks/") linked path refl ∙ none_or _)
+        | inr n ↦ elim (cases_eq 114 b) [
+          | inl e ↦ subst (λ x. value_of (seek 0 (step x behind_b) path) ≡ named_b (x ∷ path)) e
+              (end_row (codes "oken") broken path refl)
+          | inr m ↦ rw (unequal n, unequal m) (ap value_of (no_rows 0 path))
+        ]
+      ]
+
+abbrev slash_rows : RowsOf (RouteOf Place)
+slash_rows = step 47 route_table
+
+abbrev behind_slash : List ℕ → Option Place
+behind_slash path =
+    or_else (on_rest Backlinks (after (codes "backlinks/") path))
+    (or_else (on_end Broken (after (codes "broken") path))
+    (or_else (on_end Contents (after (codes "contents") path))
+    (or_else (on_rest Page (after (codes "page/") path))
+    (on_end Search (after (codes "search") path)))))
+
+-- one more test of the place where none answered
+or_two : (x y : Option Place) → or_else x y ≡ or_else x (or_else y None)
+or_two None None = refl
+or_two None (Some place) = refl
+or_two (Some place) y = refl
+
+slash : (path : List ℕ) → value_of (seek 0 slash_rows path) ≡ behind_slash path
+unfolding seek
+slash [] = refl
+slash (b ∷ path) =
+    let P : ℕ → Type 0 = λ x. value_of (seek 0 (step x slash_rows) path) ≡ behind_slash (x ∷ path) in
+    ap value_of (by_byte slash_rows b path refl refl)
+    ∙ elim (cases_eq 98 b) [
+      | inl e ↦ subst P e (two _ _ path ∙ or_two _ _)
+      | inr nb ↦ elim (cases_eq 99 b) [
+        | inl e ↦ subst P e (end_row (codes "ontents") _ path refl ∙ none_or _)
+        | inr nc ↦ elim (cases_eq 112 b) [
+          | inl e ↦ subst P e (rest_row (codes "age/") _ path refl ∙ none_or _)
+          | inr np ↦ elim (cases_eq 115 b) [
+            | inl e ↦ subst P e (end_row (codes "earch") _ path refl)
+            | inr ns ↦ rw (unequal nb, unequal nc, unequal np, unequal ns) (ap value_of (no_rows 0 path))
+          ]
+        ]
+      ]
+    ]
+
+-- the router finds the place that the path has
+place_of-closed : (path : List ℕ) → place_of path ≡ place_at path
+unfolding seek
+place_of-closed [] = refl
+place_of-closed (b ∷ path) =
+    let P : ℕ → Type 0 = λ x. value_of (seek 0 (step x route_table) path) ≡ place_at (x ∷ path) in
+    ap value_of (by_byte route_table b path refl refl)
+    ∙ elim (cases_eq 47 b) [
+      | inl e ↦ subst P e (slash path)
+      | inr n ↦ rw (unequal n) (ap value_of (no_rows 0 path))
+    ]
 
 -- a text that has a prefix is that prefix and the rest
 after-append : (front text rest : List ℕ) → after front text ≡ Some rest → text ≡ front ++ rest
@@ -103,39 +220,113 @@ after-append (x ∷ front) (b ∷ text) rest e =
     cond_both (x == b) (after front text) None (λ o. o ≡ Some rest → b ∷ text ≡ x ∷ (front ++ rest))
     (λ same h. let head = (Decides-eqb x b).0 same in let tail = after-append front text rest h in cc) (λ _ h. absurd (cc)) e
 
-not_empty-after : (o : Option (List ℕ)) (rest : List ℕ) → if_not_empty o ≡ Some rest → o ≡ Some rest
-not_empty-after None rest e = absurd (cc)
-not_empty-after (Some []) rest e = absurd (cc)
-not_empty-after (Some (b ∷ text)) rest e = e
+-- ---- what the places ask for
 
--- a path of the form `/page/REST` has its rest after the second `/`
-rest-after_slashes : (path rest : List ℕ) → route_of path ≡ Some rest → option_and_then after_slash (after_slash path) ≡ Some rest
-rest-after_slashes path rest e =
-    let split = after-append (codes "/page/") path rest (not_empty-after _ rest e) in
-    ap (λ text. option_and_then after_slash (after_slash text)) split
+-- what a place asks for is this route
+abbrev Fits : List ℕ → Option Place → Option Route → Type 0
+Fits path None None = ⊤
+Fits path None (Some route) = ⊥
+Fits path (Some place) None = ⊥
+Fits path (Some place) (Some route) = leads_to place path ≡ Some route
 
--- where the router finds a place, the rest is what follows the second `/`
-pub rest-routed : (path : List ℕ) (place : Place) → place_of path ≡ Some place
-    → option_and_then after_slash (after_slash path) ≡ route_of path
-rest-routed path place found =
-    elim (route_of path) as (λ o. option_map (λ _. Page) o ≡ Some place → route_of path ≡ o
-    → option_and_then after_slash (after_slash path) ≡ o) [
-      | None ↦ λ e _. absurd (cc)
-      | Some rest ↦ λ _ is. rest-after_slashes path rest is
-    ] (sym (place_of-closed path) ∙ found) refl
+or-fits : (path : List ℕ) (x y : Option Place) (a b : Option Route) → Fits path x a → Fits path y b
+    → Fits path (or_else x y) (option_or a b)
+or-fits path None y None b first second = second
+or-fits path None y (Some route) b first second = absurd first
+or-fits path (Some place) y None b first second = absurd first
+or-fits path (Some place) y (Some route) b first second = first
 
--- where the router finds nothing, there is no rest
-pub rest-unrouted : (path : List ℕ) → place_of path ≡ None → route_of path ≡ None
-rest-unrouted path missing =
-    elim (route_of path) as (λ o. option_map (λ _. Page) o ≡ None → o ≡ None) [
-      | None ↦ λ _. refl
-      | Some rest ↦ λ e. absurd (cc)
-    ] (sym (place_of-closed path) ∙ missing)
+rest-fits : (front : List ℕ) (place : Place) (route : List ℕ → Route) (path : List ℕ) (o : Option (List ℕ))
+    → ((rest : List ℕ) → leads_to place (front ++ rest) ≡ Some (route rest)) → after front path ≡ o
+    → Fits path (on_rest place o) (option_map route (if_not_empty o))
+rest-fits front place route path None leads e = tt
+rest-fits front place route path (Some []) leads e = tt
+rest-fits front place route path (Some (b ∷ rest)) leads e =
+    subst (λ text. leads_to place text ≡ Some (route (b ∷ rest))) (sym (after-append front path (b ∷ rest) e)) (leads (b ∷ rest))
 
--- a first route is refused for want of memory alone
-pub refused-first : (pattern : List ℕ) (e : InsertError) → Refused {T = Place} pattern [] e → e ≡ OutOfMemory
-refused-first pattern (Conflict with) h = absurd (cc (h.1))
-refused-first pattern OutOfMemory h = refl
-refused-first pattern InvalidParam h = absurd h
-refused-first pattern InvalidParamSegment h = absurd h
-refused-first pattern InvalidCatchAll h = absurd h
+end-fits : (name text path : List ℕ) (place : Place) (route : Route) → leads_to place path ≡ Some route
+    → Fits path (on_end place (after name text)) (at_path name route text)
+end-fits [] [] path place route leads = leads
+end-fits [] (b ∷ text) path place route leads = tt
+end-fits (x ∷ name) [] path place route leads = tt
+end-fits (x ∷ name) (b ∷ text) path place route leads =
+    elim (x == b) as (λ v. Fits path (on_end place (cond v (after name text) None)) (cond (v && bytes_eq name text) (Some route) None))
+    [ true ↦ end-fits name text path place route leads | false ↦ tt ]
+
+routes-fit : (path : List ℕ) → Fits path (place_at path) (route_at path)
+routes-fit path =
+    or-fits path _ _ _ _ (rest-fits (codes "/backlinks/") Backlinks targets.Backlinks path _ (λ rest. refl) refl)
+    (or-fits path _ _ _ _ (end-fits (codes "/broken") path path Broken targets.Broken refl)
+    (or-fits path _ _ _ _ (end-fits (codes "/contents") path path Contents targets.Contents refl)
+    (or-fits path _ _ _ _ (rest-fits (codes "/page/") Page targets.Page path _ (λ rest. refl) refl)
+    (end-fits (codes "/search") path path Search targets.Search refl))))
+
+by_place : (path : List ℕ) (place : Place) (o : Option Route) → Fits path (Some place) o → leads_to place path ≡ o
+by_place path place None fits = absurd fits
+by_place path place (Some route) fits = fits
+
+by_none : (path : List ℕ) (o : Option Route) → Fits path None o → o ≡ None
+by_none path None fits = refl
+by_none path (Some route) fits = absurd fits
+
+-- where the router finds a place, that is what the path asks for
+pub routed : (path : List ℕ) (place : Place) → place_of path ≡ Some place → leads_to place path ≡ route_at path
+routed path place found =
+    by_place path place (route_at path)
+    (subst (λ o. Fits path o (route_at path)) (sym (place_of-closed path) ∙ found) (routes-fit path))
+
+-- where the router finds nothing, the path has no route
+pub unrouted : (path : List ℕ) → place_of path ≡ None → route_at path ≡ None
+unrouted path missing =
+    by_none path (route_at path)
+    (subst (λ o. Fits path o (route_at path)) (sym (place_of-closed path) ∙ missing) (routes-fit path))
+
+-- ---- pages
+
+abbrev page_in : Option Route → Option (List ℕ)
+page_in o = option_and_then page_of o
+
+none-or : (a b : Option Route) → page_in a ≡ None → page_in b ≡ None → page_in (option_or a b) ≡ None
+none-or None b first second = second
+none-or (Some route) b first second = first
+
+not-rest : (o : Option (List ℕ)) → page_in (option_map targets.Backlinks o) ≡ None
+not-rest None = refl
+not-rest (Some rest) = refl
+
+not-end : (name : List ℕ) (route : Route) (path : List ℕ) → page_of route ≡ None → page_in (at_path name route path) ≡ None
+not-end name route path e = cond_both (bytes_eq name path) (Some route) None (λ o. page_in o ≡ None) (λ _. e) (λ _. refl)
+
+no-page : (path : List ℕ) → rest_behind (codes "/page/") path ≡ None → page_in (route_at path) ≡ None
+no-page path e =
+    none-or _ _ (not-rest (rest_behind (codes "/backlinks/") path))
+    (none-or _ _ (not-end (codes "/broken") targets.Broken path refl)
+    (none-or _ _ (not-end (codes "/contents") targets.Contents path refl)
+    (none-or _ _ (ap (λ o. page_in (option_map targets.Page o)) e)
+    (not-end (codes "/search") targets.Search path refl))))
+
+by_front : (path : List ℕ) (o : Option (List ℕ)) → after (codes "/page/") path ≡ o → if_not_empty o ≡ page_in (route_at path)
+by_front path None e = sym (no-page path (ap if_not_empty e))
+by_front path (Some []) e = sym (no-page path (ap if_not_empty e))
+by_front path (Some (b ∷ rest)) e =
+    subst (λ text. Some (b ∷ rest) ≡ page_in (route_at text)) (sym (after-append (codes "/page/") path (b ∷ rest) e)) refl
+
+by_form : (o : Option (List ℕ)) → option_and_then (λ form. rest_behind (codes "/page/") (path_part form)) o
+    ≡ page_in (option_and_then (λ form. route_at (path_part form)) o)
+by_form None = refl
+by_form (Some form) = by_front (path_part form) (after (codes "/page/") (path_part form)) refl
+
+-- a target names a page just where its route does
+pub page_rest-routed : (target : List ℕ) → page_rest target ≡ option_and_then page_of (route_of target)
+unfolding page_rest route_of
+page_rest-routed target = by_form (origin_form target)
+
+-- where nothing conflicts, a route is refused for want of memory alone
+pub refused-fitting : (scan : Result Scan InsertError) (place : Place) (old new : RowsOf (RouteOf Place)) (e : InsertError)
+    → CanStand scan old → InsertsRead scan place old new (Err e) → e ≡ OutOfMemory
+refused-fitting (Ok scan) place old new (Conflict with) stands h = absurd (cc (stands, h.1.1))
+refused-fitting (Ok scan) place old new OutOfMemory stands h = refl
+refused-fitting (Ok scan) place old new InvalidParam stands h = absurd h.1
+refused-fitting (Ok scan) place old new InvalidParamSegment stands h = absurd h.1
+refused-fitting (Ok scan) place old new InvalidCatchAll stands h = absurd h.1
+refused-fitting (Err fault) place old new e stands h = absurd stands

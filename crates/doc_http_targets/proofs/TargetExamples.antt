@@ -1,11 +1,14 @@
 -- Targets and written paths, worked.
 use Rattle.std.specs.Prelude.{◌≡◌, ◌++◌, ◌∷◌, Some, None, codes, refl}
 use Rattle.std.specs.Str.{chars, is_utf8}
+use Rattle.std.specs.Str.Lossy.{utf8_lossy, utf8_valid_len}
 use lib.Utf8.{encode}
+use Rattle.form_urlencoded.specs.Form.{raw_pairs, split}
 use Rattle.percent_encoding.specs.Percent.{percent_decode}
 use Rattle.doc_page.specs.Paths.{is_path}
 use Rattle.doc_resolve.specs.WrittenPaths.{path_written as path_of_segments}
-use Rattle.doc_http_targets.specs.Targets.{origin_form, page_rest}
+use Rattle.doc_http_targets.specs.Queries.{parameter, value_of}
+use Rattle.doc_http_targets.specs.Targets.{origin_form, page_rest, route_of, Page, Backlinks, Contents, Search, Broken}
 use Rattle.doc_http_targets.specs.WrittenPaths.{path_written}
 
 -- ---- the rest of a page
@@ -89,6 +92,106 @@ asterisk = refl
 authority_alone : page_rest (codes "docs:80") ≡ None
 unfolding page_rest origin_form
 authority_alone = refl
+
+-- ---- routes
+
+a_page : route_of (codes "/page/a.md") ≡ Some (Page (codes "a.md"))
+unfolding route_of origin_form
+a_page = refl
+
+links_to_a_page : route_of (codes "/backlinks/guide/start.md") ≡ Some (Backlinks (codes "guide/start.md"))
+unfolding route_of origin_form
+links_to_a_page = refl
+
+links_with_query : route_of (codes "/backlinks/a.md?q") ≡ Some (Backlinks (codes "a.md"))
+unfolding route_of origin_form
+links_with_query = refl
+
+links_without_rest : route_of (codes "/backlinks/") ≡ None
+unfolding route_of origin_form
+links_without_rest = refl
+
+links_without_slash : route_of (codes "/backlinks") ≡ None
+unfolding route_of origin_form
+links_without_slash = refl
+
+list_of_pages : route_of (codes "/contents") ≡ Some Contents
+unfolding route_of origin_form
+list_of_pages = refl
+
+list_with_slash : route_of (codes "/contents/") ≡ None
+unfolding route_of origin_form
+list_with_slash = refl
+
+list_in_capitals : route_of (codes "/Contents") ≡ None
+unfolding route_of origin_form
+list_in_capitals = refl
+
+list_with_query : route_of (codes "/contents?page/a.md") ≡ Some Contents
+unfolding route_of origin_form
+list_with_query = refl
+
+longer_than_a_route : route_of (codes "/contentsx") ≡ None
+unfolding route_of origin_form
+longer_than_a_route = refl
+
+a_search : route_of (codes "/search?q=kiwi") ≡ Some Search
+unfolding route_of origin_form
+a_search = refl
+
+search_with_rest : route_of (codes "/search/kiwi") ≡ None
+unfolding route_of origin_form
+search_with_rest = refl
+
+search_of_absolute_form : route_of (codes "http://h/search?q=kiwi") ≡ Some Search
+unfolding route_of origin_form
+search_of_absolute_form = refl
+
+broken_links : route_of (codes "/broken") ≡ Some Broken
+unfolding route_of origin_form
+broken_links = refl
+
+broken_with_fragment : route_of (codes "/broken#x") ≡ None
+unfolding route_of origin_form
+broken_with_fragment = refl
+
+no_route : route_of (codes "/") ≡ None
+unfolding route_of origin_form
+no_route = refl
+
+page_before_query : route_of (codes "/page/?x") ≡ None
+unfolding route_of origin_form
+page_before_query = refl
+
+encoded_slash_in_route : route_of (codes "/page%2Fa.md") ≡ None
+unfolding route_of origin_form
+encoded_slash_in_route = refl
+
+-- ---- what is searched for
+
+searched : parameter (codes "/search?q=kiwi") (codes "q") ≡ codes "kiwi"
+unfolding value_of raw_pairs split percent_decode utf8_lossy utf8_valid_len is_utf8 chars encode
+searched = refl
+
+searched_with_spaces : parameter (codes "/search?q=two+words%21") (codes "q") ≡ codes "two words!"
+unfolding value_of raw_pairs split percent_decode utf8_lossy utf8_valid_len is_utf8 chars encode
+searched_with_spaces = refl
+
+absent : parameter (codes "/search") (codes "q") ≡ codes ""
+unfolding value_of raw_pairs split percent_decode utf8_lossy utf8_valid_len is_utf8 chars encode
+absent = refl
+
+without_value : parameter (codes "/search?q") (codes "q") ≡ codes ""
+unfolding value_of raw_pairs split percent_decode utf8_lossy utf8_valid_len is_utf8 chars encode
+without_value = refl
+
+empty_value : parameter (codes "/search?q=") (codes "q") ≡ codes ""
+unfolding value_of raw_pairs split percent_decode utf8_lossy utf8_valid_len is_utf8 chars encode
+empty_value = refl
+
+first_of_two : parameter (codes "/search?p=a&q=b&q=c") (codes "q") ≡ codes "b"
+unfolding value_of raw_pairs split percent_decode utf8_lossy utf8_valid_len is_utf8 chars encode
+first_of_two = refl
 
 -- ---- the path that is written
 

@@ -1,5 +1,5 @@
--- What the private functions of the module `origin_form` answer: parts of the definitions in Targets, as the code takes them.
-use Rattle.std.specs.Prelude.{ℕ, List, [], ◌∷◌, ◌==◌, Option, Some, None, if◌then◌else◌}
+-- What private functions answer: parts of the definitions in Targets, as the code takes them.
+use Rattle.std.specs.Prelude.{ℕ, List, [], ◌∷◌, ◌==◌, Option, Some, None, option_and_then, if◌then◌else◌}
 use Rattle.doc_http_targets.specs.Targets.{after_http, after_authority, if_rooted}
 
 -- the part of a target of which `after_http` is known, as `origin_part` says
@@ -15,3 +15,7 @@ origin_part target = origin_part_by target (after_http target)
 abbrev pub after_slash : List ℕ → Option (List ℕ)
 after_slash [] = None
 after_slash (b ∷ rest) = if b == 47 then Some rest else after_slash rest
+
+-- what follows the second `/`, where there is one
+abbrev pub rest_of : List ℕ → Option (List ℕ)
+rest_of path = option_and_then after_slash (after_slash path)

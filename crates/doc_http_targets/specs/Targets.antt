@@ -1,7 +1,11 @@
--- The target of a request (RFC 9112, section 3.2), and the page that it names.
-use Rattle.std.specs.Prelude.{ℕ, List, [], ◌∷◌, take, drop, Bool, ◌==◌, ◌||◌, codes, Option, Some, None, option_and_then, if◌then◌else◌}
+-- The target of a request (RFC 9112, section 3.2), and what it asks for.
+use Rattle.std.specs.Prelude.{ℕ, List, [], ◌∷◌, take, drop, Bool, ◌==◌, ◌||◌, bytes_eq, codes, Option, Some, None}
+use Rattle.std.specs.Prelude.{option_and_then, option_map, if◌then◌else◌}
 use Rattle.std.specs.List.{position_or_len, before_first}
+use Rattle.std.specs.Option.{option_or}
 use Rattle.std.specs.Str.{str_eq_ignore_ascii_case}
+use Rattle.doc_http_targets.specs.declared.route.Route as code
+use Rattle.doc_http_targets.specs.declared.route.Route.TheVariants as routes
 
 -- `/`, `?` or `#`, which ends an authority (RFC 3986, section 3.2)
 abbrev pub ends_authority : ℕ → Bool
@@ -51,10 +55,51 @@ if_not_empty None = None
 if_not_empty (Some []) = None
 if_not_empty (Some (b ∷ rest)) = Some (b ∷ rest)
 
--- the rest of a path `/page/REST`, which isn't empty; no other path has a route (this project's choice)
-abbrev pub route_of : List ℕ → Option (List ℕ)
-route_of path = if_not_empty (after (codes "/page/") path)
+-- the rest of a path behind a front, which isn't empty
+abbrev pub rest_behind : List ℕ → List ℕ → Option (List ℕ)
+rest_behind front path = if_not_empty (after front path)
+
+-- what a target asks for: a page, the pages with links to one, the list of pages, those with some words, or the broken links
+pub data Route : Type 0 where
+  Page : List ℕ → Route
+  Backlinks : List ℕ → Route
+  Contents : Route
+  Search : Route
+  Broken : Route
+
+-- the same as the code has it
+abbrev pub route_shown : code.Route → Route
+route_shown (routes.Page rest) = Page rest.now
+route_shown (routes.Backlinks rest) = Backlinks rest.now
+route_shown routes.Contents = Contents
+route_shown routes.Search = Search
+route_shown routes.Broken = Broken
+
+-- a route at one path alone
+abbrev pub at_path : List ℕ → Route → List ℕ → Option Route
+at_path name route path = if bytes_eq name path then Some route else None
+
+-- what a path asks for: `/page/REST`, `/backlinks/REST`, `/contents`, `/search`, `/broken` and no other (this project's choice)
+abbrev pub route_at : List ℕ → Option Route
+route_at path =
+    option_or (option_map Backlinks (rest_behind (codes "/backlinks/") path))
+    (option_or (at_path (codes "/broken") Broken path)
+    (option_or (at_path (codes "/contents") Contents path)
+    (option_or (option_map Page (rest_behind (codes "/page/") path))
+    (at_path (codes "/search") Search path))))
+
+-- what a target asks for, by the part before its `?`
+unfoldable pub route_of : List ℕ → Option Route
+route_of target = option_and_then (λ form. route_at (path_part form)) (origin_form target)
+
+-- the rest of a route to a page
+abbrev pub page_of : Route → Option (List ℕ)
+page_of (Page rest) = Some rest
+page_of (Backlinks rest) = None
+page_of Contents = None
+page_of Search = None
+page_of Broken = None
 
 -- the rest of a target that names a page, as it is written in the target
 unfoldable pub page_rest : List ℕ → Option (List ℕ)
-page_rest target = option_and_then (λ form. route_of (path_part form)) (origin_form target)
+page_rest target = option_and_then (λ form. rest_behind (codes "/page/") (path_part form)) (origin_form target)

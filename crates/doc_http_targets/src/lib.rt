@@ -1,7 +1,8 @@
-//! Targets of requests: the page that one names, and what its query asks for.
+//! Targets of requests: the route that one has, the page that it names, and what its query asks for.
 #![tactic(auto)]
 
 mod origin_form;
 pub mod query;
+pub mod route;
 pub mod routes;
 pub mod written_path;

@@ -1,0 +1,31 @@
+//! What a target asks for.
+
+ghost use Rattle.std.specs.Prelude.{◌≡◌, option_copied};
+ghost use Rattle.doc_http_targets.specs.Targets.{page_of, route_shown};
+
+/// What a target asks for. REST is what follows the second `/` of its path, as it is written there; it isn't empty.
+#[derive(Clone, Copy, Debug, PartialEq, Eq)]
+pub enum Route<'a> {
+    /// `/page/REST`: the page whose path is written as REST.
+    Page(&'a str),
+    /// `/backlinks/REST`: the pages with links to the page whose path is written as REST.
+    Backlinks(&'a str),
+    /// `/contents`: the pages and their headings.
+    Contents,
+    /// `/search`: the pages that have the words of the query.
+    Search,
+    /// `/broken`: the broken links.
+    Broken,
+}
+
+impl<'a> Route<'a> {
+    /// The REST of a page.
+    pub fn page(self) -> Option<&'a str>
+        ensures { option_copied result ≡ page_of (route_shown self.entry) }
+    {
+        match self {
+            Route::Page(rest) => Some(rest),
+            _ => None,
+        }
+    }
+}

@@ -1,0 +1,15 @@
+-- What is written at the end of a buffer.
+use Rattle.std.proofs.Common.{◌≡◌, ℕ, List, ◌++◌, ap, ◌∙◌}
+use Rattle.std.proofs.lemmas.List.{append_assoc}
+
+-- three texts were written, one behind the other
+pub framed : (old reserved first second third before middle after : List ℕ) → reserved ≡ old → first ≡ reserved ++ before
+    → second ≡ first ++ middle → third ≡ second ++ after → third ≡ old ++ (before ++ (middle ++ after))
+framed old reserved first second third before middle after room one two three =
+    let begun : first ≡ old ++ before = one ∙ ap (λ text. text ++ before) room in
+    let inner : second ≡ (old ++ before) ++ middle = two ∙ ap (λ text. text ++ middle) begun in
+    three ∙ ap (λ text. text ++ after) inner ∙ append_assoc (old ++ before) middle after ∙ append_assoc old before (middle ++ after)
+
+-- two were
+pub joined : (old first second before after : List ℕ) → first ≡ old ++ before → second ≡ first ++ after → second ≡ old ++ (before ++ after)
+joined old first second before after one two = two ∙ ap (λ text. text ++ after) one ∙ append_assoc old before after

@@ -1,0 +1,196 @@
+//! Contents: the pages and their headings.
+
+ghost use Rattle.std.specs.Prelude.{◌≡◌, ◌++◌, string_bytes, None, OnOk, OnErr};
+ghost use Rattle.std.specs.List.{flat_map};
+ghost use Rattle.std.specs.Io.{StartsWith};
+ghost use Rattle.doc_resolve.specs.Hrefs.{page_href};
+ghost use Rattle.doc_listings.specs.Listings.{contents_text, entry_lines, heading_address, heading_line, heading_start, link_text};
+ghost use Rattle.doc_listings.specs.Listings.{page_line, page_start};
+
+use crate::number::{MOST_DIGITS, push_number};
+use doc_heap::{Heap, String};
+use doc_links::Entry;
+use doc_page::escaping::push_escaped;
+use doc_page::failure::Memory;
+use doc_page::path::Path;
+use doc_page::rendered::Heading;
+use doc_page_encoding::encoding::{push_encoded, push_encoded_path};
+
+/// Room for the address of a page.
+const ADDRESS_ROOM: usize = 256;
+
+/// What a line has beside an address and a text, at most.
+const LINE_ROOM: usize = 40;
+
+/// Writes a page of HTML with a list of pages and their headings, each a link.
+#[tactic(auto, using(doc_page::proofs::BufferSteps::front_same, doc_page::proofs::BufferSteps::front_more))]
+pub fn push_contents(heap: Heap, out: &mut String, pages: &[Entry]) -> Result<(), Memory>
+    ensures ok { OnOk result
+        (string_bytes out.new ≡ string_bytes out.old ++ contents_text pages.now) }
+    ensures err { OnErr result (StartsWith (string_bytes out.new) (string_bytes out.old)) }
+{
+    out.reserve(room_of(pages))?;
+    out.push_str("<!DOCTYPE html>\n<title>Contents</title>\n<ul>\n")?;
+    push_pages(heap, out, pages)?;
+    out.push_str("</ul>\n")?;
+    Ok(())
+}
+
+#[tactic(auto, using(doc_page::proofs::BufferSteps::front_same, doc_page::proofs::BufferSteps::front_more))]
+fn push_pages(heap: Heap, out: &mut String, pages: &[Entry]) -> Result<(), Memory>
+    ensures ok { OnOk result
+        (string_bytes out.new ≡ string_bytes out.old ++ flat_map entry_lines pages.now) }
+    ensures err { OnErr result (StartsWith (string_bytes out.new) (string_bytes out.old)) }
+{
+    let mut digits = String::with_capacity(heap, MOST_DIGITS)?;
+    let mut address = String::with_capacity(heap, ADDRESS_ROOM)?;
+    for page in pages {
+        push_page(out, &mut digits, &mut address, page)?;
+    }
+    Ok(())
+}
+
+/// Writes the lines of a page and its headings. Its address is made once, in a buffer of its own.
+#[tactic(auto, unfolding(crate::specs::Listings::entry_lines), using(doc_page::proofs::BufferSteps::front_same, doc_page::proofs::BufferSteps::front_more))]
+fn push_page(
+    out: &mut String,
+    digits: &mut String,
+    address: &mut String,
+    page: &Entry,
+) -> Result<(), Memory>
+    ensures ok { OnOk result
+        (string_bytes out.new ≡ string_bytes out.old ++ entry_lines page.now) }
+    ensures err { OnErr result (StartsWith (string_bytes out.new) (string_bytes out.old)) }
+{
+    set_address(address, &page.path)?;
+    push_page_line(out, address.as_str(), &page.path)?;
+    push_headings(out, digits, address.as_str(), page.headings.get())
+}
+
+/// Writes the address of a page alone, as links to the page have it.
+fn set_address(address: &mut String, path: &Path) -> Result<(), Memory>
+    ensures { OnOk result (string_bytes address.new ≡ page_href path.now None) }
+{
+    address.clear();
+    address.push_str("/page/")?;
+    push_encoded_path(address, path.text())
+}
+
+#[tactic(auto, using(doc_page::proofs::BufferSteps::front_same, doc_page::proofs::BufferSteps::front_more))]
+fn push_page_line(out: &mut String, address: &str, path: &Path) -> Result<(), Memory>
+    ensures ok { OnOk result
+        (string_bytes out.new ≡ string_bytes out.old ++ page_line address.now path.now) }
+    ensures err { OnErr result (StartsWith (string_bytes out.new) (string_bytes out.old)) }
+{
+    push_page_start(out, address)?;
+    push_link_text(out, path.text())
+}
+
+/// Writes the element of a page's line up to the end of the address.
+#[tactic(auto, using(doc_page::proofs::BufferSteps::front_same, doc_page::proofs::BufferSteps::front_more))]
+fn push_page_start(out: &mut String, address: &str) -> Result<(), Memory>
+    ensures ok { OnOk result
+        (string_bytes out.new ≡ string_bytes out.old ++ page_start address.now) }
+    ensures err { OnErr result (StartsWith (string_bytes out.new) (string_bytes out.old)) }
+{
+    out.push_str("<li><a href=\"")?;
+    out.push_str(address)?;
+    Ok(())
+}
+
+#[tactic(auto, using(doc_page::proofs::BufferSteps::front_same, doc_page::proofs::BufferSteps::front_more))]
+fn push_headings(
+    out: &mut String,
+    digits: &mut String,
+    address: &str,
+    headings: &[Heading],
+) -> Result<(), Memory>
+    ensures ok { OnOk result (string_bytes out.new
+        ≡ string_bytes out.old ++ flat_map (heading_line address.now) headings.now) }
+    ensures err { OnErr result (StartsWith (string_bytes out.new) (string_bytes out.old)) }
+{
+    for heading in headings {
+        push_heading(out, digits, address, heading)?;
+    }
+    Ok(())
+}
+
+#[tactic(auto, unfolding(crate::specs::Listings::heading_line), using(doc_page::proofs::BufferSteps::front_same, doc_page::proofs::BufferSteps::front_more))]
+fn push_heading(
+    out: &mut String,
+    digits: &mut String,
+    address: &str,
+    heading: &Heading,
+) -> Result<(), Memory>
+    ensures ok { OnOk result
+        (string_bytes out.new ≡ string_bytes out.old ++ heading_line address.now heading.now) }
+    ensures err { OnErr result (StartsWith (string_bytes out.new) (string_bytes out.old)) }
+{
+    push_heading_start(out, digits, heading.level)?;
+    push_heading_address(out, address, heading.anchor.get())?;
+    push_link_text(out, heading.text.get())
+}
+
+/// Writes the element of a heading's line up to the address.
+#[tactic(auto, using(doc_page::proofs::BufferSteps::front_same, doc_page::proofs::BufferSteps::front_more))]
+fn push_heading_start(out: &mut String, digits: &mut String, level: u8) -> Result<(), Memory>
+    ensures ok { OnOk result
+        (string_bytes out.new ≡ string_bytes out.old ++ heading_start level) }
+    ensures err { OnErr result (StartsWith (string_bytes out.new) (string_bytes out.old)) }
+{
+    out.push_str("<li class=\"h")?;
+    push_number(out, digits, u64::from(level))?;
+    out.push_str("\"><a href=\"")?;
+    Ok(())
+}
+
+/// Writes the address of a heading in the page at an address.
+#[tactic(auto, using(doc_page::proofs::BufferSteps::front_same, doc_page::proofs::BufferSteps::front_more))]
+fn push_heading_address(out: &mut String, address: &str, anchor: &str) -> Result<(), Memory>
+    ensures ok { OnOk result
+        (string_bytes out.new ≡ string_bytes out.old ++ heading_address address.now anchor.now) }
+    ensures err { OnErr result (StartsWith (string_bytes out.new) (string_bytes out.old)) }
+{
+    out.push_str(address)?;
+    out.push_str("#")?;
+    push_encoded(out, anchor)
+}
+
+/// Writes what follows the address in a line: the text of the link.
+#[tactic(auto, using(doc_page::proofs::BufferSteps::front_same, doc_page::proofs::BufferSteps::front_more))]
+fn push_link_text(out: &mut String, text: &str) -> Result<(), Memory>
+    ensures ok { OnOk result
+        (string_bytes out.new ≡ string_bytes out.old ++ link_text text.now) }
+    ensures err { OnErr result (StartsWith (string_bytes out.new) (string_bytes out.old)) }
+{
+    out.push_str("\">")?;
+    push_escaped(out, text)?;
+    out.push_str("</a></li>\n")?;
+    Ok(())
+}
+
+/// How many bytes the lines take, where no byte has to be encoded: a guess, on which nothing rests.
+fn room_of(pages: &[Entry]) -> usize {
+    let mut room: usize = 60;
+    for page in pages {
+        room = room.saturating_add(room_of_page(page));
+    }
+    room
+}
+
+fn room_of_page(page: &Entry) -> usize {
+    let path = page.path.text().len();
+    let mut room: usize = path.saturating_mul(2).saturating_add(LINE_ROOM);
+    for heading in page.headings.get() {
+        room = room.saturating_add(room_of_heading(path, heading));
+    }
+    room
+}
+
+fn room_of_heading(path: usize, heading: &Heading) -> usize {
+    let anchor = heading.anchor.get().len();
+    let text = heading.text.get().len();
+    path.saturating_add(anchor)
+        .saturating_add(text)
+        .saturating_add(LINE_ROOM)
+}
