@@ -20,7 +20,7 @@ module _ {X : Type 0} (held : PairMap X) (n : ℕ) where
   removed all k path stamp there = by (eq_by_cmp pair_cmp (path, stamp) k) (ap is_some (sym (map.get-remove pairs_total held k (path, stamp))) ∙ there)
     where
       by : (b : Bool) → is_some (cond b None (map.get held (path, stamp))) ≡ true → stamp ≡ n
-      by true none = absurd (both_ways false none refl)
+      by true none = absurd (both_ways false refl none)
       by false some = all path stamp some
 
   pub inserted : HasStamp n held → (path : List ℕ) (value : X) → HasStamp n (map.insert held (path, n) value)

@@ -25,7 +25,7 @@ impl Model for Indexes {
 
     ghost Value = { Unit {0} };
 
-    ghost view = { λ _. unit };
+    ghost view = { λ _. tt };
 
     ghost invariant = { λ i. HasStamp 7 i.links × HasStamp 7 i.words };
 }
