@@ -1,8 +1,10 @@
 -- Worked examples of broken links, backlinks and contents, computed from the definitions alone.
-use Rattle.std.proofs.Common.{◌≡◌, codes, refl, List, ℕ, [], ◌∷◌}
+use Rattle.std.proofs.Common.{◌≡◌, false, codes, is_some, refl, ap, sym, ◌∙◌, List, ℕ, [], ◌∷◌}
 use Rattle.std.proofs.Math.Utf8.{encode}
 use Rattle.std.specs.Prelude.{Option, Some, None, bytes_eq, if◌then◌else◌}
+use Rattle.std.specs.FinMap as map
 use Rattle.std.specs.Str.{chars, is_utf8}
+use Rattle.std.proofs.lemmas.Bool.{both_ways}
 use Rattle.percent_encoding.specs.Percent.{percent_decode, percent_encode_byte}
 use Rattle.doc_page.specs.Paths.{is_path}
 use Rattle.doc_page.specs.Sights.{seen}
@@ -18,7 +20,8 @@ use Rattle.doc_resolve.specs.WrittenPaths.{path_written}
 use Rattle.doc_resolve.specs.declared.link_kind.LinkKind.{LinkKind}
 use Rattle.doc_resolve.specs.declared.link_kind.LinkKind.TheVariants.{External, Page, Nowhere}
 use Rattle.doc_links.specs.Links.{backlinks, broken, contents}
-use Rattle.doc_links.specs.PageLinks.{page_links}
+use Rattle.doc_index.specs.Maps.{pair_cmp}
+use Rattle.doc_links.specs.PageLinks.{IsOnce, page_links}
 use Rattle.doc_links.specs.declared.answers.Broken.{Broken}
 use Rattle.doc_links.specs.declared.answers.Entry.{Entry}
 use Rattle.doc_links.specs.declared.answers.Reason.{Reason}
@@ -140,3 +143,8 @@ links_to_a_for_all = refl
 no_pages : broken goals [] ≡ []
 unfolding broken
 no_pages = refl
+
+-- where no page is held, each path has one stamp at most
+nothing_is_once : IsOnce map.empty
+nothing_is_once path stamp other here there =
+    absurd (both_ways false refl (sym (ap is_some (map.get-empty pair_cmp (path, stamp))) ∙ here))

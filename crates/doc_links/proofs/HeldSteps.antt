@@ -2,7 +2,7 @@
 use Rattle.std.proofs.Common.{◌≡◌, ℕ, List, [], ◌∷◌, ◌++◌, Bool, true, false, cond, is_some, refl, ap, ap₂, sym, ◌∙◌}
 use Rattle.std.specs.Prelude.{Option, Some, None, option_map, map as mapped, Result, OnOk}
 use Rattle.std.specs.FinMap as map
-use Rattle.std.specs.List.{flat_map, filter}
+use Rattle.std.specs.List.{flat_map}
 use Rattle.doc_index.specs.Held.{Known, entries_of, held, known_as, slot_at}
 use Rattle.doc_index.specs.Maps.{PairMap, TextMap}
 use Rattle.doc_index.specs.declared.held.Held.{Held}

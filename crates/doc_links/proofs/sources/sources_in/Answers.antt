@@ -1,4 +1,4 @@
-use Rattle.std.proofs.Common.{sym, ap, ◌∙◌}
+use Rattle.std.proofs.Common.{sym, ◌∙◌}
 use Rattle.doc_index.proofs.OrderSteps.{told}
 use Rattle.doc_links.specs.SeenPages.{seen_pages}
 use Rattle.doc_links.proofs.AnswerSteps.{no_page, some_page}
