@@ -1,6 +1,6 @@
 -- Counts of words, one word after another.
 use Rattle.std.proofs.Common.{◌≡◌, ℕ, ◌+◌, ◌^◌, ◌-◌, min, List, [], ◌∷◌, ◌++◌, Bool, true, false, cond, ◌||◌, refl, ap, ap₂, sym, ◌∙◌, arith}
-use Rattle.std.proofs.Common.{◌<◌, append-nil, append_assoc, bytes_eq, count_by, get_or, length, subst, take, unwrap_or}
+use Rattle.std.proofs.Common.{◌<◌, append-nil, append_assoc, bytes_eq, count_by, get_or, length, take, unwrap_or}
 use Rattle.std.specs.Prelude.{Option, Some, None, map as mapped}
 use Rattle.std.specs.Cmp.Lexicographic.{slice_cmp}
 use Rattle.std.specs.FinMap as map
@@ -53,7 +53,8 @@ no_count : (p : List ℕ → Bool) (words : List (List ℕ)) → list_any p word
 no_count p [] e = refl
 no_count p (w ∷ words) e = sum_by-cons (λ x. cond (p x) 1 0) w words ∙ by (p w) (no_count p words) e
   where
-    by : (b : Bool) → (list_any p words ≡ false → count_by p words ≡ 0) → (b || list_any p words) ≡ false → cond b 1 0 + count_by p words ≡ 0
+    by : (b : Bool) → (list_any p words ≡ false → count_by p words ≡ 0) → (b || list_any p words) ≡ false
+        → cond b 1 0 + count_by p words ≡ 0
     by true ih e = absurd (clash true refl e)
     by false ih e = let none : count_by p words ≡ 0 = ih e in omega arith
 
@@ -99,12 +100,14 @@ counted_word words w = map.same_map nat_list_cmp_total exact_bytes (one_more (co
 counted_behind : (words more : List (List ℕ)) → counted (counts_of words) more ≡ counts_of (words ++ more)
 counted_behind words [] = ap counts_of (sym (append-nil words))
 counted_behind words (w ∷ more) =
-    ap (λ m. counted m more) (counted_word words w) ∙ counted_behind (words ++ w ∷ []) more ∙ ap counts_of (append_assoc words (w ∷ []) more)
+    ap (λ m. counted m more) (counted_word words w) ∙ counted_behind (words ++ w ∷ []) more
+    ∙ ap counts_of (append_assoc words (w ∷ []) more)
 
 pub counted_all : (words : List (List ℕ)) → counted map.empty words ≡ counts_of words
 counted_all words = counted_behind [] words
 
-pub counted_append : (counts : TextMap ℕ) (words more : List (List ℕ)) → counted counts (words ++ more) ≡ counted (counted counts words) more
+pub counted_append : (counts : TextMap ℕ) (words more : List (List ℕ))
+    → counted counts (words ++ more) ≡ counted (counted counts words) more
 counted_append counts [] more = refl
 counted_append counts (w ∷ words) more = counted_append (one_more counts w) words more
 

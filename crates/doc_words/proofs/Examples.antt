@@ -1,5 +1,5 @@
 -- The definitions on examples.
-use Rattle.std.proofs.Common.{◌≡◌, ℕ, ◌-◌, ◌^◌, ◌+◌, List, [], ◌∷◌, Bool, length, codes, refl, ap, sym, ◌∙◌, arith, bytes_eq, if◌then◌else◌}
+use Rattle.std.proofs.Common.{◌≡◌, ℕ, ◌-◌, ◌^◌, List, [], ◌∷◌, length, codes, refl, ap, sym, ◌∙◌, arith, bytes_eq, if◌then◌else◌}
 use Rattle.std.specs.Prelude.{Option, Some, None, Ok, Err, map as mapped}
 use Rattle.std.specs.Char.{encode_utf8}
 use Rattle.std.specs.Cmp.Lexicographic.{slice_cmp}
@@ -13,9 +13,8 @@ use Rattle.caseless.specs.Caseless.{default_case_fold}
 use Rattle.ucd_case.proofs.Computing.{ucd_case}
 use Rattle.ucd_category.proofs.Computing.{ucd_category}
 use Rattle.doc_page.specs.Sights.{seen}
-use Rattle.doc_page.specs.declared.rendered.Rendered.{Rendered}
 use Rattle.doc_words.specs.Searches.{best, score}
-use Rattle.doc_words.specs.Words.{checked, count, counts_of, different, page_words, query_of, words_of}
+use Rattle.doc_words.specs.Words.{checked, count, page_words, query_of, words_of}
 use Rattle.doc_words.specs.declared.hit.Hit.{Hit}
 use Rattle.doc_words.specs.declared.query.QueryError.TheVariants.{NoWords, TooManyWords}
 

@@ -7,7 +7,7 @@ use Rattle.std.specs.FinMap.Entries.{by_order}
 use Rattle.std.specs.Ordering.{eq_by_cmp}
 use Rattle.doc_index.specs.declared.held.Held.{Held}
 use Rattle.doc_index.specs.Held.{Known, counts_of, entries_of, held, slot_at}
-use Rattle.doc_index.specs.Maps.{PairMap, TextMap, pair_cmp}
+use Rattle.doc_index.specs.Maps.{TextMap, pair_cmp}
 use Rattle.doc_index.proofs.HeldSteps.{pairs_exact, pairs_total}
 use Rattle.doc_words.specs.Held.{counts_or_none, words_held}
 use Rattle.doc_words.specs.Searches.{pages_of}
@@ -42,7 +42,8 @@ module _ {T : Type 0} where
       by true = refl
       by false = refl
 
-  pub words_at : (slots : List (Option (Held T))) (q : List ℕ × ℕ) → map.get (words_held slots) q ≡ option_map counts_in (map.get (held slots) q)
+  pub words_at : (slots : List (Option (Held T))) (q : List ℕ × ℕ)
+      → map.get (words_held slots) q ≡ option_map counts_in (map.get (held slots) q)
   words_at slots q =
       map.get-from_entries pairs_total (mapped entry_in (entries_of slots)) q ∙ found_words q (entries_of slots)
       ∙ ap (option_map counts_in) (sym (map.get-from_entries pairs_total (entries_of slots) q))
@@ -57,7 +58,8 @@ module _ {T : Type 0} where
       ∙ ap (cond (eq_by_cmp pair_cmp q k) (Some page.counts)) (sym (words_at old q))
       ∙ sym (map.get-insert pairs_total (words_held old) k page.counts q))
     where
-      by : (b : Bool) (o : Option (Known T)) → option_map counts_in (cond b (Some page) o) ≡ cond b (Some page.counts) (option_map counts_in o)
+      by : (b : Bool) (o : Option (Known T))
+          → option_map counts_in (cond b (Some page) o) ≡ cond b (Some page.counts) (option_map counts_in o)
       by true o = refl
       by false o = refl
 
@@ -112,7 +114,8 @@ module _ {T : Type 0} where
       by Greater ih = ap (λ fs. entry_in e ∷ fs) ih
 
   entries_mapped : (es : List ((List ℕ × ℕ) × Known T))
-      → map.entries (map.from_entries {R = pair_cmp} (mapped entry_in es)) ≡ mapped entry_in (map.entries (map.from_entries {R = pair_cmp} es))
+      → map.entries (map.from_entries {R = pair_cmp} (mapped entry_in es))
+      ≡ mapped entry_in (map.entries (map.from_entries {R = pair_cmp} es))
   entries_mapped [] = no_entries (TextMap ℕ) ∙ ap (mapped entry_in) (sym (no_entries (Known T)))
   entries_mapped (e ∷ es) =
       map.entries-insert pairs_total (map.from_entries {R = pair_cmp} (mapped entry_in es)) e.0 e.1.counts

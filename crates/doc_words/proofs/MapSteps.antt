@@ -1,6 +1,6 @@
 -- Maps of texts in the order of their keys.
-use Rattle.std.proofs.Common.{◌≡◌, ◌+◌, ◌*◌, ℕ, String, string_bytes, string_cmp, List, [], ◌∷◌, ap, sym, refl, ◌∙◌}
-use Rattle.std.specs.Prelude.{IfOk, OnOk, Result, Ok, Err, map as mapped}
+use Rattle.std.proofs.Common.{◌≡◌, String, string_bytes, string_cmp, List, [], ◌∷◌, sym}
+use Rattle.std.specs.Prelude.{IfOk, OnOk, Result, Ok, Err}
 use Rattle.std.specs.BTreeMap.{BTreeMap, IsOrdered}
 use Rattle.std.specs.declared.cmp.Ordering.TheVariants.{Less}
 use Rattle.std.specs.Cmp.Lexicographic.{slice_cmp}

@@ -1,5 +1,5 @@
 -- Hits in their order, whatever order they came in.
-use Rattle.std.proofs.Common.{◌≡◌, ◌<◌, ◌≤◌, ℕ, suc, zero, ◌+◌, List, [], ◌∷◌, ◌++◌, length, take, Bool, true, false, cond, if◌then◌else◌, arith}
+use Rattle.std.proofs.Common.{◌≡◌, ℕ, suc, zero, ◌+◌, List, [], ◌∷◌, ◌++◌, take, Bool, true, false, cond, if◌then◌else◌, arith}
 use Rattle.std.proofs.Common.{refl, ap, ap₂, sym, subst, ◌∙◌, Ordering, Less, Equal, Greater, is_eq, is_lt, nat_cmp, sum_by, zero-le}
 use Rattle.std.specs.Prelude.{map as mapped, slice_index_or}
 use Rattle.std.specs.Cmp.{IsTotalOrder}
@@ -100,7 +100,8 @@ part : (h : Hit) (hits : List Hit) (n : ℕ) → sum_by (one h) hits ≡ suc n �
 part h [] n e = absurd (omega arith)
 part h (x ∷ hits) n e = by (is_eq (rank_cmp h x)) refl (sym (sum_by-cons (one h) x hits) ∙ e) (part h hits n)
   where
-    by : (b : Bool) → is_eq (rank_cmp h x) ≡ b → one h x + sum_by (one h) hits ≡ suc n → (sum_by (one h) hits ≡ suc n → Parts h hits) → Parts h (x ∷ hits)
+    by : (b : Bool) → is_eq (rank_cmp h x) ≡ b → one h x + sum_by (one h) hits ≡ suc n → (sum_by (one h) hits ≡ suc n → Parts h hits)
+        → Parts h (x ∷ hits)
     by true p q ih = record {
       front = [];
       back = hits;
@@ -136,7 +137,8 @@ same_ranked (x ∷ xs) ys same =
         let c : sum_by f (found.front ++ x ∷ found.back) ≡ sum_by f found.front + sum_by f (x ∷ found.back)
         = sum_by-append f found.front (x ∷ found.back) in
         let d : sum_by f (x ∷ found.back) ≡ f x + sum_by f found.back = sum_by-cons f x found.back in
-        let e : sum_by f (found.front ++ found.back) ≡ sum_by f found.front + sum_by f found.back = sum_by-append f found.front found.back in
+        let e : sum_by f (found.front ++ found.back) ≡ sum_by f found.front + sum_by f found.back
+        = sum_by-append f found.front found.back in
         omega arith
 
 later : (k : ℕ) → suc k + 1 ≡ suc (k + 1)

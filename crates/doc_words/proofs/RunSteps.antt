@@ -47,7 +47,8 @@ after run [] =
 after run (c ∷ cs) = by (is_word_char c) (after (run ++ c ∷ []) cs) (after [] cs)
   where
     by : (b : Bool) → words_after (run ++ c ∷ []) cs ≡ words_in (onto (run ++ c ∷ []) (pieces cs))
-        → words_after [] cs ≡ words_in (onto [] (pieces cs)) → (if b then words_after (run ++ c ∷ []) cs else word_if run ++ words_after [] cs)
+        → words_after [] cs ≡ words_in (onto [] (pieces cs))
+        → (if b then words_after (run ++ c ∷ []) cs else word_if run ++ words_after [] cs)
         ≡ words_in (onto run (cond (not b) ([] ∷ pieces cs) (onto_first c (pieces cs))))
     by true on off = on ∙ ap words_in (onto_pushed run c (pieces cs))
     by false on off =

@@ -1,17 +1,16 @@
 -- A search over slots is one over their pages.
 use Rattle.std.proofs.Common.{◌≡◌, ℕ, suc, ◌+◌, ◌*◌, ◌/◌, List, [], ◌∷◌, ◌++◌, Bool, true, false, cond, ◌&&◌, if◌then◌else◌, length, take, arith, ◌<◌, get_or, subst₂}
-use Rattle.std.proofs.Common.{refl, ap, ap₂, sym, ◌∙◌, count_by, is_some, sum_by, unwrap_or, zero-add, Bor}
-use Rattle.std.specs.Prelude.{IfOk, Result, Ok, Err, Option, Some, None, map as mapped, option_copied}
+use Rattle.std.proofs.Common.{refl, ap, ap₂, sym, ◌∙◌, count_by, is_some, sum_by, unwrap_or, zero-add}
+use Rattle.std.specs.Prelude.{IfOk, Result, Ok, Err, Option, Some, None, map as mapped}
 use Rattle.std.specs.FinMap as map
 use Rattle.std.specs.List.{filter, flat_map, list_all}
 use Rattle.std.proofs.lemmas.List.{take_more}
 use Rattle.std.proofs.lemmas.List.Sums.{sum_by-cons}
 use Rattle.doc_index.specs.declared.held.Held.{Held}
 use Rattle.doc_index.specs.Held.{count_in, slot_at}
-use Rattle.doc_index.specs.Maps.{NumberMap, TextMap}
-use Rattle.doc_index.specs.TableSteps.{number_in}
+use Rattle.doc_index.specs.Maps.{TextMap}
 use Rattle.doc_page.specs.Sights.{leads_to_itself, seen}
-use Rattle.doc_words.specs.Searches.{holders, holds_all, quotient, ranked, score, search, weight}
+use Rattle.doc_words.specs.Searches.{holders, holds_all, ranked, score, search, weight}
 use Rattle.doc_words.specs.SearchSteps.{AreWeighed, IsWeighed, count_at, hit_at, hit_in, hits_among, onto_page, pages_at, score_at, sees_at, weight_at}
 use Rattle.doc_words.specs.Words.{capped}
 use Rattle.doc_words.specs.declared.hit.Hit.{Hit}
@@ -70,7 +69,8 @@ module _ {T : Type 0} (slots : List (Option (Held T))) where
       by (Some page) = which (is_some (map.get page.counts word))
         where
           which : (b : Bool) → cond b 1 0 + length (holders map.get (pages_at slots ns) word)
-              ≡ length (cond b ((page.path, page.counts) ∷ holders map.get (pages_at slots ns) word) (holders map.get (pages_at slots ns) word))
+              ≡ length (cond b ((page.path, page.counts) ∷ holders map.get (pages_at slots ns) word)
+              (holders map.get (pages_at slots ns) word))
           which true = one_more (length (holders map.get (pages_at slots ns) word))
           which false = zero-add (length (holders map.get (pages_at slots ns) word))
 

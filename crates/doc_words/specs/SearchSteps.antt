@@ -39,7 +39,8 @@ abbrev pub count_at : Postings → ℕ → Option ℕ
 count_at postings slot = number_in (option_copied postings.row) slot
 
 -- a word with its row and its quotient
-pub record IsWeighed {T : Type 0} (slots : List (Option (Held T))) (pages : List (List ℕ × TextMap ℕ)) (word : List ℕ) (weighed : Weighed) : Type 0 where
+pub record IsWeighed {T : Type 0} (slots : List (Option (Held T))) (pages : List (List ℕ × TextMap ℕ))
+    (word : List ℕ) (weighed : Weighed) : Type 0 where
   pub counts : (slot : ℕ) → count_at weighed.postings slot ≡ count_in (slot_at slots slot) word
   pub quotient_is : weighed.quotient ≡ quotient map.get pages word
 

@@ -1,5 +1,5 @@
 -- Which pages a search finds, in which order.
-use Rattle.std.specs.Prelude.{ℕ, ◌+◌, ◌*◌, ◌/◌, List, [], ◌∷◌, length, take, Bool, Option, is_some, unwrap_or, if◌then◌else◌}
+use Rattle.std.specs.Prelude.{ℕ, ◌*◌, ◌/◌, List, [], ◌∷◌, length, take, Bool, Option, is_some, unwrap_or, if◌then◌else◌}
 use Rattle.std.specs.Prelude.{map as mapped, sum_by}
 use Rattle.std.specs.Cmp.Lexicographic.{slice_cmp}
 use Rattle.std.specs.FinMap as map

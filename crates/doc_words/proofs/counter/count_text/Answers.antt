@@ -15,5 +15,6 @@ returns c =
     let end = YieldsList-end (YieldsList-from_chars c.args.text.now c.utf8.text cc) c.characters.yielded _ c.characters.yielded_by _ _
     c.in-None.is c.next.ensures.steps in
     on_ok c.end_run.result (λ is. is ∙ c.characters.invariant []
-    ∙ ap (λ cs. counted c.args.counter.now (words_after [] cs)) (append-nil c.characters.yielded ∙ (sym (map-id c.characters.yielded) ∙ end.0))
+    ∙ ap (λ cs. counted c.args.counter.now (words_after [] cs)) (append-nil c.characters.yielded
+    ∙ (sym (map-id c.characters.yielded) ∙ end.0))
     ∙ ap (counted c.args.counter.now) (from_start c.args.text.now)) c.end_run.ensures.counts

@@ -5,4 +5,5 @@ use Rattle.doc_words.proofs.counter.count_text.Given as goal
 -- what the run and the rest have, the whole text has
 abbrev pub invariant-characters : goal.invariant-characters
 invariant-characters l =
-    (rest : List ℕ) → counted l.counter (words_after (chars (string_bytes l.run)) rest) ≡ counted l.fn.counter (words_after [] (l.yielded ++ rest))
+    (rest : List ℕ) → counted l.counter (words_after (chars (string_bytes l.run)) rest)
+    ≡ counted l.fn.counter (words_after [] (l.yielded ++ rest))

@@ -1,4 +1,4 @@
-use Rattle.std.proofs.Common.{ap, ap₂, ◌∙◌}
+use Rattle.std.proofs.Common.{ap, ◌∙◌}
 use Rattle.std.specs.FinMap as map
 use Rattle.doc_index.proofs.TableSteps.{on_ok}
 use Rattle.doc_words.specs.Held.{counts_or_none}

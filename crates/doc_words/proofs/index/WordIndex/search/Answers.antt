@@ -1,6 +1,5 @@
-use Rattle.std.proofs.Common.{ap, length, subst, sym, ◌≡◌, ◌∙◌}
+use Rattle.std.proofs.Common.{ap, length, sym, ◌∙◌}
 use Rattle.doc_page.specs.Sights.{seen}
-use Rattle.doc_words.specs.Held.{words_held}
 use Rattle.doc_words.specs.Searches.{pages_of, search}
 use Rattle.doc_words.specs.SearchSteps.{pages_at}
 use Rattle.doc_words.proofs.HeldSteps.{pages_in_order}
