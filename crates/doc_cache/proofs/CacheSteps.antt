@@ -74,12 +74,14 @@ promoted-looked cache key = ap (λ pairs. cached pairs cache.cap) (first key cac
 
 -- so the cache ends as one that was looked at, and what is found then is what stood there
 pub ends-looked : (old new : LruCache Key (List ℕ)) (cache : Cached) (key : Key)
-    → new ≡ lru_cache (promoted (same_key key) old.entries) old.cap → cached old.entries old.cap ≡ cache → cached new.entries new.cap ≡ looked cache key
+    → new ≡ lru_cache (promoted (same_key key) old.entries) old.cap → cached old.entries old.cap ≡ cache
+    → cached new.entries new.cap ≡ looked cache key
 ends-looked old new cache key is view =
     ap (λ now. cached now.entries now.cap) is ∙ promoted-looked old key ∙ ap (λ before. looked before key) view
 
 pub found-looked : (old new : LruCache Key (List ℕ)) (cache : Cached) (key : Key)
-    → new ≡ lru_cache (promoted (same_key key) old.entries) old.cap → cached old.entries old.cap ≡ cache → lookup (same_key key) new.entries ≡ text_under cache key
+    → new ≡ lru_cache (promoted (same_key key) old.entries) old.cap → cached old.entries old.cap ≡ cache
+    → lookup (same_key key) new.entries ≡ text_under cache key
 found-looked old new cache key is view =
     ap (λ now. lookup (same_key key) now.entries) is ∙ found-promoted (same_key key) old.entries ∙ ap (λ before. text_under before key) view
 

@@ -80,7 +80,8 @@ impl Routes {
 /// Adds a route that the router reads, and that conflicts with none that it has.
 fn add(router: &mut Router<Place>, route: &str, place: Place) -> Result<(), Memory>
     requires { CanStand (parse_route route.now) router.old }
-    ensures { OnOk result (InsertsRead (parse_route route.now) place router.old router.new (Ok tt)) }
+    ensures { OnOk result
+        (InsertsRead (parse_route route.now) place router.old router.new (Ok tt)) }
 {
     match router.insert(route, place) {
         Ok(()) => Ok(()),

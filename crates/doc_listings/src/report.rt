@@ -12,7 +12,8 @@ use doc_page::failure::Memory;
 /// Writes a line for each broken link: the path of its page, its number there, the reason and what it leads to, with tabs between.
 #[tactic(auto, unfolding(crate::specs::Listings::report_text), using(doc_page::proofs::BufferSteps::front_same, doc_page::proofs::BufferSteps::front_more))]
 pub fn push_report(heap: Heap, out: &mut String, links: &[Broken]) -> Result<(), Memory>
-    ensures ok { OnOk result (string_bytes out.new ≡ string_bytes out.old ++ report_text links.now) }
+    ensures ok { OnOk result
+        (string_bytes out.new ≡ string_bytes out.old ++ report_text links.now) }
     ensures err { OnErr result (StartsWith (string_bytes out.new) (string_bytes out.old)) }
 {
     out.reserve(room_of(links))?;
