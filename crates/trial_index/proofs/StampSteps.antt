@@ -17,16 +17,22 @@ module _ {X : Type 0} (held : PairMap X) (n : ℕ) where
   free k = map.get-remove pairs_total held k k ∙ ap (λ b. cond b None (map.get held k)) (pair_itself k)
 
   pub removed : HasStamp n held → (k : List ℕ × ℕ) → HasStamp n (map.remove held k)
-  removed all k path stamp there = by (eq_by_cmp pair_cmp (path, stamp) k) (ap is_some (sym (map.get-remove pairs_total held k (path, stamp))) ∙ there)
+  removed all k path stamp there = by (same k) (ap is_some (sym (map.get-remove pairs_total held k (path, stamp))) ∙ there)
     where
+      same : List ℕ × ℕ → Bool
+      same k = eq_by_cmp pair_cmp (path, stamp) k
+
       by : (b : Bool) → is_some (cond b None (map.get held (path, stamp))) ≡ true → stamp ≡ n
       by true none = absurd (both_ways false refl none)
       by false some = all path stamp some
 
   pub inserted : HasStamp n held → (path : List ℕ) (value : X) → HasStamp n (map.insert held (path, n) value)
   inserted all key value path stamp there =
-      by (eq_by_cmp pair_cmp (path, stamp) (key, n)) refl (ap is_some (sym (map.get-insert pairs_total held (key, n) value (path, stamp))) ∙ there)
+      by same refl (ap is_some (sym (map.get-insert pairs_total held (key, n) value (path, stamp))) ∙ there)
     where
-      by : (b : Bool) → eq_by_cmp pair_cmp (path, stamp) (key, n) ≡ b → is_some (cond b (Some value) (map.get held (path, stamp))) ≡ true → stamp ≡ n
-      by true same some = ap (λ k. k.1) (pair_is (path, stamp) (key, n) same)
+      same : Bool
+      same = eq_by_cmp pair_cmp (path, stamp) (key, n)
+
+      by : (b : Bool) → same ≡ b → is_some (cond b (Some value) (map.get held (path, stamp))) ≡ true → stamp ≡ n
+      by true is some = ap (λ k. k.1) (pair_is (path, stamp) (key, n) is)
       by false other some = all path stamp some
