@@ -8,23 +8,30 @@ use doc_store::store::Store;
 /// How many aliases the moves to and fro go over in all.
 const ALIASES: u64 = 5_000_000;
 
-/// A store of so many pages, each of which was moved once: so many aliases.
-pub fn moved(heap: Heap, pages: u64) -> Result<Store, Fault> {
+/// Puts so many pages, moves each, which makes so many aliases, and then moves one of them to its alias and back, again and again, or not.
+pub fn count(heap: Heap, pages: u64, goes_on: bool) -> Result<usize, Fault> {
+    let rounds = if goes_on { rounds(pages)? } else { 0 };
     let mut store = put(heap, pages)?;
-    for number in 0..pages {
-        move_page(heap, &mut store, "guide", "book", number)?;
-    }
-    Ok(store)
+    let moved = move_all(heap, &mut store, pages, rounds);
+    let count = stamps(&store);
+    drop(store);
+    moved?;
+    Ok(count)
 }
 
-/// Moves one page of such a store to its alias and back, again and again.
-pub fn to_and_fro(heap: Heap, pages: u64) -> Result<usize, Fault> {
-    let mut store = moved(heap, pages)?;
-    for _ in 0..ALIASES.checked_div(pages).ok_or(Fault::Refused)? / 2 {
-        move_page(heap, &mut store, "book", "guide", 0)?;
-        move_page(heap, &mut store, "guide", "book", 0)?;
+fn rounds(pages: u64) -> Result<u64, Fault> {
+    Ok(ALIASES.checked_div(pages).ok_or(Fault::Refused)? / 2)
+}
+
+fn move_all(heap: Heap, store: &mut Store, pages: u64, rounds: u64) -> Result<(), Fault> {
+    for number in 0..pages {
+        move_page(heap, store, "guide", "book", number)?;
     }
-    Ok(stamps(&store))
+    for _ in 0..rounds {
+        move_page(heap, store, "book", "guide", 0)?;
+        move_page(heap, store, "guide", "book", 0)?;
+    }
+    Ok(())
 }
 
 fn move_page(
@@ -34,7 +41,13 @@ fn move_page(
     to: &str,
     number: u64,
 ) -> Result<(), Fault> {
-    let from = path(heap, from, number)?;
-    let to = path(heap, to, number)?;
-    Ok(store.move_page(&from, &to)?)
+    let to = path(heap, to, number);
+    let from = path(heap, from, number);
+    let moved = match (&from, &to) {
+        (Ok(from), Ok(to)) => store.move_page(from, to).map_err(Fault::from),
+        _ => Err(Fault::Refused),
+    };
+    drop(from);
+    drop(to);
+    moved
 }

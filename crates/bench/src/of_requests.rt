@@ -32,12 +32,16 @@ pub fn count(heap: Heap, task: Task) -> Option<Result<usize, Fault>> {
 
 fn length(heap: Heap, task: Task) -> Result<usize, Fault> {
     let text = bodies::by_length(heap, task.number(1))?;
-    bodies::read(heap, &text, task.number(2), task.number(3))
+    let read = bodies::read(heap, &text, task.number(2), task.number(3));
+    drop(text);
+    read
 }
 
 fn chunks(heap: Heap, task: Task) -> Result<usize, Fault> {
     let text = bodies::in_chunks(heap, task.number(1), task.number(4))?;
-    bodies::read(heap, &text, task.number(2), task.number(3))
+    let read = bodies::read(heap, &text, task.number(2), task.number(3));
+    drop(text);
+    read
 }
 
 fn reply_bytes(heap: Heap, task: Task) -> Result<usize, Fault> {

@@ -18,21 +18,22 @@ pub fn count(heap: Heap, task: Task) -> Option<Result<usize, Fault>> {
         "puts" => puts(heap, size),
         "store" => store(heap, size),
         "links" => links::count(heap, size),
-        "moved" => moved(heap, size),
-        "moves" => moves::to_and_fro(heap, size),
+        "moved" => moves::count(heap, size, false),
+        "moves" => moves::count(heap, size, true),
         _ => return None,
     })
 }
 
 fn puts(heap: Heap, size: u64) -> Result<usize, Fault> {
-    Ok(site::stamps(&site::put(heap, size)?))
+    let store = site::put(heap, size)?;
+    let count = site::stamps(&store);
+    drop(store);
+    Ok(count)
 }
 
 fn store(heap: Heap, size: u64) -> Result<usize, Fault> {
     let store = site::put(heap, size)?;
-    lookups::count(heap, &store, size)
-}
-
-fn moved(heap: Heap, size: u64) -> Result<usize, Fault> {
-    Ok(site::stamps(&moves::moved(heap, size)?))
+    let count = lookups::count(heap, &store, size);
+    drop(store);
+    count
 }

@@ -38,43 +38,86 @@ pub fn count(heap: Heap, task: Task) -> Option<Result<usize, Fault>> {
 }
 
 fn lines_of_text(heap: Heap, size: usize) -> Result<usize, Fault> {
-    Ok(count_lines(&lines(heap, size)?))
+    let text = lines(heap, size)?;
+    let count = count_lines(&text);
+    drop(text);
+    Ok(count)
 }
 
 fn unescaped(heap: Heap, size: usize) -> Result<usize, Fault> {
     let text = lines(heap, size)?;
-    let read = unescape(heap, &text, &Entities::built_in())?;
-    Ok(read.get().len())
+    let count = unescaped_len(heap, &text);
+    drop(text);
+    count
+}
+
+fn unescaped_len(heap: Heap, text: &str) -> Result<usize, Fault> {
+    let read = unescape(heap, text, &Entities::built_in())?;
+    let count = read.get().len();
+    drop(read);
+    Ok(count)
 }
 
 fn taken(heap: Heap, size: usize) -> Result<usize, Fault> {
-    let text = definitions(heap, size)?;
-    take_and_find(heap, &text)
+    let mut text = String::new(heap);
+    let taken = take_parts(heap, &mut text, size);
+    drop(text);
+    taken
+}
+
+/// Writes the definitions to a text and takes them.
+fn take_parts(heap: Heap, text: &mut String, size: usize) -> Result<usize, Fault> {
+    push_parts(text, size)?;
+    take_and_find(heap, text)
 }
 
 /// How many blocks stand at the outermost level of what standard input holds.
 pub fn blocks_of_input<R: AllocGlobal + Input>(rt: &R, heap: Heap) -> Result<usize, Fault> {
     let text = io::read_to_string(rt.alloc(), rt.reader())?;
-    let document = blocks(heap, &text, &Entities::built_in())?;
-    Ok(document.blocks.len())
+    let count = block_count(heap, &text);
+    drop(text);
+    count
+}
+
+fn block_count(heap: Heap, text: &str) -> Result<usize, Fault> {
+    let document = blocks(heap, text, &Entities::built_in())?;
+    let count = document.blocks.len();
+    drop(document);
+    Ok(count)
 }
 
 /// How many marks the paragraphs of standard input have, behind the definitions at its front. Empty lines stand between paragraphs.
 pub fn marks_of_input<R: AllocGlobal + Input>(rt: &R, heap: Heap) -> Result<usize, Fault> {
     let text = io::read_to_string(rt.alloc(), rt.reader())?;
-    marks_behind(heap, &text)
+    let count = marks_behind(heap, &text);
+    drop(text);
+    count
 }
 
 /// How many marks the paragraphs of a text have, behind the definitions at its front.
 fn marks_behind(heap: Heap, text: &str) -> Result<usize, Fault> {
     let entities = Entities::built_in();
     let (refs, taken) = take_definitions(heap, text, &entities)?;
-    count_in(heap, text.get(taken..).unwrap_or(""), &refs, &entities)
+    let count = count_in(heap, text.get(taken..).unwrap_or(""), &refs, &entities);
+    drop(refs);
+    count
 }
 
 /// How many marks the paragraphs of a text have.
 fn count_in(heap: Heap, text: &str, refs: &RefMap, entities: &Entities) -> Result<usize, Fault> {
     let mut reader = Reader::new(heap);
+    let count = count_by(heap, &mut reader, text, refs, entities);
+    drop(reader);
+    count
+}
+
+fn count_by<'t>(
+    heap: Heap,
+    reader: &mut Reader<'t>,
+    text: &'t str,
+    refs: &RefMap,
+    entities: &Entities,
+) -> Result<usize, Fault> {
     let mut count = 0usize;
     for paragraph in text.split("\n\n") {
         reader.read(heap, entities, refs, paragraph)?;
@@ -96,13 +139,12 @@ fn count_lines(text: &str) -> usize {
     count
 }
 
-/// So many times 10,000 definitions, of different labels.
-fn definitions(heap: Heap, size: usize) -> Result<String, Fault> {
-    let mut text = String::new(heap);
+/// Adds so many times 10,000 definitions, of different labels.
+fn push_parts(text: &mut String, size: usize) -> Result<(), Fault> {
     for part in 0..size {
-        push_definitions(&mut text, part)?;
+        push_definitions(text, part)?;
     }
-    Ok(text)
+    Ok(())
 }
 
 fn push_definitions(text: &mut String, part: usize) -> Result<(), Fault> {
@@ -118,9 +160,15 @@ fn push_definitions(text: &mut String, part: usize) -> Result<(), Fault> {
 /// How many bytes the definitions of a text take, where the last of the first 10,000 is found by its label.
 fn take_and_find(heap: Heap, text: &str) -> Result<usize, Fault> {
     let (refs, taken) = take_definitions(heap, text, &Entities::built_in())?;
+    let is_found = finds_last(heap, &refs);
+    drop(refs);
+    Ok(if is_found? { taken } else { 0 })
+}
+
+/// Whether the last of the first 10,000 is found by its label.
+fn finds_last(heap: Heap, refs: &RefMap) -> Result<bool, Fault> {
     let label = normalize_label(heap, "label 0 9999")?;
-    match refs.find(label.get()) {
-        Some(_) => Ok(taken),
-        None => Ok(0),
-    }
+    let is_found = refs.find(label.get()).is_some();
+    drop(label);
+    Ok(is_found)
 }

@@ -6,6 +6,7 @@ use crate::fault::Fault;
 use doc_heap::{Heap, String, Vec};
 use doc_hub::event::{ConnId, Step};
 use doc_hub::hub::Hub;
+use doc_hub::refusal::StepError;
 use doc_page::path::Path;
 use doc_page::plain::PlainRenderer;
 use doc_page::renderer::Renderer;
@@ -46,33 +47,108 @@ pub fn make<L: Ledger>(
     requires some { 0 < L.parts }
 {
     let renderer: PlainRenderer<L> = PlainRenderer::new(blank);
-    let mut hub = hub_of(heap, renderer, pages)?;
-    let requests = requests(heap, pages)?;
-    step_through(heap, &mut hub, &requests, steps)
+    make_on(heap, renderer, pages, steps)
 }
 
-/// A hub with so many pages, which keeps connections alive.
-fn hub_of<R: Renderer + Drop>(heap: Heap, renderer: R, pages: usize) -> Result<Hub<R>, Fault> {
+fn make_on<R: Renderer + Drop>(
+    heap: Heap,
+    renderer: R,
+    pages: usize,
+    steps: usize,
+) -> Result<Totals, Fault> {
+    let mut hub = new_hub(heap, renderer)?;
+    let totals = totals_on(heap, &mut hub, pages, steps);
+    drop(hub);
+    totals
+}
+
+/// A hub without pages, which keeps connections alive.
+fn new_hub<R: Renderer + Drop>(heap: Heap, renderer: R) -> Result<Hub<R>, Fault> {
     let readers = Readers::from_toml(heap, READERS)?;
-    let mut hub = Hub::new(heap, renderer, readers, true, 1)?;
-    let groups = Groups::none(heap);
-    let text = LINE.repeat(heap, 64)?;
-    for number in 0..pages {
-        let path = format!(in heap; "guide/{number:05}.md")?;
-        hub.put_page(&Path::new(heap, &path)?, &groups, &text)?;
-    }
-    Ok(hub)
+    Hub::new(heap, renderer, readers, true, 1).map_err(Fault::from)
 }
 
-/// The requests for so many pages.
-fn requests(heap: Heap, pages: usize) -> Result<Vec<String>, Fault> {
-    let mut requests = Vec::new(heap);
+fn totals_on<R: Renderer + Drop>(
+    heap: Heap,
+    hub: &mut Hub<R>,
+    pages: usize,
+    steps: usize,
+) -> Result<Totals, Fault> {
+    put_pages(heap, hub, pages)?;
+    let mut requests: Vec<String> = Vec::new(heap);
+    let totals = totals_of(heap, hub, &mut requests, pages, steps);
+    drop(requests);
+    totals
+}
+
+/// Writes the requests down and makes the steps.
+fn totals_of<R: Renderer + Drop>(
+    heap: Heap,
+    hub: &mut Hub<R>,
+    requests: &mut Vec<String>,
+    pages: usize,
+    steps: usize,
+) -> Result<Totals, Fault> {
+    push_requests(heap, requests, pages)?;
+    step_through(heap, hub, requests, steps)
+}
+
+/// Puts so many pages.
+fn put_pages<R: Renderer + Drop>(heap: Heap, hub: &mut Hub<R>, pages: usize) -> Result<(), Fault> {
+    let text = LINE.repeat(heap, 64)?;
+    let put = put_each(heap, hub, &text, pages);
+    drop(text);
+    put
+}
+
+fn put_each<R: Renderer + Drop>(
+    heap: Heap,
+    hub: &mut Hub<R>,
+    text: &str,
+    pages: usize,
+) -> Result<(), Fault> {
     for number in 0..pages {
-        requests.push(format!(in heap;
-            "GET /page/guide/{number:05}.md HTTP/1.1\r\nHost: docs\r\nAuthorization: Bearer token\r\n\r\n"
-        )?)?;
+        put_page(heap, hub, text, number)?;
     }
-    Ok(requests)
+    Ok(())
+}
+
+fn put_page<R: Renderer + Drop>(
+    heap: Heap,
+    hub: &mut Hub<R>,
+    text: &str,
+    number: usize,
+) -> Result<(), Fault> {
+    let path = path(heap, number)?;
+    let groups = Groups::none(heap);
+    let put = hub.put_page(&path, &groups, text);
+    drop(groups);
+    drop(path);
+    put?;
+    Ok(())
+}
+
+/// The path of the page of this number.
+fn path(heap: Heap, number: usize) -> Result<Path, Fault> {
+    let text = format!(in heap; "guide/{number:05}.md")?;
+    let path = Path::new(heap, &text);
+    drop(text);
+    path.map_err(Fault::from)
+}
+
+/// Adds the requests for so many pages.
+fn push_requests(heap: Heap, requests: &mut Vec<String>, pages: usize) -> Result<(), Fault> {
+    for number in 0..pages {
+        push_request(heap, requests, number)?;
+    }
+    Ok(())
+}
+
+fn push_request(heap: Heap, requests: &mut Vec<String>, number: usize) -> Result<(), Fault> {
+    let request = format!(in heap;
+        "GET /page/guide/{number:05}.md HTTP/1.1\r\nHost: docs\r\nAuthorization: Bearer token\r\n\r\n"
+    )?;
+    requests.push(request).map_err(Fault::from)
 }
 
 /// So many steps on one connection, each of another request.
@@ -93,11 +169,17 @@ fn step_through<R: Renderer + Drop>(
             .wrapping_add(STEP)
             .checked_rem(requests.len())
             .ok_or(Fault::Refused)?;
-        let one = step(heap, hub, id, requests.get(place).ok_or(Fault::Refused)?)?;
-        totals.bytes = totals.bytes.wrapping_add(one.bytes);
-        totals.growths = totals.growths.wrapping_add(one.growths);
+        let request = requests.get(place).ok_or(Fault::Refused)?;
+        totals.add(step(heap, hub, id, request)?);
     }
     Ok(totals)
+}
+
+impl Totals {
+    fn add(&mut self, other: Totals) {
+        self.bytes = self.bytes.wrapping_add(other.bytes);
+        self.growths = self.growths.wrapping_add(other.growths);
+    }
 }
 
 /// What the step of one request comes to.
@@ -109,14 +191,21 @@ fn step<R: Renderer + Drop>(
 ) -> Result<Totals, Fault> {
     hub.push(id, request.as_bytes())?;
     heap.refuse_after(GRANTED);
-    let step = hub.step(id)?;
+    let step = hub.step(id);
     let growths = GRANTED.wrapping_sub(heap.left()) as usize;
     heap.refuse_after(u64::MAX);
+    let bytes = sent_bytes(&step);
+    drop(step);
+    match bytes {
+        Some(bytes) => Ok(Totals { bytes, growths }),
+        None => Err(Fault::Refused),
+    }
+}
+
+/// How many bytes were sent on a connection that stays open.
+fn sent_bytes(step: &Result<Step, StepError>) -> Option<usize> {
     match step {
-        Step::Sent(reply) => Ok(Totals {
-            bytes: reply.get().len(),
-            growths,
-        }),
-        _ => Err(Fault::Refused),
+        Ok(Step::Sent(reply)) => Some(reply.get().len()),
+        _ => None,
     }
 }

@@ -1,6 +1,5 @@
 pub mod CodeSteps
 pub mod CutSteps
-pub mod EscapeSteps
 pub mod InlineLaws
 pub mod PlainTextSteps
 pub mod TellingSteps
@@ -9,7 +8,6 @@ pub mod WriterSteps
 pub mod WrittenSteps
 pub mod PieceSteps
 pub mod PageSteps
-pub mod UrlSteps
 pub mod TellingLaws
 pub mod PageLaws
 pub mod PlainLinkSteps

@@ -1,7 +1,7 @@
 -- Writers that go on: what they hold one step after another.
 use Rattle.std.proofs.Common.{◌≡◌, ℕ, zero, suc, ◌<◌, Bool, true, false, List, [], ◌∷◌, ◌++◌, refl, ap, sym, ◌∙◌, subst, append_assoc}
 use Rattle.std.proofs.Common.{append-nil, arith}
-use Rattle.std.specs.Prelude.{◌==◌, ◌&&◌, nat_lt, codes, Option, Some, None, option_map, if◌then◌else◌, slice_index}
+use Rattle.std.specs.Prelude.{◌==◌, nat_lt, codes, Option, Some, None, option_map, if◌then◌else◌, slice_index}
 use Rattle.std.specs.Str.{chars}
 use Rattle.std.proofs.lemmas.Str.{chars-IsAscii}
 use Rattle.std.proofs.lemmas.List.{map-append}

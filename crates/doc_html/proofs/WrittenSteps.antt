@@ -9,7 +9,7 @@ use Rattle.std.proofs.lemmas.List.Concat.{flat_map-append}
 use Rattle.std.proofs.lemmas.Str.{encodes-chars}
 use Rattle.doc_page.specs.declared.linker.Shown.{Shown}
 use Rattle.doc_page.specs.Escaping.{escaped}
-use Rattle.doc_page.specs.Pages.{title_attribute, opening_tag}
+use Rattle.doc_page.specs.Pages.{opening_tag}
 use Rattle.doc_rules.specs.Characters.{Text}
 use Rattle.doc_rules.specs.Destinations.{Target}
 use Rattle.doc_rules.specs.Escaping.{escaped_char, html_escape}
@@ -149,20 +149,12 @@ link_spells title dest got how shown e f u =
     ap (opening_tag (read_again title)) (e ∙ ap shown (sym (encodes-chars got u) ∙ ap (λ d. encode_utf8_all (chars d)) f))
     ∙ sym (append-nil (opening_tag (read_again title) (shown (encode_utf8_all (chars dest)))))
 
-pub no_title : (bytes : List ℕ) (title : Option (List ℕ)) → title ≡ None → bytes ≡ bytes ++ title_attribute (read_again title)
-no_title bytes title e = sym (append-nil bytes) ∙ ap (λ t. bytes ++ title_attribute (read_again t)) (sym e)
+pub no_title : (title : Option (List ℕ)) → title ≡ None → read_again title ≡ title
+no_title title e = ap read_again e ∙ sym e
 
-pub some_title : (old a b c : List ℕ) (title : Option (List ℕ)) (text got : List ℕ) → title ≡ Some text → got ≡ text → IsUtf8 got
-    → a ≡ old ++ codes " title=\"" → b ≡ a ++ escaped got → c ≡ b ++ codes "\"" →
-    c ≡ old ++ title_attribute (read_again title)
-some_title old a b c title text got e f u x y z =
-    let again : got ≡ encode_utf8_all (chars text) = sym (encodes-chars got u) ∙ ap (λ t. encode_utf8_all (chars t)) f in
-    z ∙ (ap (λ t. t ++ codes "\"") (y ∙ ap (λ t. t ++ escaped got) x)
-    ∙ (append_assoc (old ++ codes " title=\"") (escaped got) (codes "\"")
-    ∙ (append_assoc old (codes " title=\"") (escaped got ++ codes "\"")
-    ∙ (ap (λ t. old ++ (codes " title=\"" ++ (escaped t ++ codes "\""))) again
-    ∙ (ap (λ t. old ++ t) (sym (append_assoc (codes " title=\"") (escaped (encode_utf8_all (chars text))) (codes "\"")))
-    ∙ ap (λ t. old ++ title_attribute (read_again t)) (sym e))))))
+pub some_title : (title : Option (List ℕ)) (text got : List ℕ) → title ≡ Some text → got ≡ text → IsUtf8 got → read_again title ≡ title
+some_title title text got e f u =
+    ap read_again e ∙ ap Some (ap (λ t. encode_utf8_all (chars t)) (sym f) ∙ (encodes-chars got u ∙ f)) ∙ sym e
 
 -- ---- what is held
 

@@ -1,16 +1,12 @@
 -- How links are shown in the examples of CommonMark 0.31.2, over bytes.
-use Rattle.std.specs.Prelude.{ℕ, true, false, ◌||◌, ◌==◌, List, [], ◌∷◌, flat_map, encode_utf8_all, codes}
-use Rattle.std.specs.Char.{is_ascii_alphanumeric}
+use Rattle.std.specs.Prelude.{ℕ, nat_lt, List, flat_map, encode_utf8_all, if◌then◌else◌}
 use Rattle.doc_page.specs.declared.linker.Shown.{Shown}
 use Rattle.doc_page.specs.declared.linker.Shown.TheVariants.{Href}
-use Rattle.doc_rules.specs.Characters.{one_of}
-use Rattle.doc_rules.specs.Escaping.{percent}
+use Rattle.doc_rules.specs.Escaping.{percent, url_char}
 
--- a byte of a destination, as it is written
+-- a byte of a destination, as it is written: one below 128 is a character of ASCII, the others are percent-encoded
 unfoldable pub url_byte : ℕ → List ℕ
-url_byte b =
-    elim (is_ascii_alphanumeric b || one_of (codes "-_.+!*'(),%#@?=;:/$~") b)
-    [ true ↦ b ∷ [] | false ↦ elim (b == 38) [ true ↦ codes "&amp;" | false ↦ percent b ] ]
+url_byte b = if nat_lt b 128 then url_char b else percent b
 
 -- each destination is shown as it stands, escaped
 unfoldable pub plain_shown : List ℕ → Shown

@@ -1,7 +1,5 @@
 //! One buffer into which HTML is written, its links as a linker shows them.
-ghost use Rattle.std.specs.Prelude.{◌≡◌, ◌++◌, string_bytes, IfOk, OnOk};
-ghost use Rattle.doc_page.specs.Escaping.{escaped};
-ghost use Rattle.doc_page.specs.Pages.{opening_tag, title_attribute};
+ghost use Rattle.std.specs.Prelude.{◌≡◌, string_bytes, IfOk};
 ghost use Rattle.doc_html.specs.ProgressSteps.{begun};
 ghost use Rattle.doc_html.specs.WrittenSteps.{HoldsHtml, read_again};
 
@@ -11,7 +9,8 @@ use doc_heap::{Heap, String};
 use doc_inlines_marks::mark::Mark;
 use doc_page::escaping::push_escaped;
 use doc_page::failure::Memory;
-use doc_page::linker::{Linker, Shown};
+use doc_page::filling::push_opening_tag;
+use doc_page::linker::Linker;
 use doc_page::text::Text;
 use doc_refs::Target;
 
@@ -69,7 +68,8 @@ impl<'l, L: Linker> Writer for HtmlWriter<'l, L> {
 
     fn link(&mut self, target: &Target) -> Result<(), Memory> {
         let shown = self.linker.show(self.heap, target.dest.get())?;
-        push_tag(&mut self.out, &target.title, &shown)?;
+        title_is_text(&target.title);
+        push_opening_tag(&mut self.out, &target.title, &shown)?;
         self.fresh = false;
         Ok(())
     }
@@ -96,33 +96,12 @@ impl<'l, L: Linker> Writer for HtmlWriter<'l, L> {
     }
 }
 
-/// Adds the opening tag of a link.
-fn push_tag(out: &mut String, title: &Option<Text>, shown: &Shown) -> Result<(), Memory>
-    ensures { OnOk result (string_bytes out.new ≡ string_bytes out.old
-        ++ opening_tag (read_again title.now) shown.now) }
-{
-    match shown {
-        Shown::Href(href) => {
-            out.push_str("<a href=\"")?;
-            out.push_str(href.get())?;
-            out.push_str("\"")?;
-            push_title(out, title)?;
-            out.push_str(">")?;
-        }
-        Shown::Missing => out.push_str("<a class=\"missing\">")?,
-    }
-    Ok(())
-}
-
-fn push_title(out: &mut String, title: &Option<Text>) -> Result<(), Memory>
-    ensures { OnOk result (string_bytes out.new ≡ string_bytes out.old
-        ++ title_attribute (read_again title.now)) }
+/// A title's bytes are those of its characters, as of any text.
+fn title_is_text(title: &Option<Text>)
+    ensures { read_again title.now ≡ title.now }
 {
     let Some(title) = title else {
-        return Ok(());
+        return;
     };
-    out.push_str(" title=\"")?;
-    push_escaped(out, title.get())?;
-    out.push_str("\"")?;
-    Ok(())
+    let _text = title.get();
 }

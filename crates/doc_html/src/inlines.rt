@@ -11,7 +11,7 @@ ghost use Rattle.doc_html.specs.ProgressSteps.{Writes};
 ghost use Rattle.doc_html.specs.InlineSteps.{images_behind, mark_html, mark_plain};
 
 use crate::code::{push_nothing, push_space, push_spaced};
-use crate::escaping::url;
+use crate::destinations::url;
 use crate::writer::{Writer, markup};
 use doc_heap::Heap;
 use doc_inlines_marks::mark::{Mark, Span};

@@ -18,6 +18,7 @@ use doc_inlines::Reader;
 use doc_lines::scan::character::next_char;
 use doc_lines::scan::front::front;
 use doc_lines::scan::run::many;
+use doc_lines::scan::white_space::is_space_or_tab;
 use doc_page::failure::Memory;
 
 /// Writes a paragraph. Directly in an item of a tight list it is its inlines alone (section 5.3).
@@ -146,16 +147,10 @@ fn first_word(info: &str) -> &str
     front(start, many(start, is_in_word))
 }
 
-fn is_space_or_tab(c: char) -> bool
-    ensures { result ≡ is_space_or_tab c }
-{
-    c == ' ' || c == '\t'
-}
-
 fn is_in_word(c: char) -> bool
     ensures { result ≡ not (is_space_or_tab c) }
 {
-    c != ' ' && c != '\t'
+    !is_space_or_tab(c)
 }
 
 /// Writes an HTML block.

@@ -4,8 +4,8 @@
 mod blocks;
 mod code;
 mod common_mark;
+mod destinations;
 mod document;
-mod escaping;
 mod fresh;
 mod html_writer;
 mod inlines;

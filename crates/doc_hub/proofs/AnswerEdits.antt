@@ -1,5 +1,5 @@
 -- The edit that goes with an answer can be made: a put of a text that is UTF-8 and fits, or a removal of a page that stands.
-use Rattle.std.proofs.Common.{◌≡◌, ℕ, List, Bool, true, false, refl, sym, ◌∙◌, subst}
+use Rattle.std.proofs.Common.{◌≡◌, ℕ, List, Bool, true, false, refl, sym, ◌∙◌}
 use Rattle.std.specs.Prelude.{codes, is_some, Option, Some, None, Result, Ok, Err, if◌then◌else◌}
 use Rattle.std.specs.Str.{is_utf8}
 use Rattle.doc_store.specs.Groups.{groups_of}
@@ -11,14 +11,12 @@ use Rattle.doc_http.specs.declared.request.Request.{Request}
 use Rattle.doc_http_targets.specs.Queries.{parameter}
 use Rattle.doc_http_targets.specs.Targets.{page_rest}
 use Rattle.doc_http_targets.specs.WrittenPaths.{path_written}
-use Rattle.doc_hub.specs.declared.answer.Answer.{Answer}
 use Rattle.doc_hub.specs.Edits.{CanBeMade, puts_left}
 use Rattle.doc_hub.specs.Replies.{Renders, answer_of, response_to, on_route, by_method, method_of, put_by, put_at, put_page, has_room}
-use Rattle.doc_hub.specs.Replies.{delete_at, edited, refused}
+use Rattle.doc_hub.specs.Replies.{Response, delete_at, edited, refused}
 use Rattle.doc_hub.specs.declared.method.Method.{Method}
 use Rattle.doc_hub.specs.declared.method.Method.TheVariants.{Get, Head, Put, Delete, Other}
 use Rattle.doc_hub.specs.declared.response.Edit.TheVariants as edits
-use Rattle.doc_hub.specs.declared.response.Response.{Response}
 use Rattle.doc_hub.proofs.OwnerSteps.{owner_fits, owner_stands}
 
 module _ (store : StoreState) (reader : Reader) where
@@ -88,12 +86,3 @@ pub answer_can_be_made : (render : Renders) (store : StoreState) (reader : Optio
     → CanBeMade store request.body (answer_of render (view_of store.site reader) reader (puts_left store.puts) keep_alive request).edit
 unfolding answer_of
 answer_can_be_made render store reader keep_alive request = response_can render store reader request
-
--- the same of an answer and a text that are known by equations
-pub edit_can_be_made : (render : Renders) (store : StoreState) (reader : Option Reader) (keep_alive : Bool) (request : Request)
-    (text : List ℕ) (answer : Answer)
-    → text ≡ request.body → answer ≡ answer_of render (view_of store.site reader) reader (puts_left store.puts) keep_alive request
-    → CanBeMade store text answer.edit
-edit_can_be_made render store reader keep_alive request text answer same is =
-    subst (λ t. CanBeMade store t answer.edit) (sym same) (subst (λ (a : Answer). CanBeMade store request.body a.edit) (sym is)
-    (answer_can_be_made render store reader keep_alive request))

@@ -1,4 +1,5 @@
 mod AnswerEdits
+mod AnswerSteps
 mod ConnectionSteps
 mod CutLaws
 mod DropLaws
@@ -15,7 +16,6 @@ mod PutCounts
 mod PutSteps
 mod ReachedLaws
 mod ReplyExamples
-mod ReplyShapes
 mod RunLaws
 mod RunSteps
 mod SiteLaws

@@ -1,5 +1,5 @@
 -- Worked examples: answers from a reader's view, the edits that go with them, and connections.
-use Rattle.std.proofs.Common.{◌≡◌, ℕ, List, [], ◌∷◌, true, false, codes, refl}
+use Rattle.std.proofs.Common.{◌≡◌, ℕ, List, [], ◌∷◌, ◌++◌, true, false, codes, refl}
 use Rattle.std.specs.Prelude.{replicate, Option, Some, None, Ok, Err, bytes_eq, if◌then◌else◌}
 use Rattle.std.specs.Fmt.{digits}
 use Rattle.std.specs.Str.{chars, is_utf8}
@@ -76,7 +76,8 @@ abbrev asked : List ℕ → List ℕ → Request
 asked method target = record { method = method; target = target; authorization = None; close = false; body = [] }
 
 page_reply_bytes : (answer_of plain_page staff_view ann true true (asked (codes "GET") (codes "/page/a.md"))).bytes
-    ≡ codes "HTTP/1.1 200 OK\r\nContent-Type: text/html; charset=utf-8\r\nContent-Length: 49\r\n\r\n<!DOCTYPE html>\n<title>a.md</title>\n<p>Hello</p>\n"
+    ≡ codes "HTTP/1.1 200 OK\r\nContent-Type: text/html; charset=utf-8\r\n"
+    ++ codes "Content-Length: 49\r\n\r\n<!DOCTYPE html>\n<title>a.md</title>\n<p>Hello</p>\n"
 unfolding computing
 page_reply_bytes = refl
 
@@ -98,12 +99,16 @@ by_table text =
 
 -- the reader of staff sees no `c.md`: it is shown as `d.md` is, which nobody has
 links_for_staff : (answer_of by_table staff_view ann true true (asked (codes "GET") (codes "/page/b.md"))).bytes
-    ≡ codes "HTTP/1.1 200 OK\r\nContent-Type: text/html; charset=utf-8\r\nContent-Length: 93\r\n\r\n<!DOCTYPE html>\n<title>b.md</title>\n<p><a class=\"missing\">c</a> <a class=\"missing\">d</a></p>\n"
+    ≡ codes "HTTP/1.1 200 OK\r\nContent-Type: text/html; charset=utf-8\r\n"
+    ++ codes "Content-Length: 93\r\n\r\n<!DOCTYPE html>\n<title>b.md</title>\n"
+    ++ codes "<p><a class=\"missing\">c</a> <a class=\"missing\">d</a></p>\n"
 unfolding computing
 links_for_staff = refl
 
 links_for_an_owner : (answer_of by_table owner_view owner true true (asked (codes "GET") (codes "/page/b.md"))).bytes
-    ≡ codes "HTTP/1.1 200 OK\r\nContent-Type: text/html; charset=utf-8\r\nContent-Length: 95\r\n\r\n<!DOCTYPE html>\n<title>b.md</title>\n<p><a href=\"/page/c.md\">c</a> <a class=\"missing\">d</a></p>\n"
+    ≡ codes "HTTP/1.1 200 OK\r\nContent-Type: text/html; charset=utf-8\r\n"
+    ++ codes "Content-Length: 95\r\n\r\n<!DOCTYPE html>\n<title>b.md</title>\n"
+    ++ codes "<p><a href=\"/page/c.md\">c</a> <a class=\"missing\">d</a></p>\n"
 unfolding computing
 links_for_an_owner = refl
 
@@ -112,17 +117,21 @@ abbrev moved_view : View
 moved_view = record { pages = page_a ∷ page_b ∷ (codes "e/c.md", page_c.1) ∷ []; aliases = (codes "c.md", codes "e/c.md") ∷ [] }
 
 links_after_a_move : (answer_of by_table moved_view owner true true (asked (codes "GET") (codes "/page/b.md"))).bytes
-    ≡ codes "HTTP/1.1 200 OK\r\nContent-Type: text/html; charset=utf-8\r\nContent-Length: 97\r\n\r\n<!DOCTYPE html>\n<title>b.md</title>\n<p><a href=\"/page/e/c.md\">c</a> <a class=\"missing\">d</a></p>\n"
+    ≡ codes "HTTP/1.1 200 OK\r\nContent-Type: text/html; charset=utf-8\r\n"
+    ++ codes "Content-Length: 97\r\n\r\n<!DOCTYPE html>\n<title>b.md</title>\n"
+    ++ codes "<p><a href=\"/page/e/c.md\">c</a> <a class=\"missing\">d</a></p>\n"
 unfolding computing
 links_after_a_move = refl
 
 unknown_reader : (answer_of plain_page empty_view None true true (asked (codes "GET") (codes "/page/a.md"))).bytes
-    ≡ codes "HTTP/1.1 401 Unauthorized\r\nContent-Type: text/plain; charset=utf-8\r\nContent-Length: 17\r\nWWW-Authenticate: Bearer realm=\"docs\"\r\n\r\n401 Unauthorized\n"
+    ≡ codes "HTTP/1.1 401 Unauthorized\r\nContent-Type: text/plain; charset=utf-8\r\n"
+    ++ codes "Content-Length: 17\r\nWWW-Authenticate: Bearer realm=\"docs\"\r\n\r\n401 Unauthorized\n"
 unfolding computing
 unknown_reader = refl
 
 unknown_reader_and_route : (answer_of plain_page empty_view None true true (asked (codes "PUT") (codes "/x"))).bytes
-    ≡ codes "HTTP/1.1 401 Unauthorized\r\nContent-Type: text/plain; charset=utf-8\r\nContent-Length: 17\r\nWWW-Authenticate: Bearer realm=\"docs\"\r\n\r\n401 Unauthorized\n"
+    ≡ codes "HTTP/1.1 401 Unauthorized\r\nContent-Type: text/plain; charset=utf-8\r\n"
+    ++ codes "Content-Length: 17\r\nWWW-Authenticate: Bearer realm=\"docs\"\r\n\r\n401 Unauthorized\n"
 unfolding computing
 unknown_reader_and_route = refl
 
@@ -147,7 +156,8 @@ unfolding computing
 head_has_no_body = refl
 
 without_keep_alive : (answer_of plain_page staff_view ann true false (asked (codes "GET") (codes "/page/zz.md"))).bytes
-    ≡ codes "HTTP/1.1 404 Not Found\r\nContent-Type: text/plain; charset=utf-8\r\nContent-Length: 14\r\nConnection: close\r\n\r\n404 Not Found\n"
+    ≡ codes "HTTP/1.1 404 Not Found\r\nContent-Type: text/plain; charset=utf-8\r\n"
+    ++ codes "Content-Length: 14\r\nConnection: close\r\n\r\n404 Not Found\n"
 unfolding computing
 without_keep_alive = refl
 
@@ -157,7 +167,8 @@ unfolding computing
 bare_fault = refl
 
 bad_request : fault_bytes 400 false
-    ≡ codes "HTTP/1.1 400 Bad Request\r\nContent-Type: text/plain; charset=utf-8\r\nContent-Length: 16\r\nConnection: close\r\n\r\n400 Bad Request\n"
+    ≡ codes "HTTP/1.1 400 Bad Request\r\nContent-Type: text/plain; charset=utf-8\r\n"
+    ++ codes "Content-Length: 16\r\nConnection: close\r\n\r\n400 Bad Request\n"
 unfolding computing
 bad_request = refl
 
@@ -194,7 +205,8 @@ not_found = codes "HTTP/1.1 404 Not Found\r\nContent-Type: text/plain; charset=u
 
 abbrev other_method : List ℕ
 other_method = codes
-    "HTTP/1.1 405 Method Not Allowed\r\nContent-Type: text/plain; charset=utf-8\r\nContent-Length: 23\r\nAllow: GET, HEAD, PUT, DELETE\r\n\r\n405 Method Not Allowed\n"
+    "HTTP/1.1 405 Method Not Allowed\r\nContent-Type: text/plain; charset=utf-8\r\n"
+    ++ codes "Content-Length: 23\r\nAllow: GET, HEAD, PUT, DELETE\r\n\r\n405 Method Not Allowed\n"
 
 abbrev full : List ℕ
 full = codes
@@ -228,7 +240,8 @@ head_of_a_page = refl
 -- an alias leads to its page, where that is in the view; else it is nothing
 get_of_an_alias : answered moved_view owner (asked (codes "GET") (codes "/page/c.md?x"))
     ≡ only (codes
-    "HTTP/1.1 301 Moved Permanently\r\nContent-Type: text/plain; charset=utf-8\r\nContent-Length: 22\r\nLocation: /page/e/c.md\r\n\r\n301 Moved Permanently\n")
+    "HTTP/1.1 301 Moved Permanently\r\nContent-Type: text/plain; charset=utf-8\r\n"
+    ++ codes "Content-Length: 22\r\nLocation: /page/e/c.md\r\n\r\n301 Moved Permanently\n")
 unfolding computing
 get_of_an_alias = refl
 
@@ -242,7 +255,8 @@ head_of_an_alias = refl
 encoded_location : answered (record { pages = (codes "c++.md", page_c.1) ∷ []; aliases = (codes "c.md", codes "c++.md") ∷ [] }) owner
     (asked (codes "GET") (codes "/page/c.md"))
     ≡ only (codes
-    "HTTP/1.1 301 Moved Permanently\r\nContent-Type: text/plain; charset=utf-8\r\nContent-Length: 22\r\nLocation: /page/c%2B%2B.md\r\n\r\n301 Moved Permanently\n")
+    "HTTP/1.1 301 Moved Permanently\r\nContent-Type: text/plain; charset=utf-8\r\n"
+    ++ codes "Content-Length: 22\r\nLocation: /page/c%2B%2B.md\r\n\r\n301 Moved Permanently\n")
 unfolding computing
 encoded_location = refl
 

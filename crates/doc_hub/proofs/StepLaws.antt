@@ -17,9 +17,8 @@ use Rattle.doc_hub.specs.declared.event.Step.{Step}
 use Rattle.doc_hub.specs.declared.method.Method.{Method}
 use Rattle.doc_hub.specs.declared.method.Method.TheVariants.{Get, Head, Put, Delete, Other}
 use Rattle.doc_hub.specs.declared.refusal.StepError.{StepError}
-use Rattle.doc_hub.specs.declared.response.Response.{Response}
 use Rattle.doc_hub.specs.Edits.{puts_left}
-use Rattle.doc_hub.specs.Replies.{Renders, answer_of, by_method, method_of, on_route, put_by, refused, response_to}
+use Rattle.doc_hub.specs.Replies.{Renders, Response, answer_of, by_method, method_of, on_route, put_by, refused, response_to}
 use Rattle.doc_hub.specs.StepLaws.{AgreeOn, AnswersAlike, StepsAlike, connection, is_owners_put, open_with}
 use Rattle.doc_hub.specs.Worlds.{World, Steps, StepsAt, reader_of, stepped_by, step_said}
 

@@ -125,13 +125,13 @@ module _ (render : Renders) (readers : ReaderTable) (keep_alive : Bool) (given :
     (found : Some c ≡ map.get connections id) (is_open : c.closed ≡ false) (used : ℕ) (request : Request)
     (begins : IsNext c.unread (nexts.Request used request)) (answer : Answer)
     (answer_is : answer ≡ answer_in render (world_of store readers keep_alive given connections) request)
-    (text : List ℕ) (text_is : text ≡ request.body) (made : new ≡ store_after store text answer.edit)
+    (made : new ≡ store_after store request.body answer.edit)
     (set : after ≡ map.insert connections id (finished c used answer.closes)) where
   abbrev left_by : World
   left_by = world_of new readers keep_alive given after
 
   edited : bare (store_after (bare store) request.body answer.edit) ≡ bare new
-  edited = after_alike store request.body answer.edit ∙ ap bare (ap (λ t. store_after store t answer.edit) (sym text_is) ∙ sym made)
+  edited = after_alike store request.body answer.edit ∙ ap bare (sym made)
 
   stepped : ◌≡◌ {A = World × Result Step StepError}
       (stepped_by render (world_of store readers keep_alive given connections) id c (nexts.Request used request))
@@ -151,10 +151,3 @@ module _ (render : Renders) (readers : ReaderTable) (keep_alive : Bool) (given :
       subst (λ (v : World). Steps render v id left_by (Ok said)) view_is
       (subst (StepsAt render old id left_by (Ok said)) found
       (subst Of (sym is_open) (nexts.Request used request, begins, stepped ∙ (λ i. (left_by, Ok (sym said_is i)))))))
-
--- the step that a reply is
-pub is_last : (said : Step) (closes : Bool) (bytes : List ℕ) → closes ≡ true → said ≡ steps.Last bytes → said ≡ step_said closes bytes
-is_last said closes bytes on is = is ∙ ap (λ b. step_said b bytes) (sym on)
-
-pub is_sent : (said : Step) (closes : Bool) (bytes : List ℕ) → closes ≡ false → said ≡ steps.Sent bytes → said ≡ step_said closes bytes
-is_sent said closes bytes off is = is ∙ ap (λ b. step_said b bytes) (sym off)

@@ -1,3 +1,4 @@
+pub mod AnswerSteps
 pub mod ConnectionLaws
 pub mod Connections
 pub mod CutLaws

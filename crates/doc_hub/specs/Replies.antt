@@ -1,10 +1,9 @@
 -- The reply to a request. It is a function of the reader's view, the reader's entry, the request, the
 -- keep-alive setting and whether a put is left, and never of the whole site: that is what makes
 -- noninterference true.
-use Rattle.std.specs.Prelude.{ℕ, List, [], ◌∷◌, Bool, true, false, not, ◌||◌, ◌&&◌, bytes_eq, codes, is_some, length, nat_lt, nat_le}
+use Rattle.std.specs.Prelude.{ℕ, List, [], Bool, true, false, not, ◌||◌, ◌&&◌, bytes_eq, codes, is_some, length, nat_lt, nat_le}
 use Rattle.std.specs.Prelude.{Option, Some, None, Result, Ok, Err, if◌then◌else◌}
 use Rattle.std.specs.Str.{is_utf8}
-use Rattle.doc_page.specs.Paths.{segments}
 use Rattle.doc_page.specs.Pages.{body_of}
 use Rattle.doc_page.specs.declared.linker.Shown.{Shown}
 use Rattle.doc_page.specs.declared.rendered.Rendered.{Rendered}
@@ -28,7 +27,6 @@ use Rattle.doc_hub.specs.declared.method.Method.{Method}
 use Rattle.doc_hub.specs.declared.method.Method.TheVariants.{Get, Head, Put, Delete, Other}
 use Rattle.doc_hub.specs.declared.response.Edit.{Edit}
 use Rattle.doc_hub.specs.declared.response.Edit.TheVariants as edits
-use Rattle.doc_hub.specs.declared.response.Response.{Response}
 
 -- what a renderer makes of each text
 abbrev pub Renders : Type 0
@@ -78,6 +76,10 @@ at_path render view None = status_reply 404
 at_path render view (Some path) = page_or_goal render view path (page_at view.pages path) (goal_in view path)
 
 -- ---- responses: a reply, and the edit of the site that goes with it
+
+pub record Response : Type 0 where
+  pub reply : Reply
+  pub edit : Option Edit
 
 abbrev pub only_reply : Reply → Response
 only_reply reply = record { reply = reply; edit = None }

@@ -71,9 +71,12 @@ impl Connections {
     /// What the unread bytes of a connection begin with; nothing yet, where there is no such connection.
     /// Bytes that an earlier call looked at are not looked at again.
     pub fn next_request(&mut self, id: u64) -> Result<Next, Memory>
-        ensures found { (c : Connection) → map.get self.old id ≡ Some c → IfOk result (λ next. IsNext c.unread next) }
-        ensures within { (c : Connection) → map.get self.old id ≡ Some c → IfOk result (UsesAtMost (length c.unread)) }
-        ensures memory { (c : Connection) → map.get self.old id ≡ Some c → OnErr result (BeginsWithRequest c.unread) }
+        ensures found { (c : Connection) → map.get self.old id ≡ Some c →
+            IfOk result (λ next. IsNext c.unread next) }
+        ensures within { (c : Connection) → map.get self.old id ≡ Some c →
+            IfOk result (UsesAtMost (length c.unread)) }
+        ensures memory { (c : Connection) → map.get self.old id ≡ Some c →
+            OnErr result (BeginsWithRequest c.unread) }
         ensures same { self.new ≡ self.old }
     {
         let Some(connection) = self.entries.get_mut(&id) else {
@@ -94,7 +97,8 @@ impl Connections {
     /// no memory, and does nothing where there is no such connection.
     pub fn finish(&mut self, id: u64, used: usize, last: bool)
         requires { (c : Connection) → map.get self.old id ≡ Some c → used ≤ length c.unread }
-        ensures { (c : Connection) → map.get self.old id ≡ Some c → self.new ≡ map.insert self.old id (finished c used last) }
+        ensures { (c : Connection) → map.get self.old id ≡ Some c →
+            self.new ≡ map.insert self.old id (finished c used last) }
     {
         let Some(connection) = self.entries.get_mut(&id) else {
             return;

@@ -1,77 +1,82 @@
-//! Edits of the site that requests ask for.
+//! Edits of the site that requests of owners ask for.
 
-ghost use Rattle.std.specs.Prelude.{◌≡◌, IfOk, OnOk, OnErr, Ok, Some, true, codes, if◌then◌else◌};
+ghost use Rattle.std.specs.Prelude.{◌≡◌, IfOk, Some, true, codes, if◌then◌else◌};
 ghost use Rattle.std.specs.FinMap as map;
 ghost use Rattle.std.specs.Result.{result_ok};
-ghost use Rattle.std.specs.Str.{is_utf8};
-ghost use Rattle.doc_store.specs.Groups.{groups_of};
-ghost use Rattle.doc_store.specs.Sites.{view_of};
-ghost use Rattle.doc_store.specs.Store.{fits_in, with_page};
-ghost use Rattle.doc_hub.specs.Replies.{delete_at, put_by, put_page};
-ghost use Rattle.doc_hub.specs.Edits.{CanBeMade, puts_left, store_after};
+ghost use Rattle.doc_http.specs.ReplyForms.{code_of};
 ghost use Rattle.doc_http_targets.specs.Queries.{parameter};
 ghost use Rattle.doc_http_targets.specs.WrittenPaths.{path_written};
+ghost use Rattle.doc_store.specs.Groups.{groups_of};
+ghost use Rattle.doc_store.specs.Sites.{view_of};
+ghost use Rattle.doc_store.specs.declared.reader.Reader.{Reader};
+ghost use Rattle.doc_hub.specs.AnswerSteps.{Answered, AnsweredSo, sent_in};
+ghost use Rattle.doc_hub.specs.Edits.{puts_left};
+ghost use Rattle.doc_hub.specs.Replies.{delete_at, put_by, put_page};
 
-use crate::response::{Edit, Response};
+use crate::answer::Answer;
+use crate::exchange::Exchange;
+use crate::response::Edit;
 use doc_heap::Heap;
 use doc_http::request::Request;
+use doc_http::status::Status;
 use doc_http_targets::query::parameter;
 use doc_http_targets::written_path::written_path;
 use doc_page::failure::Memory;
 use doc_page::path::Path;
 use doc_store::groups::{Groups, GroupsError};
-use doc_store::reader::Reader;
 use doc_store::store::{EditError, Store};
 use std::str::from_utf8;
 
-/// What an owner's PUT under the path that the rest of its target writes is answered, and the edit that
-/// it asks for.
-pub fn response_to_put(
-    heap: Heap,
-    store: &Store,
-    reader: &Reader,
-    rest: &str,
-    request: &Request,
-) -> Result<Response, Memory>
-    requires { reader.now.owner ≡ true }
-    ensures { IfOk result (λ r. r ≡ put_by (view_of store.now.site (Some reader.now)) (puts_left store.now.puts) rest.now request.now) }
+/// What an owner's PUT under the path that the rest of its target writes is answered. The page is put
+/// where it fits.
+pub fn put_page(exchange: &Exchange, store: &mut Store, rest: &str) -> Result<Answer, Memory>
+    ensures { (reader : Reader) → reader.owner ≡ true → Answered exchange.now store.old
+        (put_by (view_of store.old.site (Some reader)) (puts_left store.old.puts) rest.now
+        exchange.now.request.now) store.new result }
 {
-    let Some(path) = written_path(heap, rest)? else {
-        return Ok(Response::refused(heap, 400));
+    let Some(path) = written_path(exchange.heap, rest)? else {
+        return exchange.status(Status::BadRequest);
     };
-    let Some(groups) = groups_of(heap, request)? else {
-        return Ok(Response::refused(heap, 400));
+    let Some(groups) = groups_of(exchange.heap, exchange.request)? else {
+        return exchange.status(Status::BadRequest);
     };
-    let Ok(text) = from_utf8(request.body.get()) else {
-        return Ok(Response::refused(heap, 400));
+    let Ok(text) = from_utf8(exchange.request.body.get()) else {
+        return exchange.status(Status::BadRequest);
     };
-    Ok(response_with(heap, store, reader, path, groups, text))
+    put_text(exchange, store, path, groups, text)
 }
 
-/// The response to an owner's put of these groups and this text under a path.
-fn response_with(
-    heap: Heap,
-    store: &Store,
-    reader: &Reader,
+/// The same of these groups and this text under a path. The answer is written before the page is put, since a
+/// put could not be taken back where the answer then found no memory.
+fn put_text(
+    exchange: &Exchange,
+    store: &mut Store,
     path: Path,
     groups: Groups,
     text: &str,
-) -> Response
-    requires { reader.now.owner ≡ true }
-    ensures { result ≡ put_page (view_of store.now.site (Some reader.now)) (puts_left store.now.puts) path groups text.now }
+) -> Result<Answer, Memory>
+    ensures { (reader : Reader) → reader.owner ≡ true → AnsweredSo text.now store.old
+        (sent_in exchange.now (put_page (view_of store.old.site (Some reader))
+        (puts_left store.old.puts) path groups text.now)) store.new result }
 {
-    let code = put_code(store, &path);
-    match store.fits(&path, text) {
-        Ok(()) => Response::edited(heap, code, Edit::Put(path, groups)),
-        Err(_) => Response::refused(heap, 507),
+    let done = exchange.status(put_status(store, &path))?;
+    match store.put(&path, &groups, text) {
+        Ok(_) => Ok(done.after(Edit::Put(path, groups))),
+        Err(EditError::Memory) => Err(Memory),
+        Err(_) => exchange.status(Status::InsufficientStorage),
     }
 }
 
-/// 204 where a page stands under the path, and else 201.
-fn put_code(store: &Store, path: &Path) -> u16
-    ensures { result ≡ (if map.contains_key store.now.site.pages path.now then 204 else 201) }
+/// What a put is answered that is accepted: 204 where a page stands under the path, and else 201.
+fn put_status(store: &Store, path: &Path) -> Status
+    ensures { code_of result
+        ≡ (if map.contains_key store.now.site.pages path.now then 204 else 201) }
 {
-    if stands(store, path) { 204 } else { 201 }
+    if stands(store, path) {
+        Status::NoContent
+    } else {
+        Status::Created
+    }
 }
 
 fn stands(store: &Store, path: &Path) -> bool
@@ -82,7 +87,8 @@ fn stands(store: &Store, path: &Path) -> bool
 
 /// The groups that the query of a request names; none of them where it names groups that are none.
 fn groups_of(heap: Heap, request: &Request) -> Result<Option<Groups>, Memory>
-    ensures { IfOk result (λ groups. groups ≡ result_ok (groups_of (parameter request.now.target (codes "groups")))) }
+    ensures { IfOk result (λ groups.
+        groups ≡ result_ok (groups_of (parameter request.now.target (codes "groups")))) }
 {
     let names = parameter(heap, request.target.get(), "groups")?;
     match Groups::new(heap, names.get()) {
@@ -92,56 +98,20 @@ fn groups_of(heap: Heap, request: &Request) -> Result<Option<Groups>, Memory>
     }
 }
 
-/// What an owner's DELETE of the path that the rest of its target writes is answered, and the edit that it
-/// asks for.
-pub fn response_to_delete(
-    heap: Heap,
-    store: &Store,
-    reader: &Reader,
-    rest: &str,
-) -> Result<Response, Memory>
-    requires { reader.now.owner ≡ true }
-    ensures { IfOk result (λ r. r ≡ delete_at (view_of store.now.site (Some reader.now)) (path_written rest.now)) }
+/// What an owner's DELETE of the path that the rest of its target writes is answered. The page is removed
+/// where one stands.
+pub fn delete_page(exchange: &Exchange, store: &mut Store, rest: &str) -> Result<Answer, Memory>
+    ensures { (reader : Reader) → reader.owner ≡ true → Answered exchange.now store.old
+        (delete_at (view_of store.old.site (Some reader)) (path_written rest.now))
+        store.new result }
 {
-    let Some(path) = written_path(heap, rest)? else {
-        return Ok(Response::refused(heap, 404));
+    let Some(path) = written_path(exchange.heap, rest)? else {
+        return exchange.status(Status::NotFound);
     };
-    if stands(store, &path) {
-        Ok(Response::edited(heap, 204, Edit::Remove(path)))
-    } else {
-        Ok(Response::refused(heap, 404))
+    if !stands(store, &path) {
+        return exchange.status(Status::NotFound);
     }
-}
-
-/// Makes the edit of a request, whose body is the page's text. `Memory` is its only refusal, and then
-/// nothing changes; a removal takes none.
-pub fn make(store: &mut Store, edit: &Option<Edit>, body: &[u8]) -> Result<(), Memory>
-    requires { CanBeMade store.old body.now edit.now }
-    ensures ok { OnOk result (store.new ≡ store_after store.old body.now edit.now) }
-    ensures err { OnErr result (store.new ≡ store.old) }
-{
-    match edit {
-        None => Ok(()),
-        Some(Edit::Remove(path)) => {
-            store.remove(path);
-            Ok(())
-        }
-        Some(Edit::Put(path, groups)) => put(store, path, groups, body),
-    }
-}
-
-fn put(store: &mut Store, path: &Path, groups: &Groups, body: &[u8]) -> Result<(), Memory>
-    requires utf8 { is_utf8 body.now ≡ true }
-    requires fits { fits_in store.old path.now body.now ≡ Ok tt }
-    ensures ok { OnOk result (store.new ≡ with_page store.old path.now (record { groups = groups.now; text = body.now })) }
-    ensures err { OnErr result (store.new ≡ store.old) }
-{
-    let Ok(text) = from_utf8(body) else {
-        unreachable!()
-    };
-    match store.put(path, groups, text) {
-        Ok(_) => Ok(()),
-        Err(EditError::Memory) => Err(Memory),
-        Err(_) => unreachable!(),
-    }
+    let done = exchange.status(Status::NoContent)?;
+    store.remove(&path);
+    Ok(done.after(Edit::Remove(path)))
 }

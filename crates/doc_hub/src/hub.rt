@@ -4,9 +4,9 @@
 //! leaves the world as it was. A step goes so:
 //!
 //! 1. The unread bytes begin with a request, with a fault, or with neither yet.
-//! 2. The reply to a request is written whole, from what the request's reader may see, and says which
-//!    edit goes with it. It stands before the edit, since an edit that was made could not be taken back
-//!    where the reply then found no memory.
+//! 2. The reply to a request is written whole, from what the request's reader may see. It stands before
+//!    the edit that the request asks for, since an edit that was made could not be taken back where the
+//!    reply then found no memory.
 //! 3. The edit is made. Where it finds no memory the reply is dropped, and the request waits.
 //! 4. The bytes of the request are taken, and the connection closes or not; that takes no memory.
 
@@ -16,13 +16,13 @@ ghost use Rattle.doc_page.specs.Refusals.{Gives, IsAnswer};
 ghost use Rattle.doc_hub.specs.Runs.{Happens, Leaves, GivesRun};
 ghost use Rattle.doc_hub.specs.Worlds.{hub_made};
 
-use crate::answer::{answer_to, answer_to_fault};
+use crate::answer::answer_to_fault;
 use crate::connection::Connection;
 use crate::connections::Connections;
-use crate::edits::make;
 use crate::event::{ConnId, Event, Step};
 use crate::outcome::Outcome;
 use crate::refusal::{ConnectError, HubError, PushError, StepError};
+use crate::serving::Serving;
 use doc_heap::{Heap, Vec};
 use doc_http::request::Next;
 use doc_http::unread::Unread;
@@ -130,7 +130,8 @@ impl<R: Renderer + Drop> Hub<R> {
 
     /// Bytes that a connection's peer sent.
     pub fn push(&mut self, id: ConnId, bytes: &[u8]) -> Result<(), PushError>
-        ensures world { Happens (R.page self.old.0) self.old.1 (Event.Push id bytes.now) self.new.1 result }
+        ensures world { Happens (R.page self.old.0) self.old.1
+            (Event.Push id bytes.now) self.new.1 result }
         ensures same { R.page self.new.0 ≡ R.page self.old.0 }
     {
         self.connections.push(id.0, bytes)
@@ -157,22 +158,15 @@ impl<R: Renderer + Drop> Hub<R> {
                 Ok(Step::Last(bytes))
             }
             Next::Request { used, request } => {
-                let answer = answer_to(
-                    self.heap,
-                    &mut self.renderer,
-                    &self.routes,
-                    &self.readers,
-                    &self.store,
-                    self.keep_alive,
-                    &request,
-                )?;
-                make(&mut self.store, &answer.edit, request.body.get())?;
+                let serving = Serving {
+                    heap: self.heap,
+                    routes: &self.routes,
+                    readers: &self.readers,
+                    keep_alive: self.keep_alive,
+                };
+                let answer = serving.answer(&mut self.renderer, &mut self.store, &request)?;
                 self.connections.finish(id.0, used, answer.closes);
-                Ok(if answer.closes {
-                    Step::Last(answer.bytes)
-                } else {
-                    Step::Sent(answer.bytes)
-                })
+                Ok(answer.into_step())
             }
         }
     }
@@ -180,7 +174,8 @@ impl<R: Renderer + Drop> Hub<R> {
     /// Drops a connection with its unread bytes; `false` says that there is none. Its number stays
     /// given, and calls on it answer that there is no such connection. It takes no memory.
     pub fn disconnect(&mut self, id: ConnId) -> bool
-        ensures world { Happens (R.page self.old.0) self.old.1 (Event.Disconnect id) self.new.1 result }
+        ensures world { Happens (R.page self.old.0) self.old.1
+            (Event.Disconnect id) self.new.1 result }
         ensures same { R.page self.new.0 ≡ R.page self.old.0 }
     {
         self.connections.remove(id.0)
@@ -188,7 +183,8 @@ impl<R: Renderer + Drop> Hub<R> {
 
     /// Puts a page under a path, in place of the one that stands there.
     pub fn put_page(&mut self, path: &Path, groups: &Groups, text: &str) -> Result<Put, EditError>
-        ensures world { Happens (R.page self.old.0) self.old.1 (Event.Put path.now groups.now text.now) self.new.1 result }
+        ensures world { Happens (R.page self.old.0) self.old.1
+            (Event.Put path.now groups.now text.now) self.new.1 result }
         ensures same { R.page self.new.0 ≡ R.page self.old.0 }
     {
         self.store.put(path, groups, text)
@@ -197,7 +193,8 @@ impl<R: Renderer + Drop> Hub<R> {
     /// Removes the page of a path with its aliases; `false` says that none stands there. It takes no
     /// memory.
     pub fn remove_page(&mut self, path: &Path) -> bool
-        ensures world { Happens (R.page self.old.0) self.old.1 (Event.Remove path.now) self.new.1 result }
+        ensures world { Happens (R.page self.old.0) self.old.1
+            (Event.Remove path.now) self.new.1 result }
         ensures same { R.page self.new.0 ≡ R.page self.old.0 }
     {
         self.store.remove(path)
@@ -206,7 +203,8 @@ impl<R: Renderer + Drop> Hub<R> {
     /// Takes the page of one path to another, and leaves the old path as an alias of it. Refused are,
     /// in this order, `NoPage`, `Taken`, `StoreFull` and `Memory`.
     pub fn move_page(&mut self, from: &Path, to: &Path) -> Result<(), MoveError>
-        ensures world { Happens (R.page self.old.0) self.old.1 (Event.MovePage from.now to.now) self.new.1 result }
+        ensures world { Happens (R.page self.old.0) self.old.1
+            (Event.MovePage from.now to.now) self.new.1 result }
         ensures same { R.page self.new.0 ≡ R.page self.old.0 }
     {
         self.store.move_page(from, to)
@@ -215,7 +213,8 @@ impl<R: Renderer + Drop> Hub<R> {
     /// Sets the reader of a token, and no other. A request that a later step answers with it is that
     /// reader's, also on a connection that stands. Refused are, in this order, `BadToken` and `Memory`.
     pub fn set_reader(&mut self, token: &str, reader: &Reader) -> Result<Set, ReaderError>
-        ensures world { Happens (R.page self.old.0) self.old.1 (Event.SetReader token.now reader.now) self.new.1 result }
+        ensures world { Happens (R.page self.old.0) self.old.1
+            (Event.SetReader token.now reader.now) self.new.1 result }
         ensures same { R.page self.new.0 ≡ R.page self.old.0 }
     {
         self.readers.set(token, reader)
@@ -224,7 +223,8 @@ impl<R: Renderer + Drop> Hub<R> {
     /// Removes the reader of a token, and no other; `false` says that there is none. It takes no
     /// memory.
     pub fn remove_reader(&mut self, token: &str) -> bool
-        ensures world { Happens (R.page self.old.0) self.old.1 (Event.RemoveReader token.now) self.new.1 result }
+        ensures world { Happens (R.page self.old.0) self.old.1
+            (Event.RemoveReader token.now) self.new.1 result }
         ensures same { R.page self.new.0 ≡ R.page self.old.0 }
     {
         self.readers.remove(token)

@@ -4,7 +4,8 @@
 ghost use Rattle.doc_hub.specs.ConnectionLaws.{DroppedIsGone, NumbersAreGivenOnce, PushesJoin};
 ghost use Rattle.doc_hub.specs.CutLaws.{DecisionsOfCut};
 ghost use Rattle.doc_hub.specs.EditLaws.{SiteIsOfEdits};
-ghost use Rattle.doc_hub.specs.FreshLaws.{NewRepliesAsFresh, PutsAreCounted, PutsAreLeft, RepliesAsFresh};
+ghost use Rattle.doc_hub.specs.FreshLaws.{NewRepliesAsFresh, PutsAreCounted, PutsAreLeft};
+ghost use Rattle.doc_hub.specs.FreshLaws.{RepliesAsFresh};
 ghost use Rattle.doc_hub.specs.MadeLaws.{FreshIsMade, MadeReplies};
 ghost use Rattle.doc_hub.specs.RunLaws.{RunsAlike};
 ghost use Rattle.doc_hub.specs.StepLaws.{AnswersAlike, StepsAlike};

@@ -1,6 +1,7 @@
 //! Methods of requests.
 
 ghost use Rattle.std.specs.Prelude.{◌≡◌};
+ghost use Rattle.doc_hub.specs.AnswerSteps.{is_head};
 ghost use Rattle.doc_hub.specs.Replies.{method_of};
 
 /// What a request asks for (RFC 9110, section 9.3).
@@ -26,5 +27,12 @@ impl Method {
             "DELETE" => Method::Delete,
             _ => Method::Other,
         }
+    }
+
+    /// Whether the reply is its head alone (RFC 9110, section 9.3.2).
+    pub fn is_head(self) -> bool
+        ensures { result ≡ is_head self }
+    {
+        matches!(self, Method::Head)
     }
 }

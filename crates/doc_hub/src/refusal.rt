@@ -1,7 +1,8 @@
 //! Why a hub refuses a call. Each refusal leaves the hub as it was.
 
 ghost use Rattle.std.specs.Prelude.{◌≡◌};
-ghost use Rattle.doc_hub.specs.Events.{connect_refusal, push_refusal, step_refusal, edit_refusal, move_refusal, reader_refusal};
+ghost use Rattle.doc_hub.specs.Events.{connect_refusal, edit_refusal, move_refusal};
+ghost use Rattle.doc_hub.specs.Events.{push_refusal, reader_refusal, step_refusal};
 
 use doc_page::failure::Memory;
 use doc_store::moving::MoveError;

@@ -7,7 +7,6 @@
 pub mod autolink;
 pub mod character;
 pub mod front;
-pub mod raw_html;
 pub mod run;
 pub mod tag;
 pub mod until;

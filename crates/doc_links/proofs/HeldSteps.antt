@@ -63,7 +63,8 @@ twice (e ∷ es) = ap (λ xs. entry_at e ∷ xs) (twice es)
 -- the pages by their entries
 pub pages_are : (slots : List (Option (Held PageLinks))) → pages_of (without_counts slots) ≡ mapped entry_at (map.entries (held slots))
 pages_are slots =
-    ap (mapped (λ (e : (List ℕ × ℕ) × PageLinks). (e.0.0, e.1))) (entries_with pairs_total pairs_exact value_of (held slots)) ∙ twice (map.entries (held slots))
+    ap (mapped (λ (e : (List ℕ × ℕ) × PageLinks). (e.0.0, e.1))) (entries_with pairs_total pairs_exact value_of (held slots))
+    ∙ twice (map.entries (held slots))
 
 -- the seen pages of slots, one slot after another
 module _ (goals : List ℕ → Option (List ℕ)) (at : ℕ → Option (Held PageLinks)) where

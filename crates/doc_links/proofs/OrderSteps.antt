@@ -60,7 +60,8 @@ paths_in_order : (es : List (Key × PageLinks)) → IsStrictlySortedBy pair_cmp 
 unfolding IsStrictlySortedBy
 paths_in_order [] sorted once = tt
 paths_in_order (e ∷ es) sorted once = (
-  before_paths e.0 es (λ y is. once e.0 y (own e.0 (keys_of es)) (or_later (same_pair y e.0) (list_any (same_pair y) (keys_of es)) is)) sorted.0,
+  before_paths e.0 es (λ y is. once e.0 y (own e.0 (keys_of es))
+      (or_later (same_pair y e.0) (list_any (same_pair y) (keys_of es)) is)) sorted.0,
   paths_in_order es sorted.1 (λ x y hx hy. once x y (or_later (same_pair x e.0) (list_any (same_pair x) (keys_of es)) hx)
       (or_later (same_pair y e.0) (list_any (same_pair y) (keys_of es)) hy)),
 )
@@ -156,7 +157,8 @@ module _ {A : Type 0} (page : A → List ℕ × PageLinks) (path : List ℕ) whe
       | inl lt ↦ rises (page (get_or xs i d)).0 (page (get_or xs j d)).0 (lower_at xs sorted i j d lt within)
       | inr ge ↦
           let same : i ≡ j = omega (arith, le, ge) in
-          subst (λ k. ordering_index (path_cmp (page (get_or xs i d)).0 path) ≤ ordering_index (path_cmp (page (get_or xs k d)).0 path)) same
+          subst (λ k. ordering_index (path_cmp (page (get_or xs i d)).0 path)
+          ≤ ordering_index (path_cmp (page (get_or xs k d)).0 path)) same
           (omega arith)
     ]
 

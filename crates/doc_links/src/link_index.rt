@@ -96,7 +96,8 @@ impl LinkIndex {
 
     /// What each link of the page under a path and a stamp leads to, in order, also out of the site.
     pub fn links_of(&self, path: &Path, stamp: u64) -> Option<&[LinkKind]>
-        ensures { option_copied result ≡ option_map (λ page. page.links) (map.get self.now (path.now, stamp)) }
+        ensures { option_copied result
+            ≡ option_map (λ page. page.links) (map.get self.now (path.now, stamp)) }
     {
         let Some(known) = self.pages.get(path, stamp) else {
             return None;
@@ -106,7 +107,8 @@ impl LinkIndex {
 
     /// The pages that a sight sees, by path.
     pub fn pages_seen<S: Sight>(&self, sight: &S) -> Result<Vec<SeenPage<'_>>, Memory>
-        ensures { IfOk result (λ all. seen_pages all.items ≡ seen (S.goals sight.now) (pages_of self.now)) }
+        ensures { IfOk result (λ all.
+            seen_pages all.items ≡ seen (S.goals sight.now) (pages_of self.now)) }
     {
         let slots = self.pages.in_order(self.heap)?;
         seen_in(self.heap, &self.pages, &slots, sight)
@@ -114,7 +116,8 @@ impl LinkIndex {
 
     /// The pages that a sight sees, by path, with their headings.
     pub fn contents<S: Sight>(&self, sight: &S) -> Result<List<Entry>, Memory>
-        ensures { IfOk result (λ all. all ≡ contents (seen (S.goals sight.now) (pages_of self.now))) }
+        ensures { IfOk result (λ all.
+            all ≡ contents (seen (S.goals sight.now) (pages_of self.now))) }
     {
         let pages = self.pages_seen(sight)?;
         entries_of(self.heap, &pages)
@@ -135,7 +138,8 @@ impl LinkIndex {
     pub fn backlinks<S: Sight>(&self, target: &Path, sight: &S) -> Result<List<(Path, u64)>, Memory>
         requires once { IsOnce self.now }
         ensures { IfOk result (λ all.
-            all ≡ backlinks (S.goals sight.now) (seen (S.goals sight.now) (pages_of self.now)) target.now) }
+            all ≡ backlinks (S.goals sight.now) (seen (S.goals sight.now) (pages_of self.now))
+            target.now) }
     {
         let pages = self.pages_seen(sight)?;
         sources_in(self.heap, &pages, target, sight)

@@ -43,7 +43,8 @@ fn push_broken<S: Sight>(
 ) -> Result<(), Memory>
     requires { IsInOrder (seen_pages pages.now) }
     ensures { OnOk result (all.new.items ≡ all.old.items
-        ++ broken_from (S.goals sight.now) (seen_pages pages.now) page.now.path.now 1 page.now.known.now.links) }
+        ++ broken_from (S.goals sight.now) (seen_pages pages.now) page.now.path.now 1
+        page.now.known.now.links) }
 {
     for (index, link) in page.links().iter().enumerate() {
         let place = index as u64 + 1;
@@ -84,7 +85,8 @@ fn fault_of<S: Sight>(
     sight: &S,
 ) -> Result<Option<(Reason, Text)>, Memory>
     requires { IsInOrder (seen_pages pages.now) }
-    ensures { IfOk result (λ fault. fault ≡ fault_of (S.goals sight.now) (seen_pages pages.now) link.now) }
+    ensures { IfOk result (λ fault.
+        fault ≡ fault_of (S.goals sight.now) (seen_pages pages.now) link.now) }
 {
     match link {
         LinkKind::External => Ok(None),
@@ -115,7 +117,8 @@ fn fault_in(
     anchor: &Option<Text>,
     page: Option<SeenPage>,
 ) -> Result<Option<(Reason, Text)>, Memory>
-    ensures { IfOk result (λ fault. fault ≡ fault_in path.now anchor.now (option_map seen_page page.entry)) }
+    ensures { IfOk result (λ fault.
+        fault ≡ fault_in path.now anchor.now (option_map seen_page page.entry)) }
 {
     let Some(page) = page else {
         return Ok(Some((Reason::Page, Text::copy_of(heap, path.text())?)));

@@ -73,8 +73,8 @@ pub fn seen_in<'a, S: Sight>(
     slots: &[u64],
     sight: &S,
 ) -> Result<Vec<SeenPage<'a>>, Memory>
-    ensures { IfOk result (λ all. seen_pages all.items
-        ≡ flat_map (λ slot. seen (S.goals sight.now) (page_in (slot_at pages.now slot))) slots.now) }
+    ensures { IfOk result (λ all. seen_pages all.items ≡ flat_map
+        (λ slot. seen (S.goals sight.now) (page_in (slot_at pages.now slot))) slots.now) }
 {
     let mut all = Vec::new(heap);
     for slot in slots {
@@ -89,8 +89,8 @@ fn push_seen<'a, S: Sight>(
     page: Option<&'a Held<Known>>,
     sight: &S,
 ) -> Result<(), Memory>
-    ensures { OnOk result (seen_pages all.new.items
-        ≡ seen_pages all.old.items ++ seen (S.goals sight.now) (page_in (option_copied page.entry))) }
+    ensures { OnOk result (seen_pages all.new.items ≡ seen_pages all.old.items
+        ++ seen (S.goals sight.now) (page_in (option_copied page.entry))) }
 {
     let Some(page) = page else {
         return Ok(());

@@ -23,7 +23,8 @@ pub fn sources_in<S: Sight>(
     sight: &S,
 ) -> Result<List<(Path, u64)>, Memory>
     requires { IsInOrder (seen_pages pages.now) }
-    ensures { IfOk result (λ all. all ≡ backlinks (S.goals sight.now) (seen_pages pages.now) target.now) }
+    ensures { IfOk result (λ all.
+        all ≡ backlinks (S.goals sight.now) (seen_pages pages.now) target.now) }
 {
     if page_at(pages, target).is_none() {
         return Ok(List::new(Vec::new(heap)));
@@ -38,7 +39,8 @@ fn sources_of<S: Sight>(
     target: &Path,
     sight: &S,
 ) -> Result<List<(Path, u64)>, Memory>
-    ensures { IfOk result (λ all. all ≡ sources_of (S.goals sight.now) target.now (seen_pages pages.now)) }
+    ensures { IfOk result (λ all.
+        all ≡ sources_of (S.goals sight.now) target.now (seen_pages pages.now)) }
 {
     let mut all = Vec::new(heap);
     for page in pages {

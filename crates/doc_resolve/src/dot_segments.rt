@@ -10,7 +10,8 @@ use doc_page::failure::Memory;
 /// Adds the segments of a path, which `/` parts.
 pub fn push_segments<'a>(out: &mut Vec<&'a str>, path: &'a str) -> Result<(), Memory>
     ensures { OnOk result
-        (map (λ s. s.now) out.new.items ≡ map (λ s. s.now) out.old.items ++ segments path.entry.now) }
+        (map (λ s. s.now) out.new.items ≡ map (λ s. s.now) out.old.items
+        ++ segments path.entry.now) }
 {
     for segment in path.split('/') {
         out.push(segment)?;
@@ -25,7 +26,8 @@ pub fn without_dots<'a>(
     path: &'a str,
 ) -> Result<Vec<&'a str>, Memory>
     ensures { IfOk result
-        (λ out. map (λ s. s.now) out.items ≡ without_dots (map (λ s. s.now) front.now ++ segments path.entry.now)) }
+        (λ out. map (λ s. s.now) out.items
+        ≡ without_dots (map (λ s. s.now) front.now ++ segments path.entry.now)) }
 {
     let mut out = Vec::with_capacity(heap, room_of(front, path))?;
     put_each(&mut out, front)?;
@@ -45,7 +47,8 @@ fn room_of(front: &[&str], path: &str) -> usize {
 /// Puts segments out.
 fn put_each<'a>(out: &mut Vec<&'a str>, segments: &[&'a str]) -> Result<(), Memory>
     ensures { OnOk result
-        (map (λ s. s.now) out.new.items ≡ put_all (map (λ s. s.now) out.old.items) (map (λ s. s.now) segments.now)) }
+        (map (λ s. s.now) out.new.items
+        ≡ put_all (map (λ s. s.now) out.old.items) (map (λ s. s.now) segments.now)) }
 {
     for segment in segments {
         put_out(out, segment)?;
@@ -56,7 +59,8 @@ fn put_each<'a>(out: &mut Vec<&'a str>, segments: &[&'a str]) -> Result<(), Memo
 /// Puts the segments of a text out, and answers whether the last one is a dot segment.
 fn put_segments<'a>(out: &mut Vec<&'a str>, path: &'a str) -> Result<bool, Memory>
     ensures out { OnOk result
-        (map (λ s. s.now) out.new.items ≡ put_all (map (λ s. s.now) out.old.items) (segments path.entry.now)) }
+        (map (λ s. s.now) out.new.items
+        ≡ put_all (map (λ s. s.now) out.old.items) (segments path.entry.now)) }
     ensures dots { IfOk result (λ dots. dots ≡ ends_in_dots (segments path.entry.now)) }
 {
     let mut dots = false;
@@ -70,7 +74,8 @@ fn put_segments<'a>(out: &mut Vec<&'a str>, path: &'a str) -> Result<bool, Memor
 /// Puts one segment more out.
 fn put_out<'a>(out: &mut Vec<&'a str>, segment: &'a str) -> Result<(), Memory>
     ensures { OnOk result
-        (map (λ s. s.now) out.new.items ≡ put_out (map (λ s. s.now) out.old.items) segment.entry.now) }
+        (map (λ s. s.now) out.new.items
+        ≡ put_out (map (λ s. s.now) out.old.items) segment.entry.now) }
 {
     if segment == "." {
         return Ok(());

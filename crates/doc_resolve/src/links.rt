@@ -48,7 +48,8 @@ pub fn kinds(heap: Heap, page: &Path, pieces: &[Piece]) -> Result<Vec<LinkKind>,
 
 /// What each link of these pieces leads to on a path.
 fn kinds_on(heap: Heap, base: &[&str], pieces: &[Piece]) -> Result<Vec<LinkKind>, Memory>
-    ensures { IfOk result (λ all. all.items ≡ flat_map (kinds_in (on_path (map (λ s. s.now) base.now))) pieces.now) }
+    ensures { IfOk result
+        (λ all. all.items ≡ flat_map (kinds_in (on_path (map (λ s. s.now) base.now))) pieces.now) }
 {
     let mut all = Vec::with_capacity(heap, link_count(pieces))?;
     for piece in pieces {
@@ -72,7 +73,8 @@ fn push_kind(
     piece: &Piece,
 ) -> Result<(), Memory>
     ensures { OnOk result
-        (all.new.items ≡ all.old.items ++ kinds_in (on_path (map (λ s. s.now) base.now)) piece.now) }
+        (all.new.items ≡ all.old.items
+        ++ kinds_in (on_path (map (λ s. s.now) base.now)) piece.now) }
 {
     match piece {
         Piece::Html(_) => Ok(()),
@@ -112,7 +114,8 @@ fn leaves_site(reference: &Reference) -> bool
 
 /// What a reference with neither scheme nor authority leads to on a path of these segments.
 fn kind_inside(heap: Heap, base: &[&str], reference: &Reference) -> Result<LinkKind, Memory>
-    ensures { IfOk result (λ kind. kind ≡ kind_inside (map (λ s. s.now) base.now) (uri_of reference.now)) }
+    ensures { IfOk result
+        (λ kind. kind ≡ kind_inside (map (λ s. s.now) base.now) (uri_of reference.now)) }
 {
     let Some(path) = target_on(heap, base, reference.path)? else {
         return Ok(LinkKind::Nowhere);
@@ -123,7 +126,8 @@ fn kind_inside(heap: Heap, base: &[&str], reference: &Reference) -> Result<LinkK
 
 /// The page at the path of a reference.
 fn target_on(heap: Heap, base: &[&str], path: &str) -> Result<Option<Path>, Memory>
-    ensures { IfOk result (λ target. target ≡ target_on (map (λ s. s.now) base.now) (segments path.now)) }
+    ensures { IfOk result
+        (λ target. target ≡ target_on (map (λ s. s.now) base.now) (segments path.now)) }
 {
     let found = path_on(heap, None, base, path)?;
     let Some((_, written)) = found.as_slice().split_first() else {

@@ -1,7 +1,8 @@
 //! The components of a reference.
 
 ghost use Rattle.std.specs.Prelude.{◌≡◌, ◌<◌, option_copied};
-ghost use Rattle.doc_resolve.specs.References.{uri_of, reference, before, behind, scheme_by, behind_scheme, is_scheme, behind_slash, behind_slashes, authority_by, path_by, authority_len};
+ghost use Rattle.doc_resolve.specs.References.{uri_of, reference, before, behind, scheme_by, behind_scheme, is_scheme};
+ghost use Rattle.doc_resolve.specs.References.{behind_slash, behind_slashes, authority_by, path_by, authority_len};
 
 /// A URI reference as its five components (RFC 3986, section 3), which are slices of its text. They are told apart by the expression
 /// of appendix B and nothing is asked of the characters in them, so each text is a reference.

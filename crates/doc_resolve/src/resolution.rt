@@ -4,7 +4,8 @@ ghost use Rattle.std.specs.Prelude.{◌≡◌, ◌≤◌, ◌&&◌, length, take
 ghost use Rattle.doc_page.specs.Paths.{segments};
 ghost use Rattle.doc_resolve.specs.DotSegments.{without_dots};
 ghost use Rattle.doc_resolve.specs.References.{uri_of};
-ghost use Rattle.doc_resolve.specs.Resolution.{uri_of_resolved, resolve, on_its_own, on_base, path_on, query_on, folder, is_no_path, is_rooted};
+ghost use Rattle.doc_resolve.specs.Resolution.{uri_of_resolved, resolve, on_its_own, on_base, path_on};
+ghost use Rattle.doc_resolve.specs.Resolution.{query_on, folder, is_no_path, is_rooted};
 
 use crate::dot_segments::{push_segments, without_dots};
 use crate::reference::Reference;
@@ -20,7 +21,8 @@ pub fn resolve<'a>(
     base: &Reference<'a>,
     reference: &Reference<'a>,
 ) -> Result<Resolved<'a>, Memory>
-    ensures { IfOk result (λ r. uri_of_resolved r ≡ resolve (uri_of base.now) (uri_of reference.now)) }
+    ensures { IfOk result
+        (λ r. uri_of_resolved r ≡ resolve (uri_of base.now) (uri_of reference.now)) }
 {
     if let Some(_) = reference.scheme {
         return on_its_own(heap, reference.scheme, reference);
@@ -37,7 +39,8 @@ fn on_its_own<'a>(
     scheme: Option<&'a str>,
     reference: &Reference<'a>,
 ) -> Result<Resolved<'a>, Memory>
-    ensures { IfOk result (λ r. uri_of_resolved r ≡ on_its_own (option_copied scheme.entry) (uri_of reference.now)) }
+    ensures { IfOk result
+        (λ r. uri_of_resolved r ≡ on_its_own (option_copied scheme.entry) (uri_of reference.now)) }
 {
     let path = own_path(heap, reference.path)?;
     Ok(Resolved {
@@ -55,7 +58,8 @@ fn on_base<'a>(
     base: &Reference<'a>,
     reference: &Reference<'a>,
 ) -> Result<Resolved<'a>, Memory>
-    ensures { IfOk result (λ r. uri_of_resolved r ≡ on_base (uri_of base.now) (uri_of reference.now)) }
+    ensures { IfOk result
+        (λ r. uri_of_resolved r ≡ on_base (uri_of base.now) (uri_of reference.now)) }
 {
     let mut parts = Vec::new(heap);
     push_segments(&mut parts, base.path)?;
@@ -71,7 +75,9 @@ fn on_base<'a>(
 
 /// The reference's query, or the base's where the reference has no path either.
 fn query_on<'a>(base: Option<&'a str>, reference: &Reference<'a>) -> Option<&'a str>
-    ensures { option_copied result ≡ query_on (option_copied base.entry) (segments reference.now.path.now) (option_copied reference.now.query) }
+    ensures { option_copied result
+        ≡ query_on (option_copied base.entry) (segments reference.now.path.now)
+        (option_copied reference.now.query) }
 {
     if is_no_path(reference.path) {
         reference.query.or(base)
@@ -87,7 +93,10 @@ pub fn path_on<'a>(
     base: &[&'a str],
     path: &'a str,
 ) -> Result<Vec<&'a str>, Memory>
-    ensures { IfOk result (λ out. map (λ s. s.now) out.items ≡ path_on (option_copied authority.entry) (map (λ s. s.now) base.now) (segments path.entry.now)) }
+    ensures { IfOk result
+        (λ out. map (λ s. s.now) out.items
+        ≡ path_on (option_copied authority.entry) (map (λ s. s.now) base.now)
+        (segments path.entry.now)) }
 {
     if is_no_path(path) {
         return Ok(Vec::from_slice(heap, base)?);
@@ -100,7 +109,8 @@ pub fn path_on<'a>(
 
 /// The path without its dot segments.
 fn own_path<'a>(heap: Heap, path: &'a str) -> Result<Vec<&'a str>, Memory>
-    ensures { IfOk result (λ out. map (λ s. s.now) out.items ≡ without_dots (segments path.entry.now)) }
+    ensures { IfOk result
+        (λ out. map (λ s. s.now) out.items ≡ without_dots (segments path.entry.now)) }
 {
     without_dots(heap, &[], path)
 }
@@ -109,7 +119,8 @@ fn own_path<'a>(heap: Heap, path: &'a str) -> Result<Vec<&'a str>, Memory>
 /// 5.2.3).
 fn folder_len(authority: Option<&str>, base: &[&str]) -> usize
     ensures within { result ≤ length base.now }
-    ensures folder { map (λ s. s.now) (take result base.now) ≡ folder (option_copied authority.entry) (map (λ s. s.now) base.now) }
+    ensures folder { map (λ s. s.now) (take result base.now)
+        ≡ folder (option_copied authority.entry) (map (λ s. s.now) base.now) }
 {
     if stays(authority, base) {
         return base.len();
@@ -119,7 +130,8 @@ fn folder_len(authority: Option<&str>, base: &[&str]) -> usize
 
 /// Whether the base has an authority and no path.
 fn stays(authority: Option<&str>, base: &[&str]) -> bool
-    ensures { result ≡ (is_some (option_copied authority.entry) && is_no_path (map (λ s. s.now) base.now)) }
+    ensures { result ≡ (is_some (option_copied authority.entry)
+        && is_no_path (map (λ s. s.now) base.now)) }
 {
     authority.is_some() && is_one_empty(base)
 }

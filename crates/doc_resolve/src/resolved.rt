@@ -43,7 +43,8 @@ fn push_part(
     back: &str,
 ) -> Result<(), Memory>
     ensures { OnOk result
-        (string_bytes out.new ≡ string_bytes out.old ++ part front.now (option_copied component.entry) back.now) }
+        (string_bytes out.new ≡ string_bytes out.old
+        ++ part front.now (option_copied component.entry) back.now) }
 {
     let Some(text) = component else {
         return Ok(());
@@ -57,7 +58,8 @@ fn push_part(
 /// Writes the segments, with `/` between them.
 fn push_path(out: &mut String, path: &[&str]) -> Result<(), Memory>
     ensures { OnOk result
-        (string_bytes out.new ≡ string_bytes out.old ++ join_with_byte 47 (map (λ s. s.now) path.now)) }
+        (string_bytes out.new ≡ string_bytes out.old
+        ++ join_with_byte 47 (map (λ s. s.now) path.now)) }
 {
     let Some((first, others)) = path.split_first() else {
         return Ok(());
@@ -70,7 +72,8 @@ fn push_path(out: &mut String, path: &[&str]) -> Result<(), Memory>
 /// Writes the segments, each after a `/`.
 fn push_others(out: &mut String, segments: &[&str]) -> Result<(), Memory>
     ensures { OnOk result
-        (string_bytes out.new ≡ string_bytes out.old ++ flat_map (λ s. 47 ∷ s) (map (λ s. s.now) segments.now)) }
+        (string_bytes out.new ≡ string_bytes out.old
+        ++ flat_map (λ s. 47 ∷ s) (map (λ s. s.now) segments.now)) }
 {
     for segment in segments {
         out.push('/')?;

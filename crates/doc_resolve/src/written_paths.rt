@@ -49,7 +49,8 @@ pub fn path_of_segments(heap: Heap, parts: &[&str]) -> Result<Option<Path>, Memo
 
 /// The segments, decoded, each after a `/`; `None` where one of them holds a `/` then.
 fn decoded_segments(heap: Heap, parts: &[&str]) -> Result<Option<Vec<u8>>, Memory>
-    ensures { IfOk result (λ text. option_map (λ v. v.items) text ≡ decoded_segments (map (λ s. s.now) parts.now)) }
+    ensures { IfOk result
+        (λ text. option_map (λ v. v.items) text ≡ decoded_segments (map (λ s. s.now) parts.now)) }
 {
     let mut text = Vec::with_capacity(heap, room_of(parts))?;
     for segment in parts {
@@ -72,7 +73,8 @@ fn room_of(parts: &[&str]) -> usize {
 /// Adds a `/` and the segment, decoded. False where that holds a `/`.
 fn push_segment(text: &mut Vec<u8>, segment: &str) -> Result<bool, Memory>
     ensures good { IfOk result (λ good. good ≡ not (holds_slash (percent_decode segment.now))) }
-    ensures text { OnOk result (text.new.items ≡ text.old.items ++ 47 ∷ percent_decode segment.now) }
+    ensures text { OnOk result
+        (text.new.items ≡ text.old.items ++ 47 ∷ percent_decode segment.now) }
 {
     text.push(b'/')?;
     let start = text.len();
@@ -82,7 +84,8 @@ fn push_segment(text: &mut Vec<u8>, segment: &str) -> Result<bool, Memory>
 
 /// Adds the page of a folder.
 fn add_index(text: &mut Vec<u8>, parts: &[&str]) -> Result<(), Memory>
-    ensures { OnOk result (text.new.items ≡ text.old.items ++ index_of (map (λ s. s.now) parts.now)) }
+    ensures { OnOk result
+        (text.new.items ≡ text.old.items ++ index_of (map (λ s. s.now) parts.now)) }
 {
     if ends_empty(parts) {
         text.extend_from_slice(INDEX.as_bytes())?;

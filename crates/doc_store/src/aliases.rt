@@ -68,7 +68,8 @@ impl Aliases {
     /// The names of a page whose path stands in the site: its path, then the aliases that lead to it. It
     /// costs what it answers.
     pub fn names<'a>(&'a self, heap: Heap, path: &'a Path) -> Result<Vec<&'a Path>, Memory>
-        ensures { IfOk result (λ names. texts_of names.items ≡ path.now ∷ aliases_of self.now path.now) }
+        ensures { IfOk result
+            (λ names. texts_of names.items ≡ path.now ∷ aliases_of self.now path.now) }
     {
         if let Some(aliases) = self.by_goal.get(path) {
             return aliases.after(heap, path);

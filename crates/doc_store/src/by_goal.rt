@@ -48,7 +48,9 @@ impl ByGoal {
 
     /// Copies of another path, as many as the aliases of a path.
     pub fn copies_for(&self, heap: Heap, goal: &Path, other: &Path) -> Result<Vec<Path>, Memory>
-        ensures { IfOk result (λ copies. copies.items ≡ copies_for other.now (map.keys (aliases_at self.now goal.now))) }
+        ensures { IfOk result
+            (λ copies. copies.items
+            ≡ copies_for other.now (map.keys (aliases_at self.now goal.now))) }
     {
         match self.get(goal) {
             Some(aliases) => aliases.copies_of(heap, other),

@@ -24,8 +24,11 @@ pub struct Entry {
 
 /// The reader entries of a document.
 pub fn entries_of(heap: Heap, document: &Table) -> Result<List<Entry>, ReadersError>
-    ensures read { IfOk result (λ entries. entries_of (tables_in (Some (table_view document.now))) ≡ Ok entries) }
-    ensures refused { IfErr result (λ e. e ≢ ReadersError.Memory → entries_of (tables_in (Some (table_view document.now))) ≡ Err e) }
+    ensures read { IfOk result
+        (λ entries. entries_of (tables_in (Some (table_view document.now))) ≡ Ok entries) }
+    ensures refused { IfErr result
+        (λ e. e ≢ ReadersError.Memory
+        → entries_of (tables_in (Some (table_view document.now))) ≡ Err e) }
 {
     let tables = tables_of(document)?;
     entries_of_tables(heap, tables)
@@ -33,7 +36,9 @@ pub fn entries_of(heap: Heap, document: &Table) -> Result<List<Entry>, ReadersEr
 
 /// The tables of the readers.
 fn tables_of(document: &Table) -> Result<&[Value], ReadersError>
-    ensures { MatchResult result (λ tables. tables_in (Some (table_view document.now)) ≡ Ok (items_view tables.now)) (λ e. tables_in (Some (table_view document.now)) ≡ Err e) }
+    ensures { MatchResult result
+        (λ tables. tables_in (Some (table_view document.now)) ≡ Ok (items_view tables.now))
+        (λ e. tables_in (Some (table_view document.now)) ≡ Err e) }
 {
     match tables_at(document, "reader") {
         Some(tables) => Ok(tables),
@@ -44,7 +49,8 @@ fn tables_of(document: &Table) -> Result<&[Value], ReadersError>
 /// The reader entries of tables.
 fn entries_of_tables(heap: Heap, tables: &[Value]) -> Result<List<Entry>, ReadersError>
     ensures read { IfOk result (λ entries. entries_from [] 1 (items_view tables.now) ≡ Ok entries) }
-    ensures refused { IfErr result (λ e. e ≢ ReadersError.Memory → entries_from [] 1 (items_view tables.now) ≡ Err e) }
+    ensures refused { IfErr result
+        (λ e. e ≢ ReadersError.Memory → entries_from [] 1 (items_view tables.now) ≡ Err e) }
 {
     let mut entries = Vec::with_capacity(heap, tables.len()).map_err(Memory::from)?;
     for (index, table) in tables.iter().enumerate() {

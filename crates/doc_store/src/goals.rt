@@ -88,7 +88,8 @@ impl Goals {
     /// Has each of these aliases lead to the same goal, of which as many copies are given. It takes no
     /// memory.
     pub fn set_all(&mut self, aliases: &PathSet, copies: &mut Vec<Path>)
-        ensures { (to : Seq ℕ) → copies.old.items ≡ copies_for to (map.keys aliases.now) → self.new ≡ with_all self.old (map.keys aliases.now) to }
+        ensures { (to : Seq ℕ) → copies.old.items ≡ copies_for to (map.keys aliases.now)
+            → self.new ≡ with_all self.old (map.keys aliases.now) to }
     {
         for alias in aliases.iter() {
             let Some(goal) = copies.pop() else {

@@ -1,6 +1,7 @@
 //! Laws of groups, of what readers see, and of stamps. Each function does nothing: its contract is the law.
 
-ghost use Rattle.doc_store.specs.Laws.{EqualSets, GoalsOfViews, NamesOfPages, NoReaderSeesNothing, SameGroups, SameNames, StampsAreFresh, ViewOfView, ViewsAreSites, WhatIsSeen};
+ghost use Rattle.doc_store.specs.Laws.{EqualSets, GoalsOfViews, NamesOfPages, NoReaderSeesNothing, SameGroups, SameNames};
+ghost use Rattle.doc_store.specs.Laws.{StampsAreFresh, ViewOfView, ViewsAreSites, WhatIsSeen};
 
 /// The groups of some names are these names, and no others.
 pub fn groups_are_their_names()

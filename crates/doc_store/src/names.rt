@@ -14,7 +14,8 @@ use std::cmp::Ordering;
 
 /// Adds a name in its place by the order of bytes, unless it stands already.
 pub fn add_name<'a>(names: &mut ArrayVec<&'a str, 32>, name: &'a str) -> Result<(), GroupsError>
-    ensures ok { OnOk result (texts_of names.new.items ≡ with_name name.entry.now (texts_of names.old.items)) }
+    ensures ok { OnOk result
+        (texts_of names.new.items ≡ with_name name.entry.now (texts_of names.old.items)) }
     ensures err { IfErr result (λ e. (e ≡ GroupsError.TooMany)
         × (group_limit < length (with_name name.entry.now (texts_of names.old.items)))) }
 {
@@ -31,7 +32,8 @@ pub fn add_name<'a>(names: &mut ArrayVec<&'a str, 32>, name: &'a str) -> Result<
 /// Where a name stands, or else its place.
 fn place_of(names: &[&str], name: &str) -> Result<usize, usize>
     ensures bound { IfErr result (λ place. place ≤ length names.now) }
-    ensures place { MatchResult result (λ _. with_name name.now (texts_of names.now) ≡ texts_of names.now)
+    ensures place { MatchResult result
+        (λ _. with_name name.now (texts_of names.now) ≡ texts_of names.now)
         (λ place. with_name name.now (texts_of names.now)
         ≡ texts_of (take place names.now) ++ name.now ∷ texts_of (drop place names.now)) }
 {

@@ -24,7 +24,8 @@ impl Model for Page {
 
     ghost coded = { pages.stamped_code };
 
-    ghost view = { λ p. record { page = record { groups = p.groups; text = p.text }; stamp = p.stamp } };
+    ghost view = { λ p.
+        record { page = record { groups = p.groups; text = p.text }; stamp = p.stamp } };
 }
 
 impl Page {
@@ -35,7 +36,9 @@ impl Page {
         text: &str,
         stamp: u64,
     ) -> Result<Page, Memory>
-        ensures { IfOk result (λ page. page ≡ record { page = record { groups = groups.now; text = text.now }; stamp = stamp }) }
+        ensures { IfOk result
+            (λ page. page
+            ≡ record { page = record { groups = groups.now; text = text.now }; stamp = stamp }) }
     {
         Ok(Page {
             groups: groups.copy(heap)?,

@@ -56,7 +56,8 @@ impl Pages {
 
     /// A page with its path as it stands here.
     pub fn entry(&self, path: &Path) -> Option<(&Path, &Page)>
-        ensures path { option_map (λ entry. entry.0.now) result ≡ option_map (λ _. path.now) (map.get self.now path.now) }
+        ensures path { option_map (λ entry. entry.0.now) result
+            ≡ option_map (λ _. path.now) (map.get self.now path.now) }
         ensures page { option_map (λ entry. entry.1.now) result ≡ map.get self.now path.now }
     {
         self.entries.get_key_value(path)
@@ -64,7 +65,8 @@ impl Pages {
 
     /// How many of the pages a reader may see.
     pub fn count_seen(&self, reader: &Reader) -> usize
-        ensures { result ≡ length (filter (λ page. may_see (Some reader.now) page.page) (map.values self.now)) }
+        ensures { result
+            ≡ length (filter (λ page. may_see (Some reader.now) page.page) (map.values self.now)) }
     {
         self.entries
             .values()
@@ -81,7 +83,9 @@ impl Pages {
     /// Sets the page of a path. It takes memory only for a new path.
     pub fn set(&mut self, heap: Heap, path: &Path, page: Page) -> Result<Put, Memory>
         ensures ok { OnOk result (self.new ≡ map.insert self.old path.now page) }
-        ensures put { IfOk result (λ put. put ≡ (if map.contains_key self.old path.now then Put.Replaced else Put.Created)) }
+        ensures put { IfOk result
+            (λ put. put
+            ≡ (if map.contains_key self.old path.now then Put.Replaced else Put.Created)) }
         ensures err { OnErr result (self.new ≡ self.old) }
     {
         if self.contains(path) {

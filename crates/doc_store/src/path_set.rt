@@ -87,7 +87,8 @@ fn after<'a>(
     first: &'a Path,
     paths: &'a BTreeMap<Path, ()>,
 ) -> Result<Vec<&'a Path>, Memory>
-    ensures names { IfOk result (λ names. texts_of names.items ≡ first.now ∷ keys_of paths.now.entries) }
+    ensures names { IfOk result
+        (λ names. texts_of names.items ≡ first.now ∷ keys_of paths.now.entries) }
     ensures ordered { OnOk result (IsOrdered (slice_cmp nat_cmp) paths.now) }
 {
     let mut names = Vec::with_capacity(heap, paths.len() + 1)?;
@@ -100,7 +101,8 @@ fn after<'a>(
 
 /// As many copies of a path as a map has keys.
 fn copies_of(heap: Heap, other: &Path, paths: &BTreeMap<Path, ()>) -> Result<Vec<Path>, Memory>
-    ensures copies { IfOk result (λ copies. copies.items ≡ copies_for other.now (keys_of paths.now.entries)) }
+    ensures copies { IfOk result
+        (λ copies. copies.items ≡ copies_for other.now (keys_of paths.now.entries)) }
     ensures ordered { OnOk result (IsOrdered (slice_cmp nat_cmp) paths.now) }
 {
     let mut copies = Vec::with_capacity(heap, paths.len())?;

@@ -122,7 +122,8 @@ impl Readers {
     /// is found.
     pub fn from_toml(heap: Heap, text: &str) -> Result<Readers, ReadersError>
         ensures read { IfOk result (λ readers. readers_of text.now ≡ Ok readers) }
-        ensures refused { IfErr result (λ e. e ≢ ReadersError.Memory → readers_of text.now ≡ Err e) }
+        ensures refused { IfErr result
+            (λ e. e ≢ ReadersError.Memory → readers_of text.now ≡ Err e) }
     {
         let document = document_of(heap, text)?;
         Readers::from_document(heap, &document)
@@ -130,8 +131,10 @@ impl Readers {
 
     /// The same of a document that was read already.
     pub fn from_document(heap: Heap, document: &Table) -> Result<Readers, ReadersError>
-        ensures read { IfOk result (λ readers. readers_of_document (table_view document.now) ≡ Ok readers) }
-        ensures refused { IfErr result (λ e. e ≢ ReadersError.Memory → readers_of_document (table_view document.now) ≡ Err e) }
+        ensures read { IfOk result
+            (λ readers. readers_of_document (table_view document.now) ≡ Ok readers) }
+        ensures refused { IfErr result
+            (λ e. e ≢ ReadersError.Memory → readers_of_document (table_view document.now) ≡ Err e) }
     {
         let entries = entries_of(heap, document)?;
         Readers::of_entries(heap, entries)
@@ -149,7 +152,8 @@ impl Readers {
     /// The readers of these entries, no two of which may have one token.
     fn of_entries(heap: Heap, entries: List<Entry>) -> Result<Readers, ReadersError>
         ensures read { IfOk result (λ readers. table_of (readers_from [] 1 entries) ≡ Ok readers) }
-        ensures refused { IfErr result (λ e. e ≢ ReadersError.Memory → readers_from [] 1 entries ≡ Err e) }
+        ensures refused { IfErr result
+            (λ e. e ≢ ReadersError.Memory → readers_from [] 1 entries ≡ Err e) }
     {
         let mut readers = Readers::new(heap);
         let mut number = 0;
@@ -166,7 +170,8 @@ impl Readers {
     /// Sets the reader of a token, and no other. Refused are, in this order, `BadToken` and `Memory`;
     /// then nothing changes.
     pub fn set(&mut self, token: &str, reader: &Reader) -> Result<Set, ReaderError>
-        ensures { Gives ReaderError.Memory (set_reader self.old token.now reader.now) self.old self.new result }
+        ensures { Gives ReaderError.Memory
+            (set_reader self.old token.now reader.now) self.old self.new result }
     {
         if !is_token(token.as_bytes()) {
             return Err(ReaderError::BadToken);

@@ -6,7 +6,8 @@ ghost use Rattle.doc_page.specs.Refusals.{Gives};
 ghost use Rattle.doc_store.specs.Groups.{texts_of};
 ghost use Rattle.doc_store.specs.Names.{names_of};
 ghost use Rattle.doc_store.specs.Sites.{view_of};
-ghost use Rattle.doc_store.specs.Store.{IsStore, StoreState, empty_store, fits, fits_in, may_move, move_fits, moved_in, put_into, stamp_after, without_page};
+ghost use Rattle.doc_store.specs.Store.{IsStore, StoreState, empty_store, fits, fits_in, may_move};
+ghost use Rattle.doc_store.specs.Store.{move_fits, moved_in, put_into, stamp_after, without_page};
 
 use crate::aliases::Aliases;
 use crate::groups::Groups;
@@ -122,7 +123,8 @@ impl Store {
     /// aliases; an alias of another page is taken from it. Refused are, in this order, `TooLong`,
     /// `StoreFull` and `Memory`; a refused put changes nothing.
     pub fn put(&mut self, path: &Path, groups: &Groups, text: &str) -> Result<Put, EditError>
-        ensures { Gives EditError.Memory (put_into self.old path.now groups.now text.now) self.old self.new result }
+        ensures { Gives EditError.Memory
+            (put_into self.old path.now groups.now text.now) self.old self.new result }
     {
         self.fits(path, text)?;
         let page = Page::copy_of(self.heap, groups, text, self.puts)?;
@@ -164,7 +166,8 @@ impl Store {
     /// are, in this order, `NoPage`, `Taken`, `StoreFull` and `Memory`; a refused move changes
     /// nothing.
     pub fn move_page(&mut self, from: &Path, to: &Path) -> Result<(), MoveError>
-        ensures { Gives MoveError.Memory (moved_in self.old from.now to.now) self.old self.new result }
+        ensures { Gives MoveError.Memory
+            (moved_in self.old from.now to.now) self.old self.new result }
     {
         self.may_move(from, to)?;
         move_page(
@@ -181,8 +184,10 @@ impl Store {
 
     /// The page that stands under a path, and not one that the path is an alias of.
     pub fn get(&self, path: &Path) -> Option<&Page>
-        ensures page { option_map (λ page. page.now.page) result ≡ map.get self.now.site.pages path.now }
-        ensures stamp { option_map (λ page. page.now.stamp) result ≡ map.get self.now.stamps path.now }
+        ensures page { option_map (λ page. page.now.page) result
+            ≡ map.get self.now.site.pages path.now }
+        ensures stamp { option_map (λ page. page.now.stamp) result
+            ≡ map.get self.now.stamps path.now }
         ensures store { IsStore self.now }
     {
         self.pages.get(path)

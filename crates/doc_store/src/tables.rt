@@ -17,7 +17,9 @@ use toml::{Table, Value};
 /// The document that a text is. `BadToml` says that it is none.
 pub fn document_of(heap: Heap, text: &str) -> Result<Table, ReadersError>
     ensures read { IfOk result (λ document. parse_document text.now ≡ Some (table_view document)) }
-    ensures refused { IfErr result (λ e. e ≢ ReadersError.Memory → (e ≡ ReadersError.BadToml) × (parse_document text.now ≡ None)) }
+    ensures refused { IfErr result
+        (λ e. e ≢ ReadersError.Memory
+        → (e ≡ ReadersError.BadToml) × (parse_document text.now ≡ None)) }
 {
     match toml::table_from_str(heap.global(), text) {
         Ok(document) => Ok(document),
@@ -32,7 +34,8 @@ pub fn document_of(heap: Heap, text: &str) -> Result<Table, ReadersError>
 /// The tables that a key of a document holds: without the key there are none, and `None` says that it
 /// holds anything but an array of tables.
 pub fn tables_at<'a>(document: &'a Table, key: &str) -> Option<&'a [Value]>
-    ensures { option_map (λ tables. items_view tables.now) result ≡ tables_at (get_member key.now (table_view document.now)) }
+    ensures { option_map (λ tables. items_view tables.now) result
+        ≡ tables_at (get_member key.now (table_view document.now)) }
 {
     let Some(value) = document.get(key) else {
         return Some(&[]);
@@ -81,7 +84,9 @@ pub fn groups_in(heap: Heap, table: &Value) -> Result<Option<Groups>, Memory>
 
 /// The strings of an array that holds nothing else.
 fn strings_in(heap: Heap, array: &Array) -> Result<Option<Vec<&str>>, Memory>
-    ensures { IfOk result (λ texts. option_map (λ found. texts_of found.items) texts ≡ strings_in (array_view array.now)) }
+    ensures { IfOk result
+        (λ texts. option_map (λ found. texts_of found.items) texts
+        ≡ strings_in (array_view array.now)) }
 {
     let mut texts = Vec::with_capacity(heap, array.len())?;
     for value in array {

@@ -16,4 +16,5 @@ pub mod answer;
 pub mod growths;
 pub mod leads;
 pub mod line;
+pub mod run;
 pub mod written;

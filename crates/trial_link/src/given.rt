@@ -3,6 +3,7 @@
 use crate::stop::Stop;
 use doc_heap::{Heap, String};
 use doc_page::failure::Memory;
+use doc_page::path::Path;
 use doc_store::groups::Groups;
 use doc_store::reader::Reader;
 use doc_store::readers::Readers;
@@ -51,14 +52,27 @@ pub fn two(given: &str) -> Result<(&str, &str), Stop> {
     two_texts(given).ok_or(Stop::NoCall)
 }
 
+/// Two values of which each may be refused.
+pub fn both<A: Drop, B: Drop>(a: Result<A, Stop>, b: Result<B, Stop>) -> Result<(A, B), Stop> {
+    Ok((a?, b?))
+}
+
+pub fn path_of(desk: Heap, text: &str) -> Result<Path, Stop> {
+    Path::new(desk, text).map_err(Stop::from)
+}
+
+pub fn groups_of(desk: Heap, text: &str) -> Result<Groups, Stop> {
+    Groups::new(desk, text).map_err(Stop::from)
+}
+
 /// The reader that a text names: `owner`, or a reader of groups.
 pub fn reader_of(heap: Heap, text: &str) -> Result<Reader, Stop> {
     let owner = text == "owner";
-    let groups = Groups::new(heap, if owner { "" } else { text })?;
+    let groups = groups_of(heap, if owner { "" } else { text })?;
     Ok(Reader { owner, groups })
 }
 
 /// What is printed for a value.
 pub fn written<T: Debug + Drop>(desk: Heap, value: T) -> Result<String, Stop> {
-    Ok(shown(desk, value)?)
+    shown(desk, value).map_err(Stop::from)
 }

@@ -2,6 +2,9 @@
 //! and on one table of readers, which begin empty.
 //!
 //! A call whose name begins with `grow_` is made as [`growths::grown`] says.
+//!
+//! Values that own memory go by calls of `drop`, once on each way: that is much cheaper to prove than what the end of a scope does, which
+//! is written out at each exit.
 #![tactic(auto)]
 
 mod call;

@@ -1,6 +1,6 @@
 //! Calls of `doc_resolve` that ask the store.
 
-use crate::given::{Trial, reader_of, two, written};
+use crate::given::{Trial, both, path_of, reader_of, two, written};
 use crate::stop::Stop;
 use doc_heap::{Heap, String, Vec};
 use doc_page::failure::Memory;
@@ -58,8 +58,22 @@ struct Reading {
 /// `READER | PAGE | DESTINATION | ..`: the pages that the links of a page lead to for a reader.
 fn decided(trial: &Trial, given: &str) -> Result<String, Stop> {
     let (reading, dests) = reading_of(trial.heaps.desk, given)?;
-    let rendered = page_of_links(trial.heaps.desk, dests)?;
-    written(trial.heaps.desk, decisions_of(trial, &reading, &rendered)?)
+    let rendered = page_of_links(trial.heaps.desk, dests);
+    let told = decided_for(trial, &reading, &rendered);
+    drop(rendered);
+    drop(reading);
+    told
+}
+
+fn decided_for(
+    trial: &Trial,
+    reading: &Reading,
+    rendered: &Result<Rendered, Memory>,
+) -> Result<String, Stop> {
+    let Ok(rendered) = rendered else {
+        return Err(Stop::Memory);
+    };
+    written(trial.heaps.desk, decisions_of(trial, reading, rendered)?)
 }
 
 fn decisions_of<'a>(
@@ -77,18 +91,33 @@ fn decisions_of<'a>(
 /// `PAGE | DESTINATION | ..`: what the links of a page lead to.
 fn kinds_told(trial: &Trial, given: &str) -> Result<String, Stop> {
     let (page, dests) = two(given)?;
-    let page = Path::new(trial.heaps.desk, page)?;
-    let rendered = page_of_links(trial.heaps.desk, dests)?;
-    let all = kinds(trial.heaps.tried, &page, rendered.pieces.get())?;
-    written(trial.heaps.desk, Kinds { all })
+    let page = path_of(trial.heaps.desk, page)?;
+    let all = kinds_of(trial.heaps.desk, trial.heaps.tried, &page, dests);
+    drop(page);
+    written(trial.heaps.desk, Kinds { all: all? })
+}
+
+/// What links to these destinations lead to.
+fn kinds_of(desk: Heap, tried: Heap, page: &Path, dests: &str) -> Result<Vec<LinkKind>, Memory> {
+    let rendered = page_of_links(desk, dests)?;
+    let all = kinds(tried, page, rendered.pieces.get());
+    drop(rendered);
+    all
 }
 
 /// `READER | PAGE | DESTINATION | ..`: the pages that they lead to for a reader, who is asked once it is known what they lead to.
 fn goals_told(trial: &Trial, given: &str) -> Result<String, Stop> {
     let (reading, dests) = reading_of(trial.heaps.desk, given)?;
-    let rendered = page_of_links(trial.heaps.desk, dests)?;
-    let links = kinds(trial.heaps.desk, &reading.page, rendered.pieces.get())?;
-    written(trial.heaps.desk, goals_for(trial, &reading, &links)?)
+    let told = goals_told_for(trial, &reading, dests);
+    drop(reading);
+    told
+}
+
+fn goals_told_for(trial: &Trial, reading: &Reading, dests: &str) -> Result<String, Stop> {
+    let links = kinds_of(trial.heaps.desk, trial.heaps.desk, &reading.page, dests)?;
+    let goals = goals_for(trial, reading, &links);
+    drop(links);
+    written(trial.heaps.desk, goals?)
 }
 
 fn goals_for<'a>(
@@ -106,29 +135,40 @@ fn shown(trial: &Trial, given: &str) -> Result<String, Stop> {
     let (reading, dest) = reading_of(trial.heaps.desk, given)?;
     let sight = trial.store.sight(&reading.reader);
     let linker = SiteLinker::new(&reading.page, &sight);
-    written(trial.heaps.desk, linker.show(trial.heaps.tried, dest)?)
+    let shown = linker.show(trial.heaps.tried, dest);
+    drop(reading);
+    written(trial.heaps.desk, shown?)
 }
 
 /// Who reads a page and its path, and what follows them.
 fn reading_of(heap: Heap, given: &str) -> Result<(Reading, &str), Stop> {
     let (reader, rest) = two(given)?;
     let (page, rest) = two(rest)?;
-    let page = Path::new(heap, page)?;
-    let reader = reader_of(heap, reader)?;
+    let (page, reader) = both(path_of(heap, page), reader_of(heap, reader))?;
     Ok((Reading { reader, page }, rest))
 }
 
 /// A page of links alone, to these destinations.
 fn page_of_links(heap: Heap, dests: &str) -> Result<Rendered, Memory> {
     let mut pieces = Vec::new(heap);
+    push_links(heap, &mut pieces, dests)?;
+    Ok(page_of(heap, pieces))
+}
+
+fn push_links(heap: Heap, pieces: &mut Vec<Piece>, dests: &str) -> Result<(), Memory> {
     for dest in dests.split(" | ") {
         pieces.push(link_to(heap, dest)?)?;
     }
-    Ok(Rendered {
+    Ok(())
+}
+
+/// The page of these pieces.
+fn page_of(heap: Heap, pieces: Vec<Piece>) -> Rendered {
+    Rendered {
         pieces: List::new(pieces),
         headings: List::new(Vec::new(heap)),
         texts: List::new(Vec::new(heap)),
-    })
+    }
 }
 
 fn link_to(heap: Heap, dest: &str) -> Result<Piece, Memory> {

@@ -1,6 +1,6 @@
 //! Moves of the pages of a store.
 
-use crate::given::{Trial, two};
+use crate::given::{Trial, both, path_of, two};
 use crate::of_pages::number_of;
 use crate::stop::{Stop, answered};
 use doc_heap::{Heap, String};
@@ -30,7 +30,9 @@ struct Move {
 fn may_move(desk: Heap, store: &Store, given: &str) -> Result<String, Stop> {
     let (from, to) = two(given)?;
     let way = way_of(desk, from, to)?;
-    answered(desk, store.may_move(&way.from, &way.to))
+    let answer = store.may_move(&way.from, &way.to);
+    drop(way);
+    answered(desk, answer)
 }
 
 /// `FROM | TO`.
@@ -46,12 +48,13 @@ fn move_page(
     to: &str,
 ) -> Result<Result<(), MoveError>, Stop> {
     let way = way_of(desk, from, to)?;
-    Ok(store.move_page(&way.from, &way.to))
+    let moved = store.move_page(&way.from, &way.to);
+    drop(way);
+    Ok(moved)
 }
 
 fn way_of(desk: Heap, from: &str, to: &str) -> Result<Move, Stop> {
-    let from = Path::new(desk, from)?;
-    let to = Path::new(desk, to)?;
+    let (from, to) = both(path_of(desk, from), path_of(desk, to))?;
     Ok(Move { from, to })
 }
 
@@ -70,6 +73,19 @@ fn move_numbered(
     number: u64,
 ) -> Result<Result<(), MoveError>, Stop> {
     let from = format!(in desk; "{number}.md")?;
+    let moved = move_to_numbered(desk, store, &from, number);
+    drop(from);
+    moved
+}
+
+fn move_to_numbered(
+    desk: Heap,
+    store: &mut Store,
+    from: &str,
+    number: u64,
+) -> Result<Result<(), MoveError>, Stop> {
     let to = format!(in desk; "m/{number}.md")?;
-    move_page(desk, store, from.as_str(), to.as_str())
+    let moved = move_page(desk, store, from, &to);
+    drop(to);
+    moved
 }

@@ -1,11 +1,10 @@
 //! Calls of a store of pages.
 
-use crate::given::{Heaps, Trial, reader_of, two, written};
+use crate::given::{Heaps, Trial, both, groups_of, path_of, reader_of, two, written};
 use crate::stop::{Stop, answered};
 use doc_heap::{Heap, String};
 use doc_page::path::Path;
 use doc_page::sight::Sight;
-use doc_store::groups::Groups;
 use doc_store::reader::Reader;
 use doc_store::store::{EditError, Put, Store};
 use trial::answer::number_and_text;
@@ -56,12 +55,14 @@ fn put_long(desk: Heap, store: &mut Store, given: &str) -> Result<String, Stop> 
     let (path, rest) = two(given)?;
     let (groups, text) = two(rest)?;
     let text = long_text(desk, text)?;
-    answered(desk, put_page(desk, store, path, groups, text.as_str())?)
+    let put = put_page(desk, store, path, groups, &text);
+    drop(text);
+    answered(desk, put?)
 }
 
 fn long_text(desk: Heap, given: &str) -> Result<String, Stop> {
     let (times, unit) = number_and_text(given).ok_or(Stop::NoCall)?;
-    Ok(unit.repeat(desk, times)?)
+    unit.repeat(desk, times).map_err(Stop::from)
 }
 
 fn put_page(
@@ -71,9 +72,11 @@ fn put_page(
     groups: &str,
     text: &str,
 ) -> Result<Result<Put, EditError>, Stop> {
-    let path = Path::new(desk, path)?;
-    let groups = Groups::new(desk, groups)?;
-    Ok(store.put(&path, &groups, text))
+    let (path, groups) = both(path_of(desk, path), groups_of(desk, groups))?;
+    let put = store.put(&path, &groups, text);
+    drop(groups);
+    drop(path);
+    Ok(put)
 }
 
 /// `N`: puts the pages `0.md` to that of N - 1, without groups and texts, and answers the last.
@@ -91,7 +94,9 @@ fn put_numbered(
     number: u64,
 ) -> Result<Result<Put, EditError>, Stop> {
     let path = format!(in desk; "{number}.md")?;
-    put_page(desk, store, path.as_str(), "", "")
+    let put = put_page(desk, store, &path, "", "");
+    drop(path);
+    put
 }
 
 /// The number that a text writes.
@@ -104,41 +109,51 @@ pub fn number_of(text: &str) -> Result<u64, Stop> {
 
 /// `PATH`: whether a page stood there.
 fn removed(desk: Heap, store: &mut Store, given: &str) -> Result<String, Stop> {
-    let path = Path::new(desk, given)?;
-    written(desk, store.remove(&path))
+    let path = path_of(desk, given)?;
+    let removed = store.remove(&path);
+    drop(path);
+    written(desk, removed)
 }
 
 /// `PATH | TEXT`: what a put would be refused for.
 fn fits(desk: Heap, store: &Store, given: &str) -> Result<String, Stop> {
     let (path, text) = two(given)?;
-    let path = Path::new(desk, path)?;
-    answered(desk, store.fits(&path, text))
+    fits_at(desk, store, path, text)
 }
 
 /// `PATH | N UNIT`: likewise, of a unit N times.
 fn fits_long(desk: Heap, store: &Store, given: &str) -> Result<String, Stop> {
     let (path, text) = two(given)?;
-    let path = Path::new(desk, path)?;
     let text = long_text(desk, text)?;
-    answered(desk, store.fits(&path, text.as_str()))
+    let answer = fits_at(desk, store, path, &text);
+    drop(text);
+    answer
+}
+
+fn fits_at(desk: Heap, store: &Store, path: &str, text: &str) -> Result<String, Stop> {
+    let path = path_of(desk, path)?;
+    let fits = store.fits(&path, text);
+    drop(path);
+    answered(desk, fits)
 }
 
 /// `PATH`: the stamp and the text of a page.
 fn got(desk: Heap, store: &Store, given: &str) -> Result<String, Stop> {
-    let path = Path::new(desk, given)?;
-    written(
-        desk,
-        store.get(&path).map(|page| (page.stamp(), page.text())),
-    )
+    let path = path_of(desk, given)?;
+    let page = store.get(&path);
+    drop(path);
+    written(desk, page.map(|page| (page.stamp(), page.text())))
 }
 
 /// `PATH | GROUPS`: whether these are the groups of a page.
 fn is_for(desk: Heap, store: &Store, given: &str) -> Result<String, Stop> {
     let (path, groups) = two(given)?;
-    let path = Path::new(desk, path)?;
-    let groups = Groups::new(desk, groups)?;
-    match store.get(&path) {
-        Some(page) => written(desk, *page.groups() == groups),
+    let (path, groups) = both(path_of(desk, path), groups_of(desk, groups))?;
+    let is_for = store.get(&path).map(|page| *page.groups() == groups);
+    drop(groups);
+    drop(path);
+    match is_for {
+        Some(is_for) => written(desk, is_for),
         None => written(desk, "no page"),
     }
 }
@@ -146,9 +161,11 @@ fn is_for(desk: Heap, store: &Store, given: &str) -> Result<String, Stop> {
 /// `READER | PATH`: the path of the page that a path leads to for a reader, or `nowhere`.
 fn goal(desk: Heap, store: &Store, given: &str) -> Result<String, Stop> {
     let (reader, path) = two(given)?;
-    let path = Path::new(desk, path)?;
-    let reader = reader_of(desk, reader)?;
-    goal_of(desk, store, &reader, &path)
+    let (path, reader) = both(path_of(desk, path), reader_of(desk, reader))?;
+    let goal = goal_of(desk, store, &reader, &path);
+    drop(reader);
+    drop(path);
+    goal
 }
 
 fn goal_of<'a>(
@@ -167,7 +184,9 @@ fn goal_of<'a>(
 /// `READER | PATH`: whether a reader sees a page there.
 fn sees(desk: Heap, store: &Store, given: &str) -> Result<String, Stop> {
     let (reader, path) = two(given)?;
-    let path = Path::new(desk, path)?;
-    let reader = reader_of(desk, reader)?;
-    written(desk, store.sight(&reader).sees(&path))
+    let (path, reader) = both(path_of(desk, path), reader_of(desk, reader))?;
+    let sees = store.sight(&reader).sees(&path);
+    drop(reader);
+    drop(path);
+    written(desk, sees)
 }

@@ -20,15 +20,19 @@ pub fn called(trial: &mut Trial, name: &str, given: &str) -> Option<Result<Strin
 fn set(desk: Heap, readers: &mut Readers, given: &str) -> Result<String, Stop> {
     let (token, reader) = two(given)?;
     let reader = reader_of(desk, reader)?;
-    answered(desk, readers.set(token, &reader))
+    let set = readers.set(token, &reader);
+    drop(reader);
+    answered(desk, set)
 }
 
 /// `TOKEN | READER`: whether that is the reader of a token.
 fn found(desk: Heap, readers: &Readers, given: &str) -> Result<String, Stop> {
     let (token, reader) = two(given)?;
     let reader = reader_of(desk, reader)?;
-    match readers.find(token) {
-        Some(found) => written(desk, *found == reader),
+    let is_found = readers.find(token).map(|found| *found == reader);
+    drop(reader);
+    match is_found {
+        Some(is_found) => written(desk, is_found),
         None => written(desk, "no reader"),
     }
 }

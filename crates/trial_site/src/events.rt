@@ -1,21 +1,28 @@
 //! Events, as a line writes them: `connect`, `push ID BYTES`, `step ID`, `disconnect ID`, `put PATH | GROUPS | TEXT`, `remove PATH`,
 //! `move FROM | TO`, `reader TOKEN | READER`, where the reader is `owner` or has these groups, and `unreader TOKEN`.
 
-use crate::given::{connection, id_and_bytes, reader_of, text_of, two};
+use crate::given::{both, connection, groups_of, id_and_bytes, path_of, reader_of, text_of, two};
 use crate::stop::Stop;
 use doc_heap::{Heap, Vec};
 use doc_hub::event::Event;
 use doc_page::bytes::Bytes;
-use doc_page::path::Path;
-use doc_store::groups::Groups;
 
 /// Events with ` ; ` between two.
 pub fn events_of(desk: Heap, given: &str) -> Result<Vec<Event>, Stop> {
     let mut events = Vec::new(desk);
-    for line in given.split(" ; ") {
-        events.push(event_in(desk, line)?)?;
-    }
+    push_events(desk, &mut events, given)?;
     Ok(events)
+}
+
+fn push_events(desk: Heap, events: &mut Vec<Event>, given: &str) -> Result<(), Stop> {
+    for line in given.split(" ; ") {
+        push_event(desk, events, line)?;
+    }
+    Ok(())
+}
+
+fn push_event(desk: Heap, events: &mut Vec<Event>, line: &str) -> Result<(), Stop> {
+    events.push(event_in(desk, line)?).map_err(Stop::from)
 }
 
 fn event_in(desk: Heap, line: &str) -> Result<Event, Stop> {
@@ -62,28 +69,25 @@ fn disconnect(given: &str) -> Result<Event, Stop> {
 fn put(desk: Heap, given: &str) -> Result<Event, Stop> {
     let (path, rest) = two(given)?;
     let (groups, text) = two(rest)?;
-    put_at(desk, Path::new(desk, path)?, groups, text)
-}
-
-fn put_at(desk: Heap, path: Path, groups: &str, text: &str) -> Result<Event, Stop> {
-    let groups = Groups::new(desk, groups)?;
-    Ok(Event::Put(path, groups, text_of(desk, text)?))
+    let page = both(groups_of(desk, groups), text_of(desk, text));
+    let (path, (groups, text)) = both(path_of(desk, path), page)?;
+    Ok(Event::Put(path, groups, text))
 }
 
 fn remove(desk: Heap, given: &str) -> Result<Event, Stop> {
-    Ok(Event::Remove(Path::new(desk, given)?))
+    Ok(Event::Remove(path_of(desk, given)?))
 }
 
 fn move_page(desk: Heap, given: &str) -> Result<Event, Stop> {
     let (from, to) = two(given)?;
-    let from = Path::new(desk, from)?;
-    Ok(Event::MovePage(from, Path::new(desk, to)?))
+    let (from, to) = both(path_of(desk, from), path_of(desk, to))?;
+    Ok(Event::MovePage(from, to))
 }
 
 fn set_reader(desk: Heap, given: &str) -> Result<Event, Stop> {
     let (token, reader) = two(given)?;
-    let token = text_of(desk, token)?;
-    Ok(Event::SetReader(token, reader_of(desk, reader)?))
+    let (token, reader) = both(text_of(desk, token), reader_of(desk, reader))?;
+    Ok(Event::SetReader(token, reader))
 }
 
 fn remove_reader(desk: Heap, given: &str) -> Result<Event, Stop> {

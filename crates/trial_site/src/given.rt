@@ -3,6 +3,7 @@
 use crate::stop::Stop;
 use doc_heap::{Heap, Vec};
 use doc_hub::event::ConnId;
+use doc_page::path::Path;
 use doc_page::text::Text;
 use doc_store::groups::Groups;
 use doc_store::reader::Reader;
@@ -35,26 +36,44 @@ pub fn id_and_bytes(desk: Heap, given: &str) -> Result<(ConnId, Vec<u8>), Stop> 
     Ok((ConnId(id), bytes_of(desk, text)?))
 }
 
+/// Two values of which each may be refused.
+pub fn both<A: Drop, B: Drop>(a: Result<A, Stop>, b: Result<B, Stop>) -> Result<(A, B), Stop> {
+    Ok((a?, b?))
+}
+
 pub fn text_of(desk: Heap, given: &str) -> Result<Text, Stop> {
-    Ok(Text::copy_of(desk, given)?)
+    Text::copy_of(desk, given).map_err(Stop::from)
+}
+
+pub fn path_of(desk: Heap, given: &str) -> Result<Path, Stop> {
+    Path::new(desk, given).map_err(Stop::from)
+}
+
+pub fn groups_of(desk: Heap, given: &str) -> Result<Groups, Stop> {
+    Groups::new(desk, given).map_err(Stop::from)
 }
 
 /// The reader that a text names: `owner`, or a reader of groups.
 pub fn reader_of(desk: Heap, text: &str) -> Result<Reader, Stop> {
     let owner = text == "owner";
-    let groups = Groups::new(desk, if owner { "" } else { text })?;
+    let groups = groups_of(desk, if owner { "" } else { text })?;
     Ok(Reader { owner, groups })
 }
 
 /// The bytes of a text, in which `\xff` is one of that hexadecimal number.
 pub fn bytes_of(desk: Heap, text: &str) -> Result<Vec<u8>, Stop> {
     let mut bytes = Vec::with_capacity(desk, text.len())?;
+    push_bytes(&mut bytes, text)?;
+    Ok(bytes)
+}
+
+fn push_bytes(bytes: &mut Vec<u8>, text: &str) -> Result<(), Stop> {
     let mut parts = text.split("\\x");
     bytes.extend_from_slice(parts.next().unwrap_or("").as_bytes())?;
     for part in parts {
-        push_numbered(&mut bytes, part)?;
+        push_numbered(bytes, part)?;
     }
-    Ok(bytes)
+    Ok(())
 }
 
 /// Adds the byte of the two hexadecimal digits that a text begins with, and the rest of the text.

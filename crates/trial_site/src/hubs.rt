@@ -34,7 +34,11 @@ fn call<R: Renderer + Drop>(
     given: &str,
 ) -> Result<Answer, Stop> {
     let event = event_of(desk, name, given)?;
-    one_said(desk, &happened(hub, &event))
+    let outcome = happened(hub, &event);
+    drop(event);
+    let said = one_said(desk, &outcome);
+    drop(outcome);
+    said
 }
 
 /// What comes of the call of an event.
@@ -55,13 +59,19 @@ fn happened<R: Renderer + Drop>(hub: &mut Hub<R>, event: &Event) -> Outcome {
 /// `ID BYTES`: a push and a step.
 fn ask<R: Renderer + Drop>(desk: Heap, hub: &mut Hub<R>, given: &str) -> Result<Answer, Stop> {
     let (id, bytes) = id_and_bytes(desk, given)?;
-    one_said(desk, &asked(hub, id, &bytes))
+    let outcome = asked(hub, id, &bytes);
+    drop(bytes);
+    let said = one_said(desk, &outcome);
+    drop(outcome);
+    said
 }
 
 /// `EVENT ; EVENT ..`: a run of these events.
 fn run<R: Renderer + Drop>(desk: Heap, hub: &mut Hub<R>, given: &str) -> Result<Answer, Stop> {
     let events = events_of(desk, given)?;
-    run_of(desk, hub, &events)
+    let said = run_of(desk, hub, &events);
+    drop(events);
+    said
 }
 
 fn run_of<R: Renderer + Drop>(
@@ -69,8 +79,10 @@ fn run_of<R: Renderer + Drop>(
     hub: &mut Hub<R>,
     events: &[Event],
 ) -> Result<Answer, Stop> {
-    match hub.run(events) {
-        Ok(outcomes) => all_said(desk, outcomes.get()),
-        Err(_) => Answer::memory(desk),
-    }
+    let Ok(outcomes) = hub.run(events) else {
+        return Answer::memory(desk);
+    };
+    let said = all_said(desk, outcomes.get());
+    drop(outcomes);
+    said
 }

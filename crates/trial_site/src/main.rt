@@ -10,6 +10,9 @@
 //! Bytes are those of a text, in which `\xff` is the byte with that hexadecimal number: so `\\xff` in a line. An answer is a word with what
 //! the call gave, or `refused: ` with what the refusal prints. Bytes are written in it as in a line, but those that are no printable ASCII
 //! as `\xff`, and 32 and more equal ones as `{999*a}`.
+//!
+//! Values that own memory go by calls of `drop`, once on each way: that is much cheaper to prove than what the end of a scope does, which
+//! is written out at each exit.
 #![tactic(auto)]
 
 ghost use Rattle.std.specs.Prelude.{◌≡◌, ◌<◌};
@@ -41,7 +44,9 @@ use world::{Heaps, World, new_world};
 fn main(rt: HostRuntime) -> io::Result<()> {
     let desk = heap(rt.alloc(), u64::MAX)?;
     let text = io::read_to_string(rt.alloc(), rt.reader())?;
-    run(&rt, desk, &text)
+    let ran = run(&rt, desk, &text);
+    drop(text);
+    ran
 }
 
 /// Prints what the lines of each world answer, behind the comments in front of the first one.
@@ -80,7 +85,11 @@ fn run_world<L: Ledger, P: Print>(
 {
     let renderer: PlainRenderer<L> = PlainRenderer::new(blank);
     match new_world(heaps, renderer, texts[0]) {
-        Ok(mut world) => run_calls(rt, &mut world, texts[1]),
+        Ok(mut world) => {
+            let ran = run_calls(rt, &mut world, texts[1]);
+            drop(world);
+            ran
+        }
         Err(stop) => println!(rt; "{stop}"),
     }
 }

@@ -68,11 +68,16 @@ pub fn one_said(desk: Heap, outcome: &Outcome) -> Result<Answer, Stop> {
 /// The outcomes with ` | ` between two, and whether memory ran out in one of them.
 pub fn all_said(desk: Heap, outcomes: &[Outcome]) -> Result<Answer, Stop> {
     let mut text = String::new(desk);
-    for outcome in outcomes {
-        push_said(&mut text, outcome)?;
-    }
+    push_all(&mut text, outcomes)?;
     let memory = outcomes.iter().any(is_memory);
     Ok(Answer { text, memory })
+}
+
+fn push_all(out: &mut String, outcomes: &[Outcome]) -> Result<(), Stop> {
+    for outcome in outcomes {
+        push_said(out, outcome)?;
+    }
+    Ok(())
 }
 
 /// Adds an outcome behind others or none.

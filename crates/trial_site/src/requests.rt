@@ -21,10 +21,14 @@ pub fn called(heaps: Heaps, name: &str, given: &str) -> Option<Result<Answer, St
 /// `BYTES`: what they begin with.
 fn next(heaps: Heaps, given: &str) -> Result<Answer, Stop> {
     let bytes = bytes_of(heaps.desk, given)?;
-    match next_request(heaps.tried, &bytes) {
-        Ok(next) => found(heaps, &next),
+    let next = next_request(heaps.tried, &bytes);
+    drop(bytes);
+    let answer = match &next {
+        Ok(next) => found(heaps, next),
         Err(Memory) => Answer::memory(heaps.desk),
-    }
+    };
+    drop(next);
+    answer
 }
 
 fn found(heaps: Heaps, next: &Next) -> Result<Answer, Stop> {
@@ -36,8 +40,17 @@ fn found(heaps: Heaps, next: &Next) -> Result<Answer, Stop> {
 fn drip(heaps: Heaps, given: &str) -> Result<Answer, Stop> {
     let bytes = bytes_of(heaps.desk, given)?;
     let mut unread = Unread::new(heaps.tried);
-    let next = next_of_bytes(&mut unread, &bytes)?;
-    found_behind(heaps, unread.get().len(), &next)
+    let answer = dripped(heaps, &mut unread, &bytes);
+    drop(unread);
+    drop(bytes);
+    answer
+}
+
+fn dripped(heaps: Heaps, unread: &mut Unread, bytes: &[u8]) -> Result<Answer, Stop> {
+    let next = next_of_bytes(unread, bytes)?;
+    let answer = found_behind(heaps, unread.get().len(), &next);
+    drop(next);
+    answer
 }
 
 fn found_behind(heaps: Heaps, count: usize, next: &Next) -> Result<Answer, Stop> {

@@ -4,7 +4,7 @@ use crate::given::number_first;
 use crate::stop::{Answer, Stop};
 use crate::world::{World, witnessed};
 use crate::{hubs, requests};
-use doc_heap::String;
+use doc_heap::{Heap, String};
 use doc_page::renderer::Renderer;
 use trial::growths::Refusal;
 
@@ -59,10 +59,21 @@ fn called<R: Renderer + Drop>(world: &mut World<R>, call: Call) -> Result<Answer
 fn times<R: Renderer + Drop>(world: &mut World<R>, given: &str) -> Result<Answer, Stop> {
     let (count, text) = number_first(given)?;
     let mut last = Answer::of(String::new(world.heaps.desk));
-    for number in 0..count {
-        last = called_in_round(world, text, number)?;
-    }
+    call_each(world, count, text, &mut last)?;
     Ok(last)
+}
+
+/// Makes so many calls, and leaves the last answer.
+fn call_each<R: Renderer + Drop>(
+    world: &mut World<R>,
+    count: u64,
+    text: &str,
+    last: &mut Answer,
+) -> Result<(), Stop> {
+    for number in 0..count {
+        *last = called_in_round(world, text, number)?;
+    }
+    Ok(())
 }
 
 fn called_in_round<R: Renderer + Drop>(
@@ -70,9 +81,18 @@ fn called_in_round<R: Renderer + Drop>(
     text: &str,
     number: u64,
 ) -> Result<Answer, Stop> {
-    let number = format!(in world.heaps.desk; "{number}")?;
-    let text = text.replace(world.heaps.desk, '#', &number)?;
-    called(world, Call::read(&text))
+    let text = numbered(world.heaps.desk, text, number)?;
+    let answer = called(world, Call::read(&text));
+    drop(text);
+    answer
+}
+
+/// A text with a number in place of each `#`.
+fn numbered(desk: Heap, text: &str, number: u64) -> Result<String, Stop> {
+    let number = format!(in desk; "{number}")?;
+    let text = text.replace(desk, '#', &number);
+    drop(number);
+    text.map_err(Stop::from)
 }
 
 fn only<R: Renderer + Drop>(world: &mut World<R>, given: &str) -> Result<Answer, Stop> {
@@ -100,14 +120,26 @@ fn grow_times<R: Renderer + Drop>(world: &mut World<R>, given: &str) -> Result<A
 
 /// Makes so many calls with their growths refused, and writes what came of them before the last answer.
 fn grow<R: Renderer + Drop>(world: &mut World<R>, count: u64, call: Call) -> Result<Answer, Stop> {
-    let mut grew = false;
     let mut last = Answer::of(String::new(world.heaps.desk));
+    let answer = grow_each(world, count, call, &mut last);
+    drop(last);
+    answer
+}
+
+/// Makes so many calls, and leaves the last answer.
+fn grow_each<R: Renderer + Drop>(
+    world: &mut World<R>,
+    count: u64,
+    call: Call,
+    last: &mut Answer,
+) -> Result<Answer, Stop> {
+    let mut grew = false;
     for _ in 0..count {
         let (grows, answer) = grown(world, call)?;
         grew = grew || grows;
-        last = answer;
+        *last = answer;
     }
-    told(world, grew, &last)
+    told(world, grew, last)
 }
 
 fn told<R: Renderer + Drop>(world: &World<R>, grew: bool, last: &Answer) -> Result<Answer, Stop> {
@@ -124,8 +156,18 @@ fn told<R: Renderer + Drop>(world: &World<R>, grew: bool, last: &Answer) -> Resu
 /// takes fewer growths.
 fn grown<R: Renderer + Drop>(world: &mut World<R>, call: Call) -> Result<(bool, Answer), Stop> {
     let before = witnessed(world)?;
+    let grown = grown_behind(world, call, &before);
+    drop(before);
+    grown
+}
+
+fn grown_behind<R: Renderer + Drop>(
+    world: &mut World<R>,
+    call: Call,
+    before: &str,
+) -> Result<(bool, Answer), Stop> {
     for growth in 0..MOST {
-        if let Some(answer) = refused_twice(world, call, growth, &before)? {
+        if let Some(answer) = refused_twice(world, call, growth, before)? {
             return Ok(answer);
         }
     }
@@ -143,6 +185,7 @@ fn refused_twice<R: Renderer + Drop>(
     if !alone.memory {
         return Ok(Some((growth > 0, alone)));
     }
+    drop(alone);
     is_left(world, before)?;
     refused_from(world, call, growth, before)
 }
@@ -180,13 +223,17 @@ fn refused_from<R: Renderer + Drop>(
     if !all.memory {
         return Ok(Some((true, all)));
     }
+    drop(all);
     is_left(world, before)?;
     Ok(None)
 }
 
 /// That the witness is answered as before.
 fn is_left<R: Renderer + Drop>(world: &mut World<R>, before: &str) -> Result<(), Stop> {
-    if witnessed(world)?.as_str() == before {
+    let after = witnessed(world)?;
+    let is_same = after.as_str() == before;
+    drop(after);
+    if is_same {
         Ok(())
     } else {
         Err(Stop::Failed("the witness got another reply"))

@@ -42,7 +42,13 @@ pub fn new_world<R: Renderer + Drop>(
     let Some(given) = trial::written::text_of(heaps.desk, line)? else {
         return Err(Stop::NoCall);
     };
-    let (kind, rest) = given.split_once(' ').unwrap_or((&given, ""));
+    let world = world_of(heaps, renderer, &given);
+    drop(given);
+    world
+}
+
+fn world_of<R: Renderer + Drop>(heaps: Heaps, renderer: R, given: &str) -> Result<World<R>, Stop> {
+    let (kind, rest) = given.split_once(' ').unwrap_or((given, ""));
     Ok(World {
         heaps,
         hub: new_hub(heaps.tried, renderer, kind == "keep", rest)?,
@@ -58,18 +64,19 @@ fn new_hub<R: Renderer + Drop>(
 ) -> Result<Hub<R>, Stop> {
     let (cache, readers) = number_first(given)?;
     let readers = Readers::from_toml(tried, readers)?;
-    Ok(Hub::new(tried, renderer, readers, keep_alive, cache as usize)?)
+    Hub::new(tried, renderer, readers, keep_alive, cache as usize).map_err(Stop::from)
 }
 
 /// What comes of the witness's request, with ample memory; empty where there is no witness.
 pub fn witnessed<R: Renderer + Drop>(world: &mut World<R>) -> Result<String, Stop> {
-    match &world.witness {
-        Some(witness) => text_of(
-            world.heaps.desk,
-            &asked(&mut world.hub, witness.id, &witness.request),
-        ),
-        None => Ok(String::new(world.heaps.desk)),
-    }
+    let desk = world.heaps.desk;
+    let Some(witness) = &world.witness else {
+        return Ok(String::new(desk));
+    };
+    let outcome = asked(&mut world.hub, witness.id, &witness.request);
+    let text = text_of(desk, &outcome);
+    drop(outcome);
+    text
 }
 
 /// What comes of a step on a connection once these bytes are pushed.

@@ -7,40 +7,23 @@ mod of_refs;
 mod of_scanners;
 mod of_starts;
 
-use doc_heap::{Heap, String, heap};
+use doc_heap::{Heap, String};
 use doc_page::failure::Memory;
 use std::io;
-use std::io::{BufRead, BufReader};
-use trial::answer::no_call;
-use trial::line::{Line, read_line};
+use trial::run::{Calls, run};
+
+struct TextCalls;
+
+impl Calls for TextCalls {
+    fn called(&self, heap: Heap, name: &str, given: &str) -> Option<Result<String, Memory>> {
+        of_lines::called(heap, name, given)
+            .or_else(|| of_scanners::called(heap, name, given))
+            .or_else(|| of_starts::called(heap, name, given))
+            .or_else(|| of_refs::called(heap, name, given))
+            .or_else(|| growing::called(heap, name, given))
+    }
+}
 
 fn main(rt: HostRuntime) -> io::Result<()> {
-    let heap = heap(rt.alloc(), u64::MAX)?;
-    for line in BufReader::new(rt.alloc(), rt.reader())?.lines(rt.alloc()) {
-        let line = line?;
-        match answer_of(heap, line.as_str()) {
-            Ok(answer) => println!(rt; "{answer}")?,
-            Err(Memory) => println!(rt; "no memory for the line")?,
-        }
-    }
-    Ok(())
-}
-
-/// What is printed for a line.
-fn answer_of(heap: Heap, line: &str) -> Result<String, Memory> {
-    match read_line(heap, line)? {
-        Line::Comment => Ok(String::from_str(heap, line)?),
-        Line::Call { name, given } => called(heap, name, &given),
-        Line::Wrong => no_call(heap),
-    }
-}
-
-/// What a call answers.
-fn called(heap: Heap, name: &str, text: &str) -> Result<String, Memory> {
-    of_lines::called(heap, name, text)
-        .or_else(|| of_scanners::called(heap, name, text))
-        .or_else(|| of_starts::called(heap, name, text))
-        .or_else(|| of_refs::called(heap, name, text))
-        .or_else(|| growing::called(heap, name, text))
-        .unwrap_or_else(|| no_call(heap))
+    run(&rt, &TextCalls)
 }

@@ -4,7 +4,6 @@ use doc_heap::{Heap, String};
 use doc_lines::scan::autolink::{mail, uri};
 use doc_lines::scan::character::{is, last_char, next_char};
 use doc_lines::scan::front::front;
-use doc_lines::scan::raw_html::raw_html;
 use doc_lines::scan::run::{at_most, many, some};
 use doc_lines::scan::white_space::{line_ending, some_spacing, spacing};
 use doc_lines::scan::word::{through, word, word_in_any_case};
@@ -16,7 +15,6 @@ pub fn called(heap: Heap, name: &str, given: &str) -> Option<Result<String, Memo
     Some(match name {
         "uri" => shown(heap, uri(given)),
         "mail" => shown(heap, mail(given)),
-        "raw_html" => shown(heap, raw_html(given)),
         "spacing" => shown(heap, spacing(given)),
         "some_spacing" => shown(heap, some_spacing(given)),
         "line_ending" => shown(heap, line_ending(given)),

@@ -4,37 +4,19 @@
 mod of_blocks;
 mod of_inlines;
 
-use doc_heap::{Heap, String, heap};
+use doc_heap::{Heap, String};
 use doc_page::failure::Memory;
 use std::io;
-use std::io::{BufRead, BufReader};
-use trial::answer::no_call;
-use trial::line::{Line, read_line};
+use trial::run::{Calls, run};
+
+struct TreeCalls;
+
+impl Calls for TreeCalls {
+    fn called(&self, heap: Heap, name: &str, given: &str) -> Option<Result<String, Memory>> {
+        of_blocks::called(heap, name, given).or_else(|| of_inlines::called(heap, name, given))
+    }
+}
 
 fn main(rt: HostRuntime) -> io::Result<()> {
-    let heap = heap(rt.alloc(), u64::MAX)?;
-    for line in BufReader::new(rt.alloc(), rt.reader())?.lines(rt.alloc()) {
-        let line = line?;
-        match answer_of(heap, line.as_str()) {
-            Ok(answer) => println!(rt; "{answer}")?,
-            Err(Memory) => println!(rt; "no memory for the line")?,
-        }
-    }
-    Ok(())
-}
-
-/// What is printed for a line.
-fn answer_of(heap: Heap, line: &str) -> Result<String, Memory> {
-    match read_line(heap, line)? {
-        Line::Comment => Ok(String::from_str(heap, line)?),
-        Line::Call { name, given } => called(heap, name, &given),
-        Line::Wrong => no_call(heap),
-    }
-}
-
-/// What a call answers.
-fn called(heap: Heap, name: &str, text: &str) -> Result<String, Memory> {
-    of_blocks::called(heap, name, text)
-        .or_else(|| of_inlines::called(heap, name, text))
-        .unwrap_or_else(|| no_call(heap))
+    run(&rt, &TreeCalls)
 }

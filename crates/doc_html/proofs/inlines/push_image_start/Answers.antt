@@ -10,7 +10,7 @@ pub returns : goal.returns
 unfolding span_start
 returns g c =
     let src : chars c.get-2.result.now ≡ url_escape (chars c.args.target.now.dest) = ap chars c.get-2.ensures
-    ∙ (c.in_ok-src.ensures ∙ ap (λ d. url_escape (chars d)) c.get.ensures) in
+    ∙ (c.in_ok-src.ensures.characters ∙ ap (λ d. url_escape (chars d)) c.get.ensures) in
     let value : Writes g.W.Writer.holds c.markup.new.writer c.text.new.self (characters (url_escape (chars c.args.target.now.dest)))
     = subst (λ t. Writes g.W.Writer.holds c.markup.new.writer c.text.new.self (characters t)) src c.in_ok-text.ensures in
     texts g.W.Writer.holds c.args.writer.now c.text.new.self c.markup-2.new.writer _ (codes "\" alt=\"")

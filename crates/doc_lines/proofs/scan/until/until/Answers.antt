@@ -1,4 +1,4 @@
-use Rattle.std.proofs.Common.{◌≡◌, ◌<◌, ℕ, List, ◌++◌, Some, get_or, subst, chars, sym, ap, ◌∙◌, arith, append-nil, rules}
+use Rattle.std.proofs.Common.{◌<◌, ℕ, List, ◌++◌, get_or, subst, chars, sym, ap, ◌∙◌, arith, append-nil}
 use Rattle.std.proofs.lemmas.Str.{chars-nil}
 use Rattle.doc_lines.proofs.ByteSearch.{stops_at, stops_nowhere, rest_at}
 use Rattle.doc_lines.proofs.scan.until.until.Goals as goal

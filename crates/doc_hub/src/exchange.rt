@@ -1,0 +1,45 @@
+//! One request, and how the reply to it is written.
+
+ghost use Rattle.std.specs.Prelude.{◌≡◌, IfOk};
+ghost use Rattle.doc_http.specs.ReplyForms.{code_of, reply_of};
+ghost use Rattle.doc_hub.specs.AnswerSteps.{sent_in};
+ghost use Rattle.doc_hub.specs.Replies.{only_reply, refused};
+
+use crate::answer::Answer;
+use crate::method::Method;
+use doc_heap::Heap;
+use doc_http::reply_form::ReplyForm;
+use doc_http::request::Request;
+use doc_http::status::Status;
+use doc_page::failure::Memory;
+
+/// A request, and how the reply to it is written.
+#[derive(Clone, Copy)]
+pub struct Exchange<'a> {
+    pub heap: Heap,
+    pub request: &'a Request,
+    /// The request's.
+    pub method: Method,
+    /// Whether the connection closes after the reply.
+    pub close: bool,
+}
+
+impl Exchange<'_> {
+    /// The answer that is this reply, after no edit.
+    pub fn reply(&self, form: ReplyForm) -> Result<Answer, Memory>
+        ensures { IfOk result (λ a. a ≡ sent_in self.now (only_reply (reply_of form))) }
+    {
+        Ok(Answer {
+            bytes: form.write(self.heap, self.method.is_head(), self.close)?,
+            closes: self.close,
+            edit: None,
+        })
+    }
+
+    /// The answer that says no more than a status, after no edit.
+    pub fn status(&self, status: Status) -> Result<Answer, Memory>
+        ensures { IfOk result (λ a. a ≡ sent_in self.now (refused (code_of status))) }
+    {
+        self.reply(ReplyForm::Status(status))
+    }
+}

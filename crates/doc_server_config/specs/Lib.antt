@@ -1,0 +1,3 @@
+pub mod Configurations
+pub mod PageRows
+pub mod Settings
