@@ -1,1 +1,1 @@
-mod StampSteps
+pub mod HoldSteps

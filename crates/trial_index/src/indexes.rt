@@ -21,7 +21,7 @@ pub struct Indexes {
 }
 
 impl Model for Indexes {
-    ghost use Rattle.trial_index.specs.Stamps.{HasStamp};
+    ghost use Rattle.doc_links.specs.StampSteps.{HasStamp};
 
     ghost Value = { Unit {0} };
 

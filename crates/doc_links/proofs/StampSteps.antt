@@ -6,7 +6,7 @@ use Rattle.std.specs.FinMap as map
 use Rattle.std.proofs.lemmas.Bool.{both_ways}
 use Rattle.doc_index.specs.Maps.{PairMap, pair_cmp}
 use Rattle.doc_index.proofs.HeldSteps.{pair_is, pair_itself, pairs_total}
-use Rattle.trial_index.specs.Stamps.{HasStamp}
+use Rattle.doc_links.specs.StampSteps.{HasStamp}
 
 module _ {X : Type 0} (held : PairMap X) (n : ℕ) where
   pub once : HasStamp n held → (path : List ℕ) (stamp other : ℕ)
@@ -36,3 +36,7 @@ module _ {X : Type 0} (held : PairMap X) (n : ℕ) where
       by : (b : Bool) → same ≡ b → is_some (cond b (Some value) (map.get held (path, stamp))) ≡ true → stamp ≡ n
       by true is some = ap (λ k. k.1) (pair_is (path, stamp) (key, n) is)
       by false other some = all path stamp some
+
+-- no page is held under another stamp where none is held
+pub none_held : (X : Type 0) (n : ℕ) → HasStamp {X = X} n map.empty
+none_held X n path stamp here = absurd (both_ways false refl (sym (ap is_some (map.get-empty pair_cmp (path, stamp))) ∙ here))

@@ -1,4 +1,4 @@
--- An index in which each page is held under the same stamp.
+-- An index in which each page is held under the same stamp, so that no path is held under two.
 use Rattle.std.specs.Prelude.{◌≡◌, ℕ, List, IsTrue}
 use Rattle.std.specs.FinMap as map
 use Rattle.doc_index.specs.Maps.{PairMap}
