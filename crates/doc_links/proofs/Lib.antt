@@ -4,3 +4,4 @@ pub mod HeldSteps
 pub mod MapSteps
 pub mod OrderSteps
 pub mod SourceSteps
+pub mod StampSteps

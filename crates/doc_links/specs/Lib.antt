@@ -2,3 +2,4 @@ pub mod IndexSteps
 pub mod Links
 pub mod PageLinks
 pub mod SeenPages
+pub mod StampSteps

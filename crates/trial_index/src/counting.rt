@@ -1,0 +1,45 @@
+//! A sight that counts how often it is asked.
+
+ghost use Rattle.doc_store.specs.Sites.{goal_in};
+
+use doc_page::path::Path;
+use doc_page::sight::Sight;
+use doc_store::site_sight::SiteSight;
+use std::cell::Cell;
+
+/// What a reader sees, and how often it was asked whether the page of one path is seen.
+#[derive(Drop)]
+pub struct Counting<'a> {
+    sight: &'a SiteSight<'a>,
+    watched: &'a Path,
+    asked: Cell<u64>,
+}
+
+impl<'a> Counting<'a> {
+    pub fn new(sight: &'a SiteSight<'a>, watched: &'a Path) -> Counting<'a> {
+        Counting {
+            sight,
+            watched,
+            asked: Cell::new(0),
+        }
+    }
+
+    pub fn asked(&self) -> u64 {
+        self.asked.get()
+    }
+}
+
+impl<'a> Sight for Counting<'a> {
+    ghost goals = { λ c. goal_in c.sight.now };
+
+    fn sees(&self, path: &Path) -> bool {
+        if path == self.watched {
+            self.asked.set(self.asked.get().saturating_add(1));
+        }
+        self.sight.sees(path)
+    }
+
+    fn goal(&self, path: &Path) -> Option<&Path> {
+        self.sight.goal(path)
+    }
+}

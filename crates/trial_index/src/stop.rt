@@ -1,0 +1,71 @@
+//! Why a line has no answer.
+
+use doc_heap::{Heap, String};
+use doc_page::failure::Memory;
+use doc_page::path::PathError;
+use doc_store::groups::GroupsError;
+use std::alloc::{AllocError, AllocFailed};
+use std::fmt::Debug;
+use trial::answer::shown;
+
+/// Why a line has no answer.
+#[derive(Clone, Copy, PartialEq, Eq)]
+pub enum Stop {
+    /// No memory was left.
+    Memory,
+    /// The line is no call.
+    NoCall,
+}
+
+impl From<Memory> for Stop {
+    fn from(_e: Memory) -> Stop {
+        Stop::Memory
+    }
+}
+
+impl From<AllocError> for Stop {
+    fn from(_e: AllocError) -> Stop {
+        Stop::Memory
+    }
+}
+
+impl<T: Drop> From<AllocFailed<T>> for Stop {
+    fn from(_e: AllocFailed<T>) -> Stop {
+        Stop::Memory
+    }
+}
+
+impl From<PathError> for Stop {
+    fn from(e: PathError) -> Stop {
+        match e {
+            PathError::BadPath => Stop::NoCall,
+            PathError::Memory => Stop::Memory,
+        }
+    }
+}
+
+impl From<GroupsError> for Stop {
+    fn from(e: GroupsError) -> Stop {
+        match e {
+            GroupsError::BadGroup | GroupsError::TooMany => Stop::NoCall,
+            GroupsError::Memory => Stop::Memory,
+        }
+    }
+}
+
+/// What is printed for what a call answers or is refused for, which may be `Memory`.
+pub fn answered<T: Debug + Drop, E: Debug + Drop>(
+    desk: Heap,
+    answer: Result<T, E>,
+) -> Result<String, Stop> {
+    let text = shown(desk, answer)?;
+    if text.as_str() == "Err(Memory)" {
+        return Err(Stop::Memory);
+    }
+    Ok(text)
+}
+
+/// What is printed for a value.
+pub fn written<T: Debug + Drop>(desk: Heap, value: T) -> Result<String, Stop> {
+    Ok(shown(desk, value)?)
+}
