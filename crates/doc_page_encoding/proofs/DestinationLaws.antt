@@ -17,7 +17,8 @@ plain_byte b amp less greater quote = rw (amp, less, greater, quote) refl
 
 -- `%` and the digits of an encoded byte
 hex_stays : (b : ℕ) → IsEscapeByte b → escaped_byte b ≡ b ∷ []
-hex_stays b (inl e) = plain_byte b (grind (arith, nat_tests)) (grind (arith, nat_tests)) (grind (arith, nat_tests)) (grind (arith, nat_tests))
+hex_stays b (inl e) = plain_byte b (grind (arith, nat_tests)) (grind (arith, nat_tests)) (grind (arith, nat_tests))
+    (grind (arith, nat_tests))
 hex_stays b (inr (inl e)) =
     plain_byte b (grind (arith, nat_tests)) (grind (arith, nat_tests)) (grind (arith, nat_tests)) (grind (arith, nat_tests))
 hex_stays b (inr (inr e)) =

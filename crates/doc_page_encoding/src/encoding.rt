@@ -68,7 +68,8 @@ pub fn push_encoded(out: &mut String, text: &str) -> Result<(), Memory>
 
 /// Writes a path, its segments encoded, at the end of the buffer. A refused write leaves the buffer as it was.
 pub fn push_encoded_path(out: &mut String, path: &str) -> Result<(), Memory>
-    ensures ok { OnOk result (string_bytes out.new ≡ string_bytes out.old ++ encoded_path path.now) }
+    ensures ok { OnOk result
+        (string_bytes out.new ≡ string_bytes out.old ++ encoded_path path.now) }
     ensures err { OnErr result (string_bytes out.new ≡ string_bytes out.old) }
 {
     utf8_percent_encode(path, PATH).append_to(out)?;
@@ -86,7 +87,8 @@ pub fn encoded_path<'a>(heap: Heap, path: &'a str) -> Result<CowStr<'a, Heap>, M
 /// of it may stand. Memory is taken beside the buffer only where a byte has to be encoded.
 #[tactic(auto, using(doc_page::proofs::BufferSteps::front_same))]
 pub fn push_destination(heap: Heap, out: &mut String, dest: &str) -> Result<(), Memory>
-    ensures ok { OnOk result (string_bytes out.new ≡ string_bytes out.old ++ escaped (destination dest.now)) }
+    ensures ok { OnOk result
+        (string_bytes out.new ≡ string_bytes out.old ++ escaped (destination dest.now)) }
     ensures err { OnErr result (StartsWith (string_bytes out.new) (string_bytes out.old)) }
 {
     let written = written_destination(heap, dest)?;

@@ -111,14 +111,16 @@ but_last-taken (x ∷ y ∷ xs) =
     let count : length (x ∷ y ∷ xs) - 1 ≡ suc (length (y ∷ xs) - 1) = omega arith in
     ap (λ n. texts (take n (x ∷ y ∷ xs))) count ∙ ap (λ rest. x.now ∷ rest) (but_last-taken (y ∷ xs))
 
-pub folder-goes : (authority : Option (List ℕ)) (base : List (Bor (List ℕ))) (n : ℕ) → (is_some authority && is_no_path (texts base)) ≡ false
+pub folder-goes : (authority : Option (List ℕ)) (base : List (Bor (List ℕ))) (n : ℕ) → (is_some authority && is_no_path (texts base))
+    ≡ false
     → n ≡ length base - 1 → texts (take n base) ≡ folder authority (texts base)
 folder-goes authority base n goes is =
     ap (λ m. texts (take m base)) is
     ∙ but_last-taken base
     ∙ sym (cond-false (is_some authority && is_no_path (texts base)) ([] ∷ []) (but_last (texts base)) goes)
 
-pub folder-stays : (authority : Option (List ℕ)) (base : List (Bor (List ℕ))) (n : ℕ) → (is_some authority && is_no_path (texts base)) ≡ true
+pub folder-stays : (authority : Option (List ℕ)) (base : List (Bor (List ℕ))) (n : ℕ) → (is_some authority && is_no_path (texts base))
+    ≡ true
     → n ≡ length base → texts (take n base) ≡ folder authority (texts base)
 folder-stays authority base n stays is =
     ap texts (take_all n base (omega arith))

@@ -91,7 +91,8 @@ impl SiteConfig {
 
     /// The same of a document.
     fn from_document(heap: Heap, document: &Table) -> Result<SiteConfig, ConfigError>
-        ensures read { IfOk result (λ config. config_of_document (table_view document.now) ≡ Ok config) }
+        ensures read { IfOk result (λ config.
+            config_of_document (table_view document.now) ≡ Ok config) }
         ensures refused { IfErr result (λ e. e ≢ ConfigError.Memory
             → config_of_document (table_view document.now) ≡ Err e) }
     {

@@ -87,7 +87,8 @@ fn path_in(heap: Heap, table: &Value) -> Result<Option<Path>, Memory>
 
 fn source_in(heap: Heap, table: &Value) -> Result<Option<Source>, Memory>
     ensures { IfOk result (λ source.
-        source ≡ source_of (get (codes "text") (view table.now)) (get (codes "file") (view table.now))) }
+        source ≡ source_of (get (codes "text") (view table.now))
+        (get (codes "file") (view table.now))) }
 {
     match (table.get("text"), table.get("file")) {
         (Some(text), None) => match text.as_str() {

@@ -46,7 +46,8 @@ pub fn settings_in(heap: Heap, document: &Table) -> Result<Option<Settings>, Mem
 
 /// What a key of a document holds.
 pub fn value_at<'a>(document: &'a Table, key: &str) -> Option<&'a Value>
-    ensures { option_map (λ value. view value.now) result ≡ get_member key.now (table_view document.now) }
+    ensures { option_map (λ value. view value.now) result
+        ≡ get_member key.now (table_view document.now) }
 {
     document.get(key)
 }

@@ -62,7 +62,8 @@ good-with_name name (first ∷ rest) good all =
     (match_ordering order (name ∷ first ∷ rest) (first ∷ rest) (first ∷ with_name name rest)) ≡ true) [
       | Less ↦ and_from (is_group name) (list_all is_group (first ∷ rest)) good all
       | Equal ↦ all
-      | Greater ↦ and_from (is_group first) (list_all is_group (with_name name rest)) (and_first (is_group first) (list_all is_group rest) all)
+      | Greater ↦ and_from (is_group first) (list_all is_group (with_name name rest))
+          (and_first (is_group first) (list_all is_group rest) all)
           (good-with_name name rest good (and_second (is_group first) (list_all is_group rest) all))
     ]
 
@@ -70,7 +71,8 @@ good-with_names : (before names : List (List ℕ)) → list_all is_group before 
     → list_all is_group (with_names before names) ≡ true
 good-with_names before [] good all = good
 good-with_names before (name ∷ names) good all =
-    good-with_names (with_name name before) names (good-with_name name before (and_first (is_group name) (list_all is_group names) all) good)
+    good-with_names (with_name name before) names (good-with_name name before (and_first (is_group name) (list_all is_group names) all)
+        good)
     (and_second (is_group name) (list_all is_group names) all)
 
 -- ---- so they are groups, where they are few

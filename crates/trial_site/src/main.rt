@@ -4,8 +4,8 @@
 //!   alive. It answers `()`, or what refuses it; then no calls follow.
 //! - `next BYTES` and `drip BYTES` (`requests`), an event (`events`), and `ask ID BYTES`, `run EVENT ; EVENT ..` and `witness ID BYTES`
 //!   (`hubs`) are the calls.
-//! - `times N CALL` makes a call N times, and `only N CALL` with one growth refused; a call whose name begins with `grow_` is made with each
-//!   of its growths refused (`rounds`).
+//! - `times N CALL` makes a call N times, and `only N CALL` with one growth refused; a call whose name begins with `grow_` is made with
+//!   each of its growths refused (`rounds`).
 //!
 //! Bytes are those of a text, in which `\xff` is the byte with that hexadecimal number: so `\\xff` in a line. An answer is a word with what
 //! the call gave, or `refused: ` with what the refusal prints. Bytes are written in it as in a line, but those that are no printable ASCII

@@ -28,4 +28,5 @@ returns-then-not-is_space_or_tab-clause-place c =
     ∙ c.characters.invariant.same n h
 
 pub returns-clause-place : goal.returns-clause-place
-returns-clause-place c = λ n h. text_at_end n c.characters.rest.now c.characters.at c.in_default.ensures.characters ∙ c.characters.invariant.same n h
+returns-clause-place c = λ n h. text_at_end n c.characters.rest.now c.characters.at c.in_default.ensures.characters
+    ∙ c.characters.invariant.same n h
