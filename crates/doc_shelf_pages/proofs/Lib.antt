@@ -1,0 +1,2 @@
+pub mod HeldSteps
+pub mod KeptSteps

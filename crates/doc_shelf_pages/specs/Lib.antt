@@ -1,0 +1,2 @@
+pub mod KeptPages
+pub mod RenderingSteps

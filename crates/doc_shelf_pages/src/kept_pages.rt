@@ -1,0 +1,135 @@
+//! What is kept of pages.
+
+ghost use Rattle.std.specs.Prelude.{◌≡◌, OnOk, OnErr, option_copied};
+ghost use Rattle.std.specs.FinMap as map;
+ghost use Rattle.doc_shelf_pages.specs.KeptPages.{IsFree, carried, none_kept, with_page, without_page};
+
+use crate::renderings::Renderings;
+use doc_heap::Heap;
+use doc_links::LinkIndex;
+use doc_page::failure::Memory;
+use doc_page::path::Path;
+use doc_page::rendered::Rendered;
+use doc_words::index::WordIndex;
+use std::marker::Model;
+
+/// What is kept of pages, each under its path and a stamp: its links and headings, its words, and its rendering, of which the texts
+/// are dropped. Contracts see the three maps.
+#[derive(Drop)]
+pub struct KeptPages {
+    links: LinkIndex,
+    words: WordIndex,
+    renderings: Renderings,
+}
+
+impl Model for KeptPages {
+    ghost use Rattle.doc_links.specs.contracts.page_links.PageLinks as link_row;
+    ghost use Rattle.doc_page.specs.contracts.rendered.Rendered as page_row;
+    ghost use Rattle.doc_shelf_pages.specs.KeptPages.{Kept, kept_code};
+
+    ghost Value = { Kept };
+
+    ghost coded = { kept_code link_row.the_row.coded page_row.the_row.coded };
+
+    ghost view = { λ k. record { links = k.links; words = k.words; renderings = k.renderings } };
+}
+
+impl KeptPages {
+    /// Nothing is kept. It takes no memory.
+    pub fn new(heap: Heap) -> KeptPages
+        ensures { result ≡ none_kept }
+    {
+        KeptPages {
+            links: LinkIndex::new(heap),
+            words: WordIndex::new(heap),
+            renderings: Renderings::new(heap),
+        }
+    }
+
+    /// The links and headings of the pages.
+    pub fn links(&self) -> &LinkIndex
+        ensures { result.now ≡ self.now.links }
+    {
+        &self.links
+    }
+
+    /// The words of the pages.
+    pub fn words(&self) -> &WordIndex
+        ensures { result.now ≡ self.now.words }
+    {
+        &self.words
+    }
+
+    /// The rendering under a path and a stamp, without its texts.
+    pub fn get(&self, path: &Path, stamp: u64) -> Option<&Rendered>
+        ensures { option_copied result ≡ map.get self.now.renderings (path.now, stamp) }
+    {
+        self.renderings.get(path, stamp)
+    }
+
+    /// Keeps a page under a path and a stamp under which none is kept. Memory is taken for its links, for its words and then for its
+    /// rendering. A refusal drops what was added and leaves all as it was.
+    pub fn add(&mut self, path: &Path, stamp: u64, page: Rendered) -> Result<(), Memory>
+        requires free { IsFree self.old path.now stamp }
+        ensures ok { OnOk result (self.new ≡ with_page self.old path.now stamp page) }
+        ensures err { OnErr result (self.new ≡ self.old) }
+    {
+        self.links.add(path, stamp, &page)?;
+        if self.words.add(path, stamp, &page).is_err() {
+            self.links.drop_page(path, stamp);
+            return Err(Memory);
+        }
+        if self.renderings.add(path, stamp, page).is_err() {
+            self.words.drop_page(path, stamp);
+            self.links.drop_page(path, stamp);
+            return Err(Memory);
+        }
+        Ok(())
+    }
+
+    /// Keeps the page under one path and stamp, where there is one, under another path and stamp too, under which none is kept: its
+    /// links as they are at that path, and its words and its rendering as they are. Memory is taken in the same order, and nothing
+    /// is rendered. A refusal drops what was added and leaves all as it was.
+    pub fn carry(
+        &mut self,
+        from: &Path,
+        from_stamp: u64,
+        to: &Path,
+        stamp: u64,
+    ) -> Result<(), Memory>
+        requires free { IsFree self.old to.now stamp }
+        ensures ok { OnOk result (self.new
+            ≡ carried self.old from.now from_stamp to.now stamp) }
+        ensures err { OnErr result (self.new ≡ self.old) }
+    {
+        let Some(page) = self.renderings.get(from, from_stamp) else {
+            return Ok(());
+        };
+        self.links
+            .add_parts(to, stamp, page.pieces.get(), page.headings.get())?;
+        if self.words.add_copy(from, from_stamp, to, stamp).is_err() {
+            self.links.drop_page(to, stamp);
+            return Err(Memory);
+        }
+        if self
+            .renderings
+            .add_copy(from, from_stamp, to, stamp)
+            .is_err()
+        {
+            self.words.drop_page(to, stamp);
+            self.links.drop_page(to, stamp);
+            return Err(Memory);
+        }
+        Ok(())
+    }
+
+    /// Lets the page under a path and a stamp go, and tells whether its rendering was kept. It takes no memory.
+    pub fn drop_page(&mut self, path: &Path, stamp: u64) -> bool
+        ensures answer { result ≡ map.contains_key self.old.renderings (path.now, stamp) }
+        ensures rest { self.new ≡ without_page self.old path.now stamp }
+    {
+        self.links.drop_page(path, stamp);
+        self.words.drop_page(path, stamp);
+        self.renderings.drop_page(path, stamp)
+    }
+}

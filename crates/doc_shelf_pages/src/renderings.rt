@@ -1,0 +1,99 @@
+//! Renderings that are held under a path and a stamp.
+
+ghost use Rattle.std.specs.Prelude.{◌≡◌, None, OnOk, OnErr, option_copied};
+ghost use Rattle.std.specs.FinMap as map;
+ghost use Rattle.doc_shelf_pages.specs.KeptPages.{without_texts};
+ghost use Rattle.doc_shelf_pages.specs.RenderingSteps.{with_copy};
+
+use crate::copying::{copy_of, without_texts};
+use doc_heap::{BTreeMap, Heap, String};
+use doc_index::index::Index;
+use doc_page::failure::Memory;
+use doc_page::path::Path;
+use doc_page::rendered::Rendered;
+use std::marker::Model;
+
+/// Renderings without their texts, each held under a path and a stamp. Contracts see the map.
+#[derive(Drop)]
+pub struct Renderings {
+    heap: Heap,
+    pages: Index<Rendered>,
+}
+
+impl Model for Renderings {
+    ghost use Rattle.std.specs.Coded.{coded_ℕ, coded_list, coded×};
+    ghost use Rattle.std.specs.FinMap as map;
+    ghost use Rattle.doc_index.specs.Maps.{PairMap};
+    ghost use Rattle.doc_page.specs.contracts.rendered.Rendered as one;
+    ghost use Rattle.doc_page.specs.declared.rendered.Rendered.{Rendered};
+    ghost use Rattle.doc_shelf_pages.specs.RenderingSteps.{renderings_in};
+
+    ghost Value = { PairMap Rendered };
+
+    ghost coded = { map.code (coded× (coded_list coded_ℕ) coded_ℕ) one.the_row.coded };
+
+    ghost view = { λ r. renderings_in r.pages };
+}
+
+impl Renderings {
+    pub fn new(heap: Heap) -> Renderings
+        ensures { result ≡ map.empty }
+    {
+        Renderings {
+            heap,
+            pages: Index::new(heap),
+        }
+    }
+
+    pub fn get(&self, path: &Path, stamp: u64) -> Option<&Rendered>
+        ensures { option_copied result ≡ map.get self.now (path.now, stamp) }
+    {
+        self.pages.get(path, stamp)
+    }
+
+    /// Holds a rendering without its texts under a path and a stamp that none has. A refusal drops it and leaves the others.
+    pub fn add(&mut self, path: &Path, stamp: u64, page: Rendered) -> Result<(), Memory>
+        requires free { map.get self.old (path.now, stamp) ≡ None }
+        ensures ok { OnOk result (self.new
+            ≡ map.insert self.old (path.now, stamp) (without_texts page)) }
+        ensures err { OnErr result (self.new ≡ self.old) }
+    {
+        let page = without_texts(self.heap, page);
+        let keys = no_keys(self.heap);
+        self.pages.add(path, stamp, page, &keys)
+    }
+
+    /// Holds a copy of the rendering under one path and stamp, where there is one, under another path and stamp, that none has. A
+    /// refusal changes nothing.
+    pub fn add_copy(
+        &mut self,
+        from: &Path,
+        from_stamp: u64,
+        to: &Path,
+        stamp: u64,
+    ) -> Result<(), Memory>
+        requires free { map.get self.old (to.now, stamp) ≡ None }
+        ensures ok { OnOk result (self.new
+            ≡ with_copy self.old (map.get self.old (from.now, from_stamp)) to.now stamp) }
+        ensures err { OnErr result (self.new ≡ self.old) }
+    {
+        let Some(page) = self.get(from, from_stamp) else {
+            return Ok(());
+        };
+        let copy = copy_of(self.heap, page)?;
+        self.add(to, stamp, copy)
+    }
+
+    /// Lets the rendering under a path and a stamp go, and tells whether there was one. It takes no memory.
+    pub fn drop_page(&mut self, path: &Path, stamp: u64) -> bool
+        ensures answer { result ≡ map.contains_key self.old (path.now, stamp) }
+        ensures rest { self.new ≡ map.remove self.old (path.now, stamp) }
+    {
+        self.pages.drop_page(path, stamp)
+    }
+}
+
+/// Renderings are held without keys.
+fn no_keys(heap: Heap) -> BTreeMap<String, u64> {
+    BTreeMap::new(heap)
+}
