@@ -25,65 +25,98 @@ fn fill_shelf(heap: Heap) -> Result<(), AllocError> {
     Ok(())
 }
 
+/// What three growths answer, and how many are passed on then, where so many were passed on before.
+fn three_after(heap: Heap, granted: u64) -> ([bool; 3], u64) {
+    heap.refuse_after(granted);
+    ([grows(heap), grows(heap), grows(heap)], heap.left())
+}
+
+/// The same where one growth is refused alone.
+fn three_but(heap: Heap, granted: u64) -> ([bool; 3], u64) {
+    heap.refuse_only(granted);
+    ([grows(heap), grows(heap), grows(heap)], heap.left())
+}
+
 #[test]
 fn growths_are_refused_as_was_set(rt: HostRuntime) -> Result<(), Fail> {
     let heap = heap(rt.alloc(), 0)?;
-    for (alone, granted, granted_of_three, left) in [
-        (false, 0, [false, false, false], 0),
-        (false, 2, [true, true, false], 0),
-        (false, 4, [true, true, true], 1),
-        (false, u64::MAX - 1, [true, true, true], u64::MAX - 4),
-        (false, u64::MAX, [true, true, true], u64::MAX),
-        (true, 0, [false, true, true], u64::MAX),
-        (true, 2, [true, true, false], u64::MAX),
-        (true, 4, [true, true, true], 1),
-    ] {
-        if alone {
-            heap.refuse_only(granted);
-        } else {
-            heap.refuse_after(granted);
-        }
-        let answers = [grows(heap), grows(heap), grows(heap)];
-        assert_eq!(rt; answers, granted_of_three, "{granted} granted");
-        assert_eq!(rt; heap.left(), left, "{granted} granted");
-    }
+    let after = [0, 2, 4, u64::MAX - 1, u64::MAX].map(|granted| three_after(heap, granted));
+    assert_eq!(rt;
+        after,
+        [
+            ([false, false, false], 0),
+            ([true, true, false], 0),
+            ([true, true, true], 1),
+            ([true, true, true], u64::MAX - 4),
+            ([true, true, true], u64::MAX),
+        ]
+    );
+    let but = [0, 2, 4].map(|granted| three_but(heap, granted));
+    assert_eq!(rt;
+        but,
+        [
+            ([false, true, true], u64::MAX),
+            ([true, true, false], u64::MAX),
+            ([true, true, true], 1),
+        ]
+    );
     Ok(())
+}
+
+/// Whether a shelf is filled where one growth is refused alone, and whether it is then.
+fn fill_but(heap: Heap, granted: u64) -> [bool; 2] {
+    heap.refuse_only(granted);
+    [fill_shelf(heap).is_ok(), fill_shelf(heap).is_ok()]
 }
 
 #[test]
 fn each_growth_of_a_call_is_refused_alone(rt: HostRuntime) -> Result<(), Fail> {
     let heap = heap(rt.alloc(), 0)?;
-    for n in 0..4u64 {
-        heap.refuse_only(n);
-        assert!(rt; fill_shelf(heap).is_err(), "growth {n} is refused");
-        assert!(rt; fill_shelf(heap).is_ok(), "and none after it");
-    }
+    let filled = [0, 1, 2, 3].map(|granted| fill_but(heap, granted));
+    assert_eq!(rt;
+        filled,
+        [[false, true], [false, true], [false, true], [false, true]]
+    );
     heap.refuse_only(4);
-    assert!(rt; fill_shelf(heap).is_ok(), "there are four growths");
-    assert_eq!(rt; heap.left(), 0);
+    let all = (fill_shelf(heap).is_ok(), heap.left());
+    assert_eq!(rt; all, (true, 0), "there are four growths");
     Ok(())
+}
+
+/// What a list with room for four answers, and how many growths are passed on then: as it is filled, where a fifth is
+/// refused, where two growths are passed on, where its block is made smaller, and where that is refused.
+fn resize(heap: Heap, list: &mut Vec<u8>) -> [(bool, u64); 5] {
+    let filled = (list.extend_from_slice(&[1, 2, 3, 4]).is_ok(), heap.left());
+    let refused = (
+        list.push(5).is_err() && is(list, &[1, 2, 3, 4]),
+        heap.left(),
+    );
+    heap.refuse_after(2);
+    let larger = (list.push(5).is_ok(), heap.left());
+    list.shrink_to_fit();
+    let smaller = (is(list, &[1, 2, 3, 4, 5]), heap.left());
+    list.truncate(3);
+    list.shrink_to_fit();
+    let stays = (is(list, &[1, 2, 3]) && list.capacity() == 5, heap.left());
+    [filled, refused, larger, smaller, stays]
+}
+
+fn is(list: &Vec<u8>, values: &[u8]) -> bool {
+    list.as_slice() == values
 }
 
 #[test]
 fn values_are_kept_in_a_block_that_is_resized_or_refused(rt: HostRuntime) -> Result<(), Fail> {
     let heap = heap(rt.alloc(), 1)?;
     let mut list: Vec<u8> = Vec::with_capacity(heap, 4)?;
-    list.extend_from_slice(&[1, 2, 3, 4])?;
-    assert_eq!(rt; heap.left(), 0, "room is used without another block");
-    assert!(rt; list.push(5).is_err());
-    assert_eq!(rt; list.as_slice(), [1, 2, 3, 4].as_slice());
-    heap.refuse_after(2);
-    assert!(rt; list.push(5).is_ok());
-    assert_eq!(rt; heap.left(), 1, "a larger block is one growth");
-    list.shrink_to_fit();
-    assert_eq!(rt; heap.left(), 0, "and so is a smaller one");
-    assert_eq!(rt; list.as_slice(), [1, 2, 3, 4, 5].as_slice());
-    list.truncate(3);
-    list.shrink_to_fit();
-    assert_eq!(rt; list.as_slice(), [1, 2, 3].as_slice());
-    assert_eq!(rt; list.capacity(), 5, "a smaller block was refused");
+    let told = resize(heap, &mut list);
     heap.refuse_after(7);
     drop(list);
+    // Room is used without another block; a larger block is one growth, and so is a smaller one.
+    assert_eq!(rt;
+        told,
+        [(true, 0), (true, 0), (true, 1), (true, 0), (true, 0)]
+    );
     assert_eq!(rt; heap.left(), 7, "a block that is given back counts nothing");
     Ok(())
 }
