@@ -1,0 +1,3 @@
+pub mod MemoryStreams
+pub mod Moves
+pub mod TcpLinks
