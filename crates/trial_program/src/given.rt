@@ -47,9 +47,14 @@ fn way_of(name: &str) -> Option<Way> {
 /// The bytes of the input.
 pub fn bytes_of(heap: Heap, given: Given<'_>) -> Result<Vec<u8>, Memory> {
     let mut bytes = Vec::new(heap);
+    push_bytes(&mut bytes, given)?;
+    Ok(bytes)
+}
+
+fn push_bytes(bytes: &mut Vec<u8>, given: Given<'_>) -> Result<(), Memory> {
     bytes.extend_from_slice(given.text.as_bytes())?;
     if given.way == Way::Stray {
         bytes.push(0xFF)?;
     }
-    Ok(bytes)
+    Ok(())
 }

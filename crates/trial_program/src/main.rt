@@ -4,9 +4,12 @@
 //! text; `unflushed`, where a flush fails; `interrupted`, where the first read, write and flush are.
 //!
 //! The answer is the status that the command ends with or what stops it, whether it left bytes of the input, and what it wrote.
+//!
+//! `echo` is given `GROWTHS PIECE READ WRITE TEXT`: a stream over memory (`echo`).
 #![tactic(auto)]
 
 mod commands;
+mod echo;
 mod feed;
 mod given;
 mod sink;
@@ -51,6 +54,7 @@ fn called(heap: Heap, name: &str, given: &str) -> Result<String, Memory> {
         "grow_render" => grown(heap, Command::Render, given),
         "examples" => answer(heap, Command::Examples, given),
         "grow_examples" => grown(heap, Command::Examples, given),
+        "echo" => echo::answer(heap, given),
         _ => no_call(heap),
     }
 }

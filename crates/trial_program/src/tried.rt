@@ -29,16 +29,24 @@ pub fn answer(heap: Heap, command: Command, given: &str) -> Result<String, Memor
 }
 
 fn told(heap: Heap, came: Came) -> Result<String, Memory> {
-    let mut out = match &came.ended {
-        Ok(status) => format!(in heap; "status {status}; ")?,
-        Err(fault) => format!(in heap; "{fault}; ")?,
-    };
+    let mut out = String::new(heap);
+    let pushed = push_told(&mut out, &came);
+    drop(came);
+    pushed?;
+    Ok(out)
+}
+
+fn push_told(out: &mut String, came: &Came) -> Result<(), Memory> {
+    match &came.ended {
+        Ok(status) => write!(out, "status {status}; ")?,
+        Err(fault) => write!(out, "{fault}; ")?,
+    }
     if came.leaves {
         out.push_str("not all was read; ")?;
     }
     let wrote = came.wrote.as_str();
     write!(out, "wrote {wrote:?}")?;
-    Ok(out)
+    Ok(())
 }
 
 /// What is printed for a command whose growths are refused in turn.
@@ -75,16 +83,20 @@ fn run(heap: Heap, command: Command, given: Given<'_>, refusal: Refusal) -> Resu
     let feed = Feed::new(given.way, &bytes);
     let sink = Sink::new(heap, given)?;
     refusal.begin(heap);
-    Ok(run_on(heap, command, feed, sink))
+    let came = run_on(heap, command, feed, sink);
+    drop(bytes);
+    Ok(came)
 }
 
 fn run_on(heap: Heap, command: Command, feed: Feed<'_>, sink: Sink) -> Came {
     let mut input = ReadFrom::new(feed);
     let mut output = WriteTo::new(sink);
     let ended = command.run(heap, &mut input, &mut output);
+    let leaves = input.reader().is_left();
+    drop(input);
     Came {
         ended,
-        leaves: input.reader().is_left(),
+        leaves,
         wrote: output.into_writer().into_text(heap),
     }
 }

@@ -1,0 +1,157 @@
+//! A stream over memory, to which its text is written by one call, and then, turn by turn, what is read from it.
+
+ghost use Rattle.std.specs.Prelude.{◌≡◌};
+
+use doc_heap::{Heap, String};
+use doc_page::bytes::Bytes;
+use doc_page::failure::Memory;
+use doc_server_links::memory_stream::MemoryStream;
+use doc_server_links::stream::Stream;
+use std::str::from_utf8;
+use trial::answer::no_call;
+
+/// A turn reads so many bytes at most.
+const ROOM: usize = 4;
+
+/// More turns than a call here takes.
+const MANY: u32 = 100;
+
+/// What a stream is made of, and how many growths its calls have.
+#[derive(Clone, Copy)]
+struct Given<'a> {
+    growths: u64,
+    piece: usize,
+    fail_read: Option<u64>,
+    fail_write: Option<u64>,
+    text: &'a str,
+}
+
+/// Why no further turn is made.
+#[derive(Clone, Copy, Debug, PartialEq, Eq)]
+enum End {
+    /// A read gave nothing.
+    Read0,
+    /// A write took nothing.
+    Write0,
+    ReadFailed,
+    WriteFailed,
+    TooMany,
+}
+
+/// How many calls there were, and why no further one.
+#[derive(Clone, Copy)]
+struct Told {
+    reads: u32,
+    writes: u32,
+    end: End,
+}
+
+/// What is printed for `GROWTHS PIECE READ WRITE TEXT`: what came of a stream of this text, whose read and write of these numbers fail
+/// (0: none), and whose calls have so many growths.
+pub fn answer(heap: Heap, given: &str) -> Result<String, Memory> {
+    match read_given(given) {
+        Some(given) => echoed(heap, &given),
+        None => no_call(heap),
+    }
+}
+
+fn read_given(given: &str) -> Option<Given<'_>> {
+    let (growths, given) = given.split_once(' ')?;
+    let (piece, given) = given.split_once(' ')?;
+    let (fail_read, given) = given.split_once(' ')?;
+    let (fail_write, text) = given.split_once(' ')?;
+    Some(Given {
+        growths: growths.parse::<u64>().ok()?,
+        piece: piece.parse::<usize>().ok()?,
+        fail_read: number(fail_read)?,
+        fail_write: number(fail_write)?,
+        text,
+    })
+}
+
+/// A number of a call, of which 0 is none.
+fn number(text: &str) -> Option<Option<u64>> {
+    match text.parse::<u64>().ok()? {
+        0 => Some(None),
+        number => Some(Some(number)),
+    }
+}
+
+fn echoed(heap: Heap, given: &Given<'_>) -> Result<String, Memory> {
+    let input = Bytes::copy_of(heap, given.text.as_bytes())?;
+    let mut stream = MemoryStream::new(heap, input, given.piece, given.fail_read, given.fail_write);
+    heap.refuse_after(given.growths);
+    let told = echo(&mut stream, given.text.as_bytes());
+    heap.refuse_after(u64::MAX);
+    let mut out = String::new(heap);
+    let pushed = push_told(&mut out, told, &stream);
+    drop(stream);
+    pushed?;
+    Ok(out)
+}
+
+fn push_told(out: &mut String, told: Told, stream: &MemoryStream) -> Result<(), Memory> {
+    let Told { reads, writes, end } = told;
+    let failures = stream.failures();
+    let wrote = from_utf8(stream.written()).unwrap_or("no text");
+    write!(
+        out,
+        "{reads} reads, {writes} writes, {end:?}, {failures} failures, wrote {wrote:?}"
+    )?;
+    Ok(())
+}
+
+/// Writes the bytes, and makes turns until one is the last.
+fn echo(stream: &mut MemoryStream, bytes: &[u8]) -> Told {
+    let mut told = Told {
+        reads: 0,
+        writes: 0,
+        end: End::TooMany,
+    };
+    if let Some(end) = write(stream, bytes, &mut told) {
+        told.end = end;
+        return told;
+    }
+    if let Some(end) = echo_turns(stream, &mut told) {
+        told.end = end;
+    }
+    told
+}
+
+fn echo_turns(stream: &mut MemoryStream, told: &mut Told) -> Option<End> {
+    'turns: for _ in 0..MANY {
+        let end = turn(stream, told);
+        if end.is_some() {
+            return end;
+        }
+    }
+    None
+}
+
+/// Reads once, and writes what was read by one call.
+fn turn(stream: &mut MemoryStream, told: &mut Told) -> Option<End> {
+    let mut buffer = [0; ROOM];
+    if stream.failures() != 0 {
+        return Some(End::TooMany);
+    }
+    told.reads = told.reads.saturating_add(1);
+    let Ok(count) = stream.read(&mut buffer) else {
+        return Some(End::ReadFailed);
+    };
+    match buffer.get(..count) {
+        Some(bytes) if !bytes.is_empty() => write(stream, bytes, told),
+        _ => Some(End::Read0),
+    }
+}
+
+fn write(stream: &mut MemoryStream, bytes: &[u8], told: &mut Told) -> Option<End> {
+    if stream.failures() != 0 {
+        return Some(End::TooMany);
+    }
+    told.writes = told.writes.saturating_add(1);
+    match stream.write(bytes) {
+        Ok(0) => Some(End::Write0),
+        Ok(_) => None,
+        Err(_) => Some(End::WriteFailed),
+    }
+}
