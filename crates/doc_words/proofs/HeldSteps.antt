@@ -17,19 +17,19 @@ nothing : {X : Type 0} (es : List X) → length es ≡ 0 → es ≡ []
 nothing [] e = refl
 nothing (x ∷ es) e = absurd (omega arith)
 
-no_entries : (X : Type 0) → map.entries (map.empty {X = X} {R = pair_cmp}) ≡ []
+pub no_entries : (X : Type 0) → map.entries (map.empty {X = X} {R = pair_cmp}) ≡ []
 no_entries X =
     nothing (map.entries (map.empty {X = X} {R = pair_cmp}))
     (sym (map.len-entries (map.empty {X = X} {R = pair_cmp})) ∙ map.len-empty pair_cmp X)
 
-abbrev page_of : (List ℕ × ℕ) × TextMap ℕ → List ℕ × TextMap ℕ
+abbrev pub page_of : (List ℕ × ℕ) × TextMap ℕ → List ℕ × TextMap ℕ
 page_of e = (e.0.0, e.1)
 
 module _ {T : Type 0} where
   abbrev counts_in : Known T → TextMap ℕ
   counts_in page = page.counts
 
-  abbrev entry_in : (List ℕ × ℕ) × Known T → (List ℕ × ℕ) × TextMap ℕ
+  abbrev pub entry_in : (List ℕ × ℕ) × Known T → (List ℕ × ℕ) × TextMap ℕ
   entry_in e = (e.0, e.1.counts)
 
   found_words : (q : List ℕ × ℕ) (es : List ((List ℕ × ℕ) × Known T))

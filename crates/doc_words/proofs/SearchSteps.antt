@@ -10,8 +10,8 @@ use Rattle.doc_index.specs.declared.held.Held.{Held}
 use Rattle.doc_index.specs.Held.{count_in, slot_at}
 use Rattle.doc_index.specs.Maps.{TextMap}
 use Rattle.doc_page.specs.Sights.{leads_to_itself, seen}
-use Rattle.doc_words.specs.Searches.{holders, holds_all, ranked, score, search, weight}
-use Rattle.doc_words.specs.SearchSteps.{AreWeighed, IsWeighed, count_at, hit_at, hit_in, hits_among, onto_page, pages_at, score_at, sees_at, weight_at}
+use Rattle.doc_words.specs.Searches.{holders, holds_all, ranked}
+use Rattle.doc_words.specs.SearchSteps.{AreWeighed, IsWeighed, count_at, hit_at, hit_in, hits_by, onto_page, pages_at, rarity_in, score_at, score_by, search_by, sees_at, weight_at, weight_by}
 use Rattle.doc_words.specs.Words.{capped}
 use Rattle.doc_words.specs.declared.hit.Hit.{Hit}
 use Rattle.doc_words.specs.declared.weighing.Weighed.{Weighed}
@@ -74,32 +74,34 @@ module _ {T : Type 0} (slots : List (Option (Held T))) where
           which true = one_more (length (holders map.get (pages_at slots ns) word))
           which false = zero-add (length (holders map.get (pages_at slots ns) word))
 
-  pub weighs : (word : List ℕ) (weighed : Weighed) (ns : List ℕ) → length (pages_at slots ns) ≡ length ns
+  pub weighs : (word : List ℕ) (weighed : Weighed) (all : ℕ) (ns : List ℕ)
       → ((n : ℕ) → count_at weighed.postings n ≡ count_in (slot_at slots n) word)
-      → weighed.quotient ≡ length ns / count_by (λ n. is_some (count_at weighed.postings n)) ns → IsWeighed slots (pages_at slots ns) word weighed
-  weighs word weighed ns full counts divided = record {
+      → weighed.quotient ≡ all / count_by (λ n. is_some (count_at weighed.postings n)) ns
+      → IsWeighed slots (rarity_in all (pages_at slots ns)) word weighed
+  weighs word weighed all ns counts divided = record {
     counts = counts;
-    quotient_is = divided ∙ ap₂ (λ a b. a / b) (sym full) (holders_are word (count_at weighed.postings) counts ns);
+    quotient_is = divided ∙ ap (λ b. all / b) (holders_are word (count_at weighed.postings) counts ns);
   }
 
-  module _ (pages : List (List ℕ × TextMap ℕ)) where
-    pub weighed_more : (words : List (List ℕ)) (all : List Weighed) → AreWeighed slots pages words all → (word : List ℕ) (weighed : Weighed)
-        → IsWeighed slots pages word weighed → AreWeighed slots pages (words ++ word ∷ []) (all ++ weighed ∷ [])
+  module _ (rarity : List ℕ → ℕ) where
+    pub weighed_more : (words : List (List ℕ)) (all : List Weighed) → AreWeighed slots rarity words all
+        → (word : List ℕ) (weighed : Weighed)
+        → IsWeighed slots rarity word weighed → AreWeighed slots rarity (words ++ word ∷ []) (all ++ weighed ∷ [])
     weighed_more [] [] are word weighed is = (is, tt)
     weighed_more [] (x ∷ all) are word weighed is = absurd are
     weighed_more (w ∷ words) [] are word weighed is = absurd are
     weighed_more (w ∷ words) (x ∷ all) are word weighed is = (are.0, weighed_more words all are.1 word weighed is)
 
     pub weighed_next : (words : List (List ℕ)) (all new : List Weighed) (i : ℕ) (word : List ℕ) (weighed : Weighed)
-        → i < length words → word ≡ get_or words i word → AreWeighed slots pages (take i words) all
-        → IsWeighed slots pages word weighed → new ≡ all ++ weighed ∷ [] → AreWeighed slots pages (take (i + 1) words) new
+        → i < length words → word ≡ get_or words i word → AreWeighed slots rarity (take i words) all
+        → IsWeighed slots rarity word weighed → new ≡ all ++ weighed ∷ [] → AreWeighed slots rarity (take (i + 1) words) new
     weighed_next words all new i word weighed low at are is next =
-        subst₂ (λ ws xs. AreWeighed slots pages ws xs)
+        subst₂ (λ ws xs. AreWeighed slots rarity ws xs)
         (ap (λ w. take i words ++ w ∷ []) at ∙ sym (take_more words i word low)) (sym next)
         (weighed_more (take i words) all are word weighed is)
 
     all_have : (n : ℕ) (page : Held T) → slot_at slots n ≡ Some page → (words : List (List ℕ)) (all : List Weighed)
-        → AreWeighed slots pages words all → list_all (λ w. is_some (count_at w.postings n)) all ≡ holds_all map.get words page.counts
+        → AreWeighed slots rarity words all → list_all (λ w. is_some (count_at w.postings n)) all ≡ holds_all map.get words page.counts
     all_have n page e [] [] are = refl
     all_have n page e [] (x ∷ all) are = absurd are
     all_have n page e (w ∷ words) [] are = absurd are
@@ -107,7 +109,7 @@ module _ {T : Type 0} (slots : List (Option (Held T))) where
         ap₂ (λ o b. is_some o && b) (are.0.counts n ∙ ap (λ o. count_in o w) e) (all_have n page e words all are.1)
 
     weights_are : (n : ℕ) (page : Held T) → slot_at slots n ≡ Some page → (words : List (List ℕ)) (all : List Weighed)
-        → AreWeighed slots pages words all → sum_by (weight_at n) all ≡ sum_by (weight map.get pages page.counts) words
+        → AreWeighed slots rarity words all → sum_by (weight_at n) all ≡ sum_by (weight_by rarity page.counts) words
     weights_are n page e [] [] are = refl
     weights_are n page e [] (x ∷ all) are = absurd are
     weights_are n page e (w ∷ words) [] are = absurd are
@@ -116,15 +118,15 @@ module _ {T : Type 0} (slots : List (Option (Held T))) where
         ∙ ap₂ (λ a b. a + b)
         (ap₂ (λ o q. capped (unwrap_or o 0 * q)) (are.0.counts n ∙ ap (λ o. count_in o w) e) are.0.quotient_is)
         (weights_are n page e words all are.1)
-        ∙ sym (sum_by-cons (weight map.get pages page.counts) w words)
+        ∙ sym (sum_by-cons (weight_by rarity page.counts) w words)
 
-    hits_are : (words : List (List ℕ)) (all : List Weighed) → AreWeighed slots pages words all → (ns : List ℕ)
-        → flat_map (hit_at slots all) ns ≡ hits_among pages words (pages_at slots ns)
+    hits_are : (words : List (List ℕ)) (all : List Weighed) → AreWeighed slots rarity words all → (ns : List ℕ)
+        → flat_map (hit_at slots all) ns ≡ hits_by rarity words (pages_at slots ns)
     hits_are words all are [] = refl
     hits_are words all are (n ∷ ns) = by (hits_are words all are ns) (slot_at slots n) refl
       where
-        by : flat_map (hit_at slots all) ns ≡ hits_among pages words (pages_at slots ns) → (o : Option (Held T)) → slot_at slots n ≡ o → hit_in o (score_at all n) ++ flat_map (hit_at slots all) ns
-            ≡ hits_among pages words (onto_page o (pages_at slots ns))
+        by : flat_map (hit_at slots all) ns ≡ hits_by rarity words (pages_at slots ns) → (o : Option (Held T)) → slot_at slots n ≡ o
+            → hit_in o (score_at all n) ++ flat_map (hit_at slots all) ns ≡ hits_by rarity words (onto_page o (pages_at slots ns))
         by ih None e = ih
         by ih (Some page) e =
             ap₂ (λ b s. hit_in (Some page) (if b then Some (capped s) else None) ++ flat_map (hit_at slots all) ns)
@@ -132,18 +134,19 @@ module _ {T : Type 0} (slots : List (Option (Held T))) where
             ∙ which (holds_all map.get words page.counts)
           where
             which : (b : Bool)
-                → hit_in (Some page) (if b then Some (score map.get pages words page.counts) else None) ++ flat_map (hit_at slots all) ns
-                ≡ mapped (λ p. record { path = p.0; score = score map.get pages words p.1 })
+                → hit_in (Some page) (if b then Some (score_by rarity words page.counts) else None) ++ flat_map (hit_at slots all) ns
+                ≡ mapped (λ p. record { path = p.0; score = score_by rarity words p.1 })
                 (cond b ((page.path, page.counts) ∷ filter (λ p. holds_all map.get words p.1) (pages_at slots ns))
                 (filter (λ p. holds_all map.get words p.1) (pages_at slots ns)))
-            which true = ap (λ hs. record { path = page.path; score = score map.get pages words page.counts } ∷ hs) ih
+            which true = ap (λ hs. record { path = page.path; score = score_by rarity words page.counts } ∷ hs) ih
             which false = ih
 
   -- the best of the hits that were found
-  pub search_is : (words : List (List ℕ)) (all : List Weighed) (ns : List ℕ) (found : List Hit)
-      → AreWeighed slots (pages_at slots ns) words all → found ≡ flat_map (hit_at slots all) ns
-      → take 100 (ranked found) ≡ search (pages_at slots ns) words
-  search_is words all ns found are e = ap (λ hs. take 100 (ranked hs)) (e ∙ hits_are (pages_at slots ns) words all are ns)
+  pub search_is : (words : List (List ℕ)) (all : List Weighed) (count : ℕ) (ns : List ℕ) (found : List Hit)
+      → AreWeighed slots (rarity_in count (pages_at slots ns)) words all → found ≡ flat_map (hit_at slots all) ns
+      → take 100 (ranked found) ≡ search_by count (pages_at slots ns) words
+  search_is words all count ns found are e =
+      ap (λ hs. take 100 (ranked hs)) (e ∙ hits_are (rarity_in count (pages_at slots ns)) words all are ns)
 
 pub told : {X E : Type 0} {P Q : X → Type 0} (r : Result X E) → ((x : X) → P x → Q x) → IfOk r P → IfOk r Q
 told (Ok x) f h = f x h

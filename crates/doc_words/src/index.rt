@@ -1,6 +1,6 @@
 //! Pages held under a path and a stamp, and searched by their words.
 
-ghost use Rattle.std.specs.Prelude.{◌≡◌, None, IfOk, OnOk, OnErr};
+ghost use Rattle.std.specs.Prelude.{◌≡◌, None, IfOk, OnOk, OnErr, length};
 ghost use Rattle.std.specs.FinMap as map;
 ghost use Rattle.doc_page.specs.Sights.{seen};
 ghost use Rattle.doc_words.specs.Held.{counts_or_none};
@@ -8,7 +8,8 @@ ghost use Rattle.doc_words.specs.Searches.{pages_of, search};
 ghost use Rattle.doc_words.specs.Words.{word_counts};
 
 use crate::hit::Hit;
-use crate::search::{search_among, seen_among};
+use crate::marking::slots_for;
+use crate::search::{search_among, search_in, seen_among};
 use crate::word::Word;
 use crate::words::counted;
 use doc_heap::Heap;
@@ -105,5 +106,23 @@ impl WordIndex {
         let slots = self.pages.in_order(heap)?;
         let seen = seen_among(heap, &self.pages, &slots, sight)?;
         search_among(heap, &self.pages, &seen, words)
+    }
+
+    /// As `search`, told how many of the held pages are seen. It looks at the pages that have one of
+    /// the words alone, and asks the sight once for each of these.
+    pub fn search_among<S: Sight>(
+        &self,
+        heap: Heap,
+        words: &[Word],
+        sight: &S,
+        count: u64,
+    ) -> Result<List<Hit>, Memory>
+        requires count { count ≡ length (seen (S.goals sight.now) (pages_of self.now)) }
+        ensures { IfOk result (λ hits. hits
+            ≡ search (seen (S.goals sight.now) (pages_of self.now)) words.now) }
+    {
+        let marked = slots_for(heap, &self.pages, words)?;
+        let seen = seen_among(heap, &self.pages, &marked, sight)?;
+        search_in(heap, &self.pages, &seen, count, words)
     }
 }

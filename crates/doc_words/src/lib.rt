@@ -8,6 +8,7 @@ mod characters;
 mod counter;
 pub mod hit;
 pub mod index;
+mod marking;
 pub mod query;
 mod search;
 mod weighing;

@@ -4,7 +4,7 @@ ghost use Rattle.std.specs.Prelude.{◌≡◌, ◌∷◌, ◌++◌, [], IfOk, On
 ghost use Rattle.std.specs.List.{filter, flat_map};
 ghost use Rattle.doc_index.specs.Held.{slot_at};
 ghost use Rattle.doc_words.specs.Searches.{ranked, search};
-ghost use Rattle.doc_words.specs.SearchSteps.{hit_at, hit_in, hit_of, pages_at, sees_at};
+ghost use Rattle.doc_words.specs.SearchSteps.{hit_at, hit_in, hit_of, pages_at, search_by, sees_at};
 
 use crate::hit::Hit;
 use crate::weighing::{Weighed, score_of, weigh_all};
@@ -69,7 +69,23 @@ fn sees<S: Sight>(pages: &Index<()>, slot: u64, sight: &S) -> bool
     sight.sees(&page.path)
 }
 
-/// The search among the pages in these slots.
+/// The search among the pages in these slots, of which so many are seen in all.
+pub fn search_in(
+    heap: Heap,
+    pages: &Index<()>,
+    seen: &[u64],
+    count: u64,
+    words: &[Word],
+) -> Result<List<Hit>, Memory>
+    ensures { IfOk result (λ hits.
+        hits ≡ search_by count (pages_at pages.now seen.now) words.now) }
+{
+    let weighed = weigh_all(heap, pages, seen, count, words)?;
+    let found = found_among(heap, pages, seen, &weighed)?;
+    best(heap, found)
+}
+
+/// The search among the pages in these slots, which are all that are seen.
 pub fn search_among(
     heap: Heap,
     pages: &Index<()>,
@@ -79,9 +95,7 @@ pub fn search_among(
     requires full { length (pages_at pages.now seen.now) ≡ length seen.now }
     ensures { IfOk result (λ hits. hits ≡ search (pages_at pages.now seen.now) words.now) }
 {
-    let weighed = weigh_all(heap, pages, seen, words)?;
-    let found = found_among(heap, pages, seen, &weighed)?;
-    best(heap, found)
+    search_in(heap, pages, seen, seen.len() as u64, words)
 }
 
 /// The pages in these slots that have each word.

@@ -1,7 +1,7 @@
 //! The words of a search, with the slots of the pages that have them.
 
-ghost use Rattle.std.specs.Prelude.{◌≡◌, ◌/◌, IfOk, count_by, if◌then◌else◌, is_some, length};
-ghost use Rattle.doc_words.specs.SearchSteps.{AreWeighed, IsWeighed, count_at, pages_at, score_at};
+ghost use Rattle.std.specs.Prelude.{◌≡◌, ◌/◌, IfOk, count_by, if◌then◌else◌, is_some};
+ghost use Rattle.doc_words.specs.SearchSteps.{AreWeighed, IsWeighed, count_at, pages_at, rarity_in, score_at};
 
 use crate::word::Word;
 use doc_heap::{Heap, Vec};
@@ -30,32 +30,31 @@ pub struct Weighed<'a> {
     pub quotient: u64,
 }
 
-/// The words of a list, for a search among the pages in these slots.
+/// The words of a list, for a search among the pages in these slots, of which so many are seen in all.
 pub fn weigh_all<'a>(
     heap: Heap,
     pages: &'a Index<()>,
     seen: &[u64],
+    count: u64,
     words: &[Word],
 ) -> Result<Vec<Weighed<'a>>, Memory>
-    requires full { length (pages_at pages.now seen.now) ≡ length seen.now }
-    ensures { IfOk result (λ all.
-        AreWeighed pages.now (pages_at pages.now seen.now) words.now all.items) }
+    ensures { IfOk result (λ all. AreWeighed pages.now
+        (rarity_in count (pages_at pages.now seen.now)) words.now all.items) }
 {
     let mut all = Vec::with_capacity(heap, words.len())?;
     for word in words {
-        all.push(weigh(pages, seen, word))?;
+        all.push(weigh(pages, seen, count, word))?;
     }
     Ok(all)
 }
 
-fn weigh<'a>(pages: &'a Index<()>, seen: &[u64], word: &Word) -> Weighed<'a>
-    requires full { length (pages_at pages.now seen.now) ≡ length seen.now }
-    ensures { IsWeighed pages.now (pages_at pages.now seen.now) word.now result }
+fn weigh<'a>(pages: &'a Index<()>, seen: &[u64], count: u64, word: &Word) -> Weighed<'a>
+    ensures { IsWeighed pages.now (rarity_in count (pages_at pages.now seen.now)) word.now result }
 {
     let postings = Postings {
         row: pages.of_key(word.text()),
     };
-    let quotient = quotient(seen.len() as u64, holders(&postings, seen));
+    let quotient = quotient(count, holders(&postings, seen));
     Weighed { postings, quotient }
 }
 

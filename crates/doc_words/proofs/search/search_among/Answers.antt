@@ -1,14 +1,9 @@
-use Rattle.std.proofs.Common.{ap, ◌∙◌}
-use Rattle.std.specs.Prelude.{map as mapped}
-use Rattle.std.specs.List.{flat_map}
-use Rattle.doc_words.specs.SearchSteps.{hit_at, hit_of}
-use Rattle.doc_words.proofs.SearchSteps.{search_is, told}
+use Rattle.std.proofs.Common.{ap, sym, ◌∙◌}
+use Rattle.doc_words.specs.SearchSteps.{pages_at, search_by}
+use Rattle.doc_words.proofs.SearchSteps.{told}
 use Rattle.doc_words.proofs.search.search_among.Goals as goal
 
 pub returns : goal.returns
 returns c =
-    told c.best.result (λ hits is. is
-    ∙ search_is c.args.pages.now c.args.words.now c.in_ok-weighed.weighed.items c.args.seen.now (mapped hit_of c.in_ok-found.found.items)
-    c.in_ok-weighed.ensures
-    (c.in_ok-found.ensures ∙ ap (λ words. flat_map (hit_at c.args.pages.now words) c.args.seen.now) c.deref.ensures.value))
-    c.best.ensures
+    told c.search_in.result (λ hits is.
+    is ∙ ap (λ n. search_by n (pages_at c.args.pages.now c.args.seen.now) c.args.words.now) (sym c.requires.full)) c.search_in.ensures

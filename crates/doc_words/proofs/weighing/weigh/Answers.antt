@@ -1,4 +1,4 @@
-use Rattle.std.proofs.Common.{ap, length, ◌/◌, ◌∙◌}
+use Rattle.std.proofs.Common.{ap, ◌/◌, ◌∙◌}
 use Rattle.doc_index.specs.Held.{count_in, slot_at}
 use Rattle.doc_words.proofs.SearchSteps.{weighs}
 use Rattle.doc_words.proofs.weighing.weigh.Goals as goal
@@ -6,6 +6,6 @@ use Rattle.doc_words.proofs.weighing.weigh.Goals as goal
 pub returns : goal.returns
 returns c =
     weighs c.args.pages.now c.args.word.now
-    (record { postings = record { row = c.of_key.result }; quotient = c.quotient-quotient.result }) c.args.seen.now c.requires.full
+    (record { postings = record { row = c.of_key.result }; quotient = c.quotient-quotient.result }) c.args.count c.args.seen.now
     (λ n. c.of_key.ensures n ∙ ap (count_in (slot_at c.args.pages.now n)) c.text.ensures)
-    (c.quotient-quotient.ensures ∙ ap (λ m. length c.args.seen.now / m) c.holders.ensures)
+    (c.quotient-quotient.ensures ∙ ap (λ m. c.args.count / m) c.holders.ensures)
