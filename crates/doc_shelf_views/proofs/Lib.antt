@@ -1,0 +1,5 @@
+pub mod CutAnswers
+pub mod HeldLaws
+pub mod KnownLaws
+pub mod MapSteps
+pub mod ViewAnswers
