@@ -57,7 +57,8 @@ module _ (render : Renders) (store : StoreState) where
     own : (page : List ℕ × Page) (present : ℕ) (here : Bool) (rest : Option Rendered) (more : Option Page) → (stamp == present) ≡ here
         → rest ≡ under (Some present) more → cond here (Some (render page.1.text)) rest ≡ under (Some present) (Some page.1)
     own page present true rest more same is = ap (λ b. if b then Some (render page.1.text) else None) (sym same)
-    own page present false rest more other is = is ∙ under_other stamp present more other ∙ sym (under_other stamp present (Some page.1) other)
+    own page present false rest more other is =
+        is ∙ under_other stamp present more other ∙ sym (under_other stamp present (Some page.1) other)
 
     at_page : (page : List ℕ × Page) (pages : Pages) (present : Option ℕ) (here : Bool)
         → stamp_of page.0 ≡ present → same_key path page.0 ≡ here

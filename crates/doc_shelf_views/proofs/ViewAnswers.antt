@@ -68,7 +68,8 @@ contents_are_the_views render store reader index is held =
 
 pub backlinks_are_the_views : BacklinksAreTheViews
 backlinks_are_the_views render store reader index path is held =
-    ap (λ pages. backlinks (goal_in (seen_in store reader)) pages path) (ap (links_seen store reader) held ∙ links_are render store reader is)
+    ap (λ pages. backlinks (goal_in (seen_in store reader)) pages path)
+    (ap (links_seen store reader) held ∙ links_are render store reader is)
 
 pub broken_are_the_views : BrokenAreTheViews
 broken_are_the_views render store reader index is held =

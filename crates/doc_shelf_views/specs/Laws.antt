@@ -137,7 +137,8 @@ pub record AnswersOfCut : Type 0 where
 
 -- what is held of two stores answers a reader alike
 pub record SameAnswers (render : Renders) (store other : StoreState) (reader : Reader) : Type 0 where
-  pub of_contents : contents (links_seen store reader (held_links render store)) ≡ contents (links_seen other reader (held_links render other))
+  pub of_contents : contents (links_seen store reader (held_links render store))
+      ≡ contents (links_seen other reader (held_links render other))
   pub of_backlinks : (path : List ℕ)
       → backlinks (goal_in (seen_in store reader)) (links_seen store reader (held_links render store)) path
       ≡ backlinks (goal_in (seen_in other reader)) (links_seen other reader (held_links render other)) path
