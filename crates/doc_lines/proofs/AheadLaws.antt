@@ -54,8 +54,10 @@ plain_column (c ∷ rest) from = at (plain_column rest (behind from c rest)) (is
     at : (passed_in (behind from c rest) rest).column
         ≡ from.column + width_at c from.column + indent (cells_from (from.column + width_at c from.column) rest)
         → (g : Bool) → (passed_choice g from c rest).column
-        ≡ from.column + (elim g [ true ↦ width_at c from.column + indent (cells_from (from.column + width_at c from.column) rest)
-            | false ↦ 0 ])
+        ≡ from.column + (elim g [
+          | true ↦ width_at c from.column + indent (cells_from (from.column + width_at c from.column) rest)
+          | false ↦ 0
+        ])
     at there true = omega (arith, there)
     at there false = omega arith
 
@@ -97,8 +99,11 @@ plain_left (c ∷ rest) from plain here = at (plain_left rest (behind from c res
         ≡ after_indent (cells_from (from.column + width_at c from.column) rest)) → (g : Bool)
         → ((passed_choice g from c rest).in_tab ≡ false)
         × (cells_from (passed_choice g from c rest).column (passed_choice g from c rest).rest
-        ≡ (elim g [ true ↦ after_indent (cells_from (from.column + width_at c from.column) rest) | false
-            ↦ cells_from from.column (c ∷ rest) ]))
+        ≡ (elim g [
+          | true ↦ after_indent (cells_from (from.column + width_at c from.column) rest)
+          | false
+              ↦ cells_from from.column (c ∷ rest)
+        ]))
     at there true = there
     at there false = (plain, ap (cells_from from.column) here)
 
@@ -221,7 +226,7 @@ all_by_tab true n from inside sound h =
     ap (passed_in from) front.1 ∙ passed_gap from 9 front.0 refl
     ∙ plain_all front.0 (n - w) (behind from 9 front.0) refl (omega (arith, h, spaced, line))
     ∙ sym (ap (skipped_in from n) front.1 ∙ whole_step from n 9 front.0 refl (omega (arith, h, spaced, line, some))
-        (omega (arith, h, spaced, line)))
+    (omega (arith, h, spaced, line)))
 all_by_tab false n from outside sound h =
     plain_all from.rest n from refl (let same : indent (cells_from from.column from.rest) ≡ indent (left_of from)
     = ap (λ (b : Bool). indent (cells_at b from.column from.rest)) (sym outside) in omega (arith, same, h))
@@ -305,7 +310,7 @@ within_behind line_length bs after column c w in_tab within sound e f g =
     let bytes : length bs ≡ len_utf8 c + length after = ap length e ∙ length-append (encode_utf8 c) after
     ∙ ap (λ n. n + length after) (length-encode c) in
     let there = sound_behind in_tab (line_length - length bs) column c (len_utf8 c) (chars bs) (chars after) sound f
-        (len_utf8_bounds c).0 in
+    (len_utf8_bounds c).0 in
     ((omega (arith, bytes, within.0), within.1), omega (arith, bytes, there, within.0, g))
 
 -- ---- the search for the text

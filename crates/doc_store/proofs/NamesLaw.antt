@@ -74,8 +74,11 @@ module _ (aliases : TextMap (List ℕ)) (path : List ℕ) where
 
 none_passes : (test : List ℕ → Bool) (names : List (List ℕ)) → list_any test names ≡ false → AllByRecursion (λ y. test y ≡ false) names
 none_passes test [] e = tt
-none_passes test (name ∷ rest) e = (first (test name) (list_any test rest) e, none_passes test rest
-    (others (test name) (list_any test rest) e))
+none_passes test (name ∷ rest) e = (
+  first (test name) (list_any test rest) e,
+  none_passes test rest
+      (others (test name) (list_any test rest) e),
+)
   where
     first : (b more : Bool) → (b || more) ≡ false → b ≡ false
     first true more e = e

@@ -33,7 +33,7 @@ entries-retain_keys {X = X} m p =
     let alike : (q x : List ℕ) → slice_cmp nat_cmp q x ≡ Equal → p x ≡ p q = λ q x tied. ap p (sym (exact_bytes q x tied)) in
     let some : List (List ℕ × X) = filter (λ entry. p entry.0) (map.entries m) in
     let sorted : T (is_sorted (slice_cmp nat_cmp) some) = is_sorted-where_key (slice_cmp nat_cmp) p (map.entries m)
-        (map.entries_sorted m) in
+    (map.entries_sorted m) in
     ap map.entries (map.same_map nat_list_cmp_total exact_bytes (map.retain_keys m p) (map.from_sorted some) (λ q.
     map.get-retain_keys m p q (alike q)
     ∙ ap (λ found. cond (p q) found None) (map.get-entries m q)
@@ -135,7 +135,7 @@ count_of_seen reader pages aliases =
     (visible_to (site_with pages aliases) reader).pages (λ q.
     get-map_values (λ p. p.page) (map.from_entries some) q
     ∙ ap (option_map (λ p. p.page)) (get_filtered nat_list_cmp_total exact_bytes (λ page. may_see reader page.page) (map.entries pages)
-        q sorted
+    q sorted
     ∙ ap (option_filter (λ page. may_see reader page.page)) (map.get-from_entries nat_list_cmp_total (map.entries pages) q
     ∙ sym (map.get-entries pages q)))
     ∙ by (map.get pages q)

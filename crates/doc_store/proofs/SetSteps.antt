@@ -167,7 +167,7 @@ get-without_all : (m : TextMap (List ℕ)) (keys : List (List ℕ)) (q : List �
 get-without_all m [] q = refl
 get-without_all m (k ∷ keys) q =
     get-without_all (map.remove m k) keys q ∙ ap (cond (among q keys) None) (get_taken m k q)
-        ∙ by (same_key q k) (among q keys) (map.get m q)
+    ∙ by (same_key q k) (among q keys) (map.get m q)
   where
     by : (b c : Bool) (o : Option (List ℕ)) → cond c None (cond b None o) ≡ cond (b || c) None o
     by true true o = refl
@@ -418,7 +418,7 @@ module _ (goals : TextMap (List ℕ)) (sets : TextMap TextSet) (are : AreSets go
       where
         by : (g : List ℕ) (b c : Bool) → same_key g to ≡ b → same_key g from ≡ c
             → cond b (option_map (λ _. old) (cond c None (cond b (Some map.empty) (map.get sets g))))
-                (cond c None (cond b (Some map.empty) (map.get sets g)))
+            (cond c None (cond b (Some map.empty) (map.get sets g)))
             ≡ cond b (map.get sets from) (cond c None (map.get sets g))
         by g true true e f = absurd (apart (sym (same_from g from f) ∙ same_from g to e))
         by g true false e f = there ∙ taken_is
@@ -431,7 +431,7 @@ module _ (goals : TextMap (List ℕ)) (sets : TextMap TextSet) (are : AreSets go
       where
         by : (g : List ℕ) (b c : Bool) → same_key g to ≡ b → same_key g from ≡ c
             → set_at (cond c None (cond b (Some map.empty) (map.get sets g)))
-                ≡ set_at (cond b (map.get sets from) (cond c None (map.get sets g)))
+            ≡ set_at (cond b (map.get sets from) (cond c None (map.get sets g)))
         by g true true e f = absurd (apart (sym (same_from g from f) ∙ same_from g to e))
         by g true false e f = ap set_at (none ∙ taken_is)
         by g false c e f = refl

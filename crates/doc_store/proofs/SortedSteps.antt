@@ -72,7 +72,7 @@ good-with_names : (before names : List (List ℕ)) → list_all is_group before 
 good-with_names before [] good all = good
 good-with_names before (name ∷ names) good all =
     good-with_names (with_name name before) names (good-with_name name before (and_first (is_group name) (list_all is_group names) all)
-        good)
+    good)
     (and_second (is_group name) (list_all is_group names) all)
 
 -- ---- so they are groups, where they are few

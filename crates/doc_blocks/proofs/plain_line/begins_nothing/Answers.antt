@@ -14,5 +14,5 @@ returns-in_default-next_char c = λ _. nothing_at_end (left_of c.args.line.now) 
 pub returns : goal.returns
 returns c = λ holds. nothing_at (left_of c.args.line.now) (chars c.in-Some.text.now) c.in-Some-next_char.first _ c.in-Some.ensures
     c.in-Some-next_char.ensures.characters (marks_none c.begins_marker.result (begins_marker c.in-Some-next_char.first)
-        c.begins_marker.ensures
+    c.begins_marker.ensures
     holds)

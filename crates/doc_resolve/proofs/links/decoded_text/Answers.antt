@@ -16,4 +16,4 @@ returns-in-Err-Utf8 c =
     let bytes = c.percent_decode.ensures.bytes ∙ ap percent_decode c.as_bytes.ensures.value in
     let Is : List ℕ → Type 0 = λ t. IfOk c.copy_of.result (λ text. text ≡ t) in
     subst Is (decoded_text-other c.args.text.now _ bytes
-        (λ utf8. let same = c.in-Err-Utf8.ensures.utf8 utf8 in let is = c.in-Err-Utf8.field-0-is in absurd (cc))) c.copy_of.ensures
+    (λ utf8. let same = c.in-Err-Utf8.ensures.utf8 utf8 in let is = c.in-Err-Utf8.field-0-is in absurd (cc))) c.copy_of.ensures

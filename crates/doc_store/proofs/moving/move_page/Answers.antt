@@ -12,18 +12,18 @@ returns-in-Err-clause-same_pages c =
 pub rename-requires-clause-stands : goal.rename-requires-clause-stands
 rename-requires-clause-stands c =
     stands_beside c.args.pages.now c.args.from.now c.args.to.now c.args.stamp c.requires.stands c.requires.free c.args.to.now empty_page
-        refl
+    refl
     c.make_room.new.self (map.remove c.make_room.new.self c.args.from.now) c.in_ok-make_room.ensures.ok refl
 
 pub rename-requires-clause-room : goal.rename-requires-clause-room
 rename-requires-clause-room c =
     room_is_there c.args.pages.now c.args.from.now c.args.to.now c.args.stamp c.requires.stands c.requires.free c.args.to.now empty_page
-        refl
+    refl
     c.make_room.new.self (map.remove c.make_room.new.self c.args.from.now) c.in_ok-make_room.ensures.ok refl
 
 pub returns-clause-pages : goal.returns-clause-pages
 returns-clause-pages c =
     renamed_in_room c.args.pages.now c.args.from.now c.args.to.now c.args.stamp c.requires.stands c.requires.free c.args.to.now
-        empty_page refl
+    empty_page refl
     c.make_room.new.self (map.remove c.make_room.new.self c.args.from.now) c.in_ok-make_room.ensures.ok refl c.rename.new.self
-        c.rename.ensures
+    c.rename.ensures

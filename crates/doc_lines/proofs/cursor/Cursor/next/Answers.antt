@@ -25,8 +25,11 @@ invariant_of-self-2 c =
     c.width_at.ensures in (
       there.0,
       there.1,
-      (omega (arith, there.0.0, c.behind_gap-text_column.ensures.within), c.behind_gap-text_column.ensures.place
-          c.self.inside.line_length there.0.0),
+      (
+        omega (arith, there.0.0, c.behind_gap-text_column.ensures.within),
+        c.behind_gap-text_column.ensures.place
+            c.self.inside.line_length there.0.0,
+      ),
     )
 
 pub returns-clause-place : goal.returns-clause-place

@@ -71,7 +71,7 @@ returns-then-all-columns-clause-line c =
     c.self.invariant.2 in
     let sound : IsSound c.args.self.now = subst IsSound c.self.view_is c.self.invariant.1 in
     ap left_of (c.pass_indent.ensures.place ∙ all_skipped c.args.columns c.args.self.now sound
-        (omega (arith, known, c.if-all-columns.true)))
+    (omega (arith, known, c.if-all-columns.true)))
     ∙ left_of_skipped c.args.columns c.args.self.now sound
 
 pub returns-then-all-columns-clause-columns : goal.returns-then-all-columns-clause-columns

@@ -14,7 +14,7 @@ use Rattle.doc_store.proofs.by_goal.ByGoal.remove.Goals as goal
 pub returns-in_default : goal.returns-in_default
 returns-in_default c =
     ap (λ (t : BTreeMap (List ℕ) TextSet). map.from_entries {R = slice_cmp nat_cmp} t.entries) c.get_mut.follows.holds-at-none
-        ∙ c.self.view_is
+    ∙ c.self.view_is
     ∙ value_not_set c.args.self.now c.args.goal.now (map.remove (set_at (map.get c.args.self.now c.args.goal.now)) c.args.alias.now) (
     ap is_some (c.in_default.ensures.value ∙ looked_up nat_list_cmp_total exact_bytes c.self.inside.entries.entries c.args.goal.now)
     ∙ ap (λ m. is_some (map.get m c.args.goal.now)) c.self.view_is
@@ -28,7 +28,7 @@ returns c =
     found ∙ looked_up nat_list_cmp_total exact_bytes c.self.inside.entries.entries c.args.goal.now
     ∙ ap (λ m. map.get m c.args.goal.now) c.self.view_is in
     inserted nat_list_cmp_total exact_bytes c.self.inside.entries.entries (c.get_mut.follows.lender c.remove.new.self).entries
-        c.args.goal.now
+    c.args.goal.now
     c.remove.new.self (updates (rw (← found) refl)).0
     ∙ ap (λ m. map.insert m c.args.goal.now c.remove.new.self) c.self.view_is
     ∙ ap (map.insert c.args.self.now c.args.goal.now) (c.remove.ensures ∙ ap (λ s. map.remove s c.args.alias.now) (ap set_at stands))

@@ -12,7 +12,7 @@ use Rattle.doc_store.proofs.goals.Goals.set.Goals as goal
 pub returns-in_default : goal.returns-in_default
 returns-in_default c =
     ap (λ (t : BTreeMap (List ℕ) (List ℕ)). map.from_entries {R = slice_cmp nat_cmp} t.entries) c.get_mut.follows.holds-at-none
-        ∙ c.self.view_is
+    ∙ c.self.view_is
     ∙ value_not_set c.args.self.now c.args.alias.now c.args.goal (
     ap is_some (c.in_default.ensures.value ∙ looked_up nat_list_cmp_total exact_bytes c.self.inside.entries.entries c.args.alias.now)
     ∙ ap (λ m. is_some (map.get m c.args.alias.now)) c.self.view_is
