@@ -51,7 +51,7 @@ module _ (slots : List (Option (Held PageLinks))) where
 pub nothing : without_counts [] ≡ map.empty
 nothing = empty_with pairs_total pairs_exact value_of
 
-abbrev entry_at : (List ℕ × ℕ) × Known PageLinks → List ℕ × PageLinks
+abbrev pub entry_at : (List ℕ × ℕ) × Known PageLinks → List ℕ × PageLinks
 entry_at e = (e.0.0, e.1.value)
 
 twice : (es : List ((List ℕ × ℕ) × Known PageLinks))

@@ -1,5 +1,5 @@
 -- How an index of links holds what it knows, and how its answers are put together.
-use Rattle.std.specs.Prelude.{◌≡◌, ℕ, List, [], ◌∷◌, map as mapped, count_by, Bool, false, ◌==◌, Option, Some, None, if◌then◌else◌}
+use Rattle.std.specs.Prelude.{◌≡◌, ◌≢◌, ℕ, ◌+◌, List, [], ◌∷◌, map as mapped, count_by, Bool, false, ◌==◌, Option, Some, None, if◌then◌else◌, unwrap_or}
 use Rattle.std.specs.BTreeSet.{BTreeSet, contains}
 use Rattle.std.specs.Cmp.Lexicographic.{slice_cmp}
 use Rattle.std.specs.FinMap as map
@@ -8,14 +8,15 @@ use Rattle.std.specs.List.Sorted.{IsStrictlySortedBy}
 use Rattle.std.specs.Map.{keys_of}
 use Rattle.std.specs.Ordering.{nat_cmp}
 use Rattle.std.specs.declared.cmp.Ordering.{Ordering}
-use Rattle.doc_index.specs.Held.{Known, held}
-use Rattle.doc_index.specs.Maps.{PairMap}
+use Rattle.doc_index.specs.Held.{Known, count_in, held, slot_at}
+use Rattle.doc_index.specs.Maps.{PairMap, TextMap}
 use Rattle.doc_index.specs.declared.held.Held.{Held}
 use Rattle.doc_page.specs.Sights.{leads_to_itself}
 use Rattle.doc_page.specs.declared.rendered.Heading.{Heading}
 use Rattle.doc_resolve.specs.declared.link_kind.LinkKind.{LinkKind}
 use Rattle.doc_resolve.specs.declared.link_kind.LinkKind.TheVariants.{External, Page, Nowhere}
 use Rattle.doc_links.specs.Links.{has_anchor}
+use Rattle.doc_links.specs.Names.{writes}
 use Rattle.doc_links.specs.declared.page_links.PageLinks.{PageLinks}
 
 -- the same keys, with other values
@@ -52,3 +53,52 @@ source_of path count = if count == 0 then [] else (path, count) ∷ []
 -- the pages that have links to a target
 abbrev pub sources_of : (List ℕ → Option (List ℕ)) → List ℕ → List (List ℕ × PageLinks) → List (List ℕ × ℕ)
 sources_of goals target pages = flat_map (λ page. source_of page.0 (count_by (goes_to goals target) page.1.links)) pages
+
+-- how often a path stands in counts
+abbrev pub count_at : TextMap ℕ → List ℕ → ℕ
+count_at counts path = unwrap_or (map.get counts path) 0
+
+-- these are the counts of the paths that links write
+abbrev pub HasKeys : List LinkKind → TextMap ℕ → Type 0
+HasKeys links counts = (path : List ℕ) → count_at counts path ≡ count_by (writes path) links
+
+-- each page is held with the counts of the paths that its links write
+abbrev pub AreKeyed : List (Option (Held PageLinks)) → Type 0
+AreKeyed slots =
+    (k : List ℕ × ℕ) (page : Known PageLinks) → map.get (held slots) k ≡ Some page → HasKeys page.value.links page.counts
+
+-- no two slots have pages with the same path
+abbrev pub AreSingle : List (Option (Held PageLinks)) → Type 0
+AreSingle slots =
+    (i j : ℕ) (page other : Held PageLinks) → slot_at slots i ≡ Some page → slot_at slots j ≡ Some other → page.path ≡ other.path → i ≡ j
+
+-- so many more links of a page
+abbrev pub with_count : TextMap ℕ → List ℕ → ℕ → TextMap ℕ
+with_count counts path n = if n == 0 then counts else map.insert counts path (count_at counts path + n)
+
+-- so many more of the page of a slot, where there is one that is seen
+abbrev pub with_page : (List ℕ → Option (List ℕ)) → TextMap ℕ → Option (Held PageLinks) → ℕ → TextMap ℕ
+with_page goals counts None n = counts
+with_page goals counts (Some page) n =
+    if leads_to_itself (goals page.path) page.path then with_count counts page.path n else counts
+
+-- the counts of a row more
+abbrev pub with_row : List (Option (Held PageLinks)) → (List ℕ → Option (List ℕ)) → TextMap ℕ → List (ℕ × ℕ) → TextMap ℕ
+with_row slots goals counts [] = counts
+with_row slots goals counts (entry ∷ entries) = with_row slots goals (with_page goals counts (slot_at slots entry.0) entry.1) entries
+
+-- a number of what is seen
+abbrev pub if_seen : (List ℕ → Option (List ℕ)) → List ℕ → ℕ → ℕ
+if_seen goals path n = if leads_to_itself (goals path) path then n else 0
+
+-- the paths of pages that are seen, each with the number of its slot where that isn't 0
+pub record IsTally (slots : List (Option (Held PageLinks))) (goals : List ℕ → Option (List ℕ)) (number : ℕ → ℕ) (tally : TextMap ℕ)
+    : Type 0 where
+  pub counts : (i : ℕ) (page : Held PageLinks) → slot_at slots i ≡ Some page → count_at tally page.path ≡ if_seen goals page.path (number i)
+  pub known : (path : List ℕ) → ((i : ℕ) (page : Held PageLinks) → slot_at slots i ≡ Some page → page.path ≢ path)
+      → map.get tally path ≡ None
+  pub some : (path : List ℕ) → map.get tally path ≢ Some 0
+
+-- how often the page of a slot writes a path
+abbrev pub written_at : List (Option (Held PageLinks)) → List ℕ → ℕ → ℕ
+written_at slots path i = unwrap_or (count_in (slot_at slots i) path) 0

@@ -1,5 +1,6 @@
 pub mod IndexSteps
 pub mod Links
+pub mod Names
 pub mod PageLinks
 pub mod SeenPages
 pub mod StampSteps

@@ -5,12 +5,14 @@
 #![tactic(auto)]
 
 mod answers;
+mod keys;
 mod known;
 mod link_index;
 mod page_links;
 mod report;
 mod seen;
 mod sources;
+mod tally;
 
 pub use answers::{Broken, Entry, Reason};
 pub use link_index::LinkIndex;

@@ -1,18 +1,22 @@
 //! Pages held under a path and a stamp, and asked for their links.
 
-ghost use Rattle.std.specs.Prelude.{◌≡◌, None, IfOk, OnOk, OnErr, option_copied, option_map};
+ghost use Rattle.std.specs.Prelude.{◌≡◌, None, IfOk, IsTrue, OnOk, OnErr, is_some, map as mapped, option_copied};
+ghost use Rattle.std.specs.Prelude.{option_map};
 ghost use Rattle.std.specs.FinMap as map;
 ghost use Rattle.doc_page.specs.Sights.{seen};
-ghost use Rattle.doc_links.specs.Links.{backlinks, broken, contents};
+ghost use Rattle.doc_links.specs.Links.{backlinks, broken, contents, page_at};
+ghost use Rattle.doc_links.specs.Names.{AreNames};
 ghost use Rattle.doc_links.specs.PageLinks.{IsOnce, page_links, pages_of};
 ghost use Rattle.doc_links.specs.SeenPages.{seen_pages};
 
 use crate::answers::{Broken, Entry};
+use crate::keys::keys_of;
 use crate::known::Known;
 use crate::report::broken_in;
 use crate::seen::{SeenPage, entries_of, seen_in};
 use crate::sources::sources_in;
-use doc_heap::{BTreeMap, Heap, String, Vec};
+use crate::tally::tally_of;
+use doc_heap::{Heap, Vec};
 use doc_index::index::Index;
 use doc_page::failure::Memory;
 use doc_page::list::List;
@@ -45,6 +49,10 @@ impl Model for LinkIndex {
     ghost coded = { map.code (coded× (coded_list coded_ℕ) coded_ℕ) one.the_row.coded };
 
     ghost view = { λ i. without_counts i.pages };
+
+    ghost use Rattle.doc_links.specs.IndexSteps.{AreKeyed};
+
+    ghost invariant = { λ i. AreKeyed i.pages };
 }
 
 impl LinkIndex {
@@ -82,7 +90,7 @@ impl LinkIndex {
         ensures err { OnErr result (self.new ≡ self.old) }
     {
         let known = Known::new(self.heap, path, pieces, headings)?;
-        let keys = no_keys(self.heap);
+        let keys = keys_of(self.heap, known.links())?;
         self.pages.add(path, stamp, known, &keys)
     }
 
@@ -144,9 +152,24 @@ impl LinkIndex {
         let pages = self.pages_seen(sight)?;
         sources_in(self.heap, &pages, target, sight)
     }
-}
-
-/// Pages are held without keys.
-fn no_keys(heap: Heap) -> BTreeMap<String, u64> {
-    BTreeMap::new(heap)
+    /// As `backlinks` of a page that is held and seen, told by which paths links lead to it: those that are written, or more. It looks
+    /// at the pages that write one of these alone.
+    pub fn backlinks_under<S: Sight>(
+        &self,
+        target: &Path,
+        names: &[&Path],
+        sight: &S,
+    ) -> Result<List<(Path, u64)>, Memory>
+        requires once { IsOnce self.now }
+        requires target { IsTrue (is_some
+            (page_at (seen (S.goals sight.now) (pages_of self.now)) target.now)) }
+        requires names { AreNames (mapped (λ name. name.now) names.now) (S.goals sight.now)
+            (seen (S.goals sight.now) (pages_of self.now)) target.now }
+        ensures { IfOk result (λ all.
+            all ≡ backlinks (S.goals sight.now) (seen (S.goals sight.now) (pages_of self.now))
+            target.now) }
+    {
+        let tally = tally_of(self.heap, &self.pages, names, sight)?;
+        tally.list(self.heap)
+    }
 }
