@@ -152,6 +152,7 @@ impl LinkIndex {
         let pages = self.pages_seen(sight)?;
         sources_in(self.heap, &pages, target, sight)
     }
+
     /// As `backlinks` of a page that is held and seen, told by which paths links lead to it: those that are written, or more. It looks
     /// at the pages that write one of these alone.
     pub fn backlinks_under<S: Sight>(
