@@ -1,0 +1,3 @@
+mod Documents
+mod KeptEdits
+mod PairEdits
