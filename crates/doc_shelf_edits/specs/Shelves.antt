@@ -58,8 +58,3 @@ pub record IsDocument (render : Renders) (store : StoreState) (key : Key) (text 
 -- each text of a cache may stand under its key
 abbrev pub HasDocuments : Renders → StoreState → Cached → Type 0
 HasDocuments render store cache = (pair : Key × List ℕ) → Contains cache.entries pair → IsDocument render store pair.0 pair.1
-
--- what a shelf has beside the renderer and the store
-pub record IsShelf (render : Renders) (store : StoreState) (kept : Kept) (cache : Cached) : Type 0 where
-  pub pages : IsKept render store kept
-  pub documents : HasDocuments render store cache

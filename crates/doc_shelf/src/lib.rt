@@ -1,0 +1,16 @@
+//! The pages of a site ready to be served: a store, what is kept of its pages for every list, and a cache of documents.
+//!
+//! Contracts see the renderer and the store alone: what a call answers is said of a reader's view of the store, and what is kept beside
+//! it is in no contract. It is the invariant of the shelf: what is kept is what the renderer makes of each page under its present
+//! stamp, and each text of the cache is a document. `doc_shelf_edits` says why edits and looks keep it so, `doc_shelf_views` why indexes
+//! of all pages answer for the view of one reader.
+#![tactic(auto)]
+
+mod body;
+mod documents;
+mod edits;
+mod lists;
+mod shelf;
+mod visible;
+
+pub use shelf::Shelf;
