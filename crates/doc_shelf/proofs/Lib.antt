@@ -1,0 +1,4 @@
+mod EditSteps
+mod ListSteps
+mod ShelfSteps
+mod ViewSteps

@@ -27,3 +27,10 @@ shelf_made renderer capacity = made_with renderer (cache_of capacity)
 abbrev pub rendered_for : Result (Unit {0}) EditError → ℕ
 rendered_for (Ok fine) = 1
 rendered_for (Err e) = 0
+
+-- What an edit leaves of a store, of what is kept of its pages, and of the documents of every cache, where all was as it should be
+-- before.
+pub record IsEdited (render : Renders) (old new : StoreState) (kept : Kept) : Type 0 where
+  pub is_store : IsStore new
+  pub pages : IsKept render new kept
+  pub documents : (cache : Cached) → HasDocuments render old cache → HasDocuments render new cache

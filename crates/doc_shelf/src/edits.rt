@@ -7,6 +7,7 @@
 ghost use Rattle.std.specs.Prelude.{◌≡◌, ◌+◌, Ok, Err, IfErr, IfOk, OnOk, OnErr};
 ghost use Rattle.std.specs.FinMap as map;
 ghost use Rattle.doc_page.specs.Refusals.{Gives};
+ghost use Rattle.doc_shelf.specs.Shelves.{IsEdited};
 ghost use Rattle.doc_shelf_edits.specs.Shelves.{IsBeingPut, IsKept, let_go};
 ghost use Rattle.doc_shelf_pages.specs.KeptPages.{IsFree, with_page as kept_with_page};
 ghost use Rattle.doc_shelf_views.specs.Views.{Renders};
@@ -80,9 +81,9 @@ pub fn end_put(
     requires next { stamp ≡ store.old.puts }
     ensures store { Gives EditError.Memory
         (put_into store.old path.now groups.now text.now) store.old store.new result }
-    ensures kept { (render : Renders) → IsBeingPut render store.old path.now text.now kept.old
-        → IsKept render store.new kept.new }
-    ensures is_store { IsStore store.old → IsStore store.new }
+    ensures kept { (render : Renders) → IsStore store.old
+        → IsBeingPut render store.old path.now text.now kept.old
+        → IsEdited render store.old store.new kept.new }
 {
     let before = stamp_at(store, path);
     let put = store.put(path, groups, text);
@@ -110,9 +111,9 @@ pub fn end_put_saying(
     ensures put { OnOk result (store.new ≡ with_page store.old path.now
         (record { groups = groups.now; text = text.now })) }
     ensures refused { OnErr result (store.new ≡ store.old) }
-    ensures kept { (render : Renders) → IsBeingPut render store.old path.now text.now kept.old
-        → IsKept render store.new kept.new }
-    ensures is_store { IsStore store.old → IsStore store.new }
+    ensures kept { (render : Renders) → IsStore store.old
+        → IsBeingPut render store.old path.now text.now kept.old
+        → IsEdited render store.old store.new kept.new }
 {
     if said.is_err() {
         kept.drop_page(path, stamp);
@@ -128,9 +129,8 @@ pub fn end_put_saying(
 pub fn remove(store: &mut Store, kept: &mut KeptPages, path: &Path) -> bool
     ensures answer { result ≡ map.contains_key store.old.site.pages path.now }
     ensures store { store.new ≡ without_page store.old path.now }
-    ensures kept { (render : Renders) → IsKept render store.old kept.old
-        → IsKept render store.new kept.new }
-    ensures is_store { IsStore store.old → IsStore store.new }
+    ensures kept { (render : Renders) → IsStore store.old → IsKept render store.old kept.old
+        → IsEdited render store.old store.new kept.new }
 {
     let before = stamp_at(store, path);
     let_go(kept, path, before);
@@ -150,9 +150,8 @@ pub fn move_page(
     requires free { IsFree kept.old to.now stamp }
     ensures store { Gives MoveError.Memory
         (moved_in store.old from.now to.now) store.old store.new result }
-    ensures kept { (render : Renders) → IsKept render store.old kept.old
-        → IsKept render store.new kept.new }
-    ensures is_store { IsStore store.old → IsStore store.new }
+    ensures kept { (render : Renders) → IsStore store.old → IsKept render store.old kept.old
+        → IsEdited render store.old store.new kept.new }
 {
     let Some(before) = stamp_at(store, from) else {
         return Err(MoveError::NoPage);
