@@ -1,3 +1,4 @@
+mod DocumentSteps
 mod EditSteps
 mod ListSteps
 mod ShelfSteps

@@ -1,1 +1,68 @@
+-- What edits and looks leave of a shelf.
+use Rattle.std.proofs.Common.{◌≡◌, ℕ, ◌==◌, Bool, true, false, ltb, List, [], refl, sym, ap, subst, ◌∙◌}
+use Rattle.std.specs.Prelude.{Result, Ok, Err, if◌then◌else◌}
+use Rattle.doc_cache.specs.Caches.{Cached, cache_of, cached}
+use Rattle.doc_cache.specs.declared.failure.CacheError.{CacheError}
+use Rattle.doc_cache.specs.declared.failure.CacheError.TheVariants as cache_errors
+use Rattle.doc_page.specs.Refusals.{IsAnswer}
+use Rattle.doc_shelf.specs.Shelves.{IsEdited, IsShelf}
+use Rattle.doc_shelf_edits.proofs.Documents.{caches_have_documents}
+use Rattle.doc_shelf_edits.proofs.KeptEdits.{edits_of_kept}
+use Rattle.doc_shelf_edits.specs.Shelves.{HasDocuments, IsBeingPut, IsKept}
+use Rattle.doc_shelf_pages.specs.KeptPages.{IsFree, Kept, none_kept, with_page as kept_with_page}
+use Rattle.doc_shelf_views.specs.Views.{Renders}
+use Rattle.doc_store.proofs.StoreSteps.{empty_is_store}
+use Rattle.doc_store.specs.Store.{StoreState, IsStore, empty_store}
 
+-- a shelf after an edit
+pub edited : (render : Renders) (old new : StoreState) (before after : Kept) (cache : Cached) → IsShelf render old before cache
+    → IsEdited render old new after → IsShelf render new after cache
+edited render old new before after cache shelf e = record {
+  is_store = e.is_store;
+  pages = e.pages;
+  documents = e.documents cache shelf.documents;
+}
+
+-- the same by what the renderer makes now, which is what it made
+pub edited_by : (render now : Renders) (old new : StoreState) (before after : Kept) (cache : Cached) → now ≡ render
+    → IsShelf render old before cache → IsEdited render old new after → IsShelf now new after cache
+edited_by render now old new before after cache same shelf e =
+    subst (λ r. IsShelf r new after cache) (sym same) (edited render old new before after cache shelf e)
+
+-- under the next stamp nothing is kept
+pub is_free : (render : Renders) (store : StoreState) (kept : Kept) (cache : Cached) (path : List ℕ) (stamp : ℕ)
+    → IsShelf render store kept cache → stamp ≡ store.puts → IsFree kept path stamp
+is_free render store kept cache path stamp shelf next =
+    subst (IsFree kept path) (sym next) ((edits_of_kept.puts render store shelf.is_store).free kept path shelf.pages)
+
+pub is_being_put : (render : Renders) (store : StoreState) (before added : Kept) (cache : Cached) (path text : List ℕ) (stamp : ℕ)
+    → IsShelf render store before cache → stamp ≡ store.puts → added ≡ kept_with_page before path stamp (render text)
+    → IsBeingPut render store path text added
+is_being_put render store before added cache path text stamp shelf next is = record {
+  before = before;
+  is_kept = shelf.pages;
+  added = is ∙ ap (λ s. kept_with_page before path s (render text)) next;
+}
+
+-- an empty shelf
+pub is_new : (render : Renders) (store : StoreState) (kept : Kept) (capacity : ℕ) (cache : Cached) → store ≡ empty_store
+    → kept ≡ none_kept → IsAnswer cache_errors.Memory (cache_of capacity) (Ok cache) → IsShelf render store kept cache
+is_new render store kept capacity cache none nothing made =
+    subst (λ s. IsShelf render s kept cache) (sym none)
+    (subst (λ k. IsShelf render empty_store k cache) (sym nothing)
+    (record {
+      is_store = empty_is_store;
+      pages = edits_of_kept.empty render;
+      documents = by capacity made;
+    }))
+  where
+    empty_has : (n : ℕ) → HasDocuments render empty_store (cached [] n)
+    empty_has n = caches_have_documents.empty render empty_store n
+    by : (n : ℕ) → IsAnswer cache_errors.Memory (cache_of n) (Ok cache) → HasDocuments render empty_store cache
+    by n made = by_answer (n == 0) (ltb 4096 n) made
+      where
+        by_answer : (z l : Bool) → IsAnswer cache_errors.Memory (if z then Err cache_errors.BadCapacity else (if l then Err
+            cache_errors.BadCapacity else Ok (cached [] n))) (Ok cache) → HasDocuments render empty_store cache
+        by_answer true l made = absurd made
+        by_answer false true made = absurd made
+        by_answer false false made = subst (HasDocuments render empty_store) (sym made) (empty_has n)
