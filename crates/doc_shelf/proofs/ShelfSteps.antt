@@ -9,6 +9,9 @@ use Rattle.doc_shelf.specs.Shelves.{IsEdited, IsShelf}
 use Rattle.doc_shelf_edits.proofs.Documents.{caches_have_documents}
 use Rattle.doc_shelf_edits.proofs.KeptEdits.{edits_of_kept}
 use Rattle.doc_shelf_edits.specs.Shelves.{HasDocuments, IsBeingPut, IsKept}
+use Rattle.doc_shelf.specs.Documents.{IsServed}
+use Rattle.doc_shelf_edits.specs.Laws.{Stands}
+use Rattle.doc_store.specs.Pages.{Page}
 use Rattle.doc_shelf_pages.specs.KeptPages.{IsFree, Kept, none_kept, with_page as kept_with_page}
 use Rattle.doc_shelf_views.specs.Views.{Renders}
 use Rattle.doc_store.proofs.StoreSteps.{empty_is_store}
@@ -66,3 +69,16 @@ is_new render store kept capacity cache none nothing made =
         by_answer true l made = absurd made
         by_answer false true made = absurd made
         by_answer false false made = subst (HasDocuments render empty_store) (sym made) (empty_has n)
+
+-- a page that stands is served
+pub is_served : (render : Renders) (store : StoreState) (kept : Kept) (cache : Cached) (path : List ℕ) (stamp told : ℕ) (page : Page)
+    → IsShelf render store kept cache → told ≡ stamp → Stands store path stamp page → IsServed render store kept cache path told page
+is_served render store kept cache path stamp told page shelf same stands = record {
+  shelf = shelf;
+  stands = subst (λ s. Stands store path s page) (sym same) stands;
+}
+
+-- after a look the cache alone is another
+pub looked_at : (render : Renders) (store : StoreState) (kept : Kept) (cache new : Cached) → IsShelf render store kept cache
+    → HasDocuments render store new → IsShelf render store kept new
+looked_at render store kept cache new shelf has = record { is_store = shelf.is_store; pages = shelf.pages; documents = has }

@@ -205,9 +205,9 @@ impl<R: Renderer + Drop> Shelf<R> {
             (λ page. backlinks_body (R.page self.now.0) (seen_in self.now.1 reader.now) path.now)
             (page_at (seen_in self.now.1 reader.now).pages path.now)) }
     {
-        if visible_page(&self.store, reader, path).is_none() {
+        let Some(_) = visible_page(&self.store, reader, path) else {
             return Ok(None);
-        }
+        };
         Ok(Some(backlinks(self.heap, &self.store, &self.kept, path, reader)?))
     }
 

@@ -1,0 +1,11 @@
+use Rattle.std.proofs.Common.{◌≡◌, subst}
+use Rattle.std.specs.Prelude.{IfOk}
+use Rattle.doc_shelf_views.specs.Laws.{seen_in}
+use Rattle.doc_shelf_views.specs.Views.{report_body}
+use Rattle.doc_shelf.proofs.shelf.Shelf.report.Goals as goal
+
+pub returns : goal.returns
+returns g c =
+    let render = g.R.Renderer.page c.self.inside.renderer in
+    subst (λ s. IfOk c.report.result (λ text. text ≡ report_body (g.R.Renderer.page s.0) (seen_in s.1 c.args.reader.now))) c.self.view_is
+    (c.report.ensures render c.self.invariant.pages)
