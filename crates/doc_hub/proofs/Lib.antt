@@ -22,4 +22,3 @@ mod SiteLaws
 mod StepLaws
 mod StoreSteps
 mod StoredSteps
-mod ViewSteps

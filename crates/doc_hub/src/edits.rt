@@ -17,22 +17,30 @@ use crate::answer::Answer;
 use crate::exchange::Exchange;
 use crate::response::Edit;
 use doc_heap::Heap;
+use doc_http::reply_form::ReplyForm;
 use doc_http::request::Request;
 use doc_http::status::Status;
 use doc_http_targets::query::parameter;
 use doc_http_targets::written_path::written_path;
 use doc_page::failure::Memory;
 use doc_page::path::Path;
+use doc_page::renderer::Renderer;
+use doc_shelf::Shelf;
 use doc_store::groups::{Groups, GroupsError};
-use doc_store::store::{EditError, Store};
+use doc_store::store::Store;
 use std::str::from_utf8;
 
 /// What an owner's PUT under the path that the rest of its target writes is answered. The page is put
 /// where it fits.
-pub fn put_page(exchange: &Exchange, store: &mut Store, rest: &str) -> Result<Answer, Memory>
-    ensures { (reader : Reader) → reader.owner ≡ true → Answered exchange.now store.old
-        (put_by (view_of store.old.site (Some reader)) (puts_left store.old.puts) rest.now
-        exchange.now.request.now) store.new result }
+pub fn put_page<R: Renderer + Drop>(
+    exchange: &Exchange,
+    shelf: &mut Shelf<R>,
+    rest: &str,
+) -> Result<Answer, Memory>
+    ensures answer { (reader : Reader) → reader.owner ≡ true → Answered exchange.now shelf.old.1
+        (put_by (view_of shelf.old.1.site (Some reader)) (puts_left shelf.old.1.puts) rest.now
+        exchange.now.request.now) shelf.new.1 result }
+    ensures same { R.page shelf.new.0 ≡ R.page shelf.old.0 }
 {
     let Some(path) = written_path(exchange.heap, rest)? else {
         return exchange.status(Status::BadRequest);
@@ -43,28 +51,30 @@ pub fn put_page(exchange: &Exchange, store: &mut Store, rest: &str) -> Result<An
     let Ok(text) = from_utf8(exchange.request.body.get()) else {
         return exchange.status(Status::BadRequest);
     };
-    put_text(exchange, store, path, groups, text)
+    put_text(exchange, shelf, path, groups, text)
 }
 
 /// The same of these groups and this text under a path. The answer is written before the page is put, since a
 /// put could not be taken back where the answer then found no memory.
-fn put_text(
+fn put_text<R: Renderer + Drop>(
     exchange: &Exchange,
-    store: &mut Store,
+    shelf: &mut Shelf<R>,
     path: Path,
     groups: Groups,
     text: &str,
 ) -> Result<Answer, Memory>
-    ensures { (reader : Reader) → reader.owner ≡ true → AnsweredSo text.now store.old
-        (sent_in exchange.now (put_page (view_of store.old.site (Some reader))
-        (puts_left store.old.puts) path groups text.now)) store.new result }
+    ensures answer { (reader : Reader) → reader.owner ≡ true → AnsweredSo text.now shelf.old.1
+        (sent_in exchange.now (put_page (view_of shelf.old.1.site (Some reader))
+        (puts_left shelf.old.1.puts) path groups text.now)) shelf.new.1 result }
+    ensures same { R.page shelf.new.0 ≡ R.page shelf.old.0 }
 {
-    let done = exchange.status(put_status(store, &path))?;
-    match store.put(&path, &groups, text) {
-        Ok(_) => Ok(done.after(Edit::Put(path, groups))),
-        Err(EditError::Memory) => Err(Memory),
-        Err(_) => exchange.status(Status::InsufficientStorage),
+    if shelf.store().fits(&path, text).is_err() {
+        return exchange.status(Status::InsufficientStorage);
     }
+    let reply = ReplyForm::Status(put_status(shelf.store(), &path));
+    let head_only = exchange.head_only();
+    let bytes = shelf.put_saying(&path, &groups, text, &reply, head_only, exchange.close)?;
+    Ok(exchange.sent(bytes).after(Edit::Put(path, groups)))
 }
 
 /// What a put is answered that is accepted: 204 where a page stands under the path, and else 201.
@@ -100,18 +110,23 @@ fn groups_of(heap: Heap, request: &Request) -> Result<Option<Groups>, Memory>
 
 /// What an owner's DELETE of the path that the rest of its target writes is answered. The page is removed
 /// where one stands.
-pub fn delete_page(exchange: &Exchange, store: &mut Store, rest: &str) -> Result<Answer, Memory>
-    ensures { (reader : Reader) → reader.owner ≡ true → Answered exchange.now store.old
-        (delete_at (view_of store.old.site (Some reader)) (path_written rest.now))
-        store.new result }
+pub fn delete_page<R: Renderer + Drop>(
+    exchange: &Exchange,
+    shelf: &mut Shelf<R>,
+    rest: &str,
+) -> Result<Answer, Memory>
+    ensures answer { (reader : Reader) → reader.owner ≡ true → Answered exchange.now shelf.old.1
+        (delete_at (view_of shelf.old.1.site (Some reader)) (path_written rest.now))
+        shelf.new.1 result }
+    ensures same { R.page shelf.new.0 ≡ R.page shelf.old.0 }
 {
     let Some(path) = written_path(exchange.heap, rest)? else {
         return exchange.status(Status::NotFound);
     };
-    if !stands(store, &path) {
+    if !stands(shelf.store(), &path) {
         return exchange.status(Status::NotFound);
     }
     let done = exchange.status(Status::NoContent)?;
-    store.remove(&path);
+    shelf.remove(&path);
     Ok(done.after(Edit::Remove(path)))
 }

@@ -1,8 +1,8 @@
 //! One request, and how the reply to it is written.
 
-ghost use Rattle.std.specs.Prelude.{◌≡◌, IfOk};
+ghost use Rattle.std.specs.Prelude.{◌≡◌, IfOk, None};
 ghost use Rattle.doc_http.specs.ReplyForms.{code_of, reply_of};
-ghost use Rattle.doc_hub.specs.AnswerSteps.{sent_in};
+ghost use Rattle.doc_hub.specs.AnswerSteps.{is_head, sent_in};
 ghost use Rattle.doc_hub.specs.Replies.{only_reply, refused};
 
 use crate::answer::Answer;
@@ -11,6 +11,7 @@ use doc_heap::Heap;
 use doc_http::reply_form::ReplyForm;
 use doc_http::request::Request;
 use doc_http::status::Status;
+use doc_page::bytes::Bytes;
 use doc_page::failure::Memory;
 
 /// A request, and how the reply to it is written.
@@ -25,15 +26,29 @@ pub struct Exchange<'a> {
 }
 
 impl Exchange<'_> {
+    /// Whether the reply is its head alone.
+    pub fn head_only(&self) -> bool
+        ensures { result ≡ is_head self.now.method }
+    {
+        self.method.is_head()
+    }
+
+    /// The answer that these bytes are, after no edit.
+    pub fn sent(&self, bytes: Bytes) -> Answer
+        ensures { result ≡ record { bytes = bytes; closes = self.now.close; edit = None } }
+    {
+        Answer {
+            bytes,
+            closes: self.close,
+            edit: None,
+        }
+    }
+
     /// The answer that is this reply, after no edit.
     pub fn reply(&self, form: ReplyForm) -> Result<Answer, Memory>
         ensures { IfOk result (λ a. a ≡ sent_in self.now (only_reply (reply_of form))) }
     {
-        Ok(Answer {
-            bytes: form.write(self.heap, self.method.is_head(), self.close)?,
-            closes: self.close,
-            edit: None,
-        })
+        Ok(self.sent(form.write(self.heap, self.head_only(), self.close)?))
     }
 
     /// The answer that says no more than a status, after no edit.

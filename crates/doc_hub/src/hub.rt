@@ -31,11 +31,12 @@ use doc_page::failure::Memory;
 use doc_page::list::List;
 use doc_page::path::Path;
 use doc_page::renderer::Renderer;
+use doc_shelf::Shelf;
 use doc_store::groups::Groups;
 use doc_store::moving::MoveError;
 use doc_store::reader::Reader;
 use doc_store::readers::{ReaderError, Readers, Set};
-use doc_store::store::{EditError, Put, Store};
+use doc_store::store::{EditError, Put};
 use std::marker::Model;
 
 /// The pages, the readers and the connections of a server. Contracts see the renderer beside the
@@ -46,11 +47,10 @@ use std::marker::Model;
 #[derive(Drop)]
 pub struct Hub<R: Renderer + Drop> {
     heap: Heap,
-    renderer: R,
     routes: Routes,
     readers: Readers,
     keep_alive: bool,
-    store: Store,
+    shelf: Shelf<R>,
     given: u64,
     connections: Connections,
 }
@@ -67,10 +67,10 @@ impl<R: Renderer + Drop> Model for Hub<R> {
     ghost coded = { coded× R.code (world_code reader_table.the_row.coded one.the_row.coded) };
 
     ghost view = { λ h. (
-      h.renderer,
+      h.shelf.0,
       record {
-        site = h.store.site;
-        puts = h.store.puts;
+        site = h.shelf.1.site;
+        puts = h.shelf.1.puts;
         readers = h.readers;
         keep_alive = h.keep_alive;
         given = h.given;
@@ -83,7 +83,7 @@ impl<R: Renderer + Drop> Model for Hub<R> {
 
 impl<R: Renderer + Drop> Hub<R> {
     /// A hub without pages and connections. `keep_alive` says whether connections stay open where
-    /// a request allows it. `cache` is how many filled pages may be kept; none are kept yet.
+    /// a request allows it. `cache` is how many documents of pages may be kept for the next reader, 1 to 4,096.
     pub fn new(
         heap: Heap,
         renderer: R,
@@ -96,13 +96,15 @@ impl<R: Renderer + Drop> Hub<R> {
         if cache < 1 || cache > 4096 {
             return Err(HubError::BadCapacity);
         }
+        let Ok(shelf) = Shelf::new(heap, renderer, cache) else {
+            return Err(HubError::Memory);
+        };
         Ok(Hub {
             heap,
-            renderer,
             routes: Routes::new(heap)?,
             readers,
             keep_alive,
-            store: Store::new(heap),
+            shelf,
             given: 0,
             connections: Connections::new(heap),
         })
@@ -164,7 +166,7 @@ impl<R: Renderer + Drop> Hub<R> {
                     readers: &self.readers,
                     keep_alive: self.keep_alive,
                 };
-                let answer = serving.answer(&mut self.renderer, &mut self.store, &request)?;
+                let answer = serving.answer(&mut self.shelf, &request)?;
                 self.connections.finish(id.0, used, answer.closes);
                 Ok(answer.into_step())
             }
@@ -187,7 +189,7 @@ impl<R: Renderer + Drop> Hub<R> {
             (Event.Put path.now groups.now text.now) self.new.1 result }
         ensures same { R.page self.new.0 ≡ R.page self.old.0 }
     {
-        self.store.put(path, groups, text)
+        self.shelf.put(path, groups, text)
     }
 
     /// Removes the page of a path with its aliases; `false` says that none stands there. It takes no
@@ -197,7 +199,7 @@ impl<R: Renderer + Drop> Hub<R> {
             (Event.Remove path.now) self.new.1 result }
         ensures same { R.page self.new.0 ≡ R.page self.old.0 }
     {
-        self.store.remove(path)
+        self.shelf.remove(path)
     }
 
     /// Takes the page of one path to another, and leaves the old path as an alias of it. Refused are,
@@ -207,7 +209,7 @@ impl<R: Renderer + Drop> Hub<R> {
             (Event.MovePage from.now to.now) self.new.1 result }
         ensures same { R.page self.new.0 ≡ R.page self.old.0 }
     {
-        self.store.move_page(from, to)
+        self.shelf.move_page(from, to)
     }
 
     /// Sets the reader of a token, and no other. A request that a later step answers with it is that

@@ -2,7 +2,6 @@
 #![tactic(auto)]
 
 mod answer;
-mod body;
 mod connection;
 mod connections;
 mod edits;
@@ -12,7 +11,7 @@ pub mod hub;
 pub mod laws;
 mod method;
 pub mod outcome;
-mod page;
+mod reading;
 pub mod refusal;
 mod response;
 mod serving;

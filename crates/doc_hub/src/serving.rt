@@ -10,7 +10,7 @@ use crate::answer::Answer;
 use crate::edits::{delete_page, put_page};
 use crate::exchange::Exchange;
 use crate::method::Method;
-use crate::page::reply_at;
+use crate::reading::answer_at;
 use doc_heap::Heap;
 use doc_http::bearer::bearer;
 use doc_http::reply::Allow;
@@ -20,11 +20,11 @@ use doc_http::status::Status;
 use doc_http_targets::routes::Routes;
 use doc_page::failure::Memory;
 use doc_page::renderer::Renderer;
+use doc_shelf::Shelf;
 use doc_store::reader::Reader;
 use doc_store::readers::Readers;
-use doc_store::store::Store;
 
-/// What requests are answered by, beside the renderer and the pages.
+/// What requests are answered by, beside the shelf.
 #[derive(Clone, Copy)]
 pub struct Serving<'a> {
     pub heap: Heap,
@@ -37,17 +37,16 @@ impl Serving<'_> {
     /// The answer to a request, and the edit that it asks for, which is made. Refused are, in this
     /// order, who has no entry, what is no page, and what the method refuses. Where memory runs out
     /// the pages are as they were.
-    pub fn answer<R: Renderer>(
+    pub fn answer<R: Renderer + Drop>(
         &self,
-        renderer: &mut R,
-        store: &mut Store,
+        shelf: &mut Shelf<R>,
         request: &Request,
     ) -> Result<Answer, Memory>
         ensures answer { let reader = entry_of self.now.readers.now request.now in
-            AnsweredSo request.now.body store.old
-            (answer_of (R.page renderer.old) (view_of store.old.site reader) reader
-            (puts_left store.old.puts) self.now.keep_alive request.now) store.new result }
-        ensures same { R.page renderer.new ≡ R.page renderer.old }
+            AnsweredSo request.now.body shelf.old.1
+            (answer_of (R.page shelf.old.0) (view_of shelf.old.1.site reader) reader
+            (puts_left shelf.old.1.puts) self.now.keep_alive request.now) shelf.new.1 result }
+        ensures same { R.page shelf.new.0 ≡ R.page shelf.old.0 }
     {
         let exchange = self.exchange(request);
         let Some(reader) = self.reader_of(request) else {
@@ -56,7 +55,7 @@ impl Serving<'_> {
         let Some(rest) = self.routes.rest_of_page(request.target.get()) else {
             return exchange.status(Status::NotFound);
         };
-        by_method(&exchange, renderer, store, reader, rest)
+        by_method(&exchange, shelf, reader, rest)
     }
 
     /// The exchange that a request begins.
@@ -91,25 +90,22 @@ impl Serving<'_> {
 }
 
 /// The answer at a page, by the method.
-fn by_method<R: Renderer>(
+fn by_method<R: Renderer + Drop>(
     exchange: &Exchange,
-    renderer: &mut R,
-    store: &mut Store,
+    shelf: &mut Shelf<R>,
     reader: &Reader,
     rest: &str,
 ) -> Result<Answer, Memory>
-    ensures answer { Answered exchange.now store.old
-        (by_method (R.page renderer.old) (view_of store.old.site (Some reader.now))
-        reader.now.owner (puts_left store.old.puts) rest.now exchange.now.request.now
-        exchange.now.method) store.new result }
-    ensures same { R.page renderer.new ≡ R.page renderer.old }
+    ensures answer { Answered exchange.now shelf.old.1
+        (by_method (R.page shelf.old.0) (view_of shelf.old.1.site (Some reader.now))
+        reader.now.owner (puts_left shelf.old.1.puts) rest.now exchange.now.request.now
+        exchange.now.method) shelf.new.1 result }
+    ensures same { R.page shelf.new.0 ≡ R.page shelf.old.0 }
 {
     match exchange.method {
-        Method::Get | Method::Head => {
-            exchange.reply(reply_at(exchange.heap, renderer, store, reader, rest)?)
-        }
-        Method::Put if reader.owner => put_page(exchange, store, rest),
-        Method::Delete if reader.owner => delete_page(exchange, store, rest),
+        Method::Get | Method::Head => answer_at(exchange, shelf, reader, rest),
+        Method::Put if reader.owner => put_page(exchange, shelf, rest),
+        Method::Delete if reader.owner => delete_page(exchange, shelf, rest),
         Method::Put | Method::Delete => exchange.status(Status::Forbidden),
         Method::Other => exchange.reply(ReplyForm::NotAllowed(Allow::Page)),
     }

@@ -1,23 +1,22 @@
 -- Edits of a store with what is kept of its pages.
-use Rattle.std.proofs.Common.{◌≡◌, ℕ, ◌+◌, ◌≤◌, List, Bool, true, false, refl, ap, sym, subst, ◌∙◌}
-use Rattle.std.specs.Prelude.{Option, Some, None, Result, Ok, Err, is_some, nat_le, nat_lt, not, ◌&&◌, ◌||◌, length, if◌then◌else◌}
+use Rattle.std.proofs.Common.{◌≡◌, ℕ, List, Bool, true, false, refl, ap, sym, subst, ◌∙◌}
+use Rattle.std.specs.Prelude.{Option, Some, None, Result, Ok, Err, is_some, if◌then◌else◌}
 use Rattle.std.specs.FinMap as map
-use Rattle.std.specs.Result.{is_err, is_ok}
+use Rattle.std.specs.Result.{is_ok}
 use Rattle.std.proofs.lemmas.Bool.{both_ways}
-use Rattle.doc_cache.specs.Caches.{Cached}
-use Rattle.doc_page.specs.Refusals.{Gives, IsAnswer}
+use Rattle.doc_page.specs.Refusals.{Gives}
 use Rattle.doc_shelf.specs.Shelves.{IsEdited}
 use Rattle.doc_shelf_edits.proofs.Documents.{caches_have_documents}
 use Rattle.doc_shelf_edits.proofs.KeptEdits.{edits_of_kept}
 use Rattle.doc_shelf_edits.specs.Laws.{Stands}
-use Rattle.doc_shelf_edits.specs.Shelves.{HasDocuments, IsBeingPut, IsKept, let_go}
+use Rattle.doc_shelf_edits.specs.Shelves.{IsBeingPut, IsKept, let_go}
 use Rattle.doc_shelf_pages.specs.KeptPages.{Kept, carried, without_page as kept_without_page}
 use Rattle.doc_shelf_views.specs.Views.{Renders}
 use Rattle.doc_store.proofs.StampLaw.{move_needs}
 use Rattle.doc_store.proofs.StoreSteps.{move_stays, put_stays, remove_stays, taken_out}
 use Rattle.doc_store.specs.Pages.{Page}
 use Rattle.doc_store.specs.Store.{StoreState, IsStore, aliases_after, fits_in, may_move, moved_by, moved_in, put_by, put_into}
-use Rattle.doc_store.specs.Store.{page_limit, put_limit, stamp_after, text_limit, with_move, with_page, without_page}
+use Rattle.doc_store.specs.Store.{with_move, with_page, without_page}
 use Rattle.doc_store.specs.declared.moving.MoveError.{MoveError}
 use Rattle.doc_store.specs.declared.moving.MoveError.TheVariants as move_errors
 use Rattle.doc_store.specs.declared.store.EditError.{EditError}
@@ -35,6 +34,7 @@ put_accepted store new path groups text put gives = by (map.contains_key store.s
   where
     page : Page
     page = record { groups = groups; text = text }
+
     by : (stands : Bool) (fit : Result (Unit {0}) EditError)
         → ◌≡◌ {A = StoreState × Result Put EditError} (put_by store path page stands fit) (new, Ok put)
         → (fit ≡ Ok tt) × (new ≡ with_page store path page)

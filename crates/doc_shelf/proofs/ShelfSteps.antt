@@ -1,21 +1,20 @@
 -- What edits and looks leave of a shelf.
-use Rattle.std.proofs.Common.{◌≡◌, ℕ, ◌==◌, Bool, true, false, ltb, List, [], refl, sym, ap, subst, ◌∙◌}
-use Rattle.std.specs.Prelude.{Result, Ok, Err, if◌then◌else◌}
+use Rattle.std.proofs.Common.{◌≡◌, ℕ, ◌==◌, Bool, true, false, ltb, List, [], sym, ap, subst, ◌∙◌}
+use Rattle.std.specs.Prelude.{Ok, Err, if◌then◌else◌}
 use Rattle.doc_cache.specs.Caches.{Cached, cache_of, cached}
-use Rattle.doc_cache.specs.declared.failure.CacheError.{CacheError}
 use Rattle.doc_cache.specs.declared.failure.CacheError.TheVariants as cache_errors
 use Rattle.doc_page.specs.Refusals.{IsAnswer}
 use Rattle.doc_shelf.specs.Shelves.{IsEdited, IsShelf}
 use Rattle.doc_shelf_edits.proofs.Documents.{caches_have_documents}
 use Rattle.doc_shelf_edits.proofs.KeptEdits.{edits_of_kept}
-use Rattle.doc_shelf_edits.specs.Shelves.{HasDocuments, IsBeingPut, IsKept}
+use Rattle.doc_shelf_edits.specs.Shelves.{HasDocuments, IsBeingPut}
 use Rattle.doc_shelf.specs.Documents.{IsServed}
 use Rattle.doc_shelf_edits.specs.Laws.{Stands}
 use Rattle.doc_store.specs.Pages.{Page}
 use Rattle.doc_shelf_pages.specs.KeptPages.{IsFree, Kept, none_kept, with_page as kept_with_page}
 use Rattle.doc_shelf_views.specs.Views.{Renders}
 use Rattle.doc_store.proofs.StoreSteps.{empty_is_store}
-use Rattle.doc_store.specs.Store.{StoreState, IsStore, empty_store}
+use Rattle.doc_store.specs.Store.{StoreState, empty_store}
 
 -- a shelf after an edit
 pub edited : (render : Renders) (old new : StoreState) (before after : Kept) (cache : Cached) → IsShelf render old before cache
@@ -61,6 +60,7 @@ is_new render store kept capacity cache none nothing made =
   where
     empty_has : (n : ℕ) → HasDocuments render empty_store (cached [] n)
     empty_has n = caches_have_documents.empty render empty_store n
+
     by : (n : ℕ) → IsAnswer cache_errors.Memory (cache_of n) (Ok cache) → HasDocuments render empty_store cache
     by n made = by_answer (n == 0) (ltb 4096 n) made
       where

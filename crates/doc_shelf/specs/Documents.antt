@@ -1,5 +1,5 @@
 -- The reply that shows a page.
-use Rattle.std.specs.Prelude.{◌≡◌, ℕ, Bool, true, List, Option, Some, option_map}
+use Rattle.std.specs.Prelude.{ℕ, Bool, true, List, Option, option_map}
 use Rattle.doc_cache.specs.Caches.{Cached}
 use Rattle.doc_http.specs.ReplyForms.{content_reply}
 use Rattle.doc_http.specs.Replies.{reply_bytes}

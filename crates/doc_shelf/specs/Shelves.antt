@@ -1,11 +1,11 @@
 -- A shelf: a renderer and a store, and beside them what is kept of the store's pages, which no answer tells.
-use Rattle.std.specs.Prelude.{◌≡◌, ℕ, ◌+◌, List, Result, Ok, Err}
+use Rattle.std.specs.Prelude.{ℕ, Result, Ok, Err}
 use Rattle.doc_cache.specs.Caches.{Cached, cache_of}
 use Rattle.doc_cache.specs.declared.failure.CacheError.{CacheError}
 use Rattle.doc_shelf_edits.specs.Shelves.{HasDocuments, IsKept}
 use Rattle.doc_shelf_pages.specs.KeptPages.{Kept}
 use Rattle.doc_shelf_views.specs.Views.{Renders}
-use Rattle.doc_store.specs.Store.{StoreState, IsStore, empty_store, fits_in}
+use Rattle.doc_store.specs.Store.{StoreState, IsStore, empty_store}
 use Rattle.doc_store.specs.declared.store.EditError.{EditError}
 
 -- What is kept beside a store: of each of its pages under its present stamp what the renderer makes of it, and nothing else; and in

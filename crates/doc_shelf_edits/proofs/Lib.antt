@@ -1,3 +1,3 @@
-mod Documents
-mod KeptEdits
+pub mod Documents
+pub mod KeptEdits
 mod PairEdits

@@ -1,5 +1,5 @@
-use Rattle.std.proofs.Common.{sym, refl, ◌∙◌}
-use Rattle.doc_shelf.proofs.EditSteps.{moved_after, moved_if, same_after, unmoved_after, unmoved_if}
+use Rattle.std.proofs.Common.{sym, ◌∙◌}
+use Rattle.doc_shelf.proofs.EditSteps.{moved_after, moved_if, unmoved_after, unmoved_if}
 use Rattle.doc_shelf.proofs.edits.move_page.Goals as goal
 
 pub returns-then-is_ok-clause-kept : goal.returns-then-is_ok-clause-kept

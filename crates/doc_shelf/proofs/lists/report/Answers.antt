@@ -1,5 +1,5 @@
 use Rattle.std.proofs.Common.{◌∙◌}
-use Rattle.doc_shelf.proofs.ListSteps.{is_once, made, report_is}
+use Rattle.doc_shelf.proofs.ListSteps.{made, report_is}
 use Rattle.doc_shelf.proofs.lists.report.Goals as goal
 
 pub returns : goal.returns

@@ -1,4 +1,4 @@
-use Rattle.std.proofs.Common.{◌≡◌, ap, sym, subst, ◌∙◌}
+use Rattle.std.proofs.Common.{◌≡◌, ap, subst, ◌∙◌}
 use Rattle.std.specs.Prelude.{IfOk, Some, option_map}
 use Rattle.doc_shelf.specs.Documents.{document_reply, page_shown}
 use Rattle.doc_shelf_edits.specs.Laws.{document_of}

@@ -1,6 +1,4 @@
-use Rattle.std.proofs.Common.{sym, subst}
-use Rattle.doc_shelf_edits.specs.Shelves.{IsBeingPut}
-use Rattle.doc_shelf.proofs.ShelfSteps.{edited_by, is_being_put, is_free}
+use Rattle.doc_shelf.proofs.ShelfSteps.{edited_by, is_being_put}
 use Rattle.doc_shelf.proofs.shelf.Shelf.put.Goals as goal
 
 pub invariant_of-self-2 : goal.invariant_of-self-2
