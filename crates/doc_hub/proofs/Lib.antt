@@ -15,6 +15,7 @@ mod PushLaws
 mod PutCounts
 mod PutSteps
 mod ReachedLaws
+mod ReadingSteps
 mod ReplyExamples
 mod RunLaws
 mod RunSteps

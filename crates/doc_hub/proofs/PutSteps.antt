@@ -2,7 +2,8 @@
 use Rattle.std.proofs.Common.{◌≡◌, ℕ, List, Bool, true, false, cond, Option, Some, None, Result, Ok, Err, refl, sym, ap, ◌∙◌}
 use Rattle.std.specs.Prelude.{is_ok, is_some}
 use Rattle.std.specs.FinMap as map
-use Rattle.std.specs.Result.{result_ok}
+use Rattle.std.specs.Result.{is_err, result_ok}
+use Rattle.std.proofs.lemmas.Bool.{both_ways}
 use Rattle.std.specs.Str.{IsUtf8, is_utf8}
 use Rattle.std.proofs.lemmas.Str.{IsUtf8-from_is_utf8, is_utf8-from_IsUtf8}
 use Rattle.doc_page.specs.Refusals.{Gives, IsAnswer}
@@ -74,35 +75,12 @@ put_is_text view left written path named groups text at are utf8 =
     sym (ap (λ w. put_at view left w named text) at ∙ ap (λ g. put_at view left (Some path) g text) are
     ∙ ap (λ b. cond b (put_page view left path groups text) (refused 400)) (is_utf8-from_IsUtf8 text utf8))
 
--- ---- what the store says of a put
+-- ---- whether a put fits
 
-err_ok : {X E : Type 0} (e : E) (x : X) → ◌≡◌ {A = Result X E} (Err e) (Ok x) → ⊥
-err_ok e x is = cc
+pub put_fits_if : (fit : Result (Unit {0}) EditError) → is_err fit ≡ false → fit ≡ Ok tt
+put_fits_if (Ok done) fine = refl
+put_fits_if (Err e) fine = absurd (both_ways true fine refl)
 
-module _ (store : StoreState) (path : List ℕ) (page : Page) where
-  accepted_by : (new : StoreState) (put : Put) (stands : Bool) (fit : Result (Unit {0}) EditError)
-      → ◌≡◌ {A = StoreState × Result Put EditError} (put_by store path page stands fit) (new, Ok put)
-      → (fit ≡ Ok tt) × (new ≡ with_page store path page)
-  accepted_by new put stands (Ok done) is = (refl, sym (ap (λ (q : StoreState × Result Put EditError). q.0) is))
-  accepted_by new put stands (Err e) is = absurd (err_ok e put (ap (λ (q : StoreState × Result Put EditError). q.1) is))
-
-  refused_by : (e : EditError) (stands : Bool) (fit : Result (Unit {0}) EditError)
-      → IsAnswer edit_errors.Memory (put_by store path page stands fit).1 (Err e) → ¬ (e ≡ edit_errors.Memory) → fit ≡ Err e
-  refused_by e stands (Ok done) is other = absurd (other is)
-  refused_by e stands (Err f) is other = ap Err (sym is)
-
--- a put that was accepted: it fits, and the page stands
-pub put_accepted : (store new : StoreState) (path : List ℕ) (groups : List (List ℕ)) (text : List ℕ) (put : Put)
-    → Gives edit_errors.Memory (put_into store path groups text) store new (Ok put)
-    → (fits_in store path text ≡ Ok tt) × (new ≡ with_page store path (record { groups = groups; text = text }))
-put_accepted store new path groups text put gives =
-    accepted_by store path (record { groups = groups; text = text }) new put (map.contains_key store.site.pages path)
-    (fits_in store path text) gives
-
--- a put that was refused, and not for memory: it doesn't fit
-pub put_refused : (store new : StoreState) (path : List ℕ) (groups : List (List ℕ)) (text : List ℕ) (e : EditError)
-    → Gives edit_errors.Memory (put_into store path groups text) store new (Err e) → ¬ (e ≡ edit_errors.Memory)
-    → fits_in store path text ≡ Err e
-put_refused store new path groups text e gives other =
-    refused_by store path (record { groups = groups; text = text }) e (map.contains_key store.site.pages path) (fits_in store path text)
-    gives.0 other
+pub put_full_if : (fit : Result (Unit {0}) EditError) → is_err fit ≡ true → (e : EditError) × (fit ≡ Err e)
+put_full_if (Ok done) full = absurd (both_ways false refl full)
+put_full_if (Err e) full = (e, refl)

@@ -9,9 +9,9 @@ use Rattle.doc_hub.proofs.serving.Serving.answer.Goals as goal
 
 pub returns-in_default-clause-answer : goal.returns-in_default-clause-answer
 returns-in_default-clause-answer g c =
-    let render = g.R.Renderer.page c.args.renderer.now in
+    let render = g.R.Renderer.page c.args.shelf.now.0 in
     let request = c.args.request.now in
-    let store = c.args.store.now in
+    let store = c.args.shelf.now.1 in
     let entry = entry_of c.args.self.now.readers.now request in
     let view = view_of store.site entry in
     let left = puts_left store.puts in
@@ -21,9 +21,9 @@ returns-in_default-clause-answer g c =
 
 pub returns-in_default-rest_of_page-clause-answer : goal.returns-in_default-rest_of_page-clause-answer
 returns-in_default-rest_of_page-clause-answer g c =
-    let render = g.R.Renderer.page c.args.renderer.now in
+    let render = g.R.Renderer.page c.args.shelf.now.0 in
     let request = c.args.request.now in
-    let store = c.args.store.now in
+    let store = c.args.shelf.now.1 in
     let entry = entry_of c.args.self.now.readers.now request in
     let view = view_of store.site entry in
     let left = puts_left store.puts in
@@ -35,16 +35,16 @@ returns-in_default-rest_of_page-clause-answer g c =
 
 pub returns-clause-answer : goal.returns-clause-answer
 returns-clause-answer g c =
-    let render = g.R.Renderer.page c.args.renderer.now in
+    let render = g.R.Renderer.page c.args.shelf.now.0 in
     let request = c.args.request.now in
-    let store = c.args.store.now in
+    let store = c.args.shelf.now.1 in
     let entry = entry_of c.args.self.now.readers.now request in
     let reader = c.in-Some.reader.now in
     let exchange = c.exchange-exchange.result in
     let left = puts_left store.puts in
     let rest = c.in-Some-rest_of_page.rest.now in
     answered_so exchange request render (view_of store.site entry) entry left c.args.self.now.keep_alive c.exchange-exchange.ensures.request
-    c.exchange-exchange.ensures.method c.exchange-exchange.ensures.close store c.by_method.new.store
+    c.exchange-exchange.ensures.method c.exchange-exchange.ensures.close store c.by_method.new.shelf.1
     (by_method render (view_of store.site (Some reader)) reader.owner left rest exchange.request.now exchange.method) c.by_method.result
     (routed exchange request render store.site left reader entry rest c.exchange-exchange.ensures.request
     c.exchange-exchange.ensures.method c.in-Some.ensures
