@@ -1,6 +1,6 @@
 use Rattle.std.proofs.Common.{◌≡◌, ap, sym, refl, ◌∙◌}
 use Rattle.std.specs.FinMap as map
-use Rattle.std.specs.Prelude.{None, Some}
+use Rattle.std.specs.Prelude.{None, Some, if◌then◌else◌}
 use Rattle.doc_http.specs.ReplyForms.{code_of}
 use Rattle.doc_http.specs.Replies.{reply_bytes}
 use Rattle.doc_store.specs.Store.{StoreState, fits_in}
