@@ -1,6 +1,7 @@
 //! The record that bytes begin with.
 
-ghost use Rattle.std.specs.Prelude.{◌≡◌, ◌<◌, ◌+◌, length, IfSome, IsNone, true, false};
+ghost use Rattle.std.specs.Prelude.{◌≡◌, ◌<◌, ◌^◌, length, IfSome, IsNone, true, false};
+ghost use Rattle.std.specs.Int.{w32, to_le_bytes, from_le_bytes};
 ghost use Rattle.doc_server_journal.specs.Records.{digest_behind};
 ghost use Rattle.doc_server_journal.specs.Readings.{IsRecord, HasNoRecord, IsOpenRecord, HasNoOpenRecord, IsTail, IsEnd};
 
@@ -17,6 +18,16 @@ pub struct Front<'a> {
     pub rest: &'a [u8],
 }
 
+/// The length that four bytes write.
+fn written_len(bytes: &[u8]) -> usize
+    requires { length bytes.now ≡ 4 }
+    ensures len { result ≡ from_le_bytes w32 bytes.now }
+    ensures back { to_le_bytes w32 result ≡ bytes.now }
+    ensures bound { result < 2 ^ 32 }
+{
+    u32::from_le_bytes([bytes[0], bytes[1], bytes[2], bytes[3]]) as usize
+}
+
 /// The record that bytes begin with, behind a record of that digest.
 pub fn first_record<'a>(before: &[u8; 32], bytes: &'a [u8]) -> Option<Front<'a>>
     ensures found { IfSome result
@@ -24,20 +35,24 @@ pub fn first_record<'a>(before: &[u8; 32], bytes: &'a [u8]) -> Option<Front<'a>>
         × (f.digest ≡ digest_behind before.now f.text.now)) }
     ensures none { IsNone result → HasNoRecord before.now bytes.now }
 {
-    let [a, b, c, d, behind @ ..] = bytes else {
+    if bytes.len() < 36 {
         return None;
-    };
-    let len = u32::from_le_bytes([*a, *b, *c, *d]) as usize;
-    if len > TEXT_LIMIT || behind.len() < len + 32 {
+    }
+    let (head, behind) = bytes.split_at(4);
+    let len = written_len(head);
+    if len > TEXT_LIMIT {
+        return None;
+    }
+    if behind.len() < len + 32 {
         return None;
     }
     let (text, after) = behind.split_at(len);
     let (written, rest) = after.split_at(32);
     let digest = digest_behind(before, text);
-    if written != digest.as_slice() {
-        return None;
+    if written == digest.as_slice() {
+        return Some(Front { text, digest, rest });
     }
-    Some(Front { text, digest, rest })
+    None
 }
 
 /// The same behind an open gate.

@@ -1,6 +1,6 @@
 //! What the bytes of a journal say.
 
-ghost use Rattle.std.specs.Prelude.{◌≡◌, ◌<◌, ℕ, length, IfOk, IfErr, IsErrOf};
+ghost use Rattle.std.specs.Prelude.{◌≡◌, ◌≤◌, ℕ, length, IfOk, IsErrOf};
 ghost use Rattle.doc_server_journal.specs.Records.{seed, last_digest};
 ghost use Rattle.doc_server_journal.specs.Readings.{IsFound, IsDamaged, AreRecords, HasNoOpenRecord};
 

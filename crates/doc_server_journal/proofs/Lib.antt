@@ -1,0 +1,2 @@
+mod FrontLemmas
+mod RecordLemmas
