@@ -1,2 +1,5 @@
+mod ChainLemmas
 mod FrontLemmas
+mod LawLemmas
+mod ReadingLemmas
 mod RecordLemmas

@@ -1,6 +1,8 @@
 -- What the bytes of a journal say. All of this is this project's choice.
-use Rattle.std.specs.Prelude.{◌≡◌, ◌⊎◌, ◌≤◌, ◌<◌, ◌+◌, ℕ, List, [], ◌∷◌, ◌++◌, length}
+use Rattle.std.specs.Prelude.{⊤, ◌≡◌, ◌⊎◌, ◌≤◌, ◌<◌, ◌+◌, ℕ, List, [], ◌∷◌, ◌++◌, length}
 use Rattle.doc_server_journal.specs.Records.{text_limit, seed, record_bytes, chain, last_digest, AreWithin}
+use Rattle.doc_server_journal.specs.declared.fault.ReadError.{ReadError}
+use Rattle.doc_server_journal.specs.declared.fault.ReadError.TheVariants.{Damaged, Memory}
 use Rattle.doc_server_journal.specs.declared.found.Found.{Found}
 
 -- the bytes begin with a record of this text, and then comes the rest
@@ -54,6 +56,11 @@ pub record IsDamaged (bytes : List ℕ) (n : ℕ) : Type 0 where
   pub records : AreRecords bytes texts rest
   pub not_open : HasNoOpenRecord (last_digest seed texts) rest
   pub no_end : IsEnd (last_digest seed texts) rest → ⊥
+
+-- why bytes aren't read: they are damaged there, or there was no memory
+abbrev pub IsWhy : List ℕ → ReadError → Type 0
+IsWhy bytes (Damaged n) = IsDamaged bytes n
+IsWhy bytes Memory = ⊤
 
 -- what a reading found
 pub record IsFound (bytes : List ℕ) (found : Found) : Type 0 where

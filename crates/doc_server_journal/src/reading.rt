@@ -1,8 +1,8 @@
 //! What the bytes of a journal say.
 
-ghost use Rattle.std.specs.Prelude.{◌≡◌, ◌≤◌, ℕ, length, IfOk, IsErrOf};
+ghost use Rattle.std.specs.Prelude.{◌≡◌, ◌≤◌, length, IfOk, IfErr};
 ghost use Rattle.doc_server_journal.specs.Records.{seed, last_digest};
-ghost use Rattle.doc_server_journal.specs.Readings.{IsFound, IsDamaged, AreRecords, HasNoOpenRecord};
+ghost use Rattle.doc_server_journal.specs.Readings.{IsFound, IsWhy, AreRecords, HasNoOpenRecord};
 
 use crate::fault::ReadError;
 use crate::found::Found;
@@ -16,7 +16,7 @@ use doc_page::list::List;
 /// Reads a journal. A torn last record is passed over. All else that isn't whole is damage.
 pub fn read(heap: Heap, bytes: &[u8]) -> Result<Found, ReadError>
     ensures found { IfOk result (λ found. IsFound bytes.now found) }
-    ensures damaged { (n : ℕ) → IsErrOf result (ReadError.Damaged n) → IsDamaged bytes.now n }
+    ensures refused { IfErr result (λ e. IsWhy bytes.now e) }
 {
     let texts = Vec::new(heap);
     if bytes.len() <= 1 {
