@@ -40,7 +40,7 @@ module _ (before bytes t r : List ℕ) (is : IsRecord before t bytes r) where
     pub behind_parts : behind ≡ t ++ (digest_behind before t ++ r)
     behind_parts = behind_is ∙ ap (λ l. drop 4 l) its_parts ∙ drop_at (length_bytes t) (t ++ (digest_behind before t ++ r)) 4 (length_length t)
 
-    head_part : head ≡ length_bytes t
+    pub head_part : head ≡ length_bytes t
     head_part = head_is ∙ ap (λ l. take 4 l) its_parts ∙ take_at (length_bytes t) (t ++ (digest_behind before t ++ r)) 4 (length_length t)
 
     pub len_is : (len : ℕ) → len ≡ from_le_bytes w32 head → len ≡ length t
