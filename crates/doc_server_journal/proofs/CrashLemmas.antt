@@ -11,6 +11,9 @@ use Rattle.doc_server_journal.proofs.FrontLemmas.{long_enough}
 use Rattle.doc_server_journal.proofs.LawLemmas.{written_is_read}
 use Rattle.doc_server_journal.proofs.RecordLemmas.{length_record}
 
+abbrev open_gate : List ℕ
+open_gate = 1 ∷ []
+
 module _ (texts : List (List ℕ)) (text : List ℕ) (all : AreWithin texts) (fits : length text ≤ text_limit) where
   abbrev pub front : List ℕ
   front = chain seed texts
@@ -22,7 +25,7 @@ module _ (texts : List (List ℕ)) (text : List ℕ) (all : AreWithin texts) (fi
   abbrev pub staged : List ℕ
   staged = front ++ (0 ∷ written)
 
-  length_written : length written ≡ 37 + length text
+  pub length_written : length written ≡ 37 + length text
   length_written =
       omega (
         arith,
@@ -89,7 +92,7 @@ module _ (texts : List (List ℕ)) (text : List ℕ) (all : AreWithin texts) (fi
         ∙ append-nil (journal_bytes texts ++ written)
         ∙ append_assoc front (0 ∷ []) written
 
-    length_staged : length staged ≡ end + 1 + length written
+    pub length_staged : length staged ≡ end + 1 + length written
     length_staged = omega (arith, end_is, length-append front (0 ∷ written))
 
     front_part : take end staged ≡ front
@@ -118,10 +121,10 @@ module _ (texts : List (List ℕ)) (text : List ℕ) (all : AreWithin texts) (fi
         sym (take-append-drop end c) ∙ ap (λ l. l ++ drop end c) (torn.before ∙ front_part) ∙ ap (λ l. front ++ l) rest in
         by_gate gate whole (torn.each end (omega arith) (omega arith) (omega (arith, length_staged)))
       where
-        first_byte : (k : ℕ) → k ≡ 0 → get_or (1 ∷ []) k 0 ≡ 1
-        first_byte k is = ap (λ (n : ℕ). get_or (1 ∷ []) n 0) is
+        first_byte : (k : ℕ) → k ≡ 0 → get_or open_gate k 0 ≡ 1
+        first_byte k is = ap (λ (n : ℕ). get_or open_gate n 0) is
 
-        by_gate : (gate : ℕ) → c ≡ front ++ (gate ∷ written) → (gate ≡ get_or staged end 0) ⊎ (gate ≡ get_or (1 ∷ []) (end - end) 0) → IsBeforeOrAfter texts text c
+        by_gate : (gate : ℕ) → c ≡ front ++ (gate ∷ written) → (gate ≡ get_or staged end 0) ⊎ (gate ≡ get_or open_gate (end - end) 0) → IsBeforeOrAfter texts text c
         by_gate gate whole (inl shut) = staged_reads c (whole ∙ ap (λ (g : ℕ). front ++ (g ∷ written)) (shut ∙ gate_was))
         by_gate gate whole (inr is_open) =
             opened_reads c (whole ∙ ap (λ (g : ℕ). front ++ (g ∷ written)) (is_open ∙ first_byte (end - end) (omega arith)))
@@ -133,3 +136,6 @@ module _ (texts : List (List ℕ)) (text : List ℕ) (all : AreWithin texts) (fi
         ∙ ap (λ l. front ++ (1 ∷ []) ++ l) behind_part
         ∙ append_assoc front (1 ∷ []) written
         ∙ opened (front ++ (1 ∷ written)) refl
+
+    pub length_opened : length (journal_bytes (texts ++ text ∷ [])) ≡ end + 1 + length written
+    length_opened = omega (arith, end_is, ap length (opened (front ++ (1 ∷ written)) refl), length-append front (1 ∷ written))

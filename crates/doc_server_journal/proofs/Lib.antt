@@ -1,3 +1,4 @@
+mod AppendLemmas
 mod ChainLemmas
 mod CrashLemmas
 mod Deciding

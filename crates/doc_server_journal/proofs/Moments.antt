@@ -1,5 +1,6 @@
 -- How a run of changes of a file goes on.
 use Rattle.std.proofs.Common.{◌≡◌, inl, inr, ⊎_elim, ℕ, List, Option, Some, None, refl, subst, arith, IfSome}
+use Rattle.std.specs.Option.{option_map}
 use Rattle.doc_server_journal.specs.Devices.{LeavesOnly}
 
 -- what is said of a value that is there
@@ -8,7 +9,11 @@ if_known None P f = tt
 if_known (Some x) P f = f x refl
 
 pub known : {X : Type 0} (o : Option X) (x : X) (P : X → Type 0) → o ≡ Some x → IfSome o P → P x
-known o x P is said = let Q : Option X → Type 0 = λ v. IfSome v P in subst Q is said
+known {X} o x P is said = let Q : Option X → Type 0 = λ v. IfSome v P in subst Q is said
+
+pub if_mapped : {X Y : Type 0} (f : X → Y) (o : Option X) (P : Y → Type 0) → ((x : X) → o ≡ Some x → P (f x)) → IfSome (option_map f o) P
+if_mapped f None P g = tt
+if_mapped f (Some x) P g = g x refl
 
 module _ {D : Type 0} (moment : D → ℕ) (left_since : D → ℕ → List ℕ → Type 0) where
   -- before the first change

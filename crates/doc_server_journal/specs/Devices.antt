@@ -1,13 +1,14 @@
 -- What the calls of a device do to its file, and what a crash leaves of it.
-use Rattle.std.specs.Prelude.{◌≡◌, ◌⊎◌, ℕ, ◌+◌, ◌-◌, ◌≤◌, ◌<◌, max, List, ◌++◌, length, take, drop, get_or, Option, Some, IfSome}
+use Rattle.std.specs.Prelude.{◌≡◌, ◌⊎◌, ℕ, ◌+◌, ◌-◌, ◌≤◌, ◌<◌, max, List, ◌++◌, length, take, drop, get_or, Option, IfSome}
+use Rattle.std.specs.Option.{option_map}
 
 -- a known file has these bytes from there on
 abbrev pub Writes : Option (List ℕ) → ℕ → List ℕ → Option (List ℕ) → Type 0
-Writes old at bytes new = IfSome old (λ file. new ≡ Some (take at file ++ bytes ++ drop (at + length bytes) file))
+Writes old at bytes new = new ≡ option_map (λ file. take at file ++ bytes ++ drop (at + length bytes) file) old
 
 -- a known file has so many bytes, and no more
 abbrev pub CutsTo : Option (List ℕ) → ℕ → Option (List ℕ) → Type 0
-CutsTo old len new = IfSome old (λ file. new ≡ Some (take len file))
+CutsTo old len new = new ≡ option_map (λ file. take len file) old
 
 -- After a write that a crash cuts short. A byte is never torn: in the old file each is the one that was there or the one
 -- that was written. Behind its end any bytes may stand.
