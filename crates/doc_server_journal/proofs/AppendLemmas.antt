@@ -1,13 +1,12 @@
 -- A new record: what a crash leaves at each moment, and what the journal is then.
-use Rattle.std.proofs.Common.{◌≡◌, ◌⊎◌, inl, inr, ⊎_elim, ℕ, ◌+◌, ◌≤◌, Bool, false, List, [], ◌∷◌, ◌++◌, length, take, drop, Option, Some, None, IfSome, refl, sym, ap, subst, ◌∙◌, arith, length-append}
+use Rattle.std.proofs.Common.{◌≡◌, inl, inr, ℕ, ◌+◌, ◌≤◌, Bool, false, List, [], ◌∷◌, ◌++◌, length, take, drop, Option, Some, None, IfSome, refl, sym, ap, subst, ◌∙◌, arith, length-append}
 use Rattle.std.specs.Option.{option_map}
 use Rattle.doc_server_journal.specs.Devices.{Torn, Writes, LeavesFile, LeavesOnly, Stepped}
-use Rattle.doc_server_journal.specs.Records.{text_limit, seed, digest_behind, record_bytes, chain, last_digest, journal_bytes, AreWithin}
+use Rattle.doc_server_journal.specs.Records.{text_limit, seed, digest_behind, record_bytes, chain, journal_bytes}
 use Rattle.doc_server_journal.specs.Journals.{IsOpen, IsBeforeOrAfter}
-use Rattle.doc_server_journal.specs.declared.journal.Journal.{Journal}
 use Rattle.doc_server_journal.proofs.ChainLemmas.{last_push, within_push}
 use Rattle.doc_server_journal.proofs.Moments.{if_known, known, if_mapped, started, weaker, goes_on}
-use Rattle.doc_server_journal.proofs.CrashLemmas.{written, staged, rest_reads, staged_reads, first_torn, first_done, second_torn, second_done, length_staged, length_written, length_opened}
+use Rattle.doc_server_journal.proofs.CrashLemmas.{written, staged, rest_reads, staged_reads, first_torn, first_done, second_torn, second_done, length_staged, length_opened}
 
 module _ {D : Type 0} (seen : D → Option (List ℕ)) (may_leave : D → List ℕ → Type 0) (failed : D → Bool) (moment : D → ℕ) (left_since : D → ℕ → List ℕ → Type 0)
     (only_now : (file : D) (c : List ℕ) → left_since file (moment file) c → may_leave file c) (device : D) (end : ℕ) (digest : List ℕ)

@@ -1,8 +1,8 @@
 -- Records one behind the other.
-use Rattle.std.proofs.Common.{◌≡◌, ◌⊎◌, inl, inr, ℕ, ◌+◌, ◌<◌, ◌≤◌, List, [], ◌∷◌, ◌++◌, length, drop, get_or, refl, sym, ap, subst, ◌∙◌, arith, length-append, append_assoc}
+use Rattle.std.proofs.Common.{◌≡◌, ℕ, ◌≤◌, List, [], ◌∷◌, ◌++◌, length, drop, get_or, refl, sym, ap, subst, ◌∙◌, arith, length-append, append_assoc}
 use Rattle.std.proofs.lemmas.List.{append-nil}
 use Rattle.doc_server_journal.specs.Records.{text_limit, digest_behind, record_bytes, chain, last_digest, AreWithin}
-use Rattle.doc_server_journal.specs.Readings.{IsRecord, HasNoOpenRecord, IsEnd, IsTail}
+use Rattle.doc_server_journal.specs.Readings.{IsRecord, HasNoOpenRecord, IsEnd}
 use Rattle.doc_server_journal.proofs.RecordLemmas.{record_unique, length_record}
 
 -- one record more

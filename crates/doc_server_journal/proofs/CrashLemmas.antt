@@ -1,10 +1,10 @@
 -- What a crash leaves in each of the two writes of a new record.
-use Rattle.std.proofs.Common.{◌≡◌, ◌⊎◌, inl, inr, ℕ, ◌+◌, ◌-◌, ◌<◌, ◌≤◌, List, [], ◌∷◌, ◌++◌, length, take, drop, get_or, refl, sym, ap, subst, ◌∙◌, arith, length-append, length-drop, append_assoc}
+use Rattle.std.proofs.Common.{◌≡◌, ◌⊎◌, inl, inr, ℕ, ◌+◌, ◌-◌, ◌≤◌, List, [], ◌∷◌, ◌++◌, length, take, drop, get_or, refl, sym, ap, subst, ◌∙◌, arith, length-append, length-drop, append_assoc}
 use Rattle.std.proofs.lemmas.List.{take_at, drop_at, drop_more, take_all, drop_all, append-nil, take-append-drop}
 use Rattle.doc_server_journal.specs.Devices.{Torn}
-use Rattle.doc_server_journal.specs.Records.{text_limit, seed, digest_behind, record_bytes, chain, last_digest, journal_bytes, AreWithin}
+use Rattle.doc_server_journal.specs.Records.{text_limit, seed, record_bytes, chain, last_digest, journal_bytes, AreWithin}
 use Rattle.doc_server_journal.specs.Readings.{IsRecord, tail_limit, ReadsAs, IsTail}
-use Rattle.doc_server_journal.specs.Journals.{HasOther, IsBeforeOrAfter}
+use Rattle.doc_server_journal.specs.Journals.{IsBeforeOrAfter}
 use Rattle.doc_server_journal.proofs.ChainLemmas.{chain_push, within_push}
 use Rattle.doc_server_journal.proofs.Deciding.{Begins, begins, same_or_not}
 use Rattle.doc_server_journal.proofs.FrontLemmas.{long_enough}

@@ -1,5 +1,5 @@
 -- Whether bytes begin with a record.
-use Rattle.std.proofs.Common.{◌≡◌, ◌⊎◌, inl, inr, ℕ, ◌+◌, ◌<◌, ◌≤◌, Bool, true, false, List, ◌++◌, length, take, drop, refl, sym, ap, ◌∙◌, arith}
+use Rattle.std.proofs.Common.{◌≡◌, ◌⊎◌, inl, inr, ℕ, ◌+◌, ◌<◌, ◌≤◌, Bool, true, false, List, length, take, drop, refl, sym, ap, ◌∙◌, arith}
 use Rattle.std.specs.Cmp.Lexicographic.{pointwise}
 use Rattle.std.specs.Int.{w32, to_le_bytes, from_le_bytes}
 use Rattle.std.proofs.Common.{nat_eq}
@@ -8,8 +8,7 @@ use Rattle.std.proofs.lemmas.Bool.Decides.{Decides-eqb, not_from_Decides}
 use Rattle.std.proofs.lemmas.Slice.Eq.{slice_eq-Decides}
 use Rattle.doc_server_journal.specs.Records.{text_limit, length_bytes, digest_behind}
 use Rattle.doc_server_journal.specs.Readings.{IsRecord, HasNoRecord}
-use Rattle.doc_server_journal.proofs.RecordLemmas.{written_length}
-use Rattle.doc_server_journal.proofs.FrontLemmas.{is_front, long_enough, len_is, room, right_digest, head_part}
+use Rattle.doc_server_journal.proofs.FrontLemmas.{is_front, len_is, room, right_digest, head_part}
 
 -- equal or not
 pub same_or_not : (x y : List ℕ) → (x ≡ y) ⊎ (x ≡ y → ⊥)

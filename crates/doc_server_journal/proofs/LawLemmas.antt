@@ -1,7 +1,7 @@
 -- Laws of journals.
-use Rattle.std.proofs.Common.{◌≡◌, ◌⊎◌, inl, inr, ℕ, ◌+◌, ◌<◌, ◌≤◌, List, [], ◌∷◌, ◌++◌, length, refl, sym, ap, subst, ◌∙◌, arith}
-use Rattle.doc_server_journal.specs.Records.{seed, chain, last_digest, journal_bytes, AreWithin}
-use Rattle.doc_server_journal.specs.Readings.{IsRecord, HasNoRecord, IsTail, IsEnd, AreRecords, ReadsAs, IsDamaged, tail_limit}
+use Rattle.std.proofs.Common.{◌≡◌, inl, inr, ℕ, ◌≤◌, List, [], ◌∷◌, length, refl, sym, ap, subst, ◌∙◌, arith}
+use Rattle.doc_server_journal.specs.Records.{seed, last_digest}
+use Rattle.doc_server_journal.specs.Readings.{HasNoRecord, IsEnd, AreRecords, tail_limit}
 use Rattle.doc_server_journal.specs.Laws.{WrittenIsRead, ReadsOneWay, ReadIsNotDamaged, IsDamagedOnce}
 use Rattle.doc_server_journal.proofs.ChainLemmas.{chain_unique, end_not_open, short_chain}
 use Rattle.doc_server_journal.proofs.FrontLemmas.{long_enough}

@@ -1,8 +1,7 @@
 -- How a reading goes on, and how it ends.
-use Rattle.std.proofs.Common.{◌≡◌, ◌⊎◌, inl, inr, ⊎_elim, ℕ, ◌+◌, ◌-◌, ◌<◌, ◌≤◌, Bool, false, nat_le, List, [], ◌∷◌, ◌++◌, length, refl, sym, ap, subst, ◌∙◌, arith, length-append}
-use Rattle.doc_server_journal.specs.Records.{seed, digest_behind, record_bytes, chain, last_digest, AreWithin}
-use Rattle.doc_server_journal.specs.Readings.{IsRecord, IsOpenRecord, HasNoOpenRecord, IsTail, IsEnd, AreRecords, ReadsAs, IsDamaged, IsFound}
-use Rattle.doc_server_journal.specs.declared.found.Found.{Found}
+use Rattle.std.proofs.Common.{◌≡◌, inl, inr, ℕ, ◌+◌, ◌-◌, ◌<◌, ◌≤◌, List, [], ◌∷◌, ◌++◌, length, refl, sym, ap, subst, ◌∙◌, arith, length-append}
+use Rattle.doc_server_journal.specs.Records.{seed, digest_behind, record_bytes, chain, last_digest}
+use Rattle.doc_server_journal.specs.Readings.{IsRecord, IsOpenRecord, HasNoOpenRecord, IsTail, IsEnd, AreRecords, IsDamaged, IsFound}
 use Rattle.doc_server_journal.proofs.ChainLemmas.{chain_push, last_push, within_push}
 use Rattle.doc_server_journal.proofs.FrontLemmas.{long_enough}
 use Rattle.doc_server_journal.proofs.RecordLemmas.{record_unique}

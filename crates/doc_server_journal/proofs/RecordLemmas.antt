@@ -1,12 +1,12 @@
 -- Records at the front of bytes.
-use Rattle.std.proofs.Common.{◌≡◌, ℕ, zero, suc, ◌+◌, ◌*◌, ◌<◌, ◌≤◌, ◌^◌, List, [], ◌∷◌, ◌++◌, length, take, drop, get_or, refl, sym, ap, subst, ◌∙◌, arith, length-append, append_assoc}
+use Rattle.std.proofs.Common.{◌≡◌, ℕ, zero, suc, ◌+◌, ◌*◌, ◌≤◌, List, ◌++◌, length, take, drop, refl, sym, ap, ◌∙◌, arith, length-append, append_assoc}
 use Rattle.std.specs.Prelude.{slice_index}
-use Rattle.std.specs.Int.{w32, to_le_bytes, to_be_bytes, from_le_bytes}
-use Rattle.std.proofs.lemmas.List.{take_at, drop_at, append_cancel_left, take-append-drop, take_all}
-use Rattle.std.proofs.lemmas.Nat.{from_le_bytes-to_le_bytes_4, le_bytes_4}
+use Rattle.std.specs.Int.{w32, to_be_bytes, from_le_bytes}
+use Rattle.std.proofs.lemmas.List.{take_at, drop_at}
+use Rattle.std.proofs.lemmas.Nat.{from_le_bytes-to_le_bytes_4}
 use Rattle.sha2.specs.Sha256.{sha256, digest_bytes, final_hash, initial_hash_256}
 use Rattle.doc_server_journal.specs.Records.{text_limit, length_bytes, digest_behind, record_bytes}
-use Rattle.doc_server_journal.specs.Readings.{IsRecord, HasNoRecord}
+use Rattle.doc_server_journal.specs.Readings.{IsRecord}
 
 length_be : (n : ℕ) → length (to_be_bytes w32 n) ≡ 4
 length_be n = refl

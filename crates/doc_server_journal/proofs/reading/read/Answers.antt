@@ -1,4 +1,4 @@
-use Rattle.std.proofs.Common.{◌≡◌, ◌<◌, ◌+◌, sym, subst, refl, length, arith}
+use Rattle.std.proofs.Common.{◌<◌, ◌+◌, sym, subst, refl, length, arith}
 use Rattle.doc_server_journal.specs.Readings.{IsDamaged}
 use Rattle.doc_server_journal.proofs.ReadingLemmas.{found, damaged}
 use Rattle.doc_server_journal.proofs.reading.read.Goals as goal

@@ -1,4 +1,4 @@
-use Rattle.std.proofs.Common.{◌≡◌, ◌++◌, ◌∷◌, [], ◌∙◌}
+use Rattle.std.proofs.Common.{[], ◌∙◌}
 use Rattle.doc_server_journal.proofs.AppendLemmas.{nothing, after_first, after_second, place, acknowledged}
 use Rattle.doc_server_journal.proofs.journal.Journal.append.Goals as goal
 
