@@ -13,4 +13,6 @@ pub mod journal;
 pub mod laws;
 pub mod reading;
 pub mod record;
+#[cfg(test)]
+mod tests;
 mod writing;
