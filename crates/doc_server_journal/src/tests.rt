@@ -7,6 +7,7 @@ use doc_page::failure::Memory;
 use std::test::Fail;
 
 /// A journal of two records at rest.
+#[tactic(auto, unfolding(crate::specs::Records::text_limit))]
 fn two_records(heap: Heap) -> Result<Vec<u8>, Memory> {
     let first = Record::new(heap, &seed(), b"put a - one\n")?;
     let second = Record::new(heap, &first.digest, b"remove a\n")?;
