@@ -15,4 +15,4 @@ pub mod reading;
 pub mod record;
 #[cfg(test)]
 mod tests;
-mod writing;
+pub mod writing;
