@@ -1,0 +1,51 @@
+-- What the calls of a device do to its file, and what a crash leaves of it.
+use Rattle.std.specs.Prelude.{◌≡◌, ◌⊎◌, ℕ, ◌+◌, ◌-◌, ◌≤◌, ◌<◌, max, List, ◌++◌, length, take, drop, get_or, Option, IfSome}
+use Rattle.std.specs.Option.{option_map}
+
+-- a known file has these bytes from there on
+abbrev pub Writes : Option (List ℕ) → ℕ → List ℕ → Option (List ℕ) → Type 0
+Writes old at bytes new = new ≡ option_map (λ file. take at file ++ bytes ++ drop (at + length bytes) file) old
+
+-- a known file has so many bytes, and no more
+abbrev pub CutsTo : Option (List ℕ) → ℕ → Option (List ℕ) → Type 0
+CutsTo old len new = new ≡ option_map (λ file. take len file) old
+
+-- After a write that a crash cuts short. A byte is never torn: in the old file each is the one that was there or the one
+-- that was written. Behind its end any bytes may stand.
+pub record Torn (at : ℕ) (bytes old new : List ℕ) : Type 0 where
+  pub before : take at new ≡ take at old
+  pub behind : drop (at + length bytes) new ≡ drop (at + length bytes) old
+  pub no_shorter : length old ≤ length new
+  pub no_longer : length new ≤ max (length old) (at + length bytes)
+  pub each : (i : ℕ) → at ≤ i → i < at + length bytes → i < length old
+      → (get_or new i 0 ≡ get_or old i 0) ⊎ (get_or new i 0 ≡ get_or bytes (i - at) 0)
+
+-- after a cut that a crash may stop: some length between
+pub record Shortened (len : ℕ) (old new : List ℕ) : Type 0 where
+  pub no_shorter : len ≤ length new
+  pub front : new ≡ take (length new) old
+
+-- each outcome of a crash now is one from before, after this step
+abbrev pub Follows : (List ℕ → List ℕ → Type 0) → (List ℕ → Type 0) → (List ℕ → Type 0) → Type 0
+Follows step old new = (c : List ℕ) → new c → (d : List ℕ) × old d × step d c
+
+-- a crash leaves the file as it is known, and nothing else
+abbrev pub LeavesFile : Option (List ℕ) → (List ℕ → Type 0) → Type 0
+LeavesFile known outcomes = IfSome known (λ file. (c : List ℕ) → outcomes c → c ≡ file)
+
+-- Time goes on: a crash since t might have left what it might have left before, or what it may leave now.
+pub record Elapses (before now : ℕ) (past since : ℕ → List ℕ → Type 0) (may_leave : List ℕ → Type 0) : Type 0 where
+  pub later : before ≤ now
+  pub nothing_else : (t : ℕ) (c : List ℕ) → t ≤ before → since t c → past t c ⊎ may_leave c
+  pub keeps : (t : ℕ) (c : List ℕ) → t ≤ before → past t c → since t c
+
+-- a crash at any moment since old leaves a file that has P
+pub record LeavesOnly {D : Type 0} (moment : D → ℕ) (left_since : D → ℕ → List ℕ → Type 0) (old new : D) (P : List ℕ → Type 0) : Type 0 where
+  pub later : moment old ≤ moment new
+  pub each : (c : List ℕ) → left_since new (moment old) c → P c
+  -- for a run that began earlier
+  pub before : (t : ℕ) (c : List ℕ) → t ≤ moment old → left_since new t c → left_since old t c ⊎ P c
+
+-- what was there, or that after this step
+abbrev pub Stepped : (List ℕ → List ℕ → Type 0) → (List ℕ → Type 0) → List ℕ → Type 0
+Stepped step old c = old c ⊎ ((d : List ℕ) × old d × step d c)

@@ -1,0 +1,5 @@
+pub mod Devices
+pub mod Journals
+pub mod Laws
+pub mod Readings
+pub mod Records
