@@ -1,0 +1,100 @@
+//! Rounds of passes over links.
+
+ghost use Rattle.std.specs.Prelude.{◌≡◌, ◌≤◌, ◌⊎◌, IfOk, OnErr, OnOk};
+ghost use Rattle.doc_server_rounds.specs.Rounds.{ServesAll, AreClosed, fault_places, failures_in};
+
+use crate::link::Link;
+use doc_heap::{Heap, Vec};
+use doc_hub::hub::Hub;
+use doc_page::failure::Memory;
+use doc_page::list::List;
+use doc_page::renderer::Renderer;
+use doc_server_links::stream::Stream;
+
+/// What a round did.
+#[derive(Debug, Drop)]
+pub struct Round {
+    pub passes: u32,
+    /// The places of the links whose stream failed in the round.
+    pub faults: List<usize>,
+}
+
+/// Passes over the open links in their order, until none is open, and at most so many. A link that fails is closed, and no other.
+/// `Memory` says that there was no room to tell the faults: then nothing was done.
+pub fn serve_round<R: Renderer + Drop, S: Stream + Drop>(
+    heap: Heap,
+    hub: &mut Hub<R>,
+    links: &mut [Link<S>],
+    turns: u32,
+) -> Result<Round, Memory>
+    ensures serves { OnOk result
+        (ServesAll (R.page hub.old.0) hub.old.1 links.old hub.new.1 links.new) }
+    ensures faults { IfOk result (λ round. round.faults ≡ fault_places links.old links.new) }
+    ensures turns { IfOk result (λ round. round.passes ≤ turns) }
+    ensures all { IfOk result (λ round. (round.passes ≡ turns) ⊎ AreClosed links.new) }
+    ensures refused { OnErr result ((hub.new.1 ≡ hub.old.1) × (links.new ≡ links.old)) }
+    ensures same { R.page hub.new.0 ≡ R.page hub.old.0 }
+{
+    let before = failures(heap, links)?;
+    let mut faults = Vec::with_capacity(heap, links.len())?;
+    let passes = make_passes(hub, links, turns);
+    'places: for (place, link) in links.iter().enumerate() {
+        if before[place] < link.stream().failures() {
+            faults.push(place).unwrap();
+        }
+    }
+    Ok(Round {
+        passes,
+        faults: List::new(faults),
+    })
+}
+
+/// How many calls of each link's stream have failed.
+fn failures<S: Stream + Drop>(heap: Heap, links: &[Link<S>]) -> Result<Vec<u64>, Memory>
+    ensures { IfOk result (λ counts. counts.items ≡ failures_in links.now) }
+{
+    let mut counts = Vec::with_capacity(heap, links.len())?;
+    'links: for link in links {
+        counts.push(link.stream().failures()).unwrap();
+    }
+    Ok(counts)
+}
+
+/// Passes, until none is open, and at most so many. The answer is how many there were.
+fn make_passes<R: Renderer + Drop, S: Stream + Drop>(
+    hub: &mut Hub<R>,
+    links: &mut [Link<S>],
+    turns: u32,
+) -> u32
+    ensures serves { ServesAll (R.page hub.old.0) hub.old.1 links.old hub.new.1 links.new }
+    ensures turns { result ≤ turns }
+    ensures all { (result ≡ turns) ⊎ AreClosed links.new }
+    ensures same { R.page hub.new.0 ≡ R.page hub.old.0 }
+{
+    let mut passes = 0;
+    'passes: while passes < turns && any_open(links) {
+        pass_all(hub, links);
+        passes += 1;
+    }
+    passes
+}
+
+/// Whether a link is open.
+fn any_open<S: Stream + Drop>(links: &[Link<S>]) -> bool
+    ensures { result ≡ false → AreClosed links.now }
+{
+    links.iter().any(|link| link.is_open())
+}
+
+/// One pass over the open links, in their order.
+fn pass_all<R: Renderer + Drop, S: Stream + Drop>(hub: &mut Hub<R>, links: &mut [Link<S>])
+    ensures serves { ServesAll (R.page hub.old.0) hub.old.1 links.old hub.new.1 links.new }
+    ensures same { R.page hub.new.0 ≡ R.page hub.old.0 }
+{
+    'links: for place in 0..links.len() {
+        let link = &mut links[place];
+        if link.is_open() {
+            link.pass(hub);
+        }
+    }
+}
