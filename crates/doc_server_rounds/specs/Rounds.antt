@@ -24,7 +24,7 @@ pub record ServesAll (render : Renders) (w : World) (ps : List Peer) (v : World)
   pub runs : Runs render w run v
   pub own : AreOfAny (ids_of ps) run
   pub ids : ids_of qs ≡ ids_of ps
-  pub each : (i : ℕ) (p q : Peer) → slice_get ps i ≡ Some p → slice_get qs i ≡ Some q → IsAlone (ids_of ps) i → Served w p run v q
+  pub each : (i : ℕ) (p q : Peer) → slice_get ps i ≡ Some p → slice_get qs i ≡ Some q → IsAlone (ids_of ps) i → Served p.id w p run v q
 
 -- every link is closed
 abbrev pub AreClosed : List Peer → Type 0

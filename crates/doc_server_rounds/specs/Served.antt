@@ -76,25 +76,25 @@ GivesOut p q sent =
     Appends p.written q.written sent
     ⊎ ((q.is_open ≡ false) × HasFault q.failed q.stalls × AppendsPrefix p.written q.written sent)
 
--- Why a link is closed: a step of it was its last, a call of its stream failed, its input is used up or its stream moves no byte, or
--- its connection wasn't open before.
-abbrev pub Closes : World → List Happened → Peer → Type 0
-Closes w run q = GaveLast q.id run ⊎ ((0 < q.failed) ⊎ (IsDry q.unread q.stalls ⊎ IsShut w q.id))
+-- Why a link is closed: a step of its connection was the last, a call of its stream failed, its input is used up or its stream moves no
+-- byte, or its connection wasn't open before.
+abbrev pub Closes : ℕ → World → List Happened → Peer → Type 0
+Closes c w run q = GaveLast c run ⊎ ((0 < q.failed) ⊎ (IsDry q.unread q.stalls ⊎ IsShut w c))
 
--- A run serves a link, whatever else it does: a closed link isn't touched; for an open one, in this order, its connection stays, so
--- that its stream's input goes in and what is sent goes out; and where it closes there is a reason, and its connection is dropped.
-pub record Served (w : World) (p : Peer) (run : List Happened) (v : World) (q : Peer) : Type 0 where
+-- A run serves a link whose connection this is, whatever else it does: a closed link isn't touched; what an open one has pending and reads
+-- is pushed, and what the connection sends is written; it is closed for a reason, and its connection is dropped then.
+pub record Served (c : ℕ) (w : World) (p : Peer) (run : List Happened) (v : World) (q : Peer) : Type 0 where
   pub id : q.id ≡ p.id
   pub stalls : q.stalls ≡ p.stalls
-  pub closed : p.is_open ≡ false → (q ≡ p) × (connection p.id v ≡ connection p.id w)
-  pub input : TakesIn p q (pushed_on p.id run)
-  pub output : GivesOut p q (sent_on p.id run)
-  pub stays : q.is_open ≡ true → IsShut v p.id → IsShut w p.id
-  pub ends : p.is_open ≡ true → q.is_open ≡ false → Closes w run q × (connection p.id v ≡ None)
+  pub closed : p.is_open ≡ false → (q ≡ p) × (connection c v ≡ connection c w)
+  pub input : TakesIn p q (pushed_on c run)
+  pub output : GivesOut p q (sent_on c run)
+  pub stays : q.is_open ≡ true → IsShut v c → IsShut w c
+  pub ends : p.is_open ≡ true → q.is_open ≡ false → Closes c w run q × (connection c v ≡ None)
 
 -- what serving one link alone does
 pub record Serves (render : Renders) (w : World) (p : Peer) (v : World) (q : Peer) : Type 0 where
   pub run : List Happened
   pub runs : Runs render w run v
   pub own : AreOf p.id run
-  pub served : Served w p run v q
+  pub served : Served p.id w p run v q

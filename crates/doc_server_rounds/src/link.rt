@@ -1,9 +1,10 @@
 //! A link: a peer's stream, and the connection of a hub that serves it.
 
-ghost use Rattle.std.specs.Prelude.{◌≡◌, ◌<◌, true, false, [], take, MatchBool, OnErr, IfErr, IfOk, Ok, Err};
+ghost use Rattle.std.specs.Prelude.{◌≡◌, ◌<◌, true, [], length, IfErr, IfOk, Ok, Err};
 ghost use Rattle.doc_hub.specs.Runs.{Happens};
 ghost use Rattle.doc_hub.specs.declared.event.Event.TheVariants as events;
 ghost use Rattle.doc_hub.specs.Worlds.{disconnected};
+ghost use Rattle.doc_server_rounds.specs.Peers.{piece_room};
 ghost use Rattle.doc_server_rounds.specs.Served.{Serves, unread_len};
 
 use crate::phase::Phase;

@@ -1,6 +1,6 @@
 //! Rounds of passes over links.
 
-ghost use Rattle.std.specs.Prelude.{◌≡◌, ◌≤◌, ◌⊎◌, IfOk, OnErr, OnOk};
+ghost use Rattle.std.specs.Prelude.{◌≡◌, ◌≤◌, ◌⊎◌, false, IfOk, OnErr, OnOk};
 ghost use Rattle.doc_server_rounds.specs.Rounds.{ServesAll, AreClosed, fault_places, failures_in};
 
 use crate::link::Link;

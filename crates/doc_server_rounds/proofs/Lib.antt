@@ -1,0 +1,4 @@
+mod Connections
+mod Elsewhere
+mod Pieces
+mod Serving
