@@ -1,8 +1,8 @@
 -- What the parts of a pass do to a link: a call of its stream, an event of its connection, and its close.
 use Rattle.std.proofs.Common.{◌≡◌, ◌<◌, ◌+◌, ℕ, List, [], ◌∷◌, ◌++◌, Bool, true, false, refl, sym, ap, ◌∙◌, subst, inl, inr, append-nil, take, length}
 use Rattle.std.specs.Prelude.{All, Contains, MatchBool, Option, Some, None, Ok, Err, Result, ◌⊎◌}
-use Rattle.std.specs.Io.KnownBytes.{Appends, Consumes}
-use Rattle.std.proofs.KnownBytes.{Appends-nil, Consumes-nil}
+use Rattle.std.specs.Io.KnownBytes.{Appends, Consumes, Keeps}
+use Rattle.std.proofs.KnownBytes.{Appends-nil, Consumes-nil, Consumes-kept}
 use Rattle.std.proofs.lemmas.List.Elements.{All-nil, All-cons, All-append, Contains-push}
 use Rattle.doc_hub.specs.Events.{Said, outcome_of, pushing, stepping}
 use Rattle.doc_hub.specs.Replies.{Renders}
@@ -86,13 +86,13 @@ module _ (render : Renders) where
 
   module _ (w v u : World) (p q : Peer) (xs : List Happened) (id : ConnId) (said : Bool) (own : id.0 ≡ p.id)
       (runs : Runs render w xs v) (all : AreOf p.id xs) (drops : Happens render v (events.Disconnect id) u said) where
-    drop_one : Happened
+    abbrev drop_one : Happened
     drop_one = happened v (events.Disconnect id) (outcomes.Disconnected said)
 
     on_own : served_by (events.Disconnect id) ≡ Some p.id
     on_own = ap Some own
 
-    ys : List Happened
+    abbrev ys : List Happened
     ys = drop_one ∷ []
 
     same_pushed : pushed_on p.id xs ≡ pushed_on p.id (xs ++ ys)
@@ -132,7 +132,7 @@ module _ (render : Renders) where
   module _ (w v u : World) (p q : Peer) (event : Event) (outcome : Outcome) (id : ConnId) (said : Bool) (own : id.0 ≡ p.id)
       (of : served_by event ≡ Some p.id) (leaves : Leaves render w event v outcome)
       (drops : Happens render v (events.Disconnect id) u said) where
-    before : List Happened
+    abbrev before : List Happened
     before = happened w event outcome ∷ []
 
     pub closes_after : p.is_open ≡ true → q.is_open ≡ false → IsAlike p q → pushed_by event outcome ≡ []
@@ -246,3 +246,31 @@ module _ (render : Renders) (w v u : World) (p q : Peer) (id : ConnId) (said : B
   last_reply bytes sent h gives =
       closes_after render w v u p q (events.Step id) (outcomes.Stepped (steps.Last bytes)) id said own (ap Some own)
       (Ok (steps.Last bytes), h, refl) drops opened shut same refl (last_out bytes sent gives) (inl tt)
+
+-- ---- a link that nothing was done to, and reads
+
+is_itself : (p : Peer) → IsAlike p p
+is_itself p = record { id = refl; stalls = refl; unread = refl; pending = refl }
+
+pub nothing_done : (render : Renders) (w : World) (p : Peer) → p.is_open ≡ true → Serves render w p w p
+nothing_done render w p opened = quiet render w p p opened opened refl refl (nothing_in p p (is_itself p)) refl
+
+-- a read where nothing was pending
+pub read_some : (render : Renders) (w : World) (p q : Peer) (given : List ℕ) → p.is_open ≡ true → q.is_open ≡ true → q.id ≡ p.id
+    → q.stalls ≡ p.stalls → Consumes p.unread q.unread given → p.pending ≡ [] → q.pending ≡ given → q.written ≡ p.written
+    → Serves render w p w q
+read_some render w p q given opened stays id stalls takes none all same =
+    quiet render w p q opened stays id stalls (given, takes, ap (λ l. l ++ given) none ∙ sym all) same
+
+-- a read that failed
+pub read_failed : (render : Renders) (w u : World) (p q : Peer) (id : ConnId) (said : Bool) → id.0 ≡ p.id
+    → Happens render w (events.Disconnect id) u said → p.is_open ≡ true → q.is_open ≡ false → q.id ≡ p.id → q.stalls ≡ p.stalls
+    → Keeps p.unread q.unread → q.pending ≡ p.pending → q.written ≡ p.written → 0 < q.failed → Serves render w p u q
+read_failed render w u p q id said own drops opened shut same stalls keeps pending written failed =
+    drops_link render w w u p q [] id said own (nothing w) (All-nil (λ h. served_by h.event ≡ Some p.id)) drops opened shut same stalls
+    (
+      [],
+      Consumes-kept p.unread p.unread q.unread [] (Consumes-nil p.unread) keeps,
+      append-nil p.pending ∙ sym pending,
+    )
+    (inl (nothing_out p q written)) (inr (inl failed))

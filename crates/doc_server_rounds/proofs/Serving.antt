@@ -38,10 +38,10 @@ cut_before a b xs ys (n, q) =
 
 -- ---- what two runs push and send
 
-pushed_of : List Happened → List ℕ
+abbrev pushed_of : List Happened → List ℕ
 pushed_of run = flat_map (λ h. pushed_by h.event h.outcome) run
 
-sent_of : List Happened → List ℕ
+abbrev sent_of : List Happened → List ℕ
 sent_of run = flat_map (λ h. sent_by h.outcome) run
 
 pub pushed_join : (c : ℕ) (xs ys : List Happened) → pushed_on c (xs ++ ys) ≡ pushed_on c xs ++ pushed_on c ys
@@ -111,7 +111,7 @@ one_sends c h on = ap sent_of (one_on c h on) ∙ append-nil (sent_by h.outcome)
 -- ---- runs that serve a link
 
 not_both : (t : Bool) → t ≡ true → t ≡ false → ⊥
-not_both t yes no = subst T (sym yes ∙ no) tt
+not_both t on off = subst T (sym on ∙ off) tt
 
 -- a run elsewhere
 pub idle : (render : Renders) (c : ℕ) (w v : World) (p : Peer) (run : List Happened) → Runs render w run v → AreElsewhere c run
@@ -139,8 +139,8 @@ goes_on c w v p q run opened stays id stalls takes gives shut = record {
   closed = λ no. absurd (not_both p.is_open opened no);
   input = takes;
   output = inl gives;
-  stays = λ yes. shut;
-  ends = λ yes no. absurd (not_both q.is_open stays no);
+  stays = λ on. shut;
+  ends = λ on off. absurd (not_both q.is_open stays off);
 }
 
 -- a run after which the link is closed
@@ -153,8 +153,8 @@ comes_to_end c w v p q run opened ended id stalls takes gives why none = record 
   closed = λ no. absurd (not_both p.is_open opened no);
   input = takes;
   output = gives;
-  stays = λ yes. absurd (not_both q.is_open yes ended);
-  ends = λ yes no. (why, none);
+  stays = λ on. absurd (not_both q.is_open on ended);
+  ends = λ on off. (why, none);
 }
 
 -- ---- two runs
@@ -193,11 +193,10 @@ module _ (c : ℕ) (w v u : World) (p q s : Peer) (xs ys : List Happened) (a : S
   earlier (inr why) = inr why
 
   ends_by : (t : Bool) → q.is_open ≡ t → p.is_open ≡ true → s.is_open ≡ false → Closes c w (xs ++ ys) s × (connection c u ≡ None)
-  ends_by true is opened shut = let (why, none) = b.ends is shut in (later why is, none)
+  ends_by true is opened shut = let e = b.ends is shut in (later e.0 is, e.1)
   ends_by false is opened shut =
-      let (why, none) = a.ends opened is in
-      let (same, kept) = b.closed is in
-      (subst (Closes c w (xs ++ ys)) (sym same) (earlier why), kept ∙ none)
+      let e = a.ends opened is in
+      let f = b.closed is in (subst (Closes c w (xs ++ ys)) (sym f.0) (earlier e.0), f.1 ∙ e.1)
 
   stays_by : (t : Bool) → q.is_open ≡ t → s.is_open ≡ true → IsShut u c → IsShut w c
   stays_by true is opened shut = a.stays is (b.stays opened shut)
@@ -208,8 +207,8 @@ module _ (c : ℕ) (w v u : World) (p q s : Peer) (xs ys : List Happened) (a : S
     id = b.id ∙ a.id;
     stalls = b.stalls ∙ a.stalls;
     closed = λ shut.
-        let (same, kept) = a.closed shut in
-        let (still, left) = b.closed (ap (λ l. l.is_open) same ∙ shut) in (still ∙ same, left ∙ kept);
+        let e = a.closed shut in
+        let f = b.closed (ap (λ l. l.is_open) e.0 ∙ shut) in (f.0 ∙ e.0, f.1 ∙ e.1);
     input = input_join;
     output = subst (GivesOut p s) (sym (sent_join c xs ys)) (output_by a.output b.output);
     stays = stays_by q.is_open refl;
@@ -228,7 +227,7 @@ runs_join render w v u xs ys (first x y z event outcome rest happens runs) more 
 pub serves_join : (render page : Renders) (w v u : World) (p q s : Peer) → page ≡ render → Serves render w p v q → Serves page v q u s
     → Serves render w p u s
 serves_join render page w v u p q s same a b =
-    let (runs : Runs render v b.run u) = subst (λ r. Runs r v b.run u) same b.runs in
+    let runs : Runs render v b.run u = subst (λ r. Runs r v b.run u) same b.runs in
     record {
       run = a.run ++ b.run;
       runs = runs_join render w v u a.run b.run a.runs runs;

@@ -207,10 +207,9 @@ impl<S: Stream + Drop> Link<S> {
         ensures serves { Serves (R.page hub.old.0) hub.old.1 self.old hub.new.1 self.new }
         ensures same { R.page hub.new.0 ≡ R.page hub.old.0 }
     {
-        if self.phase == Phase::Ends {
-            self.phase = closed(hub, self.id);
-        } else {
-            self.phase = Phase::Reads;
+        match self.phase {
+            Phase::Ends => self.phase = closed(hub, self.id),
+            _ => self.phase = Phase::Reads,
         }
     }
 
