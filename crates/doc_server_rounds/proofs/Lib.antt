@@ -2,3 +2,4 @@ mod Connections
 mod Elsewhere
 mod Pieces
 mod Serving
+mod Written

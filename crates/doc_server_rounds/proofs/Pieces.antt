@@ -1,4 +1,5 @@
 -- What the parts of a pass do to a link: a call of its stream, an event of its connection, and its close.
+use Rattle.std.proofs.Common.{arith, T, ◌≤◌, zero, suc}
 use Rattle.std.proofs.Common.{◌≡◌, ◌<◌, ◌+◌, ℕ, List, [], ◌∷◌, ◌++◌, Bool, true, false, refl, sym, ap, ◌∙◌, subst, inl, inr, append-nil, take, length}
 use Rattle.std.specs.Prelude.{All, Contains, MatchBool, Option, Some, None, Ok, Err, Result, ◌⊎◌}
 use Rattle.std.specs.Io.KnownBytes.{Appends, Consumes, Keeps}
@@ -21,8 +22,10 @@ use Rattle.doc_hub.specs.declared.refusal.PushError.TheVariants as push_errors
 use Rattle.doc_hub.specs.declared.refusal.StepError.{StepError}
 use Rattle.doc_hub.specs.declared.refusal.StepError.TheVariants as step_errors
 use Rattle.doc_server_links.specs.Moves.{IsDry}
-use Rattle.doc_server_streams.specs.Streams.{AppendsPrefix}
-use Rattle.doc_server_rounds.specs.Peers.{Peer, closed}
+use Rattle.doc_server_streams.specs.Streams.{AppendsPrefix, one_more}
+use Rattle.doc_server_rounds.specs.Peers.{Peer, Suits, is_open_in}
+use Rattle.doc_server_rounds.specs.declared.phase.Phase.{Phase}
+use Rattle.doc_server_rounds.specs.declared.phase.Phase.TheVariants as phases
 use Rattle.doc_server_rounds.specs.Sending.{HasFault, IsSent, IsCutOff}
 use Rattle.doc_server_rounds.specs.Served.{served_by, AreOf, pushed_by, pushed_on, GaveLast, IsLast, IsShut, TakesIn, GivesOut, Closes, Serves}
 use Rattle.doc_server_rounds.proofs.Connections.{disconnect_drops, push_refused, push_finds_shut, push_leaves_open}
@@ -274,3 +277,33 @@ read_failed render w u p q id said own drops opened shut same stalls keeps pendi
       append-nil p.pending ∙ sym pending,
     )
     (inl (nothing_out p q written)) (inr (inl failed))
+
+-- a link whose stream is as it was
+pub still : (render : Renders) (w : World) (p q : Peer) → p.is_open ≡ true → q.is_open ≡ true → IsAlike p q → q.written ≡ p.written
+    → Serves render w p w q
+still render w p q opened stays same written =
+    quiet render w p q opened stays same.id same.stalls (nothing_in p q same) written
+
+pub take_none : (n : ℕ) (xs : List ℕ) → n ≤ 0 → take n xs ≡ []
+take_none zero xs none = refl
+take_none (suc n) xs none = absurd (omega (arith, none))
+
+-- a link that is open has no failed call
+pub open_is_fine : (phase : Phase) (unread : Option (List ℕ)) (stalls : Bool) (failed : ℕ) → Suits phase unread stalls failed
+    → is_open_in phase ≡ true → failed ≡ 0
+open_is_fine phases.Reads unread stalls failed suits opened = suits
+open_is_fine phases.Waits unread stalls failed suits opened = suits
+open_is_fine phases.Ends unread stalls failed suits opened = suits.0
+open_is_fine phases.Closed unread stalls failed suits opened = absurd (subst T (sym opened) tt)
+
+-- the first failure is counted
+pub fault_counts : (old new : ℕ) → old ≡ 0 → new ≡ one_more old → 0 < new
+fault_counts old new none counts =
+    let first : new ≡ 1 = counts ∙ ap one_more none in
+    omega (arith, first)
+
+pub missing_apart : (push_errors.NoConnection ≡ push_errors.Memory → ⊥) × (push_errors.NoConnection ≡ push_errors.Backlog → ⊥)
+missing_apart = ((λ e. cc), (λ e. cc))
+
+pub closed_apart : (push_errors.Closed ≡ push_errors.Memory → ⊥) × (push_errors.Closed ≡ push_errors.Backlog → ⊥)
+closed_apart = ((λ e. cc), (λ e. cc))

@@ -151,7 +151,8 @@ impl<S: Stream + Drop> Link<S> {
         match hub.push(self.id, &self.piece[..self.pending]) {
             Ok(()) => self.pending = 0,
             Err(PushError::Memory | PushError::Backlog) => {}
-            Err(PushError::NoConnection | PushError::Closed) => self.phase = closed(hub, self.id),
+            Err(PushError::NoConnection) => self.phase = closed(hub, self.id),
+            Err(PushError::Closed) => self.phase = closed(hub, self.id),
         }
     }
 
@@ -190,7 +191,11 @@ impl<S: Stream + Drop> Link<S> {
                 self.finish(hub);
                 false
             }
-            Ok(Step::Closed) | Err(StepError::NoConnection) => {
+            Ok(Step::Closed) => {
+                self.phase = closed(hub, self.id);
+                false
+            }
+            Err(StepError::NoConnection) => {
                 self.phase = closed(hub, self.id);
                 false
             }
