@@ -252,7 +252,7 @@ module _ (render : Renders) (w v u : World) (p q : Peer) (id : ConnId) (said : B
 
 -- ---- a link that nothing was done to, and reads
 
-is_itself : (p : Peer) → IsAlike p p
+pub is_itself : (p : Peer) → IsAlike p p
 is_itself p = record { id = refl; stalls = refl; unread = refl; pending = refl }
 
 pub nothing_done : (render : Renders) (w : World) (p : Peer) → p.is_open ≡ true → Serves render w p w p

@@ -1,19 +1,16 @@
 //! A link: a peer's stream, and the connection of a hub that serves it.
 
-ghost use Rattle.std.specs.Prelude.{◌≡◌, ◌<◌, true, [], length, IfErr, IfOk, Ok, Err};
+ghost use Rattle.std.specs.Prelude.{◌≡◌, ◌<◌, true, [], IfErr, IfOk, Ok, Err};
 ghost use Rattle.doc_hub.specs.Runs.{Happens};
 ghost use Rattle.doc_hub.specs.declared.event.Event.TheVariants as events;
 ghost use Rattle.doc_hub.specs.Worlds.{disconnected};
-ghost use Rattle.doc_server_rounds.specs.Peers.{piece_room};
 ghost use Rattle.doc_server_rounds.specs.Served.{Serves, unread_len};
 
 use crate::phase::Phase;
 use crate::sending::write_all;
-use doc_heap::{Heap, Vec};
 use doc_hub::event::{ConnId, Step};
 use doc_hub::hub::Hub;
 use doc_hub::refusal::{ConnectError, PushError, StepError};
-use doc_page::failure::Memory;
 use doc_page::renderer::Renderer;
 use doc_server_links::stream::Stream;
 use std::marker::Model;
@@ -28,7 +25,7 @@ const PIECE: usize = 16_384;
 pub struct Link<S: Stream + Drop> {
     stream: S,
     id: ConnId,
-    piece: Vec<u8>,
+    piece: [u8; PIECE],
     pending: usize,
     phase: Phase,
 }
@@ -42,21 +39,20 @@ impl<S: Stream + Drop> Model for Link<S> {
     ghost view = { λ l. record {
       id = l.id.0;
       is_open = is_open_in l.phase;
-      pending = take l.pending l.piece.items;
+      pending = take l.pending l.piece;
       unread = S.unread l.stream;
       written = S.written l.stream;
       failed = S.failed l.stream;
       stalls = S.stalls l.stream;
     } };
 
-    ghost invariant = { λ l. HasRoom l.piece.items l.pending
+    ghost invariant = { λ l. HasRoom l.piece l.pending
       × Suits l.phase (S.unread l.stream) (S.stalls l.stream) (S.failed l.stream) };
 }
 
 impl<S: Stream + Drop> Link<S> {
-    /// A link on a connection that is made for it. A refused one drops the stream.
+    /// A link on a connection that is made for it. It takes no memory but the hub's. A refused one drops the stream.
     pub fn new<R: Renderer + Drop>(
-        heap: Heap,
         hub: &mut Hub<R>,
         stream: S,
     ) -> Result<Link<S>, ConnectError>
@@ -76,12 +72,11 @@ impl<S: Stream + Drop> Link<S> {
             stalls = S.stalls stream;
             }) }
     {
-        let piece = piece(heap)?;
         let id = hub.connect()?;
         Ok(Link {
             stream,
             id,
-            piece,
+            piece: [0; PIECE],
             pending: 0,
             phase: Phase::Reads,
         })
@@ -226,13 +221,6 @@ impl<S: Stream + Drop> Link<S> {
             self.phase = Phase::Waits;
         }
     }
-}
-
-/// Room for what is read at once.
-fn piece(heap: Heap) -> Result<Vec<u8>, Memory>
-    ensures { IfOk result (λ piece. length piece.items ≡ piece_room) }
-{
-    Ok(Vec::from_elem(heap, 0u8, PIECE)?)
 }
 
 /// Drops the connection of a link, which closes by that.
