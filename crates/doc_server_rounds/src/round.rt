@@ -1,6 +1,6 @@
 //! Rounds of passes over links.
 
-ghost use Rattle.std.specs.Prelude.{◌≡◌, ◌≤◌, ◌⊎◌, false, IfOk, OnErr, OnOk};
+ghost use Rattle.std.specs.Prelude.{◌≡◌, ◌≤◌, ◌<◌, ◌⊎◌, length, false, IfOk, OnErr, OnOk};
 ghost use Rattle.doc_server_rounds.specs.Rounds.{ServesAll, AreClosed, fault_places, failures_in};
 
 use crate::link::Link;
@@ -92,9 +92,24 @@ fn pass_all<R: Renderer + Drop, S: Stream + Drop>(hub: &mut Hub<R>, links: &mut 
     ensures same { R.page hub.new.0 ≡ R.page hub.old.0 }
 {
     'links: for place in 0..links.len() {
-        let link = &mut links[place];
-        if link.is_open() {
-            link.pass(hub);
-        }
+        pass_at(hub, links, place);
     }
+}
+
+/// One pass of the link at this place, where it is open.
+fn pass_at<R: Renderer + Drop, S: Stream + Drop>(
+    hub: &mut Hub<R>,
+    links: &mut [Link<S>],
+    place: usize,
+)
+    requires { place < length links.old }
+    ensures serves { ServesAll (R.page hub.old.0) hub.old.1 links.old hub.new.1 links.new }
+    ensures same { R.page hub.new.0 ≡ R.page hub.old.0 }
+    ensures length { length links.new ≡ length links.old }
+{
+    let link = &mut links[place];
+    if !link.is_open() {
+        return;
+    }
+    link.pass(hub);
 }
