@@ -1,7 +1,7 @@
 -- Rounds, pass after pass.
 use Rattle.std.proofs.Common.{◌≡◌, ◌<◌, ℕ, zero, suc, List, [], ◌∷◌, ◌++◌, Bool, true, false, T, refl, sym, ap, ◌∙◌, subst, ◌==◌, arith, length, set}
 use Rattle.std.proofs.Math.Facts.{eqb_yes}
-use Rattle.std.specs.Prelude.{All, Contains, Option, Some, None, option_map, map, slice_get}
+use Rattle.std.specs.Prelude.{All, Contains, Option, Some, None, option_map, map, slice_get, slice_index_or, slice_set}
 use Rattle.std.proofs.lemmas.List.Elements.{All-nil, All-append, All-head, All-tail, All-cons}
 use Rattle.doc_hub.specs.Replies.{Renders}
 use Rattle.doc_hub.specs.Runs.{Happened, Runs, nothing}
@@ -126,3 +126,23 @@ one_at render w v ps i p q here s = record {
         let unmoved : a ≡ b = same_some a b (sym at ∙ sym (set_there ps i j q apart) ∙ be) in
         subst (λ l. Served a.id w a s.run v l) unmoved
         (idle render a.id w v a s.run s.runs (all_off a.id p.id s.run other s.own))
+
+-- ---- the link at a place
+
+get_some : (ps : List Peer) (i : ℕ) (d : Peer) → i < length ps → slice_get ps i ≡ Some (slice_index_or ps i d)
+get_some [] i d within = absurd (omega (arith, within))
+get_some (p ∷ ps) zero d within = refl
+get_some (p ∷ ps) (suc i) d within = get_some ps i d (omega (arith, within))
+
+set_same : (ps : List Peer) (i : ℕ) (d : Peer) → slice_set ps i (slice_index_or ps i d) ≡ ps
+set_same [] i d = refl
+set_same (p ∷ ps) zero d = refl
+set_same (p ∷ ps) (suc i) d = ap (λ l. p ∷ l) (set_same ps i d)
+
+pub untouched : (render : Renders) (w : World) (ps : List Peer) (i : ℕ) (d : Peer)
+    → ServesAll render w ps w (slice_set ps i (slice_index_or ps i d))
+untouched render w ps i d = subst (ServesAll render w ps w) (sym (set_same ps i d)) (all_start render w ps)
+
+pub served_at : (render : Renders) (w v : World) (ps : List Peer) (i : ℕ) (d q : Peer) → i < length ps
+    → Serves render w (slice_index_or ps i d) v q → ServesAll render w ps v (slice_set ps i q)
+served_at render w v ps i d q within s = one_at render w v ps i (slice_index_or ps i d) q (get_some ps i d within) s

@@ -1,7 +1,7 @@
 //! Rounds of passes over links.
 
-ghost use Rattle.std.specs.Prelude.{◌≡◌, ◌≤◌, ◌<◌, ◌⊎◌, length, false, IfOk, OnErr, OnOk};
-ghost use Rattle.doc_server_rounds.specs.Rounds.{ServesAll, AreClosed, fault_places, failures_in};
+ghost use Rattle.std.specs.Prelude.{◌≡◌, ◌≤◌, ◌<◌, ◌⊎◌, length, vec_len, vec_capacity, false, IfOk, OnErr, OnOk};
+ghost use Rattle.doc_server_rounds.specs.Rounds.{ServesAll, AreClosed, fault_places, failures_in, risen_from};
 
 use crate::link::Link;
 use doc_heap::{Heap, Vec};
@@ -38,15 +38,25 @@ pub fn serve_round<R: Renderer + Drop, S: Stream + Drop>(
     let before = failures(heap, links)?;
     let mut faults = Vec::with_capacity(heap, links.len())?;
     let passes = make_passes(hub, links, turns);
+    list_faults(&before, links, &mut faults);
+    Ok(Round {
+        passes,
+        faults: List::new(faults),
+    })
+}
+
+/// Lists the places of the links whose streams have failed more often than before.
+fn list_faults<S: Stream + Drop>(before: &[u64], links: &[Link<S>], faults: &mut Vec<usize>)
+    requires empty { vec_len faults.old ≡ 0 }
+    requires room { length links.now ≤ vec_capacity faults.old }
+    requires counts { length before.now ≡ length links.now }
+    ensures { faults.new.items ≡ risen_from 0 before.now (failures_in links.now) }
+{
     'places: for (place, link) in links.iter().enumerate() {
         if before[place] < link.stream().failures() {
             faults.push(place).unwrap();
         }
     }
-    Ok(Round {
-        passes,
-        faults: List::new(faults),
-    })
 }
 
 /// How many calls of each link's stream have failed.

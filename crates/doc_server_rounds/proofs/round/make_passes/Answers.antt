@@ -15,5 +15,5 @@ passes-preserved g c = record {
       c.pass_all.new.hub.1 c.args.links.now c.passes.links c.pass_all.new.links c.passes.invariant.same c.passes.invariant.serves
       c.pass_all.ensures.serves;
   same = c.pass_all.ensures.same ∙ c.passes.invariant.same;
-  turns = ?;
+  turns = omega (arith, c.passes-test.true);
 }
