@@ -1,5 +1,5 @@
 -- What a push, a step and a disconnect do to their own connection.
-use Rattle.std.proofs.Common.{◌≡◌, ◌<◌, ◌≤◌, ◌+◌, ℕ, List, [], ◌∷◌, ◌++◌, Bool, true, false, cond, T, length, drop, refl, sym, ap, ◌∙◌, subst}
+use Rattle.std.proofs.Common.{◌≡◌, ◌<◌, ◌≤◌, ◌+◌, ℕ, List, ◌++◌, Bool, true, false, cond, T, length, drop, refl, sym, ap, ◌∙◌, subst}
 use Rattle.std.proofs.Common.{arith, length-drop, ◌==◌}
 use Rattle.std.specs.Prelude.{Option, Some, None, Result, Ok, Err, is_ok, nat_lt, MatchBool, if◌then◌else◌, ⊤}
 use Rattle.std.specs.FinMap as map
@@ -9,13 +9,12 @@ use Rattle.doc_page.specs.Refusals.{IsAnswer}
 use Rattle.doc_http.specs.declared.request.Next.{Next as Front}
 use Rattle.doc_http.specs.declared.request.Next.TheVariants as nexts
 use Rattle.doc_http.specs.Requests.{IsNext}
-use Rattle.doc_http.proofs.TakenLemmas.{takes_bytes, empty_is_undecided}
-use Rattle.doc_hub.specs.Connections.{Connections, backlog_limit, pushed_at, with_pushed, finished}
+use Rattle.doc_http.proofs.TakenLemmas.{takes_bytes}
+use Rattle.doc_hub.specs.Connections.{Connections, backlog_limit, pushed_at, with_pushed}
 use Rattle.doc_hub.specs.Replies.{Renders}
 use Rattle.doc_hub.specs.Runs.{Happens}
 use Rattle.doc_hub.specs.StepLaws.{connection}
 use Rattle.doc_hub.specs.Worlds.{World, answer_in, world_after, with_finished, stepped_by, step_said, Stays, Answers, StepsAt}
-use Rattle.doc_hub.specs.Worlds.{disconnected}
 use Rattle.doc_hub.specs.declared.connection.Connection.{Connection}
 use Rattle.doc_hub.specs.declared.event.ConnId.{ConnId}
 use Rattle.doc_hub.specs.declared.event.Event.TheVariants as events
@@ -80,8 +79,11 @@ module _ (cs : Connections) (n : ℕ) (bytes : List ℕ) where
   accepted_by c true full is = absurd (no_error tt push_errors.Closed (sym is))
   accepted_by c false true is = absurd (no_error tt push_errors.Backlog (sym is))
   accepted_by c false false is =
-      open_is_not _ (record { unread = c.unread ++ bytes; closed = false }) (is_set cs n (record { unread = c.unread
-      ++ bytes; closed = false })) refl
+      open_is_not _ (record { unread = c.unread ++ bytes; closed = false }) (is_set cs n (record {
+        unread = c.unread
+            ++ bytes;
+        closed = false;
+      })) refl
 
   accepted_at : (k : Option Connection) → (pushed_at cs n bytes k).1 ≡ Ok tt → IsOpenIn (pushed_at cs n bytes k)
   accepted_at None is = absurd (no_error tt push_errors.NoConnection (sym is))

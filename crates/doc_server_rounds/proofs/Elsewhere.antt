@@ -1,5 +1,5 @@
 -- Pushes, steps and disconnects elsewhere leave a connection as it was.
-use Rattle.std.proofs.Common.{◌≡◌, ℕ, List, [], ◌∷◌, Bool, true, false, cond, refl, sym, ap, ◌∙◌, subst, ◌==◌}
+use Rattle.std.proofs.Common.{◌≡◌, ℕ, List, Bool, true, false, cond, refl, ap, ◌∙◌, subst, ◌==◌}
 use Rattle.std.specs.Prelude.{All, Option, Some, None, Result, Ok, Err, MatchBool}
 use Rattle.std.specs.FinMap as map
 use Rattle.std.specs.Cmp.{unsigned_tied}
@@ -10,7 +10,7 @@ use Rattle.doc_http.specs.declared.request.Next.{Next as Front}
 use Rattle.doc_http.specs.declared.request.Next.TheVariants as nexts
 use Rattle.doc_hub.specs.Connections.{pushed_onto, with_pushed, pushed_at, finished}
 use Rattle.doc_hub.specs.Replies.{Renders}
-use Rattle.doc_hub.specs.Runs.{Happens, Happened, Leaves, Runs, nothing, first, is_on, events_on}
+use Rattle.doc_hub.specs.Runs.{Happened, Leaves, Runs, nothing, first}
 use Rattle.doc_hub.specs.StepLaws.{connection}
 use Rattle.doc_hub.specs.Worlds.{World, Answers, Stays, StepsAt, answer_in, disconnected, stepped_by, world_after, world_pushed}
 use Rattle.doc_hub.specs.declared.connection.Connection.{Connection}

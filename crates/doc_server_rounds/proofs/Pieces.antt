@@ -1,33 +1,31 @@
 -- What the parts of a pass do to a link: a call of its stream, an event of its connection, and its close.
 use Rattle.std.proofs.Common.{arith, T, ◌≤◌, zero, suc}
-use Rattle.std.proofs.Common.{◌≡◌, ◌<◌, ◌+◌, ℕ, List, [], ◌∷◌, ◌++◌, Bool, true, false, refl, sym, ap, ◌∙◌, subst, inl, inr, append-nil, take, length}
-use Rattle.std.specs.Prelude.{All, Contains, MatchBool, Option, Some, None, Ok, Err, Result, ◌⊎◌}
+use Rattle.std.proofs.Common.{◌≡◌, ◌<◌, ℕ, List, [], ◌∷◌, ◌++◌, Bool, true, false, refl, sym, ap, ◌∙◌, subst, inl, inr, append-nil, take}
+use Rattle.std.specs.Prelude.{Contains, MatchBool, Option, Some, None, Ok, Err, ◌⊎◌}
 use Rattle.std.specs.Io.KnownBytes.{Appends, Consumes, Keeps}
 use Rattle.std.proofs.KnownBytes.{Appends-nil, Consumes-nil, Consumes-kept}
 use Rattle.std.proofs.lemmas.List.Elements.{All-nil, All-cons, All-append, Contains-push}
-use Rattle.doc_hub.specs.Events.{Said, outcome_of, pushing, stepping}
+use Rattle.doc_hub.specs.Events.{pushing, stepping}
 use Rattle.doc_hub.specs.Replies.{Renders}
-use Rattle.doc_hub.specs.Runs.{Happens, Happened, Leaves, Runs, nothing, first, sent_by, sent_on, events_on, bytes_of}
+use Rattle.doc_hub.specs.Runs.{Happens, Happened, Leaves, Runs, nothing, first, sent_by, sent_on}
 use Rattle.doc_hub.specs.StepLaws.{connection}
 use Rattle.doc_hub.specs.Worlds.{World}
 use Rattle.doc_hub.specs.declared.event.ConnId.{ConnId}
 use Rattle.doc_hub.specs.declared.event.Event.{Event}
 use Rattle.doc_hub.specs.declared.event.Event.TheVariants as events
-use Rattle.doc_hub.specs.declared.event.Step.{Step}
 use Rattle.doc_hub.specs.declared.event.Step.TheVariants as steps
 use Rattle.doc_hub.specs.declared.outcome.Outcome.{Outcome}
 use Rattle.doc_hub.specs.declared.outcome.Outcome.TheVariants as outcomes
 use Rattle.doc_hub.specs.declared.refusal.PushError.{PushError}
 use Rattle.doc_hub.specs.declared.refusal.PushError.TheVariants as push_errors
-use Rattle.doc_hub.specs.declared.refusal.StepError.{StepError}
 use Rattle.doc_hub.specs.declared.refusal.StepError.TheVariants as step_errors
 use Rattle.doc_server_links.specs.Moves.{IsDry}
-use Rattle.doc_server_streams.specs.Streams.{AppendsPrefix, one_more}
+use Rattle.doc_server_streams.specs.Streams.{one_more}
 use Rattle.doc_server_rounds.specs.Peers.{Peer, Suits, is_open_in}
 use Rattle.doc_server_rounds.specs.declared.phase.Phase.{Phase}
 use Rattle.doc_server_rounds.specs.declared.phase.Phase.TheVariants as phases
 use Rattle.doc_server_rounds.specs.Sending.{HasFault, IsSent, IsCutOff}
-use Rattle.doc_server_rounds.specs.Served.{served_by, AreOf, pushed_by, pushed_on, GaveLast, IsLast, IsShut, TakesIn, GivesOut, Closes, Serves}
+use Rattle.doc_server_rounds.specs.Served.{served_by, AreOf, pushed_by, pushed_on, IsLast, IsShut, TakesIn, GivesOut, Closes, Serves}
 use Rattle.doc_server_rounds.proofs.Connections.{disconnect_drops, push_refused, push_finds_shut, push_leaves_open}
 use Rattle.doc_server_rounds.proofs.Connections.{reply_takes, more_leaves, memory_leaves, step_finds_closed, step_finds_none}
 use Rattle.doc_server_rounds.proofs.Serving.{goes_on, comes_to_end, pushed_join, sent_join, one_on, one_pushes, one_sends, last_before, runs_join}
@@ -165,8 +163,7 @@ module _ (render : Renders) (w v : World) (p q : Peer) (id : ConnId) (own : id.0
   pub push_taken : (bytes : List ℕ) → Happens render w (events.Push id bytes) v (Ok tt) → q.is_open ≡ true → q.id ≡ p.id
       → q.stalls ≡ p.stalls → q.unread ≡ p.unread → q.written ≡ p.written → p.pending ≡ bytes → q.pending ≡ [] → Serves render w p v q
   push_taken bytes h stays same stalls unread written all none =
-      one_event render w v p q (events.Push id bytes) outcomes.Pushed (ap Some own) (Ok tt, h, refl) opened stays same stalls
-      (
+      one_event render w v p q (events.Push id bytes) outcomes.Pushed (ap Some own) (Ok tt, h, refl) opened stays same stalls (
         [],
         subst (λ l. Consumes p.unread l []) (sym unread) (Consumes-nil p.unread),
         append-nil p.pending ∙ all ∙ sym (append-nil bytes) ∙ ap (λ l. bytes ++ l) (sym none),
@@ -270,8 +267,7 @@ pub read_failed : (render : Renders) (w u : World) (p q : Peer) (id : ConnId) (s
     → Happens render w (events.Disconnect id) u said → p.is_open ≡ true → q.is_open ≡ false → q.id ≡ p.id → q.stalls ≡ p.stalls
     → Keeps p.unread q.unread → q.pending ≡ p.pending → q.written ≡ p.written → 0 < q.failed → Serves render w p u q
 read_failed render w u p q id said own drops opened shut same stalls keeps pending written failed =
-    drops_link render w w u p q [] id said own (nothing w) (All-nil (λ h. served_by h.event ≡ Some p.id)) drops opened shut same stalls
-    (
+    drops_link render w w u p q [] id said own (nothing w) (All-nil (λ h. served_by h.event ≡ Some p.id)) drops opened shut same stalls (
       [],
       Consumes-kept p.unread p.unread q.unread [] (Consumes-nil p.unread) keeps,
       append-nil p.pending ∙ sym pending,

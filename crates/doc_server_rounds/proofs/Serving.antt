@@ -1,22 +1,21 @@
 -- Serving a link, run after run.
-use Rattle.std.proofs.Common.{◌≡◌, ◌<◌, ◌+◌, ℕ, List, [], ◌∷◌, ◌++◌, Bool, true, false, cond, T, length, take, drop, refl, sym, ap, ◌∙◌, subst}
+use Rattle.std.proofs.Common.{◌≡◌, ◌+◌, ℕ, List, [], ◌∷◌, ◌++◌, Bool, true, false, cond, T, length, take, drop, refl, sym, ap, ◌∙◌, subst}
 use Rattle.std.proofs.Common.{◌==◌, inl, inr, arith, append-nil, append_assoc, flat_map, take-append-drop}
-use Rattle.std.specs.Prelude.{All, Contains, Option, Some, None, Ok, Result, ◌⊎◌}
-use Rattle.std.specs.Io.KnownBytes.{Appends, Consumes}
+use Rattle.std.specs.Prelude.{Contains, Option, Some, None}
+use Rattle.std.specs.Io.KnownBytes.{Appends}
 use Rattle.std.proofs.KnownBytes.{Appends-nil, Appends-trans, Consumes-nil, Consumes-trans}
 use Rattle.std.proofs.Math.Seq.{take-append-add, take-append_seam}
 use Rattle.std.proofs.lemmas.Grind.{flat_map-append}
 use Rattle.std.proofs.lemmas.List.Elements.{filter-append, All-append, All-head, All-tail, Contains-append_left, Contains-append_right}
 use Rattle.doc_hub.specs.Replies.{Renders}
-use Rattle.doc_hub.specs.Runs.{Happens, Happened, Leaves, Runs, nothing, first, is_on, is_on_by, events_on, sent_by, sent_on}
+use Rattle.doc_hub.specs.Runs.{Happened, Runs, nothing, first, is_on, is_on_by, events_on, sent_by, sent_on}
 use Rattle.doc_hub.specs.StepLaws.{connection}
 use Rattle.doc_hub.specs.Worlds.{World}
 use Rattle.doc_hub.specs.declared.event.Event.{Event}
 use Rattle.doc_hub.specs.declared.event.Event.TheVariants as events
 use Rattle.doc_hub.specs.declared.outcome.Outcome.{Outcome}
-use Rattle.doc_hub.specs.declared.outcome.Outcome.TheVariants as outcomes
 use Rattle.doc_server_streams.specs.Streams.{AppendsPrefix}
-use Rattle.doc_server_rounds.specs.Peers.{Peer, closed}
+use Rattle.doc_server_rounds.specs.Peers.{Peer}
 use Rattle.doc_server_rounds.specs.Served.{served_by, AreOf, pushed_by, pushed_on, GaveLast, IsShut, IsShutAs, TakesIn, GivesOut, Closes}
 use Rattle.doc_server_rounds.specs.Served.{Served, Serves}
 use Rattle.doc_server_rounds.proofs.Elsewhere.{AreElsewhere, kept_elsewhere}
@@ -30,8 +29,7 @@ cut_after a b c xs ys p (n, q) =
 cut_before : (a b : Option (List ℕ)) (xs ys : List ℕ) → AppendsPrefix a b xs → AppendsPrefix a b (xs ++ ys)
 cut_before a b xs ys (n, q) =
     let whole : xs ++ ys ≡ take n xs ++ (drop n xs ++ ys) =
-    ap (λ l. l ++ ys) (sym (take-append-drop n xs)) ∙ append_assoc (take n xs) (drop n xs) ys in
-    (
+    ap (λ l. l ++ ys) (sym (take-append-drop n xs)) ∙ append_assoc (take n xs) (drop n xs) ys in (
       length (take n xs),
       subst (Appends a b) (sym (ap (take (length (take n xs))) whole ∙ take-append_seam (take n xs) (drop n xs ++ ys))) q,
     )
@@ -167,11 +165,11 @@ module _ (c : ℕ) (w v u : World) (p q s : Peer) (xs ys : List Happened) (a : S
         g ++ k,
         Consumes-trans p.unread q.unread s.unread g k e f,
         sym (append_assoc p.pending g k)
-        ∙ ap (λ l. l ++ k) one
-        ∙ append_assoc (pushed_on c xs) q.pending k
-        ∙ ap (λ l. pushed_on c xs ++ l) two
-        ∙ sym (append_assoc (pushed_on c xs) (pushed_on c ys) s.pending)
-        ∙ ap (λ l. l ++ s.pending) (sym (pushed_join c xs ys)),
+            ∙ ap (λ l. l ++ k) one
+            ∙ append_assoc (pushed_on c xs) q.pending k
+            ∙ ap (λ l. pushed_on c xs ++ l) two
+            ∙ sym (append_assoc (pushed_on c xs) (pushed_on c ys) s.pending)
+            ∙ ap (λ l. l ++ s.pending) (sym (pushed_join c xs ys)),
       )
 
   output_by : GivesOut p q (sent_on c xs) → GivesOut q s (sent_on c ys) → GivesOut p s (sent_on c xs ++ sent_on c ys)

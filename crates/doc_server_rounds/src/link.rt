@@ -47,15 +47,12 @@ impl<S: Stream + Drop> Model for Link<S> {
     } };
 
     ghost invariant = { λ l. HasRoom l.piece l.pending
-      × Suits l.phase (S.unread l.stream) (S.stalls l.stream) (S.failed l.stream) };
+        × Suits l.phase (S.unread l.stream) (S.stalls l.stream) (S.failed l.stream) };
 }
 
 impl<S: Stream + Drop> Link<S> {
     /// A link on a connection that is made for it. It takes no memory but the hub's. A refused one drops the stream.
-    pub fn new<R: Renderer + Drop>(
-        hub: &mut Hub<R>,
-        stream: S,
-    ) -> Result<Link<S>, ConnectError>
+    pub fn new<R: Renderer + Drop>(hub: &mut Hub<R>, stream: S) -> Result<Link<S>, ConnectError>
         requires { S.failed stream ≡ 0 }
         ensures connects { IfOk result (λ link. Happens (R.page hub.old.0) hub.old.1
             events.Connect hub.new.1 (Ok (record { 0 = link.id }))) }
@@ -63,14 +60,14 @@ impl<S: Stream + Drop> Link<S> {
             events.Connect hub.new.1 (Err e)) }
         ensures same { R.page hub.new.0 ≡ R.page hub.old.0 }
         ensures new { IfOk result (λ link. link ≡ record {
-            id = link.id;
-            is_open = true;
-            pending = [];
-            unread = S.unread stream;
-            written = S.written stream;
-            failed = 0;
-            stalls = S.stalls stream;
-            }) }
+          id = link.id;
+          is_open = true;
+          pending = [];
+          unread = S.unread stream;
+          written = S.written stream;
+          failed = 0;
+          stalls = S.stalls stream;
+        }) }
     {
         let id = hub.connect()?;
         Ok(Link {

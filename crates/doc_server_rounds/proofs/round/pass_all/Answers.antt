@@ -1,4 +1,4 @@
-use Rattle.std.proofs.Common.{refl, ◌∙◌, arith}
+use Rattle.std.proofs.Common.{refl, ◌∙◌}
 use Rattle.doc_server_rounds.proofs.RoundSteps.{all_start, all_join}
 use Rattle.doc_server_rounds.proofs.round.pass_all.Goals as goal
 

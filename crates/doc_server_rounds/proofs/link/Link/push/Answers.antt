@@ -1,5 +1,4 @@
 use Rattle.std.proofs.Common.{refl, ap, ◌∙◌, sym, take}
-use Rattle.std.specs.Prelude.{Err}
 use Rattle.doc_server_rounds.specs.Peers.{Peer}
 use Rattle.doc_server_rounds.proofs.Pieces.{push_taken, push_kept, push_closes, nothing_done, is_itself, missing_apart, closed_apart}
 use Rattle.doc_server_rounds.proofs.link.Link.push.Goals as goal

@@ -1,4 +1,4 @@
-use Rattle.std.proofs.Common.{refl, ap, ◌∙◌, sym, inl, take}
+use Rattle.std.proofs.Common.{refl, ap, ◌∙◌, sym, take}
 use Rattle.doc_server_rounds.specs.Peers.{Peer}
 use Rattle.doc_server_rounds.proofs.Pieces.{nothing_done, read_some, read_failed, take_none, open_is_fine, fault_counts}
 use Rattle.doc_server_rounds.proofs.link.Link.read.Goals as goal

@@ -3,11 +3,9 @@ use Rattle.std.specs.Prelude.{Ok, Err}
 use Rattle.doc_hub.specs.Runs.{Happens}
 use Rattle.doc_hub.specs.declared.event.Event.TheVariants as events
 use Rattle.doc_hub.specs.declared.event.Step.TheVariants as steps
-use Rattle.doc_hub.specs.declared.refusal.StepError.TheVariants as step_errors
 use Rattle.doc_server_rounds.specs.Peers.{Peer}
 use Rattle.doc_server_rounds.proofs.Connections.{reply_takes}
-use Rattle.doc_server_rounds.proofs.Pieces.{is_itself, replied, reply_cut, last_reply, found_no_memory, found_more, closed_step, missing_step}
-use Rattle.doc_server_rounds.proofs.Serving.{serves_join}
+use Rattle.doc_server_rounds.proofs.Pieces.{is_itself, replied, reply_cut, last_reply, found_no_memory, closed_step, missing_step}
 use Rattle.doc_server_rounds.proofs.link.Link.step.Goals as goal
 
 pub returns-then-write_all-clause-serves : goal.returns-then-write_all-clause-serves
