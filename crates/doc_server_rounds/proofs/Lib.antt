@@ -1,0 +1,6 @@
+mod Connections
+mod Elsewhere
+mod Pieces
+mod RoundSteps
+mod Serving
+mod Written

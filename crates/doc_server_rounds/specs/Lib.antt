@@ -1,0 +1,4 @@
+pub mod Peers
+pub mod Rounds
+pub mod Sending
+pub mod Served

@@ -1,0 +1,7 @@
+//! Rounds over links: each pass takes what the peers sent to the hub and writes its replies. One link's fault closes that link alone.
+#![tactic(auto)]
+
+pub mod link;
+mod phase;
+pub mod round;
+mod sending;
