@@ -26,20 +26,20 @@ in_front (Some b) (Some rest) = Some (b ∷ rest)
 
 -- The bytes that an escaped text stands for. `\r`, `\n`, `\\` and `\x` with two hexadecimal digits are one byte each, and each
 -- other byte is itself. Any other use of a backslash stands for nothing.
-mutual
-  unfoldable pub unescaped : List ℕ → Option (List ℕ)
+unfoldable mutual
+  pub unescaped : List ℕ → Option (List ℕ)
   unescaped [] = Some []
   unescaped (b ∷ rest) = elim (b == 92) [ true ↦ behind_backslash rest | false ↦ in_front (Some b) (unescaped rest) ]
 
-  unfoldable pub behind_backslash : List ℕ → Option (List ℕ)
+  pub behind_backslash : List ℕ → Option (List ℕ)
   behind_backslash [] = None
   behind_backslash (b ∷ rest) = elim (b == 120) [ true ↦ behind_x rest | false ↦ in_front (letter b) (unescaped rest) ]
 
-  unfoldable pub behind_x : List ℕ → Option (List ℕ)
+  pub behind_x : List ℕ → Option (List ℕ)
   behind_x [] = None
   behind_x (high ∷ rest) = behind_digit high rest
 
-  unfoldable pub behind_digit : ℕ → List ℕ → Option (List ℕ)
+  pub behind_digit : ℕ → List ℕ → Option (List ℕ)
   behind_digit high [] = None
   behind_digit high (low ∷ rest) = in_front (hex_byte high low) (unescaped rest)
 
