@@ -1,1 +1,3 @@
 mod EscapeSteps
+mod FieldSteps
+pub mod ReadLaws

@@ -1,11 +1,14 @@
 //! The fields of a line.
 
 ghost use Rattle.std.specs.Prelude.{◌≡◌, IfOk, MatchOption, None, Some};
-ghost use Rattle.doc_server_script.specs.Fields.{are_digits, connection_of, cut, groups_in, owner_in, path_in, text_of};
+ghost use Rattle.std.specs.Char.{is_ascii_digit};
+ghost use Rattle.std.specs.List.{list_all};
+ghost use Rattle.doc_server_script.specs.Fields.{are_digits, as_text, connection_of, cut, groups_in, owner_in, path_in, text_of};
 
 use crate::unescaping::unescape;
 use doc_heap::{Heap, String};
 use doc_hub::event::ConnId;
+use doc_page::bytes::Bytes;
 use doc_page::failure::Memory;
 use doc_page::path::{Path, PathError};
 use doc_page::text::Text;
@@ -35,7 +38,13 @@ pub fn connection_of(field: &str) -> Option<ConnId>
 fn are_digits(field: &str) -> bool
     ensures { result ≡ are_digits field.now }
 {
-    !field.is_empty() && field.as_bytes().iter().all(|byte| byte.is_ascii_digit())
+    !field.is_empty() && all_digits(field.as_bytes())
+}
+
+fn all_digits(field: &[u8]) -> bool
+    ensures { result ≡ list_all is_ascii_digit field.now }
+{
+    field.iter().all(|byte| byte.is_ascii_digit())
 }
 
 /// The text that a field stands for.
@@ -45,9 +54,16 @@ pub fn text_of(heap: Heap, field: &str) -> Result<Option<Text>, Memory>
     let Some(bytes) = unescape(heap, field)? else {
         return Ok(None);
     };
+    Ok(as_text(bytes))
+}
+
+/// The text that bytes are, where they are UTF-8.
+fn as_text(bytes: Bytes) -> Option<Text>
+    ensures { result ≡ as_text bytes }
+{
     match String::from_utf8(bytes.into_inner()) {
-        Ok(text) => Ok(Some(Text::new(text))),
-        Err(_) => Ok(None),
+        Ok(text) => Some(Text::new(text)),
+        Err(_) => None,
     }
 }
 

@@ -1,8 +1,8 @@
 //! Reading escaped texts.
 
-ghost use Rattle.std.specs.Prelude.{◌≡◌, ◌<◌, length, IfOk, MatchOption, None, Some, true};
+ghost use Rattle.std.specs.Prelude.{◌≡◌, ◌<◌, length, IfOk, IfSome, MatchOption, None, Some, true};
 ghost use Rattle.std.specs.Char.{digit_value, is_ascii_hexdigit};
-ghost use Rattle.doc_server_script.specs.Escapes.{hex_byte, in_front, letter, unescaped};
+ghost use Rattle.doc_server_script.specs.Escapes.{behind_backslash, behind_digit, behind_x, hex_byte, in_front, letter, unescaped};
 
 use doc_heap::{Heap, Vec};
 use doc_page::bytes::Bytes;
@@ -31,14 +31,52 @@ fn first_byte(text: &[u8]) -> Option<(u8, &[u8])>
     requires { 0 < length text.now }
     ensures bytes { MatchOption result (unescaped text.now ≡ None)
         (λ found. unescaped text.now ≡ in_front (Some found.0) (unescaped found.1.now)) }
-    ensures shorter { MatchOption result (unescaped text.now ≡ None)
-        (λ found. length found.1.now < length text.now) }
+    ensures shorter { IfSome result (λ found. length found.1.now < length text.now) }
 {
     match text {
-        [b'\\', b'x', high, low, rest @ ..] => Some((hex_byte(*high, *low)?, rest)),
-        [b'\\', b, rest @ ..] => Some((letter(*b)?, rest)),
-        [b'\\'] | [] => None,
+        [b'\\', rest @ ..] => behind_backslash(rest),
         [byte, rest @ ..] => Some((*byte, rest)),
+        [] => None,
+    }
+}
+
+/// The same behind a backslash.
+#[tactic(auto, unfolding(crate::specs::Escapes::unescaped))]
+fn behind_backslash(text: &[u8]) -> Option<(u8, &[u8])>
+    ensures bytes { MatchOption result (behind_backslash text.now ≡ None)
+        (λ found. behind_backslash text.now ≡ in_front (Some found.0) (unescaped found.1.now)) }
+    ensures shorter { IfSome result (λ found. length found.1.now < length text.now) }
+{
+    match text {
+        [b'x', rest @ ..] => behind_x(rest),
+        [b, rest @ ..] => Some((letter(*b)?, rest)),
+        [] => None,
+    }
+}
+
+/// The same behind the `x` of a byte's number.
+#[tactic(auto, unfolding(crate::specs::Escapes::unescaped))]
+fn behind_x(text: &[u8]) -> Option<(u8, &[u8])>
+    ensures bytes { MatchOption result (behind_x text.now ≡ None)
+        (λ found. behind_x text.now ≡ in_front (Some found.0) (unescaped found.1.now)) }
+    ensures shorter { IfSome result (λ found. length found.1.now < length text.now) }
+{
+    match text {
+        [high, rest @ ..] => behind_digit(*high, rest),
+        [] => None,
+    }
+}
+
+/// The same behind the first digit of the number.
+#[tactic(auto, unfolding(crate::specs::Escapes::unescaped))]
+fn behind_digit(high: u8, text: &[u8]) -> Option<(u8, &[u8])>
+    ensures bytes { MatchOption result (behind_digit high text.now ≡ None)
+        (λ found. behind_digit high text.now ≡ in_front (Some found.0) (unescaped found.1.now)) }
+    ensures shorter { IfSome result (λ found. length found.1.now < length text.now) }
+{
+    match text {
+        [low, rest @ ..] => Some((hex_byte(high, *low)?, rest)),
+        [] => None,
     }
 }
 
