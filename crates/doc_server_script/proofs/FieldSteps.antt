@@ -34,7 +34,9 @@ text_missing items bytes own not = sym (no_text bytes (λ is. not (subst IsUtf8 
 -- ---- numbers
 
 digit_is : (c : ℕ) → is_ascii_digit c ≡ true → (digit_value c < 10) × (c ≢ 43)
-digit_is c is = (omega (arith, digit_value_digit c (within c is)), λ e. grind (arith, nat_tests))
+digit_is c is =
+    let range = within c is in
+    (omega (arith, range.0, range.1, digit_value_digit c range), λ e. omega (arith, range.0, e))
   where
     within : (c : ℕ) → is_ascii_digit c ≡ true → (48 ≤ c) × (c ≤ 57)
     within c is = (grind (arith, nat_tests), grind (arith, nat_tests))

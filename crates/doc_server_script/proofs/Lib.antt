@@ -1,3 +1,5 @@
+mod CutLaws
+mod EscapeLaws
 mod EscapeSteps
 mod FieldSteps
 pub mod ReadLaws

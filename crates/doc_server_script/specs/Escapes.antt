@@ -4,6 +4,9 @@ use Rattle.std.specs.Prelude.{None, if◌then◌else◌}
 use Rattle.std.specs.Char.{is_ascii_hexdigit, digit_value}
 use Rattle.std.specs.List.{flat_map}
 
+abbrev pub is_byte : ℕ → Bool
+is_byte b = nat_lt b 256
+
 -- ---- reading
 
 -- the byte that a letter behind a backslash stands for

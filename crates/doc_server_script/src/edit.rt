@@ -1,12 +1,10 @@
 //! Edits of pages as lines of a script. Each is written without its line feed, in printable ASCII, at the end of a buffer, where after a
 //! refusal part of it may stand. The line, read, gives the edit.
 
-ghost use Rattle.std.specs.Prelude.{◌≡◌, ◌∷◌, ◌++◌, string_bytes, Some, OnOk, OnErr};
+ghost use Rattle.std.specs.Prelude.{◌≡◌, ◌∷◌, ◌++◌, string_bytes, OnOk, OnErr};
 ghost use Rattle.std.specs.Io.{StartsWith};
-ghost use Rattle.doc_hub.specs.declared.event.Event.TheVariants as events;
 ghost use Rattle.doc_store.specs.Groups.{IsGroups};
 ghost use Rattle.doc_server_script.specs.Edits.{behind_commas, groups_text, move_line, put_line, remove_line};
-ghost use Rattle.doc_server_script.specs.Lines.{event_of};
 
 use crate::escaping::{push_escaped, push_spaceless};
 use doc_heap::String;
@@ -21,8 +19,6 @@ pub fn push_put(out: &mut String, path: &Path, groups: &[Text], text: &str) -> R
     ensures ok { OnOk result (string_bytes out.new
         ≡ string_bytes out.old ++ put_line path.now groups.now text.now) }
     ensures err { OnErr result (StartsWith (string_bytes out.new) (string_bytes out.old)) }
-    ensures read { event_of (put_line path.now groups.now text.now)
-        ≡ Some (events.Put path.now groups.now text.now) }
 {
     out.push_str("put ")?;
     push_spaceless(out, path.text().as_bytes())?;
@@ -37,7 +33,6 @@ pub fn push_put(out: &mut String, path: &Path, groups: &[Text], text: &str) -> R
 pub fn push_remove(out: &mut String, path: &Path) -> Result<(), Memory>
     ensures ok { OnOk result (string_bytes out.new ≡ string_bytes out.old ++ remove_line path.now) }
     ensures err { OnErr result (StartsWith (string_bytes out.new) (string_bytes out.old)) }
-    ensures read { event_of (remove_line path.now) ≡ Some (events.Remove path.now) }
 {
     out.push_str("remove ")?;
     push_spaceless(out, path.text().as_bytes())
@@ -49,7 +44,6 @@ pub fn push_move(out: &mut String, from: &Path, to: &Path) -> Result<(), Memory>
     ensures ok { OnOk result (string_bytes out.new
         ≡ string_bytes out.old ++ move_line from.now to.now) }
     ensures err { OnErr result (StartsWith (string_bytes out.new) (string_bytes out.old)) }
-    ensures read { event_of (move_line from.now to.now) ≡ Some (events.MovePage from.now to.now) }
 {
     out.push_str("move ")?;
     push_spaceless(out, from.text().as_bytes())?;
