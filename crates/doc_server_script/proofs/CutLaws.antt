@@ -14,16 +14,12 @@ use Rattle.doc_server_script.specs.Fields.{cut, is_space}
 abbrev pub is_no_space : ℕ → Bool
 is_no_space b = not (is_space b)
 
-not_true : (b : Bool) → not b ≡ true → b ≡ false
-not_true true is = absurd (cc)
-not_true false is = refl
-
 position_at : (field rest : List ℕ) → list_all is_no_space field ≡ true → position_or_len is_space (field ++ 32 ∷ rest) ≡ length field
 position_at [] rest none = refl
 position_at (b ∷ field) rest none =
     let more = position_at field rest (and_second _ _ none) in
-    let here = not_true (is_space b) (and_first _ _ none) in
-    ap (λ t. cond t 0 (1 + position_or_len is_space (field ++ 32 ∷ rest))) here ∙ omega (arith, more)
+    let longer : 1 + length field ≡ length (b ∷ field) = omega arith in
+    ap (λ t. cond t (1 + position_or_len is_space (field ++ 32 ∷ rest)) 0) (and_first _ _ none) ∙ ap (λ n. 1 + n) more ∙ longer
 
 drop_at : (field rest : List ℕ) → drop (length field + 1) (field ++ 32 ∷ rest) ≡ rest
 drop_at [] rest = refl

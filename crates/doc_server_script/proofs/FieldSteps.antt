@@ -1,5 +1,5 @@
 -- The fields of a line.
-use Rattle.std.proofs.Common.{subst, ◌≡◌, ◌≢◌, ◌≤◌, ℕ, ◌<◌, ◌^◌, List, [], ◌∷◌, length, get_or, Bool, true, false, cond, refl, ap, sym, ◌∙◌, arith, inl, inr}
+use Rattle.std.proofs.Common.{subst, ◌≡◌, ◌≢◌, ◌≤◌, ℕ, ◌<◌, ◌^◌, List, [], ◌∷◌, ◌==◌, not, length, get_or, Bool, true, false, cond, refl, ap, sym, ◌∙◌, arith, inl, inr}
 use Rattle.std.specs.Prelude.{Option, Some, None, Result, Ok, Err, IsUtf8, nat_lt}
 use Rattle.std.specs.Char.{is_ascii_digit, digit_value}
 use Rattle.std.specs.List.{list_all}
@@ -18,9 +18,9 @@ text_kept : (bytes : List ℕ) → IsUtf8 bytes → as_text bytes ≡ Some bytes
 text_kept bytes is = ap (λ b. cond b (Some bytes) None) (is_utf8-from_IsUtf8 bytes is)
 
 no_text : (bytes : List ℕ) → (IsUtf8 bytes → ⊥) → as_text bytes ≡ None
-no_text bytes not =
+no_text bytes never =
     elim (cases_Bool (is_utf8 bytes)) [
-      | inl is ↦ absurd (not (IsUtf8-from_is_utf8 bytes is))
+      | inl is ↦ absurd (never (IsUtf8-from_is_utf8 bytes is))
       | inr other ↦ ap (λ b. cond b (Some bytes) None) other
     ]
 
@@ -28,8 +28,8 @@ pub text_found : (found text items bytes : List ℕ) → found ≡ text → IsUt
 text_found found text items bytes new is same own =
     ap Some (new ∙ same ∙ own) ∙ sym (text_kept bytes (subst IsUtf8 (same ∙ own) is))
 
-pub text_missing : (items bytes : List ℕ) → items ≡ bytes → (IsUtf8 items → ⊥) → None ≡ as_text bytes
-text_missing items bytes own not = sym (no_text bytes (λ is. not (subst IsUtf8 (sym own) is)))
+pub text_missing : (items bytes : List ℕ) → items ≡ bytes → (IsUtf8 items → false ≡ true) → None ≡ as_text bytes
+text_missing items bytes own never = sym (no_text bytes (λ is. let other : false ≡ true = never (subst IsUtf8 (sym own) is) in absurd (cc)))
 
 -- ---- numbers
 
@@ -52,9 +52,9 @@ no_plus (c ∷ cs) long all = (digit_is c (and_first _ _ all)).1
 pub number_missing : {E : Type 0} (field : List ℕ) (e : E) → are_digits field ≡ true → ParsesUnsigned {E = E} 64 10 field (Err e)
     → None ≡ connection_of field
 number_missing field e digits parses =
-    let some = and_first _ _ digits in
+    let some = and_first (not (length field == 0)) (list_all is_ascii_digit field) digits in
     let long : 0 < length field = grind (arith, nat_tests) in
-    let all = and_second _ _ digits in
+    let all = and_second (not (length field == 0)) (list_all is_ascii_digit field) digits in
     let plain = without_leading_plus_none field (no_plus field long all) in
     elim (cases_Bool (nat_lt (digits_value 10 field) (2 ^ 64))) [
       | inl less ↦

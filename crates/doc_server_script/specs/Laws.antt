@@ -15,7 +15,7 @@ pub record IsText (text : List ℕ) : Type 0 where
 
 -- the text of a path of a page
 pub record IsPathText (path : List ℕ) : Type 0 where
-  pub path : is_path path ≡ true
+  pub good : is_path path ≡ true
   pub text : IsText path
 
 -- an edit's line, read, gives that edit

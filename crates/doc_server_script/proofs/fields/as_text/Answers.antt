@@ -7,4 +7,4 @@ pub returns-in-Ok : goal.returns-in-Ok
 returns-in-Ok c = text_found _ _ _ _ c.new.ensures (IsUtf8-string_bytes c.in-Ok.text) (ap (λ v. v.items) c.in-Ok.ensures.ok) c.into_inner.ensures
 
 pub returns : goal.returns
-returns c = text_missing _ _ c.into_inner.ensures (λ is. absurd (c.in-Err.ensures.succeeds is))
+returns c = text_missing _ _ c.into_inner.ensures c.in-Err.ensures.succeeds
