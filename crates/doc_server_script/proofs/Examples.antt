@@ -1,7 +1,8 @@
 -- Lines, worked.
 use Rattle.std.specs.Prelude.{◌≡◌, ℕ, List, [], ◌∷◌, ◌++◌, true, codes, Some, None, refl}
 use Rattle.std.specs.Fmt.{digits}
-use Rattle.std.specs.Str.{chars}
+use Rattle.std.specs.Str.{chars, is_utf8}
+use Rattle.std.proofs.Math.Utf8.{encode}
 use Rattle.doc_page.specs.Paths.{is_path}
 use Rattle.doc_store.specs.Groups.{groups_of_names}
 use Rattle.doc_store.specs.declared.readers.Set.TheVariants as sets
@@ -71,12 +72,12 @@ unfolding event_of
 signs_are_no_digits = refl
 
 -- a text may hold spaces; `-` names no groups
-puts : event_of (codes "put a.md - x  y") ≡ Some (events.Put (codes "a.md") [] (codes "x  y"))
-unfolding event_of unescaped is_path chars
-puts = refl
+puts_a_page : event_of (codes "put a.md - x  y") ≡ Some (events.Put (codes "a.md") [] (codes "x  y"))
+unfolding event_of unescaped is_path chars is_utf8 encode
+puts_a_page = refl
 
 puts_for_groups : event_of (codes "put a\\x20b.md ops,staff,ops ") ≡ Some (events.Put (codes "a b.md") (codes "ops" ∷ codes "staff" ∷ []) [])
-unfolding event_of unescaped is_path chars groups_of_names
+unfolding event_of unescaped is_path chars is_utf8 encode groups_of_names
 puts_for_groups = refl
 
 no_text : event_of (codes "put a.md -") ≡ None
@@ -84,24 +85,24 @@ unfolding event_of
 no_text = refl
 
 no_utf8 : event_of (codes "put a.md - \\xff") ≡ None
-unfolding event_of unescaped is_path chars
+unfolding event_of unescaped is_path chars is_utf8 encode
 no_utf8 = refl
 
 no_group : event_of (codes "put a.md A x") ≡ None
-unfolding event_of unescaped is_path chars groups_of_names
+unfolding event_of unescaped is_path chars is_utf8 encode groups_of_names
 no_group = refl
 
 -- the last path may hold spaces
 removes : event_of (codes "remove a b.md") ≡ Some (events.Remove (codes "a b.md"))
-unfolding event_of unescaped is_path chars
+unfolding event_of unescaped is_path chars is_utf8 encode
 removes = refl
 
 no_path : event_of (codes "remove ../a.md") ≡ None
-unfolding event_of unescaped is_path chars
+unfolding event_of unescaped is_path chars is_utf8 encode
 no_path = refl
 
 moves : event_of (codes "move a.md b c.md") ≡ Some (events.MovePage (codes "a.md") (codes "b c.md"))
-unfolding event_of unescaped is_path chars
+unfolding event_of unescaped is_path chars is_utf8 encode
 moves = refl
 
 -- a token is asked nothing

@@ -13,11 +13,13 @@ groups_text [] = codes "-"
 groups_text (name ∷ []) = if bytes_eq name (codes "-") then codes "-,-" else name
 groups_text (name ∷ other ∷ names) = name ++ behind_commas (other ∷ names)
 
+-- 32 is the space between two fields
+
 abbrev pub put_line : List ℕ → List (List ℕ) → List ℕ → List ℕ
-put_line path groups text = codes "put " ++ spaceless path ++ codes " " ++ groups_text groups ++ codes " " ++ escaped text
+put_line path groups text = codes "put " ++ (spaceless path ++ 32 ∷ (groups_text groups ++ 32 ∷ escaped text))
 
 abbrev pub remove_line : List ℕ → List ℕ
 remove_line path = codes "remove " ++ spaceless path
 
 abbrev pub move_line : List ℕ → List ℕ → List ℕ
-move_line from to = codes "move " ++ spaceless from ++ codes " " ++ spaceless to
+move_line from to = codes "move " ++ (spaceless from ++ 32 ∷ spaceless to)

@@ -1,9 +1,10 @@
 //! Edits of pages as lines of a script. Each is written without its line feed, in printable ASCII, at the end of a buffer, where after a
 //! refusal part of it may stand. The line, read, gives the edit.
 
-ghost use Rattle.std.specs.Prelude.{◌≡◌, ◌∷◌, ◌++◌, string_bytes, OnOk, OnErr};
+ghost use Rattle.std.specs.Prelude.{◌≡◌, ◌∷◌, ◌++◌, codes, string_bytes, OnOk, OnErr};
 ghost use Rattle.std.specs.Io.{StartsWith};
 ghost use Rattle.doc_store.specs.Groups.{IsGroups};
+ghost use Rattle.doc_server_script.specs.Escapes.{spaceless};
 ghost use Rattle.doc_server_script.specs.Edits.{behind_commas, groups_text, move_line, put_line, remove_line};
 
 use crate::escaping::{push_escaped, push_spaceless};
@@ -20,12 +21,23 @@ pub fn push_put(out: &mut String, path: &Path, groups: &[Text], text: &str) -> R
         ≡ string_bytes out.old ++ put_line path.now groups.now text.now) }
     ensures err { OnErr result (StartsWith (string_bytes out.new) (string_bytes out.old)) }
 {
-    out.push_str("put ")?;
-    push_spaceless(out, path.text().as_bytes())?;
-    out.push_str(" ")?;
+    push_put_start(out, path)?;
     push_groups(out, groups)?;
     out.push_str(" ")?;
     push_escaped(out, text.as_bytes())
+}
+
+/// Writes `put PATH` and a space.
+#[tactic(auto, using(doc_page::proofs::BufferSteps::front_same, doc_page::proofs::BufferSteps::front_more))]
+fn push_put_start(out: &mut String, path: &Path) -> Result<(), Memory>
+    ensures ok { OnOk result (string_bytes out.new
+        ≡ string_bytes out.old ++ (codes "put " ++ (spaceless path.now ++ codes " "))) }
+    ensures err { OnErr result (StartsWith (string_bytes out.new) (string_bytes out.old)) }
+{
+    out.push_str("put ")?;
+    push_spaceless(out, path.text().as_bytes())?;
+    out.push_str(" ")?;
+    Ok(())
 }
 
 /// Writes `remove PATH`.
