@@ -12,9 +12,9 @@ is_byte b = nat_lt b 256
 -- the byte that a letter behind a backslash stands for
 abbrev pub letter : ℕ → Option ℕ
 letter b =
-    if b == 114 then Some 13                                    -- `\r`
-    else (if b == 110 then Some 10                              -- `\n`
-    else (if b == 92 then Some 92 else None))                   -- `\\`
+    if b == 114 then Some 13  -- `\r`
+    else (if b == 110 then Some 10  -- `\n`
+    else (if b == 92 then Some 92 else None))  -- `\\`
 
 -- the byte of two hexadecimal digits, of either case
 abbrev pub hex_byte : ℕ → ℕ → Option ℕ

@@ -4,7 +4,7 @@
 ghost use Rattle.std.specs.Prelude.{◌≡◌, ◌∷◌, ◌++◌, codes, string_bytes, OnOk, OnErr};
 ghost use Rattle.std.specs.Io.{StartsWith};
 ghost use Rattle.doc_store.specs.Groups.{IsGroups};
-ghost use Rattle.doc_server_script.specs.Escapes.{spaceless};
+ghost use Rattle.doc_server_script.specs.Escapes.{escaped, spaceless};
 ghost use Rattle.doc_server_script.specs.Edits.{behind_commas, groups_text, move_line, put_line, remove_line};
 
 use crate::escaping::{push_escaped, push_spaceless};
@@ -22,9 +22,7 @@ pub fn push_put(out: &mut String, path: &Path, groups: &[Text], text: &str) -> R
     ensures err { OnErr result (StartsWith (string_bytes out.new) (string_bytes out.old)) }
 {
     push_put_start(out, path)?;
-    push_groups(out, groups)?;
-    out.push_str(" ")?;
-    push_escaped(out, text.as_bytes())
+    push_put_rest(out, groups, text)
 }
 
 /// Writes `put PATH` and a space.
@@ -36,6 +34,29 @@ fn push_put_start(out: &mut String, path: &Path) -> Result<(), Memory>
 {
     out.push_str("put ")?;
     push_spaceless(out, path.text().as_bytes())?;
+    out.push_str(" ")?;
+    Ok(())
+}
+
+/// Writes `GROUPS TEXT`.
+#[tactic(auto, using(doc_page::proofs::BufferSteps::front_same, doc_page::proofs::BufferSteps::front_more))]
+fn push_put_rest(out: &mut String, groups: &[Text], text: &str) -> Result<(), Memory>
+    ensures ok { OnOk result (string_bytes out.new
+        ≡ string_bytes out.old ++ (groups_text groups.now ++ 32 ∷ escaped text.now)) }
+    ensures err { OnErr result (StartsWith (string_bytes out.new) (string_bytes out.old)) }
+{
+    push_groups_field(out, groups)?;
+    push_escaped(out, text.as_bytes())
+}
+
+/// Writes `GROUPS` and a space.
+#[tactic(auto, using(doc_page::proofs::BufferSteps::front_same, doc_page::proofs::BufferSteps::front_more))]
+fn push_groups_field(out: &mut String, groups: &[Text]) -> Result<(), Memory>
+    ensures ok { OnOk result (string_bytes out.new
+        ≡ string_bytes out.old ++ (groups_text groups.now ++ codes " ")) }
+    ensures err { OnErr result (StartsWith (string_bytes out.new) (string_bytes out.old)) }
+{
+    push_groups(out, groups)?;
     out.push_str(" ")?;
     Ok(())
 }

@@ -88,5 +88,9 @@ fn hex_digit(value: u8) -> u8
     ensures digit { result ≡ hex_digit value }
     ensures ascii { result < 128 }
 {
-    if value < 10 { b'0' + value } else { b'a' - 10 + value }
+    if value < 10 {
+        b'0' + value
+    } else {
+        b'a' - 10 + value
+    }
 }
