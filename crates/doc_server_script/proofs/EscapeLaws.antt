@@ -1,14 +1,12 @@
 -- Escaped texts give back what they were written of.
-use Rattle.std.proofs.Common.{◌≡◌, ◌≢◌, ℕ, ◌<◌, ◌≤◌, ◌+◌, ◌/◌, ◌%◌, ◌==◌, ◌&&◌, not, List, [], ◌∷◌, ◌++◌, length, get_or, take, drop, Bool, true, false, cond}
+use Rattle.std.proofs.Common.{◌≡◌, ℕ, ◌<◌, ◌/◌, ◌%◌, ◌==◌, List, [], ◌∷◌, ◌++◌, Bool, true, false, cond}
 use Rattle.std.proofs.Common.{codes, refl, ap, sym, ◌∙◌, arith, inl, inr, subst}
-use Rattle.std.specs.Prelude.{Option, Some, None, nat_le, nat_lt, IsUtf8}
-use Rattle.std.specs.List.{flat_map, list_all, position_or_len, before_first, after_first}
+use Rattle.std.specs.Prelude.{Option, Some, None, nat_lt}
+use Rattle.std.specs.List.{flat_map, list_all}
 use Rattle.std.proofs.lemmas.Bool.{agree_below_at, cases_Bool}
 use Rattle.std.proofs.lemmas.Bool.Decides.{nat_tests}
-use Rattle.std.proofs.lemmas.List.{append-nil, append_assoc}
 use Rattle.doc_page.proofs.Bools.{and_first, and_second}
 use Rattle.doc_server_script.specs.Escapes.{is_byte, behind_backslash, by_number, escaped, escaped_byte, hex_byte, hex_digit, in_front, is_printable, spaceless, spaceless_byte, unescaped}
-use Rattle.doc_server_script.specs.Fields.{cut, is_space}
 
 -- ---- escapes
 

@@ -1,12 +1,10 @@
 -- Lines, worked.
-use Rattle.std.specs.Prelude.{◌≡◌, ℕ, List, [], ◌∷◌, ◌++◌, true, codes, Some, None, refl}
+use Rattle.std.specs.Prelude.{◌≡◌, [], ◌∷◌, true, codes, Some, None, refl}
 use Rattle.std.specs.Fmt.{digits}
 use Rattle.std.specs.Str.{chars, is_utf8}
 use Rattle.std.proofs.Math.Utf8.{encode}
 use Rattle.doc_page.specs.Paths.{is_path}
 use Rattle.doc_store.specs.Groups.{groups_of_names}
-use Rattle.doc_store.specs.declared.readers.Set.TheVariants as sets
-use Rattle.doc_store.specs.declared.store.Put.TheVariants as puts
 use Rattle.doc_hub.specs.declared.event.Event.TheVariants as events
 use Rattle.doc_hub.specs.declared.event.Step.TheVariants as steps
 use Rattle.doc_hub.specs.declared.outcome.Outcome.TheVariants as outcomes

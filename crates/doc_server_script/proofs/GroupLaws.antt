@@ -1,9 +1,9 @@
 -- The groups that a line names are those that it was written of.
-use Rattle.std.proofs.Common.{◌≡◌, ℕ, ◌+◌, ◌<◌, ◌≤◌, ◌==◌, ◌&&◌, not, List, [], ◌∷◌, ◌++◌, length, Bool, true, false, cond, codes, bytes_eq, Less, Equal, Greater}
+use Rattle.std.proofs.Common.{◌≡◌, ℕ, ◌<◌, ◌≤◌, ◌==◌, List, [], ◌∷◌, ◌++◌, length, Bool, true, false, cond, codes, bytes_eq, Greater}
 use Rattle.std.proofs.Common.{refl, ap, sym, ◌∙◌, arith, inl, inr}
-use Rattle.std.specs.Prelude.{Option, Some, None, Result, Ok, Err, nat_lt}
+use Rattle.std.specs.Prelude.{Some, Ok, nat_lt}
 use Rattle.std.specs.Cmp.Lexicographic.{slice_cmp}
-use Rattle.std.specs.List.{flat_map, list_all, onto_first, slice_split, AllByRecursion}
+use Rattle.std.specs.List.{list_all, onto_first, slice_split, AllByRecursion}
 use Rattle.std.specs.List.Sorted.{IsStrictlySortedBy}
 use Rattle.std.specs.Ordering.{nat_cmp, ordering_reverse}
 use Rattle.std.specs.Result.{result_ok}
@@ -18,7 +18,7 @@ use Rattle.doc_store.proofs.GroupSteps.{of_text}
 use Rattle.doc_store.proofs.SortedSteps.{IsBelow}
 use Rattle.doc_server_script.specs.Edits.{behind_commas, groups_text}
 use Rattle.doc_server_script.specs.Escapes.{is_printable}
-use Rattle.doc_server_script.specs.Fields.{groups_in, is_space}
+use Rattle.doc_server_script.specs.Fields.{groups_in}
 use Rattle.doc_server_script.proofs.CutLaws.{is_no_space, all_append}
 
 -- ---- names in order stay as they are

@@ -1,11 +1,9 @@
 -- The line of an edit, read, gives that edit.
-use Rattle.std.proofs.Common.{◌≡◌, ℕ, List, [], ◌∷◌, ◌++◌, Bool, true, false, cond, codes, refl, ap, sym, ◌∙◌}
-use Rattle.std.specs.Prelude.{Option, Some, None, option_map, option_and_then}
+use Rattle.std.proofs.Common.{◌≡◌, ℕ, List, ◌∷◌, ◌++◌, true, cond, codes, refl, ap, ◌∙◌}
+use Rattle.std.specs.Prelude.{Some, None, option_map, option_and_then}
 use Rattle.std.specs.List.{list_all}
 use Rattle.std.proofs.lemmas.Str.{is_utf8-from_IsUtf8}
-use Rattle.doc_page.specs.Paths.{is_path}
 use Rattle.doc_store.specs.Groups.{IsGroups}
-use Rattle.doc_hub.specs.declared.event.Event.{Event}
 use Rattle.doc_hub.specs.declared.event.Event.TheVariants as events
 use Rattle.doc_server_script.specs.Edits.{put_line, remove_line, move_line, groups_text}
 use Rattle.doc_server_script.specs.Escapes.{is_printable, spaceless, escaped}
