@@ -1,5 +1,5 @@
 -- The world that a hub stands for, and one function of it for each call.
-use Rattle.std.specs.Prelude.{◌≡◌, ℕ, List, ◌+◌, ◌^◌, ◌-◌, Bool, true, nat_lt, nat_le, ◌&&◌, MatchBool, Option, Some, None, option_and_then}
+use Rattle.std.specs.Prelude.{◌≡◌, ℕ, List, ◌+◌, ◌^◌, ◌-◌, Bool, true, nat_lt, nat_le, ◌&&◌, MatchBool, Option, Some, None, option_and_then, option_map}
 use Rattle.std.specs.Prelude.{Result, Ok, Err, if◌then◌else◌, refl}
 use Rattle.std.specs.Coded.{Coded, code_by, coded×, coded_ℕ, coded_bool}
 use Rattle.std.specs.FinMap as map
@@ -13,6 +13,7 @@ use Rattle.doc_store.specs.declared.readers.Set.{Set}
 use Rattle.doc_store.specs.declared.store.EditError.{EditError}
 use Rattle.doc_store.specs.declared.store.Put.{Put}
 use Rattle.doc_http.specs.Bearers.{bearer_of}
+use Rattle.doc_shelf_views.specs.Views.{report_body}
 use Rattle.doc_http.specs.Requests.{IsNext}
 use Rattle.doc_http.specs.declared.request.Request.{Request}
 use Rattle.doc_http.specs.declared.request.Next.{Next}
@@ -175,3 +176,9 @@ world_reader_set w token reader = let r = set_reader w.readers token reader in (
 -- the reader of a token is removed, and whether there was one
 abbrev pub world_reader_removed : World → List ℕ → World × Bool
 world_reader_removed w token = (record w { readers = map.remove w.readers token }, map.contains_key w.readers token)
+
+-- ---- what owners and editors ask for without a request
+
+-- the broken links of what the reader of a token sees, where there is such a reader: as lines of text
+abbrev pub report_in : Renders → World → List ℕ → Option (List ℕ)
+report_in render w token = option_map (λ reader. report_body render (view_of w.site (Some reader))) (map.get w.readers token)

@@ -14,7 +14,7 @@ ghost use Rattle.std.specs.Prelude.{◌≡◌, IfOk};
 ghost use Rattle.std.specs.FinMap as map;
 ghost use Rattle.doc_page.specs.Refusals.{Gives, IsAnswer};
 ghost use Rattle.doc_hub.specs.Runs.{Happens, Leaves, GivesRun};
-ghost use Rattle.doc_hub.specs.Worlds.{hub_made};
+ghost use Rattle.doc_hub.specs.Worlds.{hub_made, report_in};
 
 use crate::answer::answer_to_fault;
 use crate::connection::Connection;
@@ -31,6 +31,7 @@ use doc_page::failure::Memory;
 use doc_page::list::List;
 use doc_page::path::Path;
 use doc_page::renderer::Renderer;
+use doc_page::text::Text;
 use doc_shelf::Shelf;
 use doc_store::groups::Groups;
 use doc_store::moving::MoveError;
@@ -230,6 +231,19 @@ impl<R: Renderer + Drop> Hub<R> {
         ensures same { R.page self.new.0 ≡ R.page self.old.0 }
     {
         self.readers.remove(token)
+    }
+
+    /// The lines of the links that are broken for the reader of a token, each a page, a number of a link there, a reason and what the
+    /// link leads to. There are none where no reader has the token.
+    pub fn report(&mut self, token: &str) -> Result<Option<Text>, Memory>
+        ensures report { IfOk result (λ text. text
+            ≡ report_in (R.page self.old.0) self.old.1 token.now) }
+        ensures same { self.new ≡ self.old }
+    {
+        let Some(reader) = self.readers.find(token) else {
+            return Ok(None);
+        };
+        Ok(Some(self.shelf.report(reader)?))
     }
 
     /// Makes these events happen in their order, each in what those before it left, and answers what

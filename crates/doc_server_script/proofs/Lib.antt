@@ -1,0 +1,7 @@
+mod CutLaws
+mod EscapeLaws
+mod EscapeSteps
+mod Examples
+mod FieldSteps
+mod GroupLaws
+pub mod ReadLaws

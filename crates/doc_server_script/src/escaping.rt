@@ -1,0 +1,96 @@
+//! Writing escaped texts.
+
+ghost use Rattle.std.specs.Prelude.{◌≡◌, ◌<◌, ◌++◌, ◌∷◌, [], string_bytes, OnOk, OnErr};
+ghost use Rattle.std.specs.Io.{StartsWith};
+ghost use Rattle.std.specs.List.{flat_map};
+ghost use Rattle.doc_server_script.specs.Escapes.{by_number, escaped, escaped_byte, hex_digit, spaceless, spaceless_byte};
+
+use doc_heap::String;
+use doc_page::failure::Memory;
+
+/// Writes bytes, escaped, at the end of the buffer, where after a refusal part of them may stand.
+#[tactic(auto, unfolding(crate::specs::Escapes::escaped), using(doc_page::proofs::BufferSteps::front_same, doc_page::proofs::BufferSteps::front_more))]
+pub fn push_escaped(out: &mut String, bytes: &[u8]) -> Result<(), Memory>
+    ensures ok { OnOk result (string_bytes out.new ≡ string_bytes out.old ++ escaped bytes.now) }
+    ensures err { OnErr result (StartsWith (string_bytes out.new) (string_bytes out.old)) }
+{
+    out.reserve(bytes.len())?;
+    for byte in bytes {
+        push_byte(out, *byte)?;
+    }
+    Ok(())
+}
+
+/// The same, where no space may stand in what is written.
+#[tactic(auto, unfolding(crate::specs::Escapes::spaceless), using(doc_page::proofs::BufferSteps::front_same, doc_page::proofs::BufferSteps::front_more))]
+pub fn push_spaceless(out: &mut String, bytes: &[u8]) -> Result<(), Memory>
+    ensures ok { OnOk result (string_bytes out.new ≡ string_bytes out.old ++ spaceless bytes.now) }
+    ensures err { OnErr result (StartsWith (string_bytes out.new) (string_bytes out.old)) }
+{
+    out.reserve(bytes.len())?;
+    for byte in bytes {
+        push_spaceless_byte(out, *byte)?;
+    }
+    Ok(())
+}
+
+#[tactic(auto, using(doc_page::proofs::BufferSteps::front_same, doc_page::proofs::BufferSteps::front_more))]
+fn push_spaceless_byte(out: &mut String, byte: u8) -> Result<(), Memory>
+    ensures ok { OnOk result (string_bytes out.new ≡ string_bytes out.old ++ spaceless_byte byte) }
+    ensures err { OnErr result (StartsWith (string_bytes out.new) (string_bytes out.old)) }
+{
+    if byte == b' ' {
+        out.push_str("\\x20")?;
+        return Ok(());
+    }
+    push_byte(out, byte)
+}
+
+#[tactic(auto, using(doc_page::proofs::BufferSteps::front_same, doc_page::proofs::BufferSteps::front_more))]
+fn push_byte(out: &mut String, byte: u8) -> Result<(), Memory>
+    ensures ok { OnOk result (string_bytes out.new ≡ string_bytes out.old ++ escaped_byte byte) }
+    ensures err { OnErr result (StartsWith (string_bytes out.new) (string_bytes out.old)) }
+{
+    match byte {
+        b'\r' => out.push_str("\\r")?,
+        b'\n' => out.push_str("\\n")?,
+        b'\\' => out.push_str("\\\\")?,
+        b' '..=b'~' => push_ascii(out, byte)?,
+        _ => push_number(out, byte)?,
+    }
+    Ok(())
+}
+
+/// Writes a byte by its number.
+#[tactic(auto, using(doc_page::proofs::BufferSteps::front_same, doc_page::proofs::BufferSteps::front_more))]
+fn push_number(out: &mut String, byte: u8) -> Result<(), Memory>
+    ensures ok { OnOk result (string_bytes out.new ≡ string_bytes out.old ++ by_number byte) }
+    ensures err { OnErr result (StartsWith (string_bytes out.new) (string_bytes out.old)) }
+{
+    out.push_str("\\x")?;
+    push_ascii(out, hex_digit(byte / 16))?;
+    push_ascii(out, hex_digit(byte % 16))
+}
+
+/// Writes a byte of ASCII. A refused write leaves the buffer as it was.
+fn push_ascii(out: &mut String, byte: u8) -> Result<(), Memory>
+    requires { byte < 128 }
+    ensures ok { OnOk result (string_bytes out.new ≡ string_bytes out.old ++ byte ∷ []) }
+    ensures err { OnErr result (string_bytes out.new ≡ string_bytes out.old) }
+{
+    out.push(byte as char)?;
+    Ok(())
+}
+
+/// A lower case hexadecimal digit.
+fn hex_digit(value: u8) -> u8
+    requires { value < 16 }
+    ensures digit { result ≡ hex_digit value }
+    ensures ascii { result < 128 }
+{
+    if value < 10 {
+        b'0' + value
+    } else {
+        b'a' - 10 + value
+    }
+}

@@ -1,0 +1,109 @@
+//! The fields of a line.
+
+ghost use Rattle.std.specs.Prelude.{◌≡◌, IfOk, MatchOption, None, Some};
+ghost use Rattle.std.specs.Char.{is_ascii_digit};
+ghost use Rattle.std.specs.List.{list_all};
+ghost use Rattle.doc_server_script.specs.Fields.{are_digits, as_text, connection_of, cut, groups_in, owner_in, path_in, text_of};
+
+use crate::unescaping::unescape;
+use doc_heap::{Heap, String};
+use doc_hub::event::ConnId;
+use doc_page::bytes::Bytes;
+use doc_page::failure::Memory;
+use doc_page::path::{Path, PathError};
+use doc_page::text::Text;
+use doc_store::groups::{Groups, GroupsError};
+
+/// The field before the first space, and all that follows the space.
+pub fn cut(text: &str) -> Option<(&str, &str)>
+    ensures { MatchOption result (cut text.now ≡ None)
+        (λ fields. cut text.now ≡ Some (fields.0.now, fields.1.now)) }
+{
+    text.split_once(' ')
+}
+
+/// The connection of a number.
+pub fn connection_of(field: &str) -> Option<ConnId>
+    ensures { result ≡ connection_of field.now }
+{
+    if !are_digits(field) {
+        return None;
+    }
+    match field.parse::<u64>() {
+        Ok(number) => Some(ConnId(number)),
+        Err(_) => None,
+    }
+}
+
+fn are_digits(field: &str) -> bool
+    ensures { result ≡ are_digits field.now }
+{
+    !field.is_empty() && all_digits(field.as_bytes())
+}
+
+fn all_digits(field: &[u8]) -> bool
+    ensures { result ≡ list_all is_ascii_digit field.now }
+{
+    field.iter().all(|byte| byte.is_ascii_digit())
+}
+
+/// The text that a field stands for.
+pub fn text_of(heap: Heap, field: &str) -> Result<Option<Text>, Memory>
+    ensures { IfOk result (λ text. text ≡ text_of field.now) }
+{
+    let Some(bytes) = unescape(heap, field)? else {
+        return Ok(None);
+    };
+    Ok(as_text(bytes))
+}
+
+/// The text that bytes are, where they are UTF-8.
+fn as_text(bytes: Bytes) -> Option<Text>
+    ensures { result ≡ as_text bytes }
+{
+    match String::from_utf8(bytes.into_inner()) {
+        Ok(text) => Some(Text::new(text)),
+        Err(_) => None,
+    }
+}
+
+/// The path that a field stands for.
+pub fn path_in(heap: Heap, field: &str) -> Result<Option<Path>, Memory>
+    ensures { IfOk result (λ path. path ≡ path_in field.now) }
+{
+    let Some(text) = text_of(heap, field)? else {
+        return Ok(None);
+    };
+    match Path::new(heap, text.get()) {
+        Ok(path) => Ok(Some(path)),
+        Err(PathError::BadPath) => Ok(None),
+        Err(PathError::Memory) => Err(Memory),
+    }
+}
+
+/// The groups that a field names.
+pub fn groups_in(heap: Heap, field: &str) -> Result<Option<Groups>, Memory>
+    ensures { IfOk result (λ groups. groups ≡ groups_in field.now) }
+{
+    if field == "-" {
+        return Ok(Some(Groups::none(heap)));
+    }
+    match Groups::new(heap, field) {
+        Ok(groups) => Ok(Some(groups)),
+        Err(GroupsError::Memory) => Err(Memory),
+        Err(_) => Ok(None),
+    }
+}
+
+/// Whether a reader is an owner.
+pub fn owner_in(field: &str) -> Option<bool>
+    ensures { result ≡ owner_in field.now }
+{
+    if field == "owner" {
+        return Some(true);
+    }
+    if field == "plain" {
+        return Some(false);
+    }
+    None
+}
