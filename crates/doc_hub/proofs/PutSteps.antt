@@ -6,15 +6,11 @@ use Rattle.std.specs.Result.{is_err, result_ok}
 use Rattle.std.proofs.lemmas.Bool.{both_ways}
 use Rattle.std.specs.Str.{IsUtf8, is_utf8}
 use Rattle.std.proofs.lemmas.Str.{IsUtf8-from_is_utf8, is_utf8-from_IsUtf8}
-use Rattle.doc_page.specs.Refusals.{Gives, IsAnswer}
-use Rattle.doc_store.specs.Pages.{Page}
 use Rattle.doc_store.specs.Sites.{View, page_at, view_of}
-use Rattle.doc_store.specs.Store.{StoreState, fits_in, put_by, put_into, with_page}
+use Rattle.doc_store.specs.Store.{StoreState, fits_in}
 use Rattle.doc_store.specs.declared.groups.GroupsError.{GroupsError}
 use Rattle.doc_store.specs.declared.reader.Reader.{Reader}
 use Rattle.doc_store.specs.declared.store.EditError.{EditError}
-use Rattle.doc_store.specs.declared.store.EditError.TheVariants as edit_errors
-use Rattle.doc_store.specs.declared.store.Put.{Put}
 use Rattle.doc_hub.specs.Edits.{puts_left}
 use Rattle.doc_hub.specs.Replies.{delete_at, edited, put_at, put_page, refused}
 use Rattle.doc_hub.specs.declared.response.Edit.TheVariants as edits

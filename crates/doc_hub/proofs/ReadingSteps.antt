@@ -1,5 +1,5 @@
 -- What a reader gets of a page.
-use Rattle.std.proofs.Common.{◌≡◌, ℕ, List, Bool, refl, ap, sym, ◌∙◌}
+use Rattle.std.proofs.Common.{◌≡◌, ℕ, List, Bool, refl, sym}
 use Rattle.std.specs.Prelude.{Option, Some, None, option_map}
 use Rattle.doc_http.specs.Replies.{reply_bytes}
 use Rattle.doc_hub.specs.Replies.{Renders, goal_reply, page_or_goal}

@@ -1,11 +1,10 @@
-use Rattle.std.proofs.Common.{◌≡◌, ap, sym, refl, ◌∙◌}
+use Rattle.std.proofs.Common.{ap, sym, refl, ◌∙◌}
 use Rattle.std.specs.FinMap as map
-use Rattle.std.specs.Prelude.{None, Some, if◌then◌else◌}
+use Rattle.std.specs.Prelude.{None, if◌then◌else◌}
 use Rattle.doc_http.specs.ReplyForms.{code_of}
 use Rattle.doc_http.specs.Replies.{reply_bytes}
 use Rattle.doc_store.specs.Store.{StoreState, fits_in}
 use Rattle.doc_hub.specs.Replies.{refused, status_reply}
-use Rattle.doc_hub.specs.declared.answer.Answer.{Answer}
 use Rattle.doc_hub.specs.declared.response.Edit.TheVariants as edits
 use Rattle.doc_hub.proofs.AnswerSteps.{sent_alone, sent_edited}
 use Rattle.doc_hub.proofs.PutSteps.{put_fits, put_fits_if, put_full_if, put_is_full}
