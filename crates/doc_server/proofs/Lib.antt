@@ -9,3 +9,4 @@ mod RunSteps
 mod Stops
 mod Unread
 mod WorkedExamples
+mod UnreadSteps

@@ -6,6 +6,7 @@ use Rattle.std.proofs.lemmas.Result.{err_from_is_err_and}
 use Rattle.doc_server.proofs.Opening.{of_all, stops_of_all}
 use Rattle.doc_server.proofs.ReadCounts.{never_given_up, read_before}
 use Rattle.doc_server.proofs.Results.{then_ok, then_err}
+use Rattle.doc_server.proofs.UnreadSteps.{unread_stops, unread_writes}
 use Rattle.doc_server.proofs.demo.demo.Goals as goal
 
 pub returns-clause-sent : goal.returns-clause-sent
@@ -42,3 +43,15 @@ returns-in_err-bytes-clause-reads g c =
 
 pub returns-clause-reads : goal.returns-clause-reads
 returns-clause-reads g c = read_before c.answer_all.result _ _ c.in_ok-bytes.ensures.reads c.answer_all.ensures.read
+
+pub returns-in_err-bytes-clause-fault : goal.returns-in_err-bytes-clause-fault
+returns-in_err-bytes-clause-fault g c =
+    let p = err_from_is_err_and c.from_residual-in_err-bytes.result c.from_residual-in_err-bytes.ensures.1 in
+    rw (p.1, p.2) (unread_stops (g.R.Renderer.page c.args.renderer) (g.I.Input.unread c.args.input.now)
+    (g.O.Output.written c.args.output.now) c.in_err-bytes.field-0.0 c.in_err-bytes.ensures.fault)
+
+pub returns-in_err-bytes-clause-writes : goal.returns-in_err-bytes-clause-writes
+returns-in_err-bytes-clause-writes g c =
+    let p = err_from_is_err_and c.from_residual-in_err-bytes.result c.from_residual-in_err-bytes.ensures.1 in
+    rw (p.1, p.2) (unread_writes (g.O.Output.failed c.args.output.now) _ _ (g.I.Input.unread c.args.input.now) c.in_err-bytes.field-0.0
+    c.in_err-bytes.ensures.fault)
