@@ -3,7 +3,6 @@
 
 ghost use Rattle.std.specs.Prelude.{◌≡◌, ◌∷◌, ◌++◌, codes, string_bytes, OnOk, OnErr};
 ghost use Rattle.std.specs.Io.{StartsWith};
-ghost use Rattle.doc_store.specs.Groups.{IsGroups};
 ghost use Rattle.doc_server_script.specs.Escapes.{escaped, spaceless};
 ghost use Rattle.doc_server_script.specs.Edits.{behind_commas, groups_text, move_line, put_line, remove_line};
 
@@ -12,17 +11,17 @@ use doc_heap::String;
 use doc_page::failure::Memory;
 use doc_page::path::Path;
 use doc_page::text::Text;
+use doc_store::groups::Groups;
 
-/// Writes `put PATH GROUPS TEXT`. The groups are given by their names, each once and in the order of their bytes.
+/// Writes `put PATH GROUPS TEXT`.
 #[tactic(auto, using(doc_page::proofs::BufferSteps::front_same, doc_page::proofs::BufferSteps::front_more))]
-pub fn push_put(out: &mut String, path: &Path, groups: &[Text], text: &str) -> Result<(), Memory>
-    requires { IsGroups groups.now }
+pub fn push_put(out: &mut String, path: &Path, groups: &Groups, text: &str) -> Result<(), Memory>
     ensures ok { OnOk result (string_bytes out.new
         ≡ string_bytes out.old ++ put_line path.now groups.now text.now) }
     ensures err { OnErr result (StartsWith (string_bytes out.new) (string_bytes out.old)) }
 {
     push_put_start(out, path)?;
-    push_put_rest(out, groups, text)
+    push_put_rest(out, groups.names(), text)
 }
 
 /// Writes `put PATH` and a space.

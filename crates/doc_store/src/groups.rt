@@ -141,6 +141,14 @@ impl Groups {
         })
     }
 
+    /// The names, each once and in the order of their bytes.
+    pub fn names(&self) -> &[Text]
+        ensures same { result.now ≡ self.now }
+        ensures groups { IsGroups result.now }
+    {
+        self.names.get()
+    }
+
     /// Whether the two have a group in common.
     pub fn meets(&self, others: &Groups) -> bool
         ensures { result ≡ meet self.now others.now }
