@@ -7,13 +7,15 @@ use Rattle.doc_store.specs.Sites.{page_at, view_of}
 use Rattle.doc_store.specs.Store.{StoreState}
 use Rattle.doc_store.specs.declared.groups.GroupsError.{GroupsError}
 use Rattle.doc_store.specs.declared.reader.Reader.{Reader}
+use Rattle.doc_http.specs.declared.reply.Reply.{Reply}
 use Rattle.doc_http.specs.declared.request.Request.{Request}
 use Rattle.doc_http_targets.specs.Queries.{parameter}
-use Rattle.doc_http_targets.specs.Targets.{page_rest}
+use Rattle.doc_http_targets.specs.Targets.{Route, route_of}
+use Rattle.doc_http_targets.specs.Targets as routes
 use Rattle.doc_http_targets.specs.WrittenPaths.{path_written}
 use Rattle.doc_hub.specs.Edits.{CanBeMade, puts_left}
-use Rattle.doc_hub.specs.Replies.{Renders, answer_of, response_to, on_route, by_method, method_of, put_by, put_at, put_page, has_room}
-use Rattle.doc_hub.specs.Replies.{Response, delete_at, edited, refused}
+use Rattle.doc_hub.specs.Replies.{Renders, answer_of, at_route, response_to, on_route, by_method, method_of, put_by, put_at, put_page}
+use Rattle.doc_hub.specs.Replies.{Response, delete_at, edited, has_room, read_alone, refused}
 use Rattle.doc_hub.specs.declared.method.Method.{Method}
 use Rattle.doc_hub.specs.declared.method.Method.TheVariants.{Get, Head, Put, Delete, Other}
 use Rattle.doc_hub.specs.declared.response.Edit.TheVariants as edits
@@ -72,15 +74,31 @@ module _ (store : StoreState) (reader : Reader) where
   method_can render rest request Delete = delete_if rest request reader.owner refl
   method_can render rest request Other = tt
 
-  route_can : (render : Renders) (rest : Option (List ℕ)) (request : Request)
-      → Can request.body (on_route render (view_of store.site (Some reader)) reader.owner (puts_left store.puts) rest request)
+  -- lists edit nothing
+  list_can : (reply : Reply) (text : List ℕ) (method : Method) → Can text (read_alone reply method)
+  list_can reply text Get = tt
+  list_can reply text Head = tt
+  list_can reply text Put = tt
+  list_can reply text Delete = tt
+  list_can reply text Other = tt
+
+  at_can : (render : Renders) (route : Route) (request : Request) (method : Method)
+      → Can request.body (at_route render (view_of store.site (Some reader)) reader.owner (puts_left store.puts) route request method)
+  at_can render (routes.Page rest) request method = method_can render rest request method
+  at_can render (routes.Backlinks rest) request method = list_can _ request.body method
+  at_can render routes.Contents request method = list_can _ request.body method
+  at_can render routes.Search request method = list_can _ request.body method
+  at_can render routes.Broken request method = list_can _ request.body method
+
+  route_can : (render : Renders) (route : Option Route) (request : Request)
+      → Can request.body (on_route render (view_of store.site (Some reader)) reader.owner (puts_left store.puts) route request)
   route_can render None request = tt
-  route_can render (Some rest) request = method_can render rest request (method_of request.method)
+  route_can render (Some route) request = at_can render route request (method_of request.method)
 
 response_can : (render : Renders) (store : StoreState) (reader : Option Reader) (request : Request)
     → CanBeMade store request.body (response_to render (view_of store.site reader) reader (puts_left store.puts) request).edit
 response_can render store None request = tt
-response_can render store (Some reader) request = route_can store reader render (page_rest request.target) request
+response_can render store (Some reader) request = route_can store reader render (route_of request.target) request
 
 pub answer_can_be_made : (render : Renders) (store : StoreState) (reader : Option Reader) (keep_alive : Bool) (request : Request)
     → CanBeMade store request.body (answer_of render (view_of store.site reader) reader (puts_left store.puts) keep_alive request).edit

@@ -7,19 +7,27 @@ use Rattle.doc_store.specs.Sites.{Site, View, view_of}
 use Rattle.doc_store.specs.Store.{StoreState}
 use Rattle.doc_store.specs.declared.reader.Reader.{Reader}
 use Rattle.doc_http.specs.Replies.{reply_bytes}
+use Rattle.doc_http.specs.declared.reply.Allow.TheVariants.{Read}
+use Rattle.doc_http.specs.declared.reply.Reply.{Reply}
 use Rattle.doc_http.specs.Requests.{is_bare}
 use Rattle.doc_http.specs.declared.request.Request.{Request}
-use Rattle.doc_http_targets.specs.Targets.{page_rest}
+use Rattle.doc_http_targets.specs.Targets.{Route, route_of}
 use Rattle.doc_http_targets.specs.WrittenPaths.{path_written}
-use Rattle.doc_hub.specs.AnswerSteps.{Answered, AnsweredSo, after_edit, is_head, sent_in}
+use Rattle.doc_hub.specs.AnswerSteps.{Answered, AnsweredSo, after_edit, is_head, reads, sent_in}
 use Rattle.doc_hub.specs.Edits.{store_after}
-use Rattle.doc_hub.specs.Replies.{Renders, Response, answer_of, by_method, delete_at, edited, method_of, on_route, put_by, refused}
-use Rattle.doc_hub.specs.Replies.{response_to}
+use Rattle.doc_hub.specs.Replies.{Renders, Response, answer_of, at_route, by_method, delete_at, edited, method_of, not_allowed, on_route}
+use Rattle.doc_hub.specs.Replies.{only_reply, put_by, read_alone, refused, response_to}
 use Rattle.doc_hub.specs.declared.answer.Answer.{Answer}
 use Rattle.doc_hub.specs.declared.exchange.Exchange.{Exchange}
 use Rattle.doc_hub.specs.declared.method.Method.{Method}
 use Rattle.doc_hub.specs.declared.method.Method.TheVariants.{Get, Head, Put, Delete, Other}
 use Rattle.doc_hub.specs.declared.response.Edit.{Edit}
+
+true_false : true ≡ false → ⊥
+true_false e = cc
+
+false_true : false ≡ true → ⊥
+false_true e = cc
 
 by_tests : (get head put delete : Bool) → (get ≡ true → head ≡ false)
     → is_head (if get then Get else (if head then Head else (if put then Put else (if delete then Delete else Other)))) ≡ head
@@ -101,18 +109,43 @@ module _ (render : Renders) (view : View) (left : Bool) (request : Request) wher
   pub unknown : (entry : Option Reader) → None ≡ entry → refused 401 ≡ response_to render view entry left request
   unknown entry none = ap (λ r. response_to render view r left request) none
 
-  pub unrouted : (reader : Reader) (entry : Option Reader) → Some reader ≡ entry → None ≡ page_rest request.target
+  pub unrouted : (reader : Reader) (entry : Option Reader) → Some reader ≡ entry → None ≡ route_of request.target
       → refused 404 ≡ response_to render view entry left request
   unrouted reader entry found none =
       ap (λ p. on_route render view reader.owner left p request) none ∙ ap (λ r. response_to render view r left request) found
 
 pub routed : (exchange : Exchange) (request : Request) (render : Renders) (site : Site) (left : Bool) (reader : Reader)
-    (entry : Option Reader) (rest : List ℕ)
+    (entry : Option Reader) (route : Route)
     → exchange.request.now ≡ request → exchange.method ≡ method_of request.method → Some reader ≡ entry
-    → Some rest ≡ page_rest request.target
-    → by_method render (view_of site (Some reader)) reader.owner left rest exchange.request.now exchange.method
+    → Some route ≡ route_of request.target
+    → at_route render (view_of site (Some reader)) reader.owner left route exchange.request.now exchange.method
     ≡ response_to render (view_of site entry) entry left request
-routed exchange request render site left reader entry rest same named found path =
-    (λ i. by_method render (view_of site (found i)) reader.owner left rest (same i) (named i))
+routed exchange request render site left reader entry route same named found path =
+    (λ i. at_route render (view_of site (found i)) reader.owner left route (same i) (named i))
     ∙ ap (λ p. on_route render (view_of site entry) reader.owner left p request) path
     ∙ ap (λ r. response_to render (view_of site entry) r left request) found
+
+-- ---- the response at a route
+
+module _ (exchange : Exchange) (store : StoreState) (reply : Reply) (result : Result Answer Memory) where
+  -- a list that was asked for
+  pub list_read : (method : Method) → reads method ≡ true → IfOk result (λ a. a ≡ sent_in exchange (only_reply reply))
+      → Answered exchange store (read_alone reply method) store result
+  list_read Get is told = sent_alone exchange store store exchange.request.now.body (only_reply reply) _ result told refl refl refl
+  list_read Head is told = sent_alone exchange store store exchange.request.now.body (only_reply reply) _ result told refl refl refl
+  list_read Put is told = absurd (false_true is)
+  list_read Delete is told = absurd (false_true is)
+  list_read Other is told = absurd (false_true is)
+
+  -- or that hasn't the method
+  pub list_refused : (method : Method) → reads method ≡ false
+      → IfOk result (λ a. a ≡ sent_in exchange (only_reply (not_allowed Read)))
+      → Answered exchange store (read_alone reply method) store result
+  list_refused Get is told = absurd (true_false is)
+  list_refused Head is told = absurd (true_false is)
+  list_refused Put is told =
+      sent_alone exchange store store exchange.request.now.body (only_reply (not_allowed Read)) _ result told refl refl refl
+  list_refused Delete is told =
+      sent_alone exchange store store exchange.request.now.body (only_reply (not_allowed Read)) _ result told refl refl refl
+  list_refused Other is told =
+      sent_alone exchange store store exchange.request.now.body (only_reply (not_allowed Read)) _ result told refl refl refl
