@@ -11,7 +11,7 @@ use Rattle.doc_http.specs.declared.request.Request.{Request}
 use Rattle.doc_hub.specs.declared.answer.Answer.{Answer}
 use Rattle.doc_hub.specs.declared.exchange.Exchange.{Exchange}
 use Rattle.doc_hub.specs.declared.method.Method.{Method}
-use Rattle.doc_hub.specs.declared.method.Method.TheVariants.{Get, Head}
+use Rattle.doc_hub.specs.declared.method.Method.TheVariants.{Head}
 use Rattle.doc_hub.specs.declared.response.Edit.{Edit}
 use Rattle.doc_hub.specs.Edits.{store_after}
 use Rattle.doc_hub.specs.Replies.{Response}
@@ -24,12 +24,6 @@ entry_of readers request = option_and_then (map.get readers) (bearer_of request)
 abbrev pub is_head : Method → Bool
 is_head Head = true
 is_head _ = false
-
--- whether the method only reads
-abbrev pub reads : Method → Bool
-reads Get = true
-reads Head = true
-reads _ = false
 
 -- a response as it is sent in an exchange
 abbrev pub sent_in : Exchange → Response → Answer

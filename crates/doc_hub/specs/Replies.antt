@@ -13,11 +13,14 @@ use Rattle.doc_store.specs.Store.{text_limit, page_limit}
 use Rattle.doc_store.specs.declared.groups.GroupsError.{GroupsError}
 use Rattle.doc_store.specs.declared.reader.Reader.{Reader}
 use Rattle.doc_store.specs.Sites.{View, page_at, goal_in}
-use Rattle.doc_resolve.specs.Hrefs.{shown, page_href}
-use Rattle.doc_http.specs.declared.reply.Allow.TheVariants.{Page as page_methods}
+use Rattle.doc_page_encoding.specs.Encoding.{encoded_path}
+use Rattle.doc_resolve.specs.Hrefs.{shown}
+use Rattle.doc_http.specs.declared.reply.Allow.{Allow}
+use Rattle.doc_http.specs.declared.reply.Allow.TheVariants as resources
 use Rattle.doc_http.specs.declared.reply.Reply.{Reply}
 use Rattle.doc_http.specs.declared.request.Request.{Request}
 use Rattle.doc_http.specs.Replies.{reply_bytes}
+use Rattle.doc_http.specs.ReplyForms.{content_reply}
 use Rattle.doc_http.specs.Requests.{is_bare}
 use Rattle.doc_http_targets.specs.Queries.{parameter}
 use Rattle.doc_http_targets.specs.Targets.{Route, route_of}
@@ -147,30 +150,39 @@ abbrev pub delete_at : View → Option (List ℕ) → Response
 delete_at view None = refused 404
 delete_at view (Some path) = if is_some (page_at view.pages path) then edited 204 (edits.Remove path) else refused 404
 
--- the method; a page is written by owners alone, whatever its path
-abbrev pub by_method : Renders → View → Bool → Bool → List ℕ → Request → Method → Response
-by_method render view owner puts_left rest request Get = only_reply (at_path render view (path_written rest))
-by_method render view owner puts_left rest request Head = only_reply (at_path render view (path_written rest))
-by_method render view owner puts_left rest request Put = if owner then put_by view puts_left rest request else refused 403
-by_method render view owner puts_left rest request Delete = if owner then delete_at view (path_written rest) else refused 403
-by_method render view owner puts_left rest request Other = only_reply (not_allowed resources.Page)
+-- another method than GET and HEAD at a page, which owners alone write, whatever its path
+abbrev pub edit_page : View → Bool → Bool → List ℕ → Request → Method → Response
+edit_page view owner puts_left rest request Put = if owner then put_by view puts_left rest request else refused 403
+edit_page view owner puts_left rest request Delete = if owner then delete_at view (path_written rest) else refused 403
+edit_page view owner puts_left rest request _ = only_reply (not_allowed resources.Page)
 
--- a list is read alone, by whatever reader
-abbrev pub read_alone : Reply → Method → Response
-read_alone reply Get = only_reply reply
-read_alone reply Head = only_reply reply
-read_alone reply Put = only_reply (not_allowed resources.Read)
-read_alone reply Delete = only_reply (not_allowed resources.Read)
-read_alone reply Other = only_reply (not_allowed resources.Read)
+-- ---- what a route leads to
 
--- what a route leads to, by the method
+-- GET and HEAD
+abbrev pub reply_at : Renders → View → Route → Request → Reply
+reply_at render view (routes.Page rest) request = at_path render view (path_written rest)
+reply_at render view (routes.Backlinks rest) request = backlinks_at render view (path_written rest)
+reply_at render view routes.Contents request = html_reply (contents_body render view)
+reply_at render view routes.Search request = search_at render view request.target
+reply_at render view routes.Broken request = text_reply (report_body render view)
+
+-- the other methods; lists are read alone, by owners too
+abbrev pub edit_at : View → Bool → Bool → Route → Request → Method → Response
+edit_at view owner puts_left (routes.Page rest) request method = edit_page view owner puts_left rest request method
+edit_at view owner puts_left (routes.Backlinks rest) request method = only_reply (not_allowed resources.Read)
+edit_at view owner puts_left routes.Contents request method = only_reply (not_allowed resources.Read)
+edit_at view owner puts_left routes.Search request method = only_reply (not_allowed resources.Read)
+edit_at view owner puts_left routes.Broken request method = only_reply (not_allowed resources.Read)
+
+-- whether the method only reads
+abbrev pub reads : Method → Bool
+reads Get = true
+reads Head = true
+reads _ = false
+
 abbrev pub at_route : Renders → View → Bool → Bool → Route → Request → Method → Response
-at_route render view owner puts_left (routes.Page rest) request method = by_method render view owner puts_left rest request method
-at_route render view owner puts_left (routes.Backlinks rest) request method =
-    read_alone (backlinks_at render view (path_written rest)) method
-at_route render view owner puts_left routes.Contents request method = read_alone (html_reply (contents_body render view)) method
-at_route render view owner puts_left routes.Search request method = read_alone (search_at render view request.target) method
-at_route render view owner puts_left routes.Broken request method = read_alone (text_reply (report_body render view)) method
+at_route render view owner puts_left route request method =
+    if reads method then only_reply (reply_at render view route request) else edit_at view owner puts_left route request method
 
 -- the route, then the method
 abbrev pub on_route : Renders → View → Bool → Bool → Option Route → Request → Response

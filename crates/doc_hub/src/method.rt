@@ -1,8 +1,8 @@
 //! Methods of requests.
 
 ghost use Rattle.std.specs.Prelude.{◌≡◌};
-ghost use Rattle.doc_hub.specs.AnswerSteps.{is_head, reads};
-ghost use Rattle.doc_hub.specs.Replies.{method_of};
+ghost use Rattle.doc_hub.specs.AnswerSteps.{is_head};
+ghost use Rattle.doc_hub.specs.Replies.{method_of, reads};
 
 /// What a request asks for (RFC 9110, section 9.3).
 #[derive(Clone, Copy, Debug, PartialEq, Eq)]
