@@ -1,9 +1,9 @@
 -- How often texts are rendered, event by event.
 use Rattle.std.proofs.Common.{◌≡◌, ◌+◌, ◌++◌, ◌∷◌, [], ℕ, List, Bool, true, false, ap, sym, ◌∙◌, subst, refl, arith}
-use Rattle.std.specs.Prelude.{◌≢◌, ◌||◌, Result, Ok, Err, nat_lt, if◌then◌else◌}
+use Rattle.std.specs.Prelude.{◌||◌, Result, Ok, Err, nat_lt, if◌then◌else◌}
 use Rattle.std.specs.FinMap as map
 use Rattle.std.specs.List.{list_any}
-use Rattle.doc_page.specs.Refusals.{Gives, IsAnswer}
+use Rattle.doc_page.specs.Refusals.{Gives}
 use Rattle.doc_shelf.specs.Shelves.{rendered_for}
 use Rattle.doc_store.specs.Pages.{Page}
 use Rattle.doc_store.specs.Store.{StoreState, fits_in, may_move, moved_by, put_by, with_page}
@@ -16,24 +16,20 @@ use Rattle.doc_store.specs.declared.store.EditError.{EditError}
 use Rattle.doc_store.specs.declared.store.EditError.TheVariants as edit_errors
 use Rattle.doc_store.specs.declared.store.Put.{Put}
 use Rattle.doc_store.proofs.StoreSteps.{taken_out}
-use Rattle.doc_hub.specs.Connections.{new_connection}
 use Rattle.doc_hub.specs.Counts.{Counted, CountsFor, RendersPuts, moves_by, moves_in, ran_out}
-use Rattle.doc_hub.specs.Events.{Said, connecting, edit_refusal, moving, outcome_of, pushing, putting, setting, stepping}
+use Rattle.doc_hub.specs.Events.{Said, connecting, moving, outcome_of, pushing, putting, setting}
 use Rattle.doc_hub.specs.Replies.{Renders}
 use Rattle.doc_hub.specs.Runs.{Happens}
-use Rattle.doc_hub.specs.Worlds.{World, connected, last_id, store_of, with_store, world_moved, world_pushed, world_put, world_reader_set}
+use Rattle.doc_hub.specs.Worlds.{World, connected, last_id, store_of, with_store, world_pushed, world_reader_set}
 use Rattle.doc_hub.specs.declared.event.ConnId.{ConnId}
 use Rattle.doc_hub.specs.declared.event.Event.{Event}
 use Rattle.doc_hub.specs.declared.event.Event.TheVariants as events
-use Rattle.doc_hub.specs.declared.event.Step.{Step}
 use Rattle.doc_hub.specs.declared.outcome.Outcome.{Outcome}
-use Rattle.doc_hub.specs.declared.outcome.Outcome.TheVariants as outcomes
 use Rattle.doc_hub.specs.declared.refusal.ConnectError.{ConnectError}
 use Rattle.doc_hub.specs.declared.refusal.ConnectError.TheVariants as connect_errors
 use Rattle.doc_hub.specs.declared.refusal.PushError.{PushError}
 use Rattle.doc_hub.specs.declared.refusal.PushError.TheVariants as push_errors
-use Rattle.doc_hub.specs.declared.refusal.Refusal.{Refusal}
-use Rattle.doc_hub.specs.declared.refusal.StepError.{StepError}
+use Rattle.doc_hub.proofs.PutCounts.{connected_if}
 
 -- ---- numbers
 
@@ -70,11 +66,7 @@ gives_same : {X E : Type 0} (memory : E) (given : World × Result X E) (w v : Wo
 gives_same {X = X} {E = E} memory given w v (Ok x) same gives = sym (ap (λ (q : World × Result X E). q.0.puts) gives) ∙ same
 gives_same memory given w v (Err e) same gives = ap (λ (x : World). x.puts) gives.1
 
-connect_same : (w : World) (t : Bool)
-    → ((if t then (
-      record w { given = w.given + 1; connections = map.insert w.connections (w.given + 1) new_connection },
-      Ok (record { 0 = w.given + 1 }),
-    ) else (w, Err connect_errors.NoIds)) : World × Result ConnId ConnectError).0.puts ≡ w.puts
+connect_same : (w : World) (t : Bool) → (connected_if w t).0.puts ≡ w.puts
 connect_same w true = refl
 connect_same w false = refl
 
@@ -177,20 +169,20 @@ any_parts (first ∷ told) last is =
     let (before, behind) = any_parts told last rest in
     (ap (λ b. b || list_any ran_out told) here ∙ before, behind)
 
-add_zero : (n : ℕ) → n + 0 ≡ n
-add_zero n = omega arith
+swap_zero : (n : ℕ) → n + 0 ≡ 0 + n
+swap_zero n = omega arith
 
 add_more : (a b c : ℕ) → a + (b + c) ≡ a + b + c
 add_more a b c = omega arith
 
 moves_more : (told : List Outcome) (last : Outcome) → moves_in (told ++ last ∷ []) ≡ moves_in told + moves_by last
-moves_more [] last = add_zero (moves_by last)
+moves_more [] last = swap_zero (moves_by last)
 moves_more (first ∷ told) last =
     ap (λ n. moves_by first + n) (moves_more told last) ∙ add_more (moves_by first) (moves_in told) (moves_by last)
 
 both : (before so_far after accepted accepted' accepted'' moves more all : ℕ) → so_far + moves + accepted ≡ before + accepted'
     → after + more + accepted' ≡ so_far + accepted'' → all ≡ moves + more → after + all + accepted ≡ before + accepted''
-both before so_far after accepted accepted' accepted'' moves more all first then sum = omega arith
+both before so_far after accepted accepted' accepted'' moves more all here last sum = omega arith
 
 -- before the first event
 pub no_events : (rendered puts : ℕ) (told : List Outcome) → told ≡ [] → RendersPuts rendered puts rendered puts (moves_in told)

@@ -450,15 +450,6 @@ broken_for_an_owner : listed owner_view owner (asked (codes "GET") (codes "/brok
 unfolding computing
 broken_for_an_owner = refl
 
--- a query without words is bad
-search_for_nothing : listed staff_view ann (asked (codes "GET") (codes "/search")) ≡ only bad
-unfolding computing
-search_for_nothing = refl
-
-search_by_another_name : listed staff_view ann (asked (codes "GET") (codes "/search?p=kiwi")) ≡ only bad
-unfolding computing
-search_by_another_name = refl
-
 -- lists are read alone, by owners too; the reader comes before that, and the method before the path and the query
 abbrev only_read : List ℕ
 only_read = codes

@@ -1,4 +1,4 @@
-use Rattle.std.proofs.Common.{Some, ap, sym, ◌∙◌}
+use Rattle.std.proofs.Common.{Some, sym, ◌∙◌}
 use Rattle.doc_http_targets.specs.Targets.{route_shown}
 use Rattle.doc_store.specs.Sites.{view_of}
 use Rattle.doc_hub.specs.Edits.{puts_left}
