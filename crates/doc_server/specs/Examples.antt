@@ -7,8 +7,8 @@ use Rattle.std.specs.Io.KnownBytes.{Keeps}
 use Rattle.doc_server_streams.specs.Streams.{AppendsPrefix}
 use Rattle.doc_server.specs.Rendering.{rendered, OfText}
 use Rattle.doc_server.specs.declared.count.Count.{Count}
-use Rattle.doc_server.specs.declared.fault.Fault.{Fault}
-use Rattle.doc_server.specs.declared.fault.Fault.TheVariants as faults
+use Rattle.doc_server_input.specs.declared.fault.Fault.{Fault}
+use Rattle.doc_server_input.specs.declared.fault.Fault.TheVariants as faults
 
 -- an example: a text, and the HTML that it should be
 pub record Example : Type 0 where

@@ -3,6 +3,4 @@ pub mod DemoSite
 pub mod DemoSteps
 pub mod ExampleSteps
 pub mod Examples
-pub mod Faults
-pub mod InputSteps
 pub mod Rendering

@@ -6,7 +6,6 @@ pub mod demo;
 pub mod demo_site;
 mod example_reader;
 pub mod examples;
-pub mod fault;
-pub mod input;
-pub mod output;
 pub mod rendering;
+
+pub use doc_server_input::{fault, input, output};

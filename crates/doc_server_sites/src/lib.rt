@@ -1,0 +1,2 @@
+//! The commands of a configured site: its report, and a script of events.
+#![tactic(auto)]
