@@ -7,7 +7,7 @@ ghost use Rattle.doc_server.specs.Examples.{no_examples, one_more, passes, place
 ghost use Rattle.doc_server.specs.ExampleSteps.{count_after, line_before, place_of, HasRoom};
 ghost use Rattle.doc_server_input.specs.OutputSteps.{StopsAt};
 ghost use Rattle.doc_server_input.specs.Faults.{failed_writes_after, IsNoText, ReadsFailed};
-ghost use Rattle.doc_server.specs.Rendering.{OfText};
+ghost use Rattle.doc_server_input.specs.Inputs.{OfText};
 
 use crate::count::Count;
 use crate::example_reader::ExampleReader;
