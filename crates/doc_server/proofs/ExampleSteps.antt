@@ -11,11 +11,13 @@ use Rattle.std.specs.Io.KnownBytes.{Appends, Keeps}
 use Rattle.std.proofs.KnownBytes.{Appends-nil, Appends-trans, Appends-kept}
 use Rattle.doc_server.specs.Examples.{Example, Place, Between, tab_or, meant, lines, onto, example_before, place_after, examples_from}
 use Rattle.doc_server.specs.Examples.{examples_of, passes, one_more, example_line, lines_from, count_from, no_examples, count_of}
-use Rattle.doc_server.specs.ExampleSteps.{line_before, count_after, StopsAt, HasRoom, IsAt}
+use Rattle.doc_server.specs.ExampleSteps.{line_before, count_after, HasRoom, IsAt}
+use Rattle.doc_server_input.specs.OutputSteps.{StopsAt}
+use Rattle.doc_server_input.proofs.Prefixes.{front_is_prefix, prefix_behind, stops_behind}
 use Rattle.doc_server_streams.specs.Streams.{AppendsPrefix}
 use Rattle.doc_server.specs.declared.count.Count.{Count}
-use Rattle.doc_server.specs.declared.fault.Fault.{Fault}
-use Rattle.doc_server.specs.declared.fault.Fault.TheVariants as faults
+use Rattle.doc_server_input.specs.declared.fault.Fault.{Fault}
+use Rattle.doc_server_input.specs.declared.fault.Fault.TheVariants as faults
 
 -- a step of an iterator takes the first of the items that it yields
 pub next_item : {S A B : Type 0} (steps : S → Option A → S → Type 0) (v : A → B) (s t : S) (x : A) (items : List B)
@@ -50,35 +52,6 @@ unfolding meant
 line_pushed old before after line items is none pushed =
     pushed ∙ ap (λ l. l ++ 10 ∷ []) (sym (is ∙ ap (λ l. before ++ encode_utf8_all (map tab_or l)) none ∙ append-nil before))
     ∙ append_assoc old (encode_utf8_all (map tab_or (chars line))) (10 ∷ [])
-
--- ---- prefixes
-
--- what stands at the front is a prefix
-pub front_is_prefix : (old new : Option (List ℕ)) (whole front back : List ℕ) → whole ≡ front ++ back → Appends old new front
-    → AppendsPrefix old new whole
-front_is_prefix old new whole front back is grows = (
-  length front + 0,
-  subst (Appends old new) (sym (ap (take (length front + 0)) is ∙ take-append-add front back 0 ∙ append-nil front)) grows,
-)
-
--- a prefix of what comes next, behind what is there already
-pub prefix_behind : (old mid new : Option (List ℕ)) (whole sent next more : List ℕ) → whole ≡ sent ++ (next ++ more) → Appends old mid sent
-    → AppendsPrefix mid new next → AppendsPrefix old new whole
-prefix_behind old mid new whole sent next more is before (n, grows) =
-    let front : List ℕ = sent ++ take n next in
-    let split : whole ≡ front ++ (drop n next ++ more) = is ∙ ap (λ l. sent ++ (l ++ more)) (sym (take-append-drop n next))
-    ∙ ap (λ l. sent ++ l) (append_assoc (take n next) (drop n next) more)
-    ∙ sym (append_assoc sent (take n next) (drop n next ++ more)) in
-    front_is_prefix old new whole front (drop n next ++ more) split (Appends-trans old mid new sent (take n next) before grows)
-
-pub stops_behind : (old mid new : Option (List ℕ)) (whole sent next more : List ℕ) (fault : Fault) → whole ≡ sent ++ (next ++ more)
-    → Appends old mid sent → StopsAt mid new next fault → StopsAt old new whole fault
-stops_behind old mid new whole sent next more faults.CannotWrite is before stops = prefix_behind old mid new whole sent next more is before
-    stops
-stops_behind old mid new whole sent next more faults.Memory is before stops = prefix_behind old mid new whole sent next more is before stops
-stops_behind old mid new whole sent next more faults.Usage is before stops = absurd stops
-stops_behind old mid new whole sent next more faults.Refused is before stops = absurd stops
-stops_behind old mid new whole sent next more (faults.CannotRead name) is before stops = absurd stops
 
 -- ---- lines
 

@@ -4,7 +4,6 @@ mod Opening
 mod Puts
 mod ReadCounts
 mod Replies
-mod Results
 mod RunSteps
 mod Stops
 mod Unread

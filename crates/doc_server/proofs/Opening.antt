@@ -10,8 +10,8 @@ use Rattle.doc_hub.specs.declared.event.Event.TheVariants as events
 use Rattle.doc_hub.specs.declared.outcome.Outcome.TheVariants as outcomes
 use Rattle.doc_hub.specs.declared.event.ConnId.{ConnId}
 use Rattle.doc_hub.specs.declared.refusal.ConnectError.{ConnectError}
-use Rattle.doc_server.specs.declared.fault.Fault.{Fault}
-use Rattle.doc_server.specs.declared.fault.Fault.TheVariants as faults
+use Rattle.doc_server_input.specs.declared.fault.Fault.{Fault}
+use Rattle.doc_server_input.specs.declared.fault.Fault.TheVariants as faults
 use Rattle.doc_server.specs.DemoSite.{demo_world}
 use Rattle.doc_server.specs.Demo.{AreReplies, RunSends, StopsDemo}
 use Rattle.doc_server.specs.DemoSteps.{StepsSend, StopsReplies}
@@ -71,6 +71,11 @@ pub stopped : (render p1 p2 : Renders) (w0 w1 w2 : World) (id : ConnId) (bytes :
     → Happens render w0 events.Connect w1 (Ok id) → Happens p1 w1 (events.Push id bytes) w2 (Ok tt) → StopsReplies p2 w2 id.0 old new fault
     → StopsDemo render (Some bytes) old new fault
 stopped render p1 p2 w0 w1 w2 id bytes old new faults.Usage e1 e2 is made taken stops = stops
+stopped render p1 p2 w0 w1 w2 id bytes old new faults.Config e1 e2 is made taken stops = stops
+stopped render p1 p2 w0 w1 w2 id bytes old new faults.BadTable e1 e2 is made taken stops = stops
+stopped render p1 p2 w0 w1 w2 id bytes old new faults.UnknownToken e1 e2 is made taken stops = stops
+stopped render p1 p2 w0 w1 w2 id bytes old new faults.Socket e1 e2 is made taken stops = stops
+stopped render p1 p2 w0 w1 w2 id bytes old new (faults.BadScriptLine line) e1 e2 is made taken stops = stops
 stopped render p1 p2 w0 w1 w2 id bytes old new (faults.CannotRead name) e1 e2 is made taken stops = absurd stops
 stopped render p1 p2 w0 w1 w2 id bytes old new faults.Refused e1 e2 is made taken stops = absurd stops
 stopped render p1 p2 w0 w1 w2 id bytes old new faults.CannotWrite e1 e2 is made taken (v, sent) =
@@ -98,6 +103,11 @@ pub stops_of_all : (render page : Renders) (bytes : List ℕ) (input old new : O
     → IfSome input (λ left. bytes ≡ left)
     → StopsDemo page (Some bytes) old new fault → StopsDemo render input old new fault
 stops_of_all render page bytes input old new faults.Usage same all stops = stops
+stops_of_all render page bytes input old new faults.Config same all stops = stops
+stops_of_all render page bytes input old new faults.BadTable same all stops = stops
+stops_of_all render page bytes input old new faults.UnknownToken same all stops = stops
+stops_of_all render page bytes input old new faults.Socket same all stops = stops
+stops_of_all render page bytes input old new (faults.BadScriptLine line) same all stops = stops
 stops_of_all render page bytes input old new (faults.CannotRead name) same all stops = stops
 stops_of_all render page bytes input old new faults.Refused same all (long, keeps) = (too_long bytes input all long, keeps)
 stops_of_all render page bytes input old new faults.CannotWrite same all stops = of_all render page bytes input (AreReplies 1)

@@ -17,8 +17,8 @@ use Rattle.doc_hub.specs.declared.event.Step.TheVariants as steps
 use Rattle.doc_server.specs.Demo.{Sends, Ends, IsStep, AreReplies}
 use Rattle.doc_server.specs.DemoSteps.{SendsNext, StopsNext, StepsSend, SendsToEnd, StopsReplies}
 use Rattle.doc_server_streams.specs.Streams.{AppendsPrefix}
-use Rattle.doc_server.specs.declared.fault.Fault.{Fault}
-use Rattle.doc_server.specs.declared.fault.Fault.TheVariants as faults
+use Rattle.doc_server_input.specs.declared.fault.Fault.{Fault}
+use Rattle.doc_server_input.specs.declared.fault.Fault.TheVariants as faults
 use Rattle.doc_server.proofs.RunSteps.{one_more, sent_more}
 use Rattle.doc_server.proofs.Unread.{unread_len, Left, reply_takes}
 
@@ -198,6 +198,11 @@ pub replies_stopped : (render page : Renders) (w v u : World) (id : ℕ) (old mi
     → Replied render w id v old mid → StopsNext page v id u mid new fault
     → StopsReplies render w id old new fault
 replies_stopped render page w v u id old mid new faults.Usage same sent stops = stops
+replies_stopped render page w v u id old mid new faults.Config same sent stops = stops
+replies_stopped render page w v u id old mid new faults.BadTable same sent stops = stops
+replies_stopped render page w v u id old mid new faults.UnknownToken same sent stops = stops
+replies_stopped render page w v u id old mid new faults.Socket same sent stops = stops
+replies_stopped render page w v u id old mid new (faults.BadScriptLine line) same sent stops = stops
 replies_stopped render page w v u id old mid new (faults.CannotRead name) same sent stops = absurd stops
 replies_stopped render page w v u id old mid new faults.Refused same sent stops = absurd stops
 replies_stopped render page w v u id old mid new faults.Memory same (replies, runs, all, p)

@@ -13,8 +13,8 @@ use Rattle.doc_hub.specs.declared.event.ConnId.{ConnId}
 use Rattle.doc_hub.specs.declared.refusal.ConnectError.{ConnectError}
 use Rattle.doc_hub.specs.declared.refusal.PushError.{PushError}
 use Rattle.doc_hub.specs.declared.refusal.PushError.TheVariants as push_errors
-use Rattle.doc_server.specs.declared.fault.Fault.{Fault}
-use Rattle.doc_server.specs.declared.fault.Fault.TheVariants as faults
+use Rattle.doc_server_input.specs.declared.fault.Fault.{Fault}
+use Rattle.doc_server_input.specs.declared.fault.Fault.TheVariants as faults
 use Rattle.doc_server.specs.DemoSite.{demo_world}
 use Rattle.doc_server.specs.Demo.{StopsDemo}
 use Rattle.doc_server.specs.DemoSteps.{IsMade, StopsCall}
@@ -28,6 +28,11 @@ no_error x e is = subst T (ap is_ok is) tt
 stop_unrefused : {X E : Type 0} (r : Result X E) (x : X) (render : Renders) (input old : Option (List ℕ)) (fault : Fault) → r ≡ Ok x
     → StopsCall r fault → StopsDemo render input old old fault
 stop_unrefused r x render input old faults.Usage is stops = stops
+stop_unrefused r x render input old faults.Config is stops = stops
+stop_unrefused r x render input old faults.BadTable is stops = stops
+stop_unrefused r x render input old faults.UnknownToken is stops = stops
+stop_unrefused r x render input old faults.Socket is stops = stops
+stop_unrefused r x render input old (faults.BadScriptLine line) is stops = stops
 stop_unrefused r x render input old (faults.CannotRead name) is stops = absurd stops
 stop_unrefused r x render input old faults.CannotWrite is stops = absurd stops
 stop_unrefused r x render input old faults.Refused is stops = absurd (subst (λ (s : Result _ _). StopsCall s faults.Refused) is stops)
@@ -61,6 +66,11 @@ stop_push_by : (render : Renders) (bytes : List ℕ) (old : Option (List ℕ)) (
     → (cs : Connections) (id : ℕ) → StopsCall (with_pushed cs id (pushed_if new full).0 (pushed_if new full).1).1 fault
     → StopsDemo render (Some bytes) old old fault
 stop_push_by render bytes old full new faults.Usage is cs id stops = absurd stops
+stop_push_by render bytes old full new faults.Config is cs id stops = absurd stops
+stop_push_by render bytes old full new faults.BadTable is cs id stops = absurd stops
+stop_push_by render bytes old full new faults.UnknownToken is cs id stops = absurd stops
+stop_push_by render bytes old full new faults.Socket is cs id stops = absurd stops
+stop_push_by render bytes old full new (faults.BadScriptLine line) is cs id stops = absurd stops
 stop_push_by render bytes old full new (faults.CannotRead name) is cs id stops = absurd stops
 stop_push_by render bytes old full new faults.CannotWrite is cs id stops = absurd stops
 stop_push_by render bytes old full new faults.Memory is cs id stops = inl (Keeps-refl old)

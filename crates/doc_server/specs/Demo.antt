@@ -12,8 +12,8 @@ use Rattle.doc_hub.specs.declared.outcome.Outcome.{Outcome}
 use Rattle.doc_hub.specs.declared.outcome.Outcome.TheVariants as outcomes
 use Rattle.doc_server.specs.DemoSite.{demo_world}
 use Rattle.doc_server_streams.specs.Streams.{AppendsPrefix}
-use Rattle.doc_server.specs.declared.fault.Fault.{Fault}
-use Rattle.doc_server.specs.declared.fault.Fault.TheVariants as faults
+use Rattle.doc_server_input.specs.declared.fault.Fault.{Fault}
+use Rattle.doc_server_input.specs.declared.fault.Fault.TheVariants as faults
 
 -- a step sent a reply
 abbrev pub Sends : Outcome → Type 0
@@ -69,4 +69,4 @@ StopsDemo render input old new (faults.CannotRead called) = (string_bytes called
 StopsDemo render input old new faults.Refused = IfSome input (λ left. backlog_limit < length left) × Keeps old new
 StopsDemo render input old new faults.CannotWrite = RunSends render input (AreReplies 1) (AppendsPrefix old new)
 StopsDemo render input old new faults.Memory = Keeps old new ⊎ RunSends render input (AreReplies 1) (Appends old new)
-StopsDemo render input old new faults.Usage = ⊥
+StopsDemo render input old new fault = ⊥

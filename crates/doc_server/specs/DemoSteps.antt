@@ -10,8 +10,8 @@ use Rattle.doc_hub.specs.declared.outcome.Outcome.{Outcome}
 use Rattle.doc_hub.specs.declared.connection.Connection.{Connection}
 use Rattle.doc_server.specs.Demo.{Sends, Ends, AreReplies, StepsToEnd}
 use Rattle.doc_server_streams.specs.Streams.{AppendsPrefix}
-use Rattle.doc_server.specs.declared.fault.Fault.{Fault}
-use Rattle.doc_server.specs.declared.fault.Fault.TheVariants as faults
+use Rattle.doc_server_input.specs.declared.fault.Fault.{Fault}
+use Rattle.doc_server_input.specs.declared.fault.Fault.TheVariants as faults
 
 -- the connection was made
 abbrev pub IsMade : World → ℕ → Type 0

@@ -2,15 +2,12 @@
 use Rattle.std.specs.Prelude.{◌≡◌, ◌≤◌, ◌+◌, ℕ, List, [], ◌++◌, length, Option, Some, None, string_bytes}
 use denote.Ref.{Bor}
 use Rattle.std.specs.Io.KnownBytes.{Appends}
-use Rattle.doc_server_streams.specs.Streams.{AppendsPrefix}
 use Rattle.doc_server.specs.Examples.{Example, Place, Between, InInput, InOutput, examples_from, examples_of, passes, one_more}
 use Rattle.doc_server.specs.Examples.{example_line, lines_from, count_from, no_examples, count_of}
 use Rattle.doc_server.specs.declared.count.Count.{Count}
 use Rattle.doc_server.specs.declared.example_reader.Part.{Part}
 use Rattle.doc_server.specs.declared.example_reader.Part.TheVariants as parts
 use Rattle.doc_server.specs.declared.example_reader.ExampleReader.{ExampleReader}
-use Rattle.doc_server.specs.declared.fault.Fault.{Fault}
-use Rattle.doc_server.specs.declared.fault.Fault.TheVariants as faults
 
 -- the place that a reader of examples is at
 abbrev pub place_in : Part → List ℕ → List ℕ → Place
@@ -33,12 +30,6 @@ line_before count (Some example) = example_line count (passes example)
 abbrev pub count_after : Count → Option Example → Count
 count_after count None = count
 count_after count (Some example) = one_more count (passes example)
-
--- The output can't be written, or memory ran out, and it grew by a prefix of what is wanted.
-abbrev pub StopsAt : Option (List ℕ) → Option (List ℕ) → List ℕ → Fault → Type 0
-StopsAt old new wanted faults.CannotWrite = AppendsPrefix old new wanted
-StopsAt old new wanted faults.Memory = AppendsPrefix old new wanted
-StopsAt old new wanted fault = ⊥
 
 -- there is a number for one example more
 abbrev pub HasRoom : Count → Type 0

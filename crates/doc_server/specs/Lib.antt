@@ -1,8 +1,7 @@
 pub mod Demo
 pub mod DemoSite
 pub mod DemoSteps
+pub mod EntityTables
 pub mod ExampleSteps
 pub mod Examples
-pub mod Faults
-pub mod InputSteps
 pub mod Rendering

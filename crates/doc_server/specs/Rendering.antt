@@ -1,20 +1,16 @@
 -- Texts as HTML in UTF-8, by their characters (CommonMark 0.31.2).
-use Rattle.std.specs.Prelude.{◌≡◌, ℕ, List, chars, codes, encode_utf8_all, string_bytes, Option, IfSome}
-use Rattle.std.specs.Str.{IsUtf8}
+use Rattle.std.specs.Prelude.{◌≡◌, ℕ, List, chars, codes, encode_utf8_all, string_bytes, Option}
 use Rattle.std.specs.Io.KnownBytes.{Appends, Keeps}
 use Rattle.doc_rules.specs.Entities.{built_in}
 use Rattle.doc_rules.specs.Html.{rendered_plain}
 use Rattle.doc_server_streams.specs.Streams.{AppendsPrefix}
-use Rattle.doc_server.specs.declared.fault.Fault.{Fault}
-use Rattle.doc_server.specs.declared.fault.Fault.TheVariants as faults
+use Rattle.doc_server_input.specs.Inputs.{OfText}
+use Rattle.doc_server_input.specs.declared.fault.Fault.{Fault}
+use Rattle.doc_server_input.specs.declared.fault.Fault.TheVariants as faults
 
 -- the HTML of a text, with the built-in character references
 unfoldable pub rendered : List ℕ → List ℕ
 rendered text = encode_utf8_all (rendered_plain built_in (chars text))
-
--- Something holds of all that the input had left, where that is known; it is UTF-8.
-abbrev pub OfText : Option (List ℕ) → (List ℕ → Type 0) → Type 0
-OfText input Holds = (text : List ℕ) × IfSome input (λ left. text ≡ left) × IsUtf8 text × Holds text
 
 -- The output grows by the HTML of the input.
 abbrev pub Renders : Option (List ℕ) → Option (List ℕ) → Option (List ℕ) → Type 0

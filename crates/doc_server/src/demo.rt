@@ -7,13 +7,13 @@ ghost use Rattle.doc_hub.specs.Worlds.{connected, world_pushed};
 ghost use Rattle.doc_server.specs.Demo.{Demonstrates, StopsDemo};
 ghost use Rattle.doc_server.specs.DemoSite.{demo_world};
 ghost use Rattle.doc_server.specs.DemoSteps.{IsMade, SendsNext, SendsToEnd, StopsCall, StopsNext, StopsReplies};
-ghost use Rattle.doc_server.specs.Faults.{failed_writes_after, ReadsFailed};
-ghost use Rattle.doc_server.specs.InputSteps.{IsRead};
+ghost use Rattle.doc_server_input.specs.Faults.{failed_writes_after, ReadsFailed};
+ghost use Rattle.doc_server_input.specs.InputSteps.{IsRead};
 
 use crate::demo_site::demo_hub;
-use crate::fault::Fault;
-use crate::input::read_whole;
-use crate::output::{flush, send};
+use doc_server_input::fault::Fault;
+use doc_server_input::input::read_whole;
+use doc_server_input::output::{flush, send};
 use doc_heap::Heap;
 use doc_hub::event::{ConnId, Step};
 use doc_hub::hub::Hub;

@@ -7,7 +7,7 @@ ghost use Rattle.doc_hub.specs.Worlds.{new_world};
 ghost use Rattle.doc_server.specs.DemoSite.{demo_readers, demo_world, with_page, IsAccepted};
 ghost use Rattle.doc_server.specs.DemoSteps.{StopsCall};
 
-use crate::fault::Fault;
+use doc_server_input::fault::Fault;
 use doc_heap::Heap;
 use doc_hub::hub::Hub;
 use doc_hub::refusal::HubError;

@@ -4,15 +4,16 @@ ghost use Rattle.std.specs.Prelude.{◌≡◌, true, IfOk, IfErr, OnOk, string_b
 ghost use Rattle.std.specs.Io.KnownBytes.{Appends};
 ghost use Rattle.doc_server.specs.Examples.{count_line, count_of, example_before, example_line, examples_of, lines_from};
 ghost use Rattle.doc_server.specs.Examples.{no_examples, one_more, passes, place_after, report, status_of, StopsExamples};
-ghost use Rattle.doc_server.specs.ExampleSteps.{count_after, line_before, place_of, HasRoom, StopsAt};
-ghost use Rattle.doc_server.specs.Faults.{failed_writes_after, IsNoText, ReadsFailed};
-ghost use Rattle.doc_server.specs.Rendering.{OfText};
+ghost use Rattle.doc_server.specs.ExampleSteps.{count_after, line_before, place_of, HasRoom};
+ghost use Rattle.doc_server_input.specs.OutputSteps.{StopsAt};
+ghost use Rattle.doc_server_input.specs.Faults.{failed_writes_after, IsNoText, ReadsFailed};
+ghost use Rattle.doc_server_input.specs.Inputs.{OfText};
 
 use crate::count::Count;
 use crate::example_reader::ExampleReader;
-use crate::fault::Fault;
-use crate::input::read_text;
-use crate::output::{flush, send};
+use doc_server_input::fault::Fault;
+use doc_server_input::input::read_text;
+use doc_server_input::output::{flush, send};
 use crate::rendering::html_of;
 use doc_heap::Heap;
 use doc_server_streams::input::Input;

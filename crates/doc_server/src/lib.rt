@@ -4,9 +4,10 @@
 pub mod count;
 pub mod demo;
 pub mod demo_site;
+pub mod entity_table;
 mod example_reader;
 pub mod examples;
-pub mod fault;
-pub mod input;
-pub mod output;
 pub mod rendering;
+
+pub use doc_server_input::{fault, input, output};
+pub use doc_server_sites::{check, replay, site};

@@ -1,12 +1,12 @@
 //! The command `render`: standard input as HTML.
 
 ghost use Rattle.std.specs.Prelude.{◌≡◌, true, string_bytes, IfOk, IfErr, OnOk};
-ghost use Rattle.doc_server.specs.Faults.{failed_writes_after, IsNoText, ReadsFailed};
+ghost use Rattle.doc_server_input.specs.Faults.{failed_writes_after, IsNoText, ReadsFailed};
 ghost use Rattle.doc_server.specs.Rendering.{rendered, Renders, StopsRendering};
 
-use crate::fault::Fault;
-use crate::input::read_text;
-use crate::output::{flush, send};
+use doc_server_input::fault::Fault;
+use doc_server_input::input::read_text;
+use doc_server_input::output::{flush, send};
 use doc_heap::{Heap, String};
 use doc_html::render_plain;
 use doc_lines::entities::Entities;

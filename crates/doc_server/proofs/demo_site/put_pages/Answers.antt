@@ -1,5 +1,5 @@
 use Rattle.doc_server.proofs.Puts.{path_a, path_b, path_c, staff, ops, first_accepted, second_accepted, third_accepted, after_three}
-use Rattle.doc_server.proofs.Results.{then_ok}
+use Rattle.doc_server_input.proofs.Results.{then_ok}
 use Rattle.doc_server.proofs.demo_site.put_pages.Goals as goal
 
 pub put-requires-clause-path : goal.put-requires-clause-path

@@ -1,8 +1,8 @@
 -- Words in which the parts of reading an input are stated.
 use Rattle.std.specs.Prelude.{◌≡◌, ◌<◌, ◌+◌, ⊤, ℕ, List, length, string_bytes}
 use Rattle.std.specs.Str.{IsUtf8}
-use Rattle.doc_server.specs.declared.fault.Fault.{Fault}
-use Rattle.doc_server.specs.declared.fault.Fault.TheVariants as faults
+use Rattle.doc_server_input.specs.declared.fault.Fault.{Fault}
+use Rattle.doc_server_input.specs.declared.fault.Fault.TheVariants as faults
 
 -- the input of this name can't be read, or there is no memory for the name
 abbrev pub IsNamed : List ℕ → Fault → Type 0

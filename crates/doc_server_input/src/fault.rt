@@ -6,16 +6,28 @@ use std::alloc::AllocError;
 use std::error::Error;
 use std::fmt;
 
-/// What stops the program. Each prints one line, as `docs_server: usage`, and ends it with status 2.
+/// What stops the program. Each prints one line, as `docs_server: usage`, and ends it with status 2. They are found in this order, but
+/// that memory may run out anywhere, and that `CannotRead` of standard input comes where `BadScriptLine` does, and `Socket` of a
+/// connection last.
 #[derive(Debug, PartialEq, Eq, Drop)]
 pub enum Fault {
     /// No such command.
     Usage,
     /// A file that can't be read; `-` is standard input.
     CannotRead(String),
-    CannotWrite,
+    /// The configuration is none.
+    Config,
+    /// The table of entities is none.
+    BadTable,
     /// An edit that is refused, or more input than a connection holds.
     Refused,
+    /// A token that no reader has.
+    UnknownToken,
+    /// An address that can't be listened at, or a connection that can't be accepted.
+    Socket,
+    /// The first line of a script that is bad, counted from 1.
+    BadScriptLine(u64),
+    CannotWrite,
     Memory,
 }
 
@@ -24,8 +36,13 @@ impl fmt::Display for Fault {
         match self {
             Fault::Usage => write!(f, "usage"),
             Fault::CannotRead(name) => write!(f, "cannot read {name}"),
-            Fault::CannotWrite => write!(f, "cannot write"),
+            Fault::Config => write!(f, "config"),
+            Fault::BadTable => write!(f, "bad table"),
             Fault::Refused => write!(f, "refused"),
+            Fault::UnknownToken => write!(f, "unknown token"),
+            Fault::Socket => write!(f, "socket"),
+            Fault::BadScriptLine(line) => write!(f, "bad script line {line}"),
+            Fault::CannotWrite => write!(f, "cannot write"),
             Fault::Memory => write!(f, "memory"),
         }
     }
@@ -35,7 +52,7 @@ impl Error for Fault {}
 
 impl From<Memory> for Fault {
     ghost use Rattle.std.specs.Prelude.{◌≡◌};
-    ghost use Rattle.doc_server.specs.declared.fault.Fault.TheVariants as faults;
+    ghost use Rattle.doc_server_input.specs.declared.fault.Fault.TheVariants as faults;
 
     ghost from_gives = { λ _ e. e ≡ faults.Memory };
 
@@ -46,7 +63,7 @@ impl From<Memory> for Fault {
 
 impl From<AllocError> for Fault {
     ghost use Rattle.std.specs.Prelude.{◌≡◌};
-    ghost use Rattle.doc_server.specs.declared.fault.Fault.TheVariants as faults;
+    ghost use Rattle.doc_server_input.specs.declared.fault.Fault.TheVariants as faults;
 
     ghost from_gives = { λ _ e. e ≡ faults.Memory };
 

@@ -2,8 +2,8 @@
 
 ghost use Rattle.std.specs.Prelude.{◌≡◌, ◌<◌, ◌≤◌, ◌++◌, length, IfOk, IfErr, IfSome, OnOk, string_bytes, vec_len};
 ghost use Rattle.std.specs.Io.KnownBytes.{IsAtEnd};
-ghost use Rattle.doc_server.specs.Faults.{IsNoText, IsTooLong, IsUnread, ReadsFailed};
-ghost use Rattle.doc_server.specs.InputSteps.{IsNamed, IsNoTextOf, IsUnadded};
+ghost use Rattle.doc_server_input.specs.Faults.{IsNoText, IsTooLong, IsUnread, ReadsFailed};
+ghost use Rattle.doc_server_input.specs.InputSteps.{IsNamed, IsNoTextOf, IsUnadded};
 
 use crate::fault::Fault;
 use doc_heap::{Heap, String, Vec};

@@ -1,0 +1,21 @@
+//! The table of entities of a site.
+
+ghost use Rattle.doc_page.specs.Refusals.{IsAnswer};
+ghost use Rattle.doc_server.specs.EntityTables.{table_of};
+
+use doc_heap::Heap;
+use doc_lines::entities::{Entities, TableError};
+use doc_server_input::fault::Fault;
+
+/// The built-in character references and those of a table (`Entities::from_table`). `BadTable` says that a row of it is bad, or gives a
+/// name other characters.
+pub fn entities_of(heap: Heap, text: &str) -> Result<Entities, Fault>
+    ensures { IsAnswer Fault.Memory (table_of text.now) result }
+{
+    match Entities::from_table(heap, text) {
+        Ok(entities) => Ok(entities),
+        Err(TableError::Memory) => Err(Fault::Memory),
+        Err(TableError::BadRow(_)) => Err(Fault::BadTable),
+        Err(TableError::Twice(_)) => Err(Fault::BadTable),
+    }
+}

@@ -1,0 +1,4 @@
+pub mod Faults
+pub mod InputSteps
+pub mod Inputs
+pub mod OutputSteps
