@@ -14,6 +14,7 @@ use std::net::SocketAddr;
 use std::rt::Env;
 
 /// What the arguments ask for.
+#[derive(Drop)]
 pub enum Command<'a> {
     Demo,
     Render,
@@ -26,6 +27,7 @@ pub enum Command<'a> {
 }
 
 /// The report of a reader of a configured site.
+#[derive(Drop)]
 pub struct Check<'a> {
     /// The file of the configuration.
     pub config: &'a str,
@@ -33,6 +35,7 @@ pub struct Check<'a> {
 }
 
 /// A configured site that is served.
+#[derive(Drop)]
 pub struct Serve<'a> {
     /// The file of the configuration.
     pub config: &'a str,
