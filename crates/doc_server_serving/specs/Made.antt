@@ -16,7 +16,7 @@ next_numbers given (suc n) = next_numbers given n ++ (given + n + 1) ∷ []
 
 -- a link that nothing has happened on
 pub record IsNew (p : Peer) : Type 0 where
-  pub open : p.is_open ≡ true
+  pub opened : p.is_open ≡ true
   pub pending : p.pending ≡ []
   pub failed : p.failed ≡ 0
 

@@ -89,7 +89,12 @@ pub fn command_of(words: &[String]) -> Result<Command<'_>, Fault> {
         })),
         ("replay", [config]) => Ok(Command::Replay(config.as_str())),
         ("serve", [config, address, count, turns]) => {
-            serve_of(config.as_str(), address.as_str(), count.as_str(), turns.as_str())
+            serve_of(
+                config.as_str(),
+                address.as_str(),
+                count.as_str(),
+                turns.as_str(),
+            )
         }
         _ => Err(Fault::Usage),
     }

@@ -20,11 +20,10 @@ use std::rt::Files;
 use std::sync::ledger::{Blank, Ledger};
 
 /// Runs `serve` over pages of CommonMark, and answers the status to end with.
-pub fn run_serve<L: Ledger, P: AllocGlobal + Files + Net<Listener = TcpListener, Stream = TcpStream> + Print>(
-    rt: &P,
-    blank: Blank,
-    command: &Serve<'_>,
-) -> Result<u8, Fault>
+pub fn run_serve<
+    L: Ledger,
+    P: AllocGlobal + Files + Net<Listener = TcpListener, Stream = TcpStream> + Print,
+>(rt: &P, blank: Blank, command: &Serve<'_>) -> Result<u8, Fault>
     requires name { blank.name ≡ L.name }
     requires parts { blank.parts ≡ L.parts }
     requires some { 0 < L.parts }
@@ -35,12 +34,10 @@ pub fn run_serve<L: Ledger, P: AllocGlobal + Files + Net<Listener = TcpListener,
 }
 
 /// The same with any renderer. All pages stand before the address is bound, and peers are accepted behind the line that tells it.
-fn serve_with<R: Renderer + Drop, P: AllocGlobal + Net<Listener = TcpListener, Stream = TcpStream> + Print>(
-    rt: &P,
-    renderer: R,
-    pages: Pages,
-    command: &Serve<'_>,
-) -> Result<u8, Fault> {
+fn serve_with<
+    R: Renderer + Drop,
+    P: AllocGlobal + Net<Listener = TcpListener, Stream = TcpStream> + Print,
+>(rt: &P, renderer: R, pages: Pages, command: &Serve<'_>) -> Result<u8, Fault> {
     let heap = heap(rt.alloc(), u64::MAX)?;
     let mut hub = site_hub(heap, renderer, pages.config, pages.texts.get())?;
     let Ok(listener) = TcpListener::bind(rt, command.address) else {

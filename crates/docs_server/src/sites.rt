@@ -39,7 +39,14 @@ fn check_with<R: Renderer + Drop, P: AllocGlobal + Print>(
 ) -> Result<u8, Fault> {
     let heap = heap(rt.alloc(), u64::MAX)?;
     let mut output = WriteTo::new(io::writer(rt));
-    check(heap, renderer, pages.config, pages.texts.get(), token, &mut output)
+    check(
+        heap,
+        renderer,
+        pages.config,
+        pages.texts.get(),
+        token,
+        &mut output,
+    )
 }
 
 /// Runs `replay` over pages of CommonMark, and answers the status to end with.
@@ -65,5 +72,12 @@ fn replay_with<R: Renderer + Drop, P: AllocGlobal + Input + Print>(
     let heap = heap(rt.alloc(), u64::MAX)?;
     let mut input = ReadFrom::new(rt.reader());
     let mut output = WriteTo::new(io::writer(rt));
-    replay(heap, renderer, pages.config, pages.texts.get(), &mut input, &mut output)
+    replay(
+        heap,
+        renderer,
+        pages.config,
+        pages.texts.get(),
+        &mut input,
+        &mut output,
+    )
 }
