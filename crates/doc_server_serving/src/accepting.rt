@@ -1,7 +1,7 @@
 //! Accepting the connections of peers.
 
-ghost use Rattle.std.specs.Prelude.{◌≡◌, ◌≤◌, ◌<◌, [], vec_len, vec_capacity, IfErr, OnOk};
-ghost use Rattle.doc_server_serving.specs.Faults.{Explains};
+ghost use Rattle.std.specs.Prelude.{◌≡◌, ◌≤◌, [], length, IfErr, OnErr, OnOk};
+ghost use Rattle.doc_server_serving.specs.Faults.{Explains, IsRefusal};
 ghost use Rattle.doc_server_serving.specs.Made.{Makes, MakesOne};
 
 use crate::fault::ServeFault;
