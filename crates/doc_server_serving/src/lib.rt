@@ -5,3 +5,5 @@ mod accepting;
 mod dropping;
 pub mod fault;
 pub mod serving;
+#[cfg(test)]
+mod tests;
