@@ -7,12 +7,12 @@ ghost use Rattle.doc_hub.specs.Worlds.{new_world};
 ghost use Rattle.doc_server.specs.DemoSite.{demo_readers, demo_world, with_page, IsAccepted};
 ghost use Rattle.doc_server.specs.DemoSteps.{StopsCall};
 
-use doc_server_input::fault::Fault;
 use doc_heap::Heap;
 use doc_hub::hub::Hub;
 use doc_hub::refusal::HubError;
 use doc_page::path::{Path, PathError};
 use doc_page::renderer::Renderer;
+use doc_server_input::fault::Fault;
 use doc_store::groups::{Groups, GroupsError};
 use doc_store::readers::{Readers, ReadersError};
 use doc_store::store::EditError;

@@ -1,5 +1,5 @@
 -- The script of the command `replay`. All of this is this project's choice.
-use Rattle.std.specs.Prelude.{ℕ, ◌+◌, ◌==◌, List, [], ◌∷◌, ◌++◌, true, false, Some, None, Result, Ok, Err}
+use Rattle.std.specs.Prelude.{ℕ, ◌+◌, ◌==◌, List, [], ◌∷◌, ◌++◌, Some, None, Result, Ok, Err, if◌then◌else◌}
 use Rattle.doc_hub.specs.declared.event.Event.{Event}
 use Rattle.doc_server_script.specs.Lines.{event_of}
 use Rattle.doc_server_input.specs.declared.fault.Fault.{Fault}
@@ -13,7 +13,7 @@ onto_first b (line ∷ more) = (b ∷ line) ∷ more
 -- the lines of a script, without the LF (10) that ends each; the last one may end without
 unfoldable pub lines : List ℕ → List (List ℕ)
 lines [] = []
-lines (b ∷ rest) = elim (b == 10) [ true ↦ [] ∷ lines rest | false ↦ onto_first b (lines rest) ]
+lines (b ∷ rest) = if b == 10 then [] ∷ lines rest else onto_first b (lines rest)
 
 -- the events found so far, then those of more lines, the first of which has the number n, or the first bad line
 abbrev pub events_from : List Event → ℕ → List (List ℕ) → Result (List Event) Fault

@@ -74,11 +74,7 @@ fn run_script<R: Renderer + Drop, O: Output>(
 }
 
 /// Writes a line for each outcome.
-fn write_outcomes<O: Output>(
-    heap: Heap,
-    outcomes: &[Outcome],
-    output: &mut O,
-) -> Result<(), Fault>
+fn write_outcomes<O: Output>(heap: Heap, outcomes: &[Outcome], output: &mut O) -> Result<(), Fault>
     ensures sent { OnOk result
         (Appends (O.written output.old) (O.written output.new) (outcome_lines outcomes.now)) }
     ensures fault { IfErr result

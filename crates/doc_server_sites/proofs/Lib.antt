@@ -1,0 +1,4 @@
+mod ReplaySteps
+mod ReportSteps
+mod ScriptSteps
+mod SiteSteps
