@@ -1,6 +1,6 @@
 mod Connections
-mod Elsewhere
+pub mod Elsewhere
 mod Pieces
 mod RoundSteps
-mod Serving
+pub mod Serving
 mod Written

@@ -89,6 +89,13 @@ impl<S: Stream + Drop> Link<S> {
         &self.stream
     }
 
+    /// The number of the connection, which also a closed link tells.
+    pub fn id(&self) -> ConnId
+        ensures { result ≡ record { 0 = self.now.id } }
+    {
+        self.id
+    }
+
     pub fn is_open(&self) -> bool
         ensures { result ≡ self.now.is_open }
     {

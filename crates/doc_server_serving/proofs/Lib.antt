@@ -1,0 +1,5 @@
+mod Among
+mod Dropping
+mod Given
+mod Making
+mod Together

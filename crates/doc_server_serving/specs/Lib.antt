@@ -1,0 +1,4 @@
+pub mod Dropped
+pub mod Faults
+pub mod Made
+pub mod Servings
