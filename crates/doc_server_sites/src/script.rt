@@ -6,6 +6,7 @@ ghost use Rattle.doc_server_sites.specs.Scripts.{events_of, lines};
 
 use doc_heap::{Heap, Vec};
 use doc_hub::event::Event;
+use doc_page::failure::Memory;
 use doc_page::list::List;
 use doc_server_input::fault::Fault;
 use doc_server_script::line::event_of;
@@ -21,7 +22,8 @@ pub fn events_of(heap: Heap, script: &str) -> Result<List<Event>, Fault>
     let mut left = script;
     let mut number = 1;
     'lines: while let Some((line, more)) = first_line(left) {
-        events.push(event_at(heap, line, number)?)?;
+        let event = event_at(heap, line, number)?;
+        events.push(event).map_err(Memory::from)?;
         left = more;
         number += 1;
     }
