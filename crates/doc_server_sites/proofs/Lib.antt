@@ -1,3 +1,4 @@
+mod Examples
 mod ReplaySteps
 mod ReportSteps
 mod ScriptSteps
