@@ -39,14 +39,14 @@ rest_after w (n ∷ ns) = rest_after (disconnected w n).0 ns
 
 -- ---- the run of it
 
-drop_of : World → ℕ → Happened
+abbrev drop_of : World → ℕ → Happened
 drop_of w n = record {
   world = w;
   event = events.Disconnect (record { 0 = n });
   outcome = outcomes.Disconnected (disconnected w n).1;
 }
 
-pub drops_of : World → List ℕ → List Happened
+abbrev pub drops_of : World → List ℕ → List Happened
 drops_of w [] = []
 drops_of w (n ∷ ns) = drop_of w n ∷ drops_of (disconnected w n).0 ns
 

@@ -40,7 +40,7 @@ module _ (render : Renders) (w v : World) (ids : List ℕ) (run : List Happened)
 -- made, then served by a run, then dropped
 module _ (render : Renders) (w t s : World) (ps : List Peer) (m : Makes render w ps t) (run : List Happened) (runs : Runs render t run s)
     (own : AreOfAny (ids_of ps) run) where
-  ids : List ℕ
+  abbrev ids : List ℕ
   ids = ids_of ps
 
   cleared_by : (c : ℕ) (t : Bool) → is_among c ids ≡ t → connection c (dropped_all s ids) ≡ cond t None (connection c w)
