@@ -1,5 +1,5 @@
 -- Connections that are made one after another.
-use Rattle.std.proofs.Common.{◌≡◌, ℕ, suc, ◌+◌, List, [], ◌∷◌, ◌++◌, Bool, true, false, cond, T, length, map, refl, sym, ap, ◌∙◌, subst, ◌==◌, arith}
+use Rattle.std.proofs.Common.{◌≡◌, ◌<◌, ℕ, suc, ◌+◌, List, [], ◌∷◌, ◌++◌, Bool, true, false, cond, T, length, map, refl, sym, ap, ◌∙◌, subst, ◌==◌, arith}
 use Rattle.std.specs.Prelude.{All, Option, Some, Result, Ok, Err, is_ok, nat_lt, if◌then◌else◌}
 use Rattle.std.specs.FinMap as fin
 use Rattle.std.specs.Cmp.{unsigned_tied}
@@ -20,7 +20,10 @@ use Rattle.doc_server_rounds.specs.Peers.{Peer}
 use Rattle.doc_server_rounds.specs.Rounds.{ids_of}
 use Rattle.doc_server_rounds.proofs.Serving.{runs_join}
 use Rattle.doc_server_serving.specs.Dropped.{is_among}
+use Rattle.doc_server_serving.specs.Faults.{Explains, IsRefusal}
 use Rattle.doc_server_serving.specs.Made.{IsNew, Makes, MakesOne, next_numbers}
+use Rattle.doc_server_serving.specs.declared.fault.ServeFault.{ServeFault}
+use Rattle.doc_server_serving.specs.declared.fault.ServeFault.TheVariants as faults
 use Rattle.doc_server_serving.proofs.Among.{out_left, out_right}
 
 -- ---- one connect
@@ -115,3 +118,12 @@ pub one_made : (render page : Renders) (w v u : World) (ps qs : List Peer) → p
     → Makes render w qs u
 one_made render page w v u ps qs same m one =
     subst (λ l. Makes render w l u) (sym one.behind) (one_behind render w v u ps one.peer m one.new one.connects)
+
+pub one_longer : (render : Renders) (w v : World) (ps qs : List Peer) → MakesOne render w ps v qs → length qs ≡ length ps + 1
+one_longer render w v ps qs one = ap length one.behind ∙ longer ps one.peer
+
+-- why the next one wasn't made explains why no more were
+pub refusal_explains : (w : World) (made count : ℕ) (fault : ServeFault) → made < count → IsRefusal w fault → Explains w made count fault
+refusal_explains w made count faults.Accept less why = less
+refusal_explains w made count faults.NoIds less why = (less, why)
+refusal_explains w made count faults.Memory less why = tt
