@@ -1,9 +1,10 @@
 -- Connections that are made one after another.
-use Rattle.std.proofs.Common.{◌≡◌, ◌<◌, ℕ, suc, ◌+◌, List, [], ◌∷◌, ◌++◌, Bool, true, false, cond, T, length, map, refl, sym, ap, ◌∙◌, subst, ◌==◌, arith}
+use Rattle.std.proofs.Common.{◌≡◌, ◌<◌, ◌≤◌, ℕ, suc, ◌+◌, List, [], ◌∷◌, ◌++◌, Bool, true, false, cond, T, length, map, refl, sym, ap, ◌∙◌, subst, ◌==◌, arith}
 use Rattle.std.specs.Prelude.{All, Option, Some, Result, Ok, Err, is_ok, nat_lt, if◌then◌else◌}
 use Rattle.std.specs.FinMap as fin
 use Rattle.std.specs.Cmp.{unsigned_tied}
 use Rattle.std.proofs.lemmas.Cmp.{nat_cmp_total}
+use Rattle.std.proofs.lemmas.Bool.Decides.{nat_tests}
 use Rattle.std.proofs.lemmas.List.{map-append}
 use Rattle.std.proofs.lemmas.List.Elements.{All-nil, All-cons, All-append}
 use Rattle.doc_hub.specs.Connections.{new_connection}
@@ -20,7 +21,7 @@ use Rattle.doc_server_rounds.specs.Peers.{Peer}
 use Rattle.doc_server_rounds.specs.Rounds.{ids_of}
 use Rattle.doc_server_rounds.proofs.Serving.{runs_join}
 use Rattle.doc_server_serving.specs.Dropped.{is_among}
-use Rattle.doc_server_serving.specs.Faults.{Explains, IsRefusal}
+use Rattle.doc_server_serving.specs.Faults.{Explains, IsRefusal, fault_of}
 use Rattle.doc_server_serving.specs.Made.{IsNew, Makes, MakesOne, next_numbers}
 use Rattle.doc_server_serving.specs.declared.fault.ServeFault.{ServeFault}
 use Rattle.doc_server_serving.specs.declared.fault.ServeFault.TheVariants as faults
@@ -54,6 +55,19 @@ connects_by w v id false is = absurd (no_error id connect_errors.NoIds (sym (ap 
 
 connects : (w v : World) (id : ConnId) → ◌≡◌ {A = Answer} (connected w) (v, Ok id) → (v ≡ with_one w) × (id.0 ≡ w.given + 1)
 connects w v id is = connects_by w v id (nat_lt w.given last_id) is
+
+-- a connect that was refused for want of numbers
+none_left_by : (w v : World) (t : Bool) → ◌≡◌ {A = Answer} (by_room w t) (v, Err connect_errors.NoIds) → t ≡ false
+none_left_by w v true is =
+    absurd (no_error (record { 0 = w.given + 1 }) connect_errors.NoIds (ap (λ (a : Answer). a.1) is))
+none_left_by w v false is = refl
+
+not_less : (a b : ℕ) → nat_lt a b ≡ false → b ≤ a
+not_less a b is = grind (arith, nat_tests)
+
+pub refused_for : (render : Renders) (w v : World) (e : ConnectError) → Happens render w events.Connect v (Err e) → IsRefusal w (fault_of e)
+refused_for render w v connect_errors.NoIds h = not_less w.given last_id (none_left_by w v (nat_lt w.given last_id) h)
+refused_for render w v connect_errors.Memory h = tt
 
 -- ---- one after another
 
@@ -120,7 +134,8 @@ one_made render page w v u ps qs same m one =
     subst (λ l. Makes render w l u) (sym one.behind) (one_behind render w v u ps one.peer m one.new one.connects)
 
 pub one_longer : (render : Renders) (w v : World) (ps qs : List Peer) → MakesOne render w ps v qs → length qs ≡ length ps + 1
-one_longer render w v ps qs one = ap length one.behind ∙ longer ps one.peer
+one_longer render w v ps qs one =
+    let l = ap length one.behind ∙ longer ps one.peer in omega (arith, l)
 
 -- why the next one wasn't made explains why no more were
 pub refusal_explains : (w : World) (made count : ℕ) (fault : ServeFault) → made < count → IsRefusal w fault → Explains w made count fault
