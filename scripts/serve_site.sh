@@ -122,6 +122,11 @@ We count it, because what is counted gets less.</p>
 PAGE
 }
 
+# report: two links are broken for the owner, who sees all pages
+report() {
+    printf 'glossary.md\t2\tanchor\tdeploying.md#rollbacks\nholidays.md\t1\tpage\tcalendar.md\n'
+}
+
 shown='<a href="/page/ops/index.md">'
 missing='<a class="missing">'
 
@@ -129,11 +134,11 @@ missing='<a class="missing">'
 
 begin 4 20
 asks tok-ann /page/glossary.md /page/ops/index.md /page/nothing.md "HEAD /page/glossary.md" /page/glossary.md \
-    "PUT /page/glossary.md new" "DELETE /page/ops/index.md" "PATCH /page/glossary.md" &
+    "PUT /page/glossary.md new" "DELETE /page/ops/index.md" "PATCH /page/glossary.md" /backlinks/ops/ "/search?q=Phishing" &
 ann=$!
-asks tok-bob /page/glossary.md /page/holidays.md /page/ops/../holidays.md "/page/glossary.md?x=1" &
+asks tok-bob /page/glossary.md /page/holidays.md /page/ops/../holidays.md "/page/glossary.md?x=1" /backlinks/ops/ "/search?q=Phishing" &
 bob=$!
-asks tok-owner /page/glossary.md /page/nothing.md "HEAD /page/nothing.md" /nothing &
+asks tok-owner /page/glossary.md /page/nothing.md "HEAD /page/nothing.md" /nothing /broken &
 owner=$!
 asks tok-x /page/glossary.md /page/nothing.md &
 wait "$ann" "$bob" "$owner" $!
@@ -148,18 +153,25 @@ finish
     plain "403 Forbidden"
     plain "403 Forbidden"
     plain "405 Method Not Allowed" "Allow: GET, HEAD, PUT, DELETE"
+    plain "404 Not Found"
+    # one of the ten pages that she sees has the word, once
+    printf '10\tsecurity.md\n' | reply "200 OK" plain
 } > "$scratch/tok-ann.wanted"
 {
     glossary "$shown" | reply "200 OK" html
     plain "404 Not Found"
     plain "404 Not Found"
     glossary "$shown" | reply "200 OK" html
+    printf '%s.md\t1\n' glossary index on-call ops/certificates ops/database | reply "200 OK" plain
+    # one of nine pages
+    printf '9\tsecurity.md\n' | reply "200 OK" plain
 } > "$scratch/tok-bob.wanted"
 {
     glossary "$shown" | reply "200 OK" html
     plain "404 Not Found"
     plain "404 Not Found" | head_of
     plain "404 Not Found"
+    report | reply "200 OK" plain
 } > "$scratch/tok-owner.wanted"
 {
     plain "401 Unauthorized" 'WWW-Authenticate: Bearer realm="docs"'
@@ -201,9 +213,9 @@ finish
 } > "$scratch/tok-owner.wanted"
 compare tok-owner
 
-# ---- the report: two links are broken for the owner, who sees all
+# ---- the report of the command
 
 "$program" check site/config.toml tok-owner > "$scratch/report" && { echo "the report's status is 0"; wrong=1; }
-printf 'glossary.md\t2\tanchor\tdeploying.md#rollbacks\nholidays.md\t1\tpage\tcalendar.md\n' | cmp - "$scratch/report" || wrong=1
+report | cmp - "$scratch/report" || wrong=1
 
 exit "$wrong"

@@ -1,5 +1,5 @@
 mod Among
-mod Dropping
+mod Drops
 mod Given
 mod Making
 mod Together

@@ -1,10 +1,11 @@
 -- Connections that are made one after another.
-use Rattle.std.proofs.Common.{◌≡◌, ℕ, ◌+◌, List, [], ◌∷◌, ◌++◌, Bool, true, false, cond, T, length, map, refl, sym, ap, ◌∙◌, subst, ◌==◌, arith}
+use Rattle.std.proofs.Common.{◌≡◌, ◌<◌, ◌≤◌, ℕ, suc, ◌+◌, List, [], ◌∷◌, ◌++◌, Bool, true, false, cond, T, length, map, refl, sym, ap, ◌∙◌, subst, ◌==◌, arith}
 use Rattle.std.specs.Prelude.{All, Option, Some, Result, Ok, Err, is_ok, nat_lt, if◌then◌else◌}
 use Rattle.std.specs.FinMap as fin
 use Rattle.std.specs.Cmp.{unsigned_tied}
 use Rattle.std.proofs.lemmas.Cmp.{nat_cmp_total}
-use Rattle.std.proofs.lemmas.List.{map-append, length-append}
+use Rattle.std.proofs.lemmas.Bool.Decides.{nat_tests}
+use Rattle.std.proofs.lemmas.List.{map-append}
 use Rattle.std.proofs.lemmas.List.Elements.{All-nil, All-cons, All-append}
 use Rattle.doc_hub.specs.Connections.{new_connection}
 use Rattle.doc_hub.specs.Replies.{Renders}
@@ -20,7 +21,10 @@ use Rattle.doc_server_rounds.specs.Peers.{Peer}
 use Rattle.doc_server_rounds.specs.Rounds.{ids_of}
 use Rattle.doc_server_rounds.proofs.Serving.{runs_join}
 use Rattle.doc_server_serving.specs.Dropped.{is_among}
+use Rattle.doc_server_serving.specs.Faults.{Explains, IsRefusal, fault_of}
 use Rattle.doc_server_serving.specs.Made.{IsNew, Makes, MakesOne, next_numbers}
+use Rattle.doc_server_serving.specs.declared.fault.ServeFault.{ServeFault}
+use Rattle.doc_server_serving.specs.declared.fault.ServeFault.TheVariants as faults
 use Rattle.doc_server_serving.proofs.Among.{out_left, out_right}
 
 -- ---- one connect
@@ -35,11 +39,8 @@ with_one w = record w { given = w.given + 1; connections = fin.insert w.connecti
 abbrev by_room : World → Bool → Answer
 by_room w t = if t then (with_one w, Ok (record { 0 = w.given + 1 })) else (w, Err connect_errors.NoIds)
 
-same_ok : (x y : ConnId) → ◌≡◌ {A = Result ConnId ConnectError} (Ok x) (Ok y) → x.0 ≡ y.0
-same_ok x y is = ap (λ (i : ConnId). i.0) (ok_same x y is)
-  where
-    ok_same : (x y : ConnId) → ◌≡◌ {A = Result ConnId ConnectError} (Ok x) (Ok y) → x ≡ y
-    ok_same x y is = cc
+same_ok : (x y : ConnId) → ◌≡◌ {A = Result ConnId ConnectError} (Ok x) (Ok y) → x ≡ y
+same_ok x y is = cc
 
 no_error : {X E : Type 0} (x : X) (e : E) → ◌≡◌ {A = Result X E} (Ok x) (Err e) → ⊥
 no_error x e is = subst T (ap is_ok is) tt
@@ -48,12 +49,25 @@ connects_by : (w v : World) (id : ConnId) (t : Bool) → ◌≡◌ {A = Answer} 
     → (v ≡ with_one w) × (id.0 ≡ w.given + 1)
 connects_by w v id true is = (
   sym (ap (λ (a : Answer). a.0) is),
-  sym (same_ok (record { 0 = w.given + 1 }) id (ap (λ (a : Answer). a.1) is)),
+  sym (ap (λ (i : ConnId). i.0) (same_ok (record { 0 = w.given + 1 }) id (ap (λ (a : Answer). a.1) is))),
 )
 connects_by w v id false is = absurd (no_error id connect_errors.NoIds (sym (ap (λ (a : Answer). a.1) is)))
 
 connects : (w v : World) (id : ConnId) → ◌≡◌ {A = Answer} (connected w) (v, Ok id) → (v ≡ with_one w) × (id.0 ≡ w.given + 1)
 connects w v id is = connects_by w v id (nat_lt w.given last_id) is
+
+-- a connect that was refused for want of numbers
+none_left_by : (w v : World) (t : Bool) → ◌≡◌ {A = Answer} (by_room w t) (v, Err connect_errors.NoIds) → t ≡ false
+none_left_by w v true is =
+    absurd (no_error (record { 0 = w.given + 1 }) connect_errors.NoIds (ap (λ (a : Answer). a.1) is))
+none_left_by w v false is = refl
+
+not_less : (a b : ℕ) → nat_lt a b ≡ false → b ≤ a
+not_less a b is = grind (arith, nat_tests)
+
+pub refused_for : (render : Renders) (w v : World) (e : ConnectError) → Happens render w events.Connect v (Err e) → IsRefusal w (fault_of e)
+refused_for render w v connect_errors.NoIds h = not_less w.given last_id (none_left_by w v (nat_lt w.given last_id) h)
+refused_for render w v connect_errors.Memory h = tt
 
 -- ---- one after another
 
@@ -73,50 +87,58 @@ none_made render w = record {
 }
 
 -- one more
-longer : (ps : List Peer) (p : Peer) → length (ps ++ p ∷ []) ≡ length ps + 1
-longer ps p = length-append ps (p ∷ [])
+longer : (ps : List Peer) (p : Peer) → length (ps ++ p ∷ []) ≡ suc (length ps)
+longer [] p = refl
+longer (q ∷ ps) p = ap suc (longer ps p)
 
-one_more : (given n : ℕ) → next_numbers given (n + 1) ≡ next_numbers given n ++ (given + n + 1) ∷ []
-one_more given n = refl
+module _ (render : Renders) (w v u : World) (ps : List Peer) (p : Peer) (m : Makes render w ps v) (new : IsNew p)
+    (happens : Happens render v events.Connect u (Ok (record { 0 = p.id }))) where
+  abbrev id : ConnId
+  id = record { 0 = p.id }
+
+  abbrev h : Happened
+  h = record { world = v; event = events.Connect; outcome = outcomes.Conn id }
+
+  leads : (u ≡ with_one v) × (p.id ≡ v.given + 1)
+  leads = connects v u id happens
+
+  kept : (c : ℕ) → is_among c (ids_of ps ++ p.id ∷ []) ≡ false → connection c u ≡ connection c w
+  kept c out =
+      let off : (c == v.given + 1) ≡ false = ap (λ n. c == n) (sym leads.1) ∙ out_right c p.id (ids_of ps) out in
+      ap (connection c) leads.0
+      ∙ fin.get-insert nat_cmp_total v.connections (v.given + 1) new_connection c
+      ∙ ap (λ t. cond t (Some new_connection) (connection c v)) (unsigned_tied c (v.given + 1) ∙ off)
+      ∙ m.others c (out_left c (ids_of ps) (p.id ∷ []) out)
+
+  one_behind : Makes render w (ps ++ p ∷ []) u
+  one_behind = record {
+    run = m.run ++ h ∷ [];
+    runs = runs_join render w v u m.run (h ∷ []) m.runs
+        (first v u u events.Connect (outcomes.Conn id) [] (Ok id, happens, refl) (nothing u));
+    own = All-append IsConnect m.run (h ∷ []) m.own (All-cons IsConnect h [] refl (All-nil IsConnect));
+    new = All-append IsNew ps (p ∷ []) m.new (All-cons IsNew p [] new (All-nil IsNew));
+    numbers = map-append (λ l. l.id) ps (p ∷ [])
+        ∙ ap (λ l. l ++ p.id ∷ []) m.numbers
+        ∙ ap (λ n. next_numbers w.given (length ps) ++ n ∷ []) (leads.1 ∙ ap (λ n. n + 1) m.given)
+        ∙ sym (ap (next_numbers w.given) (longer ps p));
+    given = ap (λ x. x.given) leads.0 ∙ omega (arith, m.given, longer ps p);
+    others = λ c out. kept c (subst (λ l. is_among c l ≡ false) (map-append (λ l. l.id) ps (p ∷ [])) out);
+    rest = leads.0
+        ∙ ap (λ (x : World). record x { given = v.given + 1; connections = (with_one v).connections }) m.rest
+        ∙ ap (λ (x : World). record w { given = x.given; connections = x.connections }) (sym leads.0);
+  }
 
 pub one_made : (render page : Renders) (w v u : World) (ps qs : List Peer) → page ≡ render → Makes render w ps v → MakesOne page v ps u qs
     → Makes render w qs u
-one_made render page w v u ps qs same m one = subst (λ l. Makes render w l u) (sym one.behind) (record {
-  run = m.run ++ h ∷ [];
-  runs = runs_join render w v u m.run (h ∷ []) m.runs (first v u u events.Connect (outcomes.Conn id) [] (Ok id, happens, refl) (nothing u));
-  own = All-append IsConnect m.run (h ∷ []) m.own (All-cons IsConnect h [] refl (All-nil IsConnect));
-  new = All-append IsNew ps (p ∷ []) m.new (All-cons IsNew p [] one.new (All-nil IsNew));
-  numbers = map-append (λ l. l.id) ps (p ∷ [])
-      ∙ ap (λ l. l ++ p.id ∷ []) m.numbers
-      ∙ ap (λ n. next_numbers w.given (length ps) ++ n ∷ []) (e.1 ∙ ap (λ n. n + 1) m.given)
-      ∙ sym (ap (next_numbers w.given) (longer ps p) ∙ one_more w.given (length ps));
-  given = ap (λ x. x.given) e.0 ∙ omega (arith, m.given, longer ps p);
-  others = λ c out. kept c (subst (λ l. is_among c l ≡ false) (map-append (λ l. l.id) ps (p ∷ [])) out);
-  rest = e.0 ∙ ap (λ x. record x { given = v.given + 1; connections = (with_one v).connections }) m.rest ∙ ap (λ x. record w {
-    given = x.given;
-    connections = x.connections;
-  }) (sym e.0);
-})
-  where
-    p : Peer
-    p = one.peer
+one_made render page w v u ps qs same m one =
+    subst (λ l. Makes render w l u) (sym one.behind) (one_behind render w v u ps one.peer m one.new one.connects)
 
-    id : ConnId
-    id = record { 0 = p.id }
+pub one_longer : (render : Renders) (w v : World) (ps qs : List Peer) → MakesOne render w ps v qs → length qs ≡ length ps + 1
+one_longer render w v ps qs one =
+    let l = ap length one.behind ∙ longer ps one.peer in omega (arith, l)
 
-    h : Happened
-    h = record { world = v; event = events.Connect; outcome = outcomes.Conn id }
-
-    happens : Happens render v events.Connect u (Ok id)
-    happens = one.connects
-
-    e : (u ≡ with_one v) × (p.id ≡ v.given + 1)
-    e = connects v u id one.connects
-
-    kept : (c : ℕ) → is_among c (ids_of ps ++ p.id ∷ []) ≡ false → connection c u ≡ connection c w
-    kept c out =
-        let off : (c == v.given + 1) ≡ false = ap (λ n. c == n) (sym e.1) ∙ out_right c p.id (ids_of ps) out in
-        ap (connection c) e.0
-        ∙ fin.get-insert nat_cmp_total v.connections (v.given + 1) new_connection c
-        ∙ ap (λ t. cond t (Some new_connection) (connection c v)) (unsigned_tied c (v.given + 1) ∙ off)
-        ∙ m.others c (out_left c (ids_of ps) (p.id ∷ []) out)
+-- why the next one wasn't made explains why no more were
+pub refusal_explains : (w : World) (made count : ℕ) (fault : ServeFault) → made < count → IsRefusal w fault → Explains w made count fault
+refusal_explains w made count faults.Accept less why = less
+refusal_explains w made count faults.NoIds less why = (less, why)
+refusal_explains w made count faults.Memory less why = tt

@@ -1,13 +1,13 @@
 -- Connections that are made, served and dropped.
-use Rattle.std.proofs.Common.{◌≡◌, ◌≤◌, ℕ, ◌+◌, List, [], ◌++◌, Bool, true, false, cond, length, refl, sym, ap, ◌∙◌, subst, inl, inr}
-use Rattle.std.specs.Prelude.{All, Contains, None, Some}
+use Rattle.std.proofs.Common.{◌≡◌, ◌≤◌, ℕ, ◌+◌, List, [], ◌++◌, Bool, true, false, cond, length, refl, sym, ap, ◌∙◌, subst, arith, inl, inr}
+use Rattle.std.specs.Prelude.{◌⊎◌, All, Contains, None, Some, Result, Ok, Err, IfOk, IfErr, OnOk}
 use Rattle.std.proofs.lemmas.List.Elements.{All-append, All-nil}
 use Rattle.doc_hub.specs.Replies.{Renders}
 use Rattle.doc_hub.specs.Runs.{Happened, Runs, nothing}
 use Rattle.doc_hub.specs.StepLaws.{connection}
 use Rattle.doc_hub.specs.Worlds.{World}
 use Rattle.doc_server_rounds.specs.Peers.{Peer}
-use Rattle.doc_server_rounds.specs.Rounds.{AreOfAny, ids_of}
+use Rattle.doc_server_rounds.specs.Rounds.{AreOfAny, AreClosed, ServesAll, fault_places, ids_of}
 use Rattle.doc_server_rounds.specs.Served.{served_by}
 use Rattle.doc_server_rounds.specs.declared.round.Round.{Round}
 use Rattle.doc_server_rounds.proofs.Elsewhere.{kept_elsewhere}
@@ -15,11 +15,11 @@ use Rattle.doc_server_rounds.proofs.Serving.{runs_join}
 use Rattle.doc_server_serving.specs.Dropped.{dropped_all, is_among}
 use Rattle.doc_server_serving.specs.Faults.{Explains}
 use Rattle.doc_server_serving.specs.Made.{Makes}
-use Rattle.doc_server_serving.specs.Servings.{Clears, IsOwn, Refuses, Rounds, Stops}
+use Rattle.doc_server_serving.specs.Servings.{Clears, IsOwn, Refuses, Rounds, ServesOn, Stops}
 use Rattle.doc_server_serving.specs.declared.fault.ServeFault.{ServeFault}
 use Rattle.doc_server_serving.specs.declared.fault.ServeFault.TheVariants as faults
 use Rattle.doc_server_serving.proofs.Among.{apart}
-use Rattle.doc_server_serving.proofs.Dropping.{connection_after, drops_of, drops_own, drops_run, given_after, rest_after}
+use Rattle.doc_server_serving.proofs.Drops.{connection_after, drops_of, drops_own, drops_run, given_after, rest_after}
 use Rattle.doc_server_serving.proofs.Given.{given_kept}
 
 abbrev IsOfAny : List ℕ → Happened → Type 0
@@ -40,7 +40,7 @@ module _ (render : Renders) (w v : World) (ids : List ℕ) (run : List Happened)
 -- made, then served by a run, then dropped
 module _ (render : Renders) (w t s : World) (ps : List Peer) (m : Makes render w ps t) (run : List Happened) (runs : Runs render t run s)
     (own : AreOfAny (ids_of ps) run) where
-  ids : List ℕ
+  abbrev ids : List ℕ
   ids = ids_of ps
 
   cleared_by : (c : ℕ) (t : Bool) → is_among c ids ≡ t → connection c (dropped_all s ids) ≡ cond t None (connection c w)
@@ -82,7 +82,7 @@ served_clears render w s v count turns round after r is =
 still_explains : (t v : World) (made count : ℕ) (fault : ServeFault) → v.given ≡ t.given → Explains t made count fault
     → Explains v made count fault
 still_explains t v made count faults.Accept same why = why
-still_explains t v made count faults.NoIds same why = (why.0, same ∙ why.1)
+still_explains t v made count faults.NoIds same why = (why.0, omega (arith, same, why.1))
 still_explains t v made count faults.Memory same why = why
 
 pub stopped_refuses : (render : Renders) (w t v : World) (count : ℕ) (fault : ServeFault) (ps : List Peer)
@@ -98,3 +98,35 @@ stopped_refuses render w t v count fault ps stops is =
           ∙ ap (λ (x : World). record x { connections = (dropped_all t (ids_of ps)).connections }) m.rest
           ∙ ap (λ n. record w { given = n; connections = (dropped_all t (ids_of ps)).connections }) (sym (given_after t (ids_of ps)));
     })
+
+-- ---- what the calls answer
+
+pub rounds_of : (render page : Renders) (w t s : World) (count turns : ℕ) (round : Round) (ps qs : List Peer) → page ≡ render
+    → Makes render w ps t → length ps ≡ count → ServesAll page t ps s qs → round.faults ≡ fault_places ps qs → round.passes ≤ turns
+    → (round.passes ≡ turns) ⊎ AreClosed qs → Rounds render w count turns round s qs
+rounds_of render page w t s count turns round ps qs same m all serves faults passes ends = record {
+  taken = t;
+  before = ps;
+  makes = m;
+  all = all;
+  serves = subst (λ p. ServesAll p t ps s qs) same serves;
+  faults = faults;
+  passes = passes;
+  ends = ends;
+}
+
+module _ (render : Renders) (w s v : World) (count turns : ℕ) (links : List Peer) (is : v ≡ dropped_all s (ids_of links)) where
+  pub served_on : (r : Result Round ServeFault) → IfOk r (λ round. Rounds render w count turns round s links)
+      → IfOk r (λ round. ServesOn render w count turns round v)
+  served_on (Ok round) rounds = record { served = s; after = links; rounds = rounds; drops = is }
+  served_on (Err e) rounds = tt
+
+  pub cleared_on : (r : Result Round ServeFault) → IfOk r (λ round. Rounds render w count turns round s links)
+      → OnOk r (Clears render w count v)
+  cleared_on (Ok round) rounds = served_clears render w s v count turns round links rounds is
+  cleared_on (Err e) rounds = tt
+
+  pub refused_on : (r : Result Round ServeFault) → IfErr r (λ fault. Stops render w count fault s links)
+      → IfErr r (λ fault. Refuses render w count fault v)
+  refused_on (Ok round) stops = tt
+  refused_on (Err e) stops = stopped_refuses render w s v count e links stops is

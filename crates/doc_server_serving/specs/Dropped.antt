@@ -1,5 +1,6 @@
 -- Connections that are dropped.
-use Rattle.std.specs.Prelude.{ℕ, List, [], ◌∷◌, ◌==◌, Bool, list_any}
+use Rattle.std.specs.Prelude.{ℕ, List, [], ◌∷◌, ◌==◌, Bool}
+use Rattle.std.specs.List.{list_any}
 use Rattle.doc_hub.specs.Worlds.{World, disconnected}
 
 -- the world without the connections of these numbers, dropped one after another

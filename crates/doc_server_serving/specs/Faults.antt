@@ -1,5 +1,5 @@
 -- Why the peers of a listener were not served.
-use Rattle.std.specs.Prelude.{◌≡◌, ◌<◌, ⊤, ℕ}
+use Rattle.std.specs.Prelude.{◌<◌, ◌≤◌, ⊤, ℕ}
 use Rattle.doc_hub.specs.Worlds.{World, last_id}
 use Rattle.doc_hub.specs.declared.refusal.ConnectError.{ConnectError}
 use Rattle.doc_hub.specs.declared.refusal.ConnectError.TheVariants as connect_errors
@@ -13,11 +13,11 @@ fault_of connect_errors.Memory = faults.Memory
 
 -- why one peer more wasn't accepted in this world: of a listener nothing is known
 abbrev pub IsRefusal : World → ServeFault → Type 0
-IsRefusal w faults.NoIds = w.given ≡ last_id
+IsRefusal w faults.NoIds = last_id ≤ w.given
 IsRefusal w other = ⊤
 
 -- why no more than so many of all were accepted, or no room for the round was found, in the world that stands then
 abbrev pub Explains : World → ℕ → ℕ → ServeFault → Type 0
 Explains v made count faults.Accept = made < count
-Explains v made count faults.NoIds = (made < count) × (v.given ≡ last_id)
+Explains v made count faults.NoIds = (made < count) × (last_id ≤ v.given)
 Explains v made count faults.Memory = ⊤

@@ -20,10 +20,12 @@ use std::test::Fail;
 
 const READERS: &str = "[[reader]]\ntoken = \"tok-ann\"\ngroups = [\"staff\"]\n";
 
-const REQUEST: &[u8] = b"GET /page/a.md HTTP/1.1\r\nHost: docs\r\nAuthorization: Bearer tok-ann\r\nConnection: close\r\n\r\n";
+const REQUEST: &[u8] =
+    b"GET /page/a.md HTTP/1.1\r\nHost: docs\r\nAuthorization: Bearer tok-ann\r\nConnection: close\r\n\r\n";
 
 /// The fields in the order of docs/HTTP.md, and the page of docs/SITE.md.
-const REPLY: &str = "HTTP/1.1 200 OK\r\nContent-Type: text/html; charset=utf-8\r\nContent-Length: 49\r\nConnection: close\r\n\r\n<!DOCTYPE html>\n<title>a.md</title>\n<p>Hello</p>\n";
+const REPLY: &str =
+    "HTTP/1.1 200 OK\r\nContent-Type: text/html; charset=utf-8\r\nContent-Length: 49\r\nConnection: close\r\n\r\n<!DOCTYPE html>\n<title>a.md</title>\n<p>Hello</p>\n";
 
 /// A hub with one reader and one page.
 fn hub_of<L: Ledger>(heap: Heap, blank: Blank) -> Option<Hub<PlainRenderer<L>>>

@@ -1,5 +1,5 @@
 -- Connections that are dropped one after another.
-use Rattle.std.proofs.Common.{◌≡◌, ℕ, ◌+◌, List, [], ◌∷◌, Bool, true, false, cond, refl, ap, ◌∙◌, ◌==◌, inr, arith}
+use Rattle.std.proofs.Common.{◌≡◌, ℕ, suc, List, [], ◌∷◌, Bool, true, false, cond, refl, ap, ◌∙◌, ◌==◌, inr, arith}
 use Rattle.std.specs.Prelude.{◌||◌, All, Contains, Option, None}
 use Rattle.std.specs.FinMap as map
 use Rattle.std.specs.Cmp.{unsigned_tied}
@@ -39,14 +39,14 @@ rest_after w (n ∷ ns) = rest_after (disconnected w n).0 ns
 
 -- ---- the run of it
 
-drop_of : World → ℕ → Happened
+abbrev drop_of : World → ℕ → Happened
 drop_of w n = record {
   world = w;
   event = events.Disconnect (record { 0 = n });
   outcome = outcomes.Disconnected (disconnected w n).1;
 }
 
-pub drops_of : World → List ℕ → List Happened
+abbrev pub drops_of : World → List ℕ → List Happened
 drops_of w [] = []
 drops_of w (n ∷ ns) = drop_of w n ∷ drops_of (disconnected w n).0 ns
 
@@ -61,7 +61,7 @@ drops_own_in : (ids : List ℕ) (w : World) (ns : List ℕ) → ((n : ℕ) → C
 drops_own_in ids w [] within = All-nil (IsOwn ids)
 drops_own_in ids w (n ∷ ns) within =
     All-cons (IsOwn ids) (drop_of w n) (drops_of (disconnected w n).0 ns) (inr (n, refl, within n (0, omega arith, refl)))
-    (drops_own_in ids (disconnected w n).0 ns (λ m e. within m (e.0 + 1, omega (arith, e.1), e.2)))
+    (drops_own_in ids (disconnected w n).0 ns (λ m e. within m (suc e.0, omega (arith, e.1), e.2)))
 
 pub drops_own : (w : World) (ns : List ℕ) → All (IsOwn ns) (drops_of w ns)
 drops_own w ns = drops_own_in ns w ns (λ n e. e)
