@@ -2,12 +2,12 @@
 use Rattle.std.proofs.Common.{arith, T, ◌≤◌, zero, suc}
 use Rattle.std.proofs.Common.{◌≡◌, ◌<◌, ℕ, List, [], ◌∷◌, ◌++◌, Bool, true, false, refl, sym, ap, ◌∙◌, subst, inl, inr, append-nil, take}
 use Rattle.std.specs.Prelude.{Contains, MatchBool, Option, Some, None, Ok, Err, ◌⊎◌}
-use Rattle.std.specs.Io.KnownBytes.{Appends, Consumes, Keeps}
+use Rattle.std.specs.Io.KnownBytes.{Appends, Consumes, IsAtEnd, Keeps}
 use Rattle.std.proofs.KnownBytes.{Appends-nil, Consumes-nil, Consumes-kept}
 use Rattle.std.proofs.lemmas.List.Elements.{All-nil, All-cons, All-append, Contains-push}
 use Rattle.doc_hub.specs.Events.{pushing, stepping}
 use Rattle.doc_hub.specs.Replies.{Renders}
-use Rattle.doc_hub.specs.Runs.{Happens, Happened, Leaves, Runs, nothing, first, sent_by, sent_on}
+use Rattle.doc_hub.specs.Runs.{Happens, Happened, Leaves, Runs, nothing, first, events_on, sent_by, sent_on}
 use Rattle.doc_hub.specs.StepLaws.{connection}
 use Rattle.doc_hub.specs.Worlds.{World}
 use Rattle.doc_hub.specs.declared.event.ConnId.{ConnId}
@@ -25,10 +25,10 @@ use Rattle.doc_server_rounds.specs.Peers.{Peer, Suits, is_open_in}
 use Rattle.doc_server_rounds.specs.declared.phase.Phase.{Phase}
 use Rattle.doc_server_rounds.specs.declared.phase.Phase.TheVariants as phases
 use Rattle.doc_server_rounds.specs.Sending.{HasFault, IsSent, IsCutOff}
-use Rattle.doc_server_rounds.specs.Served.{served_by, AreOf, pushed_by, pushed_on, IsLast, IsShut, TakesIn, GivesOut, Closes, Serves}
+use Rattle.doc_server_rounds.specs.Served.{served_by, AreOf, pushed_by, pushed_on, IsLast, IsMore, IsShut, TakesIn, GivesOut, Closes, Serves}
 use Rattle.doc_server_rounds.proofs.Connections.{disconnect_drops, push_refused, push_finds_shut, push_leaves_open}
 use Rattle.doc_server_rounds.proofs.Connections.{reply_takes, more_leaves, memory_leaves, step_finds_closed, step_finds_none}
-use Rattle.doc_server_rounds.proofs.Serving.{goes_on, comes_to_end, pushed_join, sent_join, one_on, one_pushes, one_sends, last_before, runs_join}
+use Rattle.doc_server_rounds.proofs.Serving.{goes_on, comes_to_end, pushed_join, sent_join, one_on, one_pushes, one_sends, why_before, runs_join}
 
 -- the input of a link stays as it was
 pub record IsAlike (p q : Peer) : Type 0 where
@@ -104,10 +104,6 @@ module _ (render : Renders) where
     same_sent = sym (sent_join p.id xs ys ∙ ap (λ l. sent_on p.id xs ++ l) (one_sends p.id drop_one on_own)
         ∙ append-nil (sent_on p.id xs))
 
-    because : Closes p.id w xs q → Closes p.id w (xs ++ ys) q
-    because (inl last) = inl (last_before p.id xs ys last)
-    because (inr other) = inr other
-
     pub drops_link : p.is_open ≡ true → q.is_open ≡ false → q.id ≡ p.id → q.stalls ≡ p.stalls → TakesIn p q (pushed_on p.id xs)
         → GivesOut p q (sent_on p.id xs) → Closes p.id w xs q → Serves render w p u q
     drops_link opened shut id_same stalls takes gives why = record {
@@ -117,17 +113,9 @@ module _ (render : Renders) where
       own = All-append (λ h. served_by h.event ≡ Some p.id) xs ys all
           (All-cons (λ h. served_by h.event ≡ Some p.id) drop_one [] on_own (All-nil (λ h. served_by h.event ≡ Some p.id)));
       served = comes_to_end p.id w u p q (xs ++ ys) opened shut id_same stalls (subst (TakesIn p q) same_pushed takes)
-          (subst (GivesOut p q) same_sent gives) (because why)
+          (subst (GivesOut p q) same_sent gives) (why_before p.id w q xs ys why)
           (subst (λ c. connection c u ≡ None) own (disconnect_drops render v u id said drops));
     }
-
-  -- a link closes with no event before
-  pub closes_now : (w u : World) (p q : Peer) (id : ConnId) (said : Bool) → id.0 ≡ p.id → Happens render w (events.Disconnect id) u said
-      → p.is_open ≡ true → q.is_open ≡ false → IsAlike p q → q.written ≡ p.written
-      → (0 < q.failed) ⊎ (IsDry q.unread q.stalls ⊎ IsShut w p.id) → Serves render w p u q
-  closes_now w u p q id said own drops opened shut same written why =
-      drops_link w w u p q [] id said own (nothing w) (All-nil (λ h. served_by h.event ≡ Some p.id)) drops opened shut same.id same.stalls
-      (nothing_in p q same) (inl (nothing_out p q written)) (inr why)
 
   -- a link closes behind one event
   module _ (w v u : World) (p q : Peer) (event : Event) (outcome : Outcome) (id : ConnId) (said : Bool) (own : id.0 ≡ p.id)
@@ -136,9 +124,14 @@ module _ (render : Renders) where
     abbrev before : List Happened
     before = happened w event outcome ∷ []
 
+    abbrev first_on : Contains (events_on p.id before) (happened w event outcome)
+    first_on =
+        subst (λ l. Contains l (happened w event outcome)) (sym (one_on p.id (happened w event outcome) of))
+        (Contains-push [] (happened w event outcome))
+
     pub closes_after : p.is_open ≡ true → q.is_open ≡ false → IsAlike p q → pushed_by event outcome ≡ []
-        → GivesOut p q (sent_by outcome) → IsLast outcome ⊎ ((0 < q.failed) ⊎ (IsDry q.unread q.stalls ⊎ IsShut w p.id))
-        → Serves render w p u q
+        → GivesOut p q (sent_by outcome)
+        → IsLast outcome ⊎ (HasFault q.failed q.stalls ⊎ ((IsAtEnd q.unread × IsMore outcome) ⊎ IsShut w p.id)) → Serves render w p u q
     closes_after opened shut same none gives why =
         drops_link w v u p q before id said own (first w v v event outcome [] leaves (nothing v))
         (All-cons (λ h. served_by h.event ≡ Some p.id) (happened w event outcome) [] of (All-nil (λ h. served_by h.event ≡ Some p.id)))
@@ -147,14 +140,12 @@ module _ (render : Renders) where
         (subst (GivesOut p q) (sym (one_sends p.id (happened w event outcome) of)) gives)
         (because why)
       where
-        because : IsLast outcome ⊎ ((0 < q.failed) ⊎ (IsDry q.unread q.stalls ⊎ IsShut w p.id)) → Closes p.id w before q
-        because (inl last) = inl (
-          happened w event outcome,
-          subst (λ l. Contains l (happened w event outcome)) (sym (one_on p.id (happened w event outcome) of))
-              (Contains-push [] (happened w event outcome)),
-          last,
-        )
-        because (inr other) = inr other
+        because : IsLast outcome ⊎ (HasFault q.failed q.stalls ⊎ ((IsAtEnd q.unread × IsMore outcome) ⊎ IsShut w p.id))
+            → Closes p.id w before q
+        because (inl last) = inl (happened w event outcome, first_on, last)
+        because (inr (inl fault)) = inr (inl fault)
+        because (inr (inr (inl (dry, more)))) = inr (inr (inl (dry, (happened w event outcome, first_on, more))))
+        because (inr (inr (inr none))) = inr (inr (inr none))
 
 -- ---- each arm of a push and of a step
 
@@ -223,16 +214,21 @@ module _ (render : Renders) (w v u : World) (p q : Peer) (id : ConnId) (said : B
       (Err step_errors.NoConnection, h, refl) drops opened shut same refl (inl (nothing_out p q written))
       (inr (inr (inr (subst (IsShut w) own (step_finds_none render w v id h)))))
 
-  -- why a link is closed whose reply was cut off
-  cut_why : HasFault q.failed q.stalls → (0 < q.failed) ⊎ (IsDry q.unread q.stalls ⊎ IsShut w p.id)
-  cut_why (inl failed) = inl failed
-  cut_why (inr stalls) = inr (inl (inr stalls))
+  -- its input has ended, or its stream moves no byte
+  end_why : IsDry q.unread q.stalls → HasFault q.failed q.stalls ⊎ ((IsAtEnd q.unread × IsMore (outcomes.Stepped steps.More)) ⊎ IsShut w p.id)
+  end_why (inl dry) = inr (inl (dry, tt))
+  end_why (inr stalls) = inl (inr stalls)
+
+  pub ended : Happens render w (events.Step id) v (Ok steps.More) → q.written ≡ p.written → IsDry q.unread q.stalls → Serves render w p u q
+  ended h written dry =
+      closes_after render w v u p q (events.Step id) (outcomes.Stepped steps.More) id said own (ap Some own)
+      (Ok steps.More, h, refl) drops opened shut same refl (inl (nothing_out p q written)) (inr (end_why dry))
 
   pub reply_cut : (bytes : List ℕ) → Happens render w (events.Step id) v (Ok (steps.Sent bytes))
       → IsCutOff p.written q.written bytes q.failed q.stalls → Serves render w p u q
   reply_cut bytes h (gives, why) =
       closes_after render w v u p q (events.Step id) (outcomes.Stepped (steps.Sent bytes)) id said own (ap Some own)
-      (Ok (steps.Sent bytes), h, refl) drops opened shut same refl (inr (shut, why, gives)) (inr (cut_why why))
+      (Ok (steps.Sent bytes), h, refl) drops opened shut same refl (inr (shut, why, gives)) (inr (inl why))
 
   last_out : (bytes : List ℕ) (sent : Bool)
       → MatchBool sent (IsSent p.written q.written bytes q.failed) (IsCutOff p.written q.written bytes q.failed q.stalls)
@@ -272,7 +268,7 @@ read_failed render w u p q id said own drops opened shut same stalls keeps pendi
       Consumes-kept p.unread p.unread q.unread [] (Consumes-nil p.unread) keeps,
       append-nil p.pending ∙ sym pending,
     )
-    (inl (nothing_out p q written)) (inr (inl failed))
+    (inl (nothing_out p q written)) (inr (inl (inl failed)))
 
 -- a link whose stream is as it was
 pub still : (render : Renders) (w : World) (p q : Peer) → p.is_open ≡ true → q.is_open ≡ true → IsAlike p q → q.written ≡ p.written

@@ -16,7 +16,7 @@ use Rattle.doc_hub.specs.declared.event.Event.TheVariants as events
 use Rattle.doc_hub.specs.declared.outcome.Outcome.{Outcome}
 use Rattle.doc_server_streams.specs.Streams.{AppendsPrefix}
 use Rattle.doc_server_rounds.specs.Peers.{Peer}
-use Rattle.doc_server_rounds.specs.Served.{served_by, AreOf, pushed_by, pushed_on, GaveLast, IsShut, IsShutAs, TakesIn, GivesOut, Closes}
+use Rattle.doc_server_rounds.specs.Served.{served_by, AreOf, pushed_by, pushed_on, Gave, IsLast, IsMore, IsShut, IsShutAs, TakesIn, GivesOut, Closes}
 use Rattle.doc_server_rounds.specs.Served.{Served, Serves}
 use Rattle.doc_server_rounds.proofs.Elsewhere.{AreElsewhere, kept_elsewhere}
 
@@ -50,19 +50,26 @@ pub sent_join : (c : ℕ) (xs ys : List Happened) → sent_on c (xs ++ ys) ≡ s
 sent_join c xs ys =
     ap sent_of (filter-append (is_on c) xs ys) ∙ flat_map-append (λ h. sent_by h.outcome) (events_on c xs) (events_on c ys)
 
-pub last_before : (c : ℕ) (xs ys : List Happened) → GaveLast c xs → GaveLast c (xs ++ ys)
-last_before c xs ys (h, among, last) = (
+pub gave_before : (Is : Outcome → Type 0) (c : ℕ) (xs ys : List Happened) → Gave Is c xs → Gave Is c (xs ++ ys)
+gave_before Is c xs ys (h, among, is) = (
   h,
   subst (λ l. Contains l h) (sym (filter-append (is_on c) xs ys)) (Contains-append_left (events_on c xs) (events_on c ys) h among),
-  last,
+  is,
 )
 
-last_after : (c : ℕ) (xs ys : List Happened) → GaveLast c ys → GaveLast c (xs ++ ys)
-last_after c xs ys (h, among, last) = (
+gave_after : (Is : Outcome → Type 0) (c : ℕ) (xs ys : List Happened) → Gave Is c ys → Gave Is c (xs ++ ys)
+gave_after Is c xs ys (h, among, is) = (
   h,
   subst (λ l. Contains l h) (sym (filter-append (is_on c) xs ys)) (Contains-append_right (events_on c xs) (events_on c ys) h among),
-  last,
+  is,
 )
+
+-- why a link was closed, where more happens behind it
+pub why_before : (c : ℕ) (w : World) (q : Peer) (xs ys : List Happened) → Closes c w xs q → Closes c w (xs ++ ys) q
+why_before c w q xs ys (inl last) = inl (gave_before IsLast c xs ys last)
+why_before c w q xs ys (inr (inl fault)) = inr (inl fault)
+why_before c w q xs ys (inr (inr (inl (dry, more)))) = inr (inr (inl (dry, gave_before IsMore c xs ys more)))
+why_before c w q xs ys (inr (inr (inr shut))) = inr (inr (inr shut))
 
 -- ---- an event, and events elsewhere
 
@@ -181,20 +188,16 @@ module _ (c : ℕ) (w v u : World) (p q s : Peer) (xs ys : List Happened) (a : S
       (inr (shut, why, cut_before p.written q.written (sent_on c xs) (sent_on c ys) one))
 
   later : Closes c v ys s → q.is_open ≡ true → Closes c w (xs ++ ys) s
-  later (inl last) opened = inl (last_after c xs ys last)
+  later (inl last) opened = inl (gave_after IsLast c xs ys last)
   later (inr (inl fault)) opened = inr (inl fault)
-  later (inr (inr (inl dry))) opened = inr (inr (inl dry))
+  later (inr (inr (inl (dry, more)))) opened = inr (inr (inl (dry, gave_after IsMore c xs ys more)))
   later (inr (inr (inr shut))) opened = inr (inr (inr (a.stays opened shut)))
-
-  earlier : Closes c w xs q → Closes c w (xs ++ ys) q
-  earlier (inl last) = inl (last_before c xs ys last)
-  earlier (inr why) = inr why
 
   ends_by : (t : Bool) → q.is_open ≡ t → p.is_open ≡ true → s.is_open ≡ false → Closes c w (xs ++ ys) s × (connection c u ≡ None)
   ends_by true is opened shut = let e = b.ends is shut in (later e.0 is, e.1)
   ends_by false is opened shut =
       let e = a.ends opened is in
-      let f = b.closed is in (subst (Closes c w (xs ++ ys)) (sym f.0) (earlier e.0), f.1 ∙ e.1)
+      let f = b.closed is in (subst (Closes c w (xs ++ ys)) (sym f.0) (why_before c w q xs ys e.0), f.1 ∙ e.1)
 
   stays_by : (t : Bool) → q.is_open ≡ t → s.is_open ≡ true → IsShut u c → IsShut w c
   stays_by true is opened shut = a.stays is (b.stays opened shut)

@@ -1,17 +1,17 @@
 -- What serving a link does, to the hub and to its stream.
-use Rattle.std.specs.Prelude.{◌≡◌, ◌<◌, ◌⊎◌, ⊤, ℕ, List, [], ◌++◌, length, true, false, All, Contains, Option, Some, None, flat_map}
-use Rattle.std.specs.Io.KnownBytes.{Appends, Consumes}
+use Rattle.std.specs.Prelude.{◌≡◌, ◌<◌, ◌⊎◌, ⊤, ℕ, List, [], ◌++◌, length, true, false, All, Contains, Option, Some, None, Ok, flat_map}
+use Rattle.std.specs.Io.KnownBytes.{Appends, Consumes, IsAtEnd}
 use Rattle.doc_hub.specs.Replies.{Renders}
-use Rattle.doc_hub.specs.Runs.{Happened, Runs, events_on, sent_on}
+use Rattle.doc_hub.specs.Runs.{Happened, Happens, Runs, events_on, sent_on}
 use Rattle.doc_hub.specs.StepLaws.{connection}
 use Rattle.doc_hub.specs.Worlds.{World}
 use Rattle.doc_hub.specs.declared.connection.Connection.{Connection}
+use Rattle.doc_hub.specs.declared.event.ConnId.{ConnId}
 use Rattle.doc_hub.specs.declared.event.Event.{Event}
 use Rattle.doc_hub.specs.declared.event.Event.TheVariants as events
 use Rattle.doc_hub.specs.declared.event.Step.TheVariants as steps
 use Rattle.doc_hub.specs.declared.outcome.Outcome.{Outcome}
 use Rattle.doc_hub.specs.declared.outcome.Outcome.TheVariants as outcomes
-use Rattle.doc_server_links.specs.Moves.{IsDry}
 use Rattle.doc_server_streams.specs.Streams.{AppendsPrefix}
 use Rattle.doc_server_rounds.specs.Peers.{Peer}
 use Rattle.doc_server_rounds.specs.Sending.{HasFault}
@@ -38,13 +38,19 @@ pushed_by event outcome = []
 abbrev pub pushed_on : ℕ → List Happened → List ℕ
 pushed_on c run = flat_map (λ h. pushed_by h.event h.outcome) (events_on c run)
 
--- a step of the connection closed it
+-- an event on the connection came to this
+abbrev pub Gave : (Outcome → Type 0) → ℕ → List Happened → Type 0
+Gave Is c run = (h : Happened) × Contains (events_on c run) h × Is h.outcome
+
+-- a step that closed its connection
 abbrev pub IsLast : Outcome → Type 0
 IsLast (outcomes.Stepped (steps.Last bytes)) = ⊤
 IsLast outcome = ⊥
 
-abbrev pub GaveLast : ℕ → List Happened → Type 0
-GaveLast c run = (h : Happened) × Contains (events_on c run) h × IsLast h.outcome
+-- a step that found no whole request
+abbrev pub IsMore : Outcome → Type 0
+IsMore (outcomes.Stepped steps.More) = ⊤
+IsMore outcome = ⊥
 
 -- there is no open connection
 abbrev pub IsShutAs : Option Connection → Type 0
@@ -74,10 +80,14 @@ GivesOut p q sent =
     Appends p.written q.written sent
     ⊎ ((q.is_open ≡ false) × HasFault q.failed q.stalls × AppendsPrefix p.written q.written sent)
 
--- Why a link is closed: a step of its connection was the last, a call of its stream failed, its input is used up or its stream moves no
--- byte, or its connection wasn't open before.
+-- its input is used up, and a step found no request in what it gave
+abbrev pub HasEnded : ℕ → List Happened → Peer → Type 0
+HasEnded c run q = IsAtEnd q.unread × Gave IsMore c run
+
+-- Why a link is closed: a step of its connection was the last, a call of its stream failed or the stream moves no byte, it has ended, or
+-- its connection wasn't open before.
 abbrev pub Closes : ℕ → World → List Happened → Peer → Type 0
-Closes c w run q = GaveLast c run ⊎ ((0 < q.failed) ⊎ (IsDry q.unread q.stalls ⊎ IsShut w c))
+Closes c w run q = Gave IsLast c run ⊎ (HasFault q.failed q.stalls ⊎ (HasEnded c run q ⊎ IsShut w c))
 
 -- A run serves a link whose connection this is, whatever else it does: a closed link isn't touched; what an open one has pending and reads
 -- is pushed, and what the connection sends is written; it is closed for a reason, and its connection is dropped then.
@@ -96,3 +106,8 @@ pub record Serves (render : Renders) (w : World) (p : Peer) (v : World) (q : Pee
   pub runs : Runs render w run v
   pub own : AreOf p.id run
   pub served : Served p.id w p run v q
+
+-- what serving a link does behind a step that found no whole request
+abbrev pub ServesOn : Renders → World → Peer → World → Peer → Type 0
+ServesOn render v p u q =
+    (w : World) (id : ConnId) → id.0 ≡ p.id → Happens render w (events.Step id) v (Ok steps.More) → Serves render w p u q

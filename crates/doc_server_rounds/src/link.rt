@@ -4,7 +4,7 @@ ghost use Rattle.std.specs.Prelude.{◌≡◌, ◌<◌, true, [], IfErr, IfOk, O
 ghost use Rattle.doc_hub.specs.Runs.{Happens};
 ghost use Rattle.doc_hub.specs.declared.event.Event.TheVariants as events;
 ghost use Rattle.doc_hub.specs.Worlds.{disconnected};
-ghost use Rattle.doc_server_rounds.specs.Served.{Serves, unread_len};
+ghost use Rattle.doc_server_rounds.specs.Served.{Serves, ServesOn, unread_len};
 
 use crate::phase::Phase;
 use crate::sending::write_all;
@@ -208,7 +208,7 @@ impl<S: Stream + Drop> Link<S> {
     /// All steps are done: a link whose input has ended is closed, and another one may read.
     fn finish<R: Renderer + Drop>(&mut self, hub: &mut Hub<R>)
         requires { self.old.is_open ≡ true }
-        ensures serves { Serves (R.page hub.old.0) hub.old.1 self.old hub.new.1 self.new }
+        ensures serves { ServesOn (R.page hub.old.0) hub.old.1 self.old hub.new.1 self.new }
         ensures same { R.page hub.new.0 ≡ R.page hub.old.0 }
     {
         match self.phase {

@@ -2,8 +2,8 @@
 
 ghost use Rattle.std.specs.Prelude.{◌≡◌};
 
+use crate::streams::Streamed;
 use doc_heap::{Heap, String};
-use doc_page::bytes::Bytes;
 use doc_page::failure::Memory;
 use doc_server_links::memory_stream::MemoryStream;
 use doc_server_links::stream::Stream;
@@ -20,10 +20,7 @@ const MANY: u32 = 100;
 #[derive(Clone, Copy)]
 struct Given<'a> {
     growths: u64,
-    piece: usize,
-    fail_read: Option<u64>,
-    fail_write: Option<u64>,
-    text: &'a str,
+    streamed: Streamed<'a>,
 }
 
 /// Why no further turn is made.
@@ -57,31 +54,16 @@ pub fn answer(heap: Heap, given: &str) -> Result<String, Memory> {
 
 fn read_given(given: &str) -> Option<Given<'_>> {
     let (growths, given) = given.split_once(' ')?;
-    let (piece, given) = given.split_once(' ')?;
-    let (fail_read, given) = given.split_once(' ')?;
-    let (fail_write, text) = given.split_once(' ')?;
     Some(Given {
         growths: growths.parse::<u64>().ok()?,
-        piece: piece.parse::<usize>().ok()?,
-        fail_read: number(fail_read)?,
-        fail_write: number(fail_write)?,
-        text,
+        streamed: Streamed::read(given)?,
     })
 }
 
-/// A number of a call, of which 0 is none.
-fn number(text: &str) -> Option<Option<u64>> {
-    match text.parse::<u64>().ok()? {
-        0 => Some(None),
-        number => Some(Some(number)),
-    }
-}
-
 fn echoed(heap: Heap, given: &Given<'_>) -> Result<String, Memory> {
-    let input = Bytes::copy_of(heap, given.text.as_bytes())?;
-    let mut stream = MemoryStream::new(heap, input, given.piece, given.fail_read, given.fail_write);
+    let mut stream = given.streamed.stream(heap)?;
     heap.refuse_after(given.growths);
-    let told = echo(&mut stream, given.text.as_bytes());
+    let told = echo(&mut stream, given.streamed.text.as_bytes());
     heap.refuse_after(u64::MAX);
     let mut out = String::new(heap);
     let pushed = push_told(&mut out, told, &stream);

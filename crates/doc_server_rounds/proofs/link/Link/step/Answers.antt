@@ -4,6 +4,7 @@ use Rattle.doc_hub.specs.Runs.{Happens}
 use Rattle.doc_hub.specs.declared.event.Event.TheVariants as events
 use Rattle.doc_hub.specs.declared.event.Step.TheVariants as steps
 use Rattle.doc_server_rounds.specs.Peers.{Peer}
+use Rattle.doc_server_rounds.specs.Served.{Serves}
 use Rattle.doc_server_rounds.proofs.Connections.{reply_takes}
 use Rattle.doc_server_rounds.proofs.Pieces.{is_itself, replied, reply_cut, last_reply, found_no_memory, closed_step, missing_step}
 use Rattle.doc_server_rounds.proofs.link.Link.step.Goals as goal
@@ -34,6 +35,13 @@ returns-in-Ok-Last-clause-serves g c =
     rw (c.closed-self-inside-in-Ok-Last.ensures.phase, ← c.self.view_is) (last_reply (g.R.Renderer.page c.args.hub.now.0) c.args.hub.now.1 c.step.new.self.1
     c.closed-self-inside-in-Ok-Last.new.hub.1 _ _ c.self.inside.id _ refl opened c.closed-self-inside-in-Ok-Last.ensures.world refl
     (record { id = refl; stalls = c.write_all-in-Ok-Last.ensures.stalls; unread = c.write_all-in-Ok-Last.ensures.unread; pending = refl }) c.get-in-Ok-Last.result.now c.write_all-in-Ok-Last.result h c.write_all-in-Ok-Last.ensures.sent)
+
+pub returns-in-Ok-More-clause-serves : goal.returns-in-Ok-More-clause-serves
+returns-in-Ok-More-clause-serves g c =
+    let h = subst (λ s. Happens (g.R.Renderer.page c.args.hub.now.0) c.args.hub.now.1 (events.Step c.self.inside.id) c.step.new.self.1 (Ok s)) (c.in-Ok-More.field-0-is) c.in-Ok-More.ensures.world in
+    subst (λ page. Serves page c.args.hub.now.1 c.args.self.now c.finish.new.hub.1 c.finish.new.self) c.step.ensures.same
+    (c.finish.ensures.serves c.args.hub.now.1 c.self.inside.id (ap (λ (p : Peer). p.id) c.self.view_is)
+    (subst (λ page. Happens page c.args.hub.now.1 (events.Step c.self.inside.id) c.step.new.self.1 (Ok steps.More)) (sym c.step.ensures.same) h))
 
 pub returns-in-Ok-Closed-clause-serves : goal.returns-in-Ok-Closed-clause-serves
 returns-in-Ok-Closed-clause-serves g c =
