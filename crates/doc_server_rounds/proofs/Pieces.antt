@@ -219,9 +219,10 @@ module _ (render : Renders) (w v u : World) (p q : Peer) (id : ConnId) (said : B
   end_why (inl dry) = inr (inl (dry, tt))
   end_why (inr stalls) = inl (inr stalls)
 
-  pub ended : Happens render w (events.Step id) v (Ok steps.More) → q.written ≡ p.written → IsDry q.unread q.stalls → Serves render w p u q
-  ended h written dry =
-      closes_after render w v u p q (events.Step id) (outcomes.Stepped steps.More) id said own (ap Some own)
+  pub ended : (stepped : ConnId) → stepped.0 ≡ p.id → Happens render w (events.Step stepped) v (Ok steps.More) → q.written ≡ p.written
+      → IsDry q.unread q.stalls → Serves render w p u q
+  ended stepped of h written dry =
+      closes_after render w v u p q (events.Step stepped) (outcomes.Stepped steps.More) id said own (ap Some of)
       (Ok steps.More, h, refl) drops opened shut same refl (inl (nothing_out p q written)) (inr (end_why dry))
 
   pub reply_cut : (bytes : List ℕ) → Happens render w (events.Step id) v (Ok (steps.Sent bytes))

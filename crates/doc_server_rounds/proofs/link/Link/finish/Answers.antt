@@ -9,8 +9,8 @@ returns-in-Ends-clause-serves g c =
     let dry = (subst (λ phase. Suits phase (g.S.Stream.unread c.self.inside.stream) (g.S.Stream.stalls c.self.inside.stream)
     (g.S.Stream.failed c.self.inside.stream)) c.in-Ends.is c.self.invariant.1).1 in
     rw (c.closed-self-inside.ensures.phase, ← c.self.view_is) (λ w id own h. ended (g.R.Renderer.page c.args.hub.now.0) w c.args.hub.now.1
-    c.closed-self-inside.new.hub.1 _ _ id _ own opened c.closed-self-inside.ensures.world refl
-    (record { id = refl; stalls = refl; unread = refl; pending = refl }) h refl dry)
+    c.closed-self-inside.new.hub.1 _ _ c.self.inside.id _ refl opened c.closed-self-inside.ensures.world refl
+    (record { id = refl; stalls = refl; unread = refl; pending = refl }) id own h refl dry)
 
 pub returns-in_default : goal.returns-in_default
 returns-in_default g c =
