@@ -42,10 +42,14 @@ pub fn played(heaps: Heaps, script: &str) -> Option<Scene> {
 
 fn act_on_hubs(scene: &mut Scene, script: &str) -> Option<()> {
     for parts in script.split(" ; hub ; ") {
-        scene.heaps.tried.refuse_after(u64::MAX);
-        act_on_hub::<Brand>(scene, Blank::new(1), &[parts])?;
+        act_on_new_hub(scene, parts)?;
     }
     Some(())
+}
+
+fn act_on_new_hub(scene: &mut Scene, parts: &str) -> Option<()> {
+    scene.heaps.tried.refuse_after(u64::MAX);
+    act_on_hub::<Brand>(scene, Blank::new(1), &[parts])
 }
 
 /// Does what the parts of one text say, on a new hub.
