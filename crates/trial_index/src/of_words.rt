@@ -5,6 +5,7 @@ use crate::page::page_of_texts;
 use crate::stop::{Stop, written};
 use doc_heap::{Heap, String};
 use doc_page::failure::Memory;
+use doc_page::rendered::Rendered;
 use doc_words::query::{QueryError, query};
 use doc_words::word::Word;
 use doc_words::words::words;
@@ -21,12 +22,22 @@ pub fn called(heaps: Heaps, name: &str, given: &str) -> Option<Result<String, St
 /// `TEXT | TEXT ..`: the words of a page of these texts, each with its count.
 fn words_told(heaps: Heaps, given: &str) -> Result<String, Stop> {
     let page = page_of_texts(heaps.desk, given)?;
+    Ok(words_of(heaps, &page)?)
+}
+
+fn words_of(heaps: Heaps, page: &Rendered) -> Result<String, Memory> {
+    let counts = words(heaps.tried, page)?;
     let mut out = String::new(heaps.desk);
-    for (word, count) in words(heaps.tried, &page)?.get() {
-        push_word(&mut out, word)?;
+    push_counts(&mut out, counts.get())?;
+    Ok(out)
+}
+
+fn push_counts(out: &mut String, counts: &[(Word, u64)]) -> Result<(), Memory> {
+    for (word, count) in counts {
+        push_word(out, word)?;
         write!(out, " {count}")?;
     }
-    Ok(out)
+    Ok(())
 }
 
 /// `TEXT`: the words of a query, or why it has none.
@@ -40,10 +51,15 @@ fn query_told(heaps: Heaps, given: &str) -> Result<String, Stop> {
 
 fn listed(desk: Heap, words: &[Word]) -> Result<String, Memory> {
     let mut out = String::new(desk);
-    for word in words {
-        push_word(&mut out, word)?;
-    }
+    push_words(&mut out, words)?;
     Ok(out)
+}
+
+fn push_words(out: &mut String, words: &[Word]) -> Result<(), Memory> {
+    for word in words {
+        push_word(out, word)?;
+    }
+    Ok(())
 }
 
 /// Writes a word behind others.
