@@ -28,7 +28,9 @@ pub fn digest_of(trial: &mut Trial, calls: &str) -> Result<u64, Stop> {
 fn with_answer(trial: &mut Trial, value: u64, call: &str) -> Result<u64, Stop> {
     let (name, given) = last_word_of(call);
     let answer = called(trial, name, given)?;
-    Ok(with_line(value, &answer))
+    let value = with_line(value, &answer);
+    drop(answer);
+    Ok(value)
 }
 
 fn with_line(value: u64, line: &str) -> u64 {

@@ -35,7 +35,9 @@ fn refused_at(
     if !was_refused {
         return Some(told_of(trial.heaps.desk, growth > 0, answer));
     }
-    if !is_left(trial, is_memory(&answer), before) {
+    let is_memory = is_memory(&answer);
+    drop(answer);
+    if !is_left(trial, is_memory, before) {
         return Some(told(trial.heaps.desk, "not as before"));
     }
     refused_from(trial, name, given, growth, before)
@@ -53,7 +55,9 @@ fn refused_from(
     if answer.is_ok() {
         return Some(told_of(trial.heaps.desk, true, answer));
     }
-    if is_left(trial, is_memory(&answer), before) {
+    let is_memory = is_memory(&answer);
+    drop(answer);
+    if is_left(trial, is_memory, before) {
         return None;
     }
     Some(told(trial.heaps.desk, "not as before"))
@@ -76,7 +80,9 @@ pub fn tried(
 /// The digest of what the witness answers.
 fn witnessed(trial: &mut Trial) -> Result<u64, Stop> {
     let calls = String::from_str(trial.heaps.desk, &trial.witness)?;
-    digest_of(trial, &calls)
+    let value = digest_of(trial, &calls);
+    drop(calls);
+    value
 }
 
 fn is_memory(answer: &Result<String, Stop>) -> bool {
@@ -102,5 +108,7 @@ fn told_of(desk: Heap, refused: bool, answer: Result<String, Stop>) -> Result<St
     } else {
         "no growth"
     };
-    Ok(format!(in desk; "{told}; {answer}")?)
+    let text = format!(in desk; "{told}; {answer}");
+    drop(answer);
+    Ok(text?)
 }

@@ -48,15 +48,29 @@ fn main(rt: HostRuntime) -> io::Result<()> {
 /// Prints what each line of standard input answers.
 fn run<R: AllocGlobal + Input + Print>(rt: &R, trial: &mut Trial) -> io::Result<()> {
     for line in BufReader::new(rt.alloc(), rt.reader())?.lines(rt.alloc()) {
-        let line = line?;
-        print_answer(rt, trial, line.as_str())?;
+        print_line(rt, trial, line)?;
     }
     Ok(())
 }
 
+fn print_line<R: Print>(
+    rt: &R,
+    trial: &mut Trial,
+    line: io::Result<std::string::String>,
+) -> io::Result<()> {
+    let line = line?;
+    let printed = print_answer(rt, trial, line.as_str());
+    drop(line);
+    printed
+}
+
 fn print_answer<R: Print>(rt: &R, trial: &mut Trial, line: &str) -> io::Result<()> {
     match answer_of(trial, line) {
-        Ok(answer) => println!(rt; "{answer}"),
+        Ok(answer) => {
+            let printed = println!(rt; "{answer}");
+            drop(answer);
+            printed
+        }
         Err(Memory) => println!(rt; "no memory for the line"),
     }
 }
@@ -66,7 +80,11 @@ fn answer_of(trial: &mut Trial, line: &str) -> Result<String, Memory> {
     let desk = trial.heaps.desk;
     match read_line(desk, line)? {
         Line::Comment => Ok(String::from_str(desk, line)?),
-        Line::Call { name, given } => said(desk, answer(trial, name, given.as_str())),
+        Line::Call { name, given } => {
+            let said = said(desk, answer(trial, name, given.as_str()));
+            drop(given);
+            said
+        }
         Line::Wrong => no_call(desk),
     }
 }

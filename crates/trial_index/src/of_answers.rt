@@ -50,7 +50,9 @@ fn asked(trial: &Trial) -> Result<String, Stop> {
 fn backlinks_under(trial: &Trial, given: &str) -> Result<String, Stop> {
     let (reader, path) = two(given)?;
     let reader = reader_of(trial.heaps.desk, reader)?;
-    of_postings::backlinks(trial.heaps, &trial.site, &reader, path)
+    let told = of_postings::backlinks(trial.heaps, &trial.site, &reader, path);
+    drop(reader);
+    told
 }
 
 /// `READER` or `READER | REST`.
@@ -58,6 +60,7 @@ fn asked_by(trial: &mut Trial, name: &str, given: &str) -> Result<String, Stop> 
     let (reader, rest) = two(given).unwrap_or((given, ""));
     let reader = reader_of(trial.heaps.desk, reader)?;
     let (answer, asked) = answer_of(trial, &reader, name, rest);
+    drop(reader);
     trial.asked = asked;
     answer
 }
@@ -94,13 +97,17 @@ fn answer_to(trial: &Trial, sight: &Counting, name: &str, rest: &str) -> Result<
 /// The text of the contents.
 fn contents(heaps: Heaps, links: &LinkIndex, sight: &Counting) -> Result<String, Memory> {
     let all = links.contents(sight)?;
-    contents_of(heaps, all.get())
+    let told = contents_of(heaps, all.get());
+    drop(all);
+    told
 }
 
 fn contents_of(heaps: Heaps, all: &[Entry]) -> Result<String, Memory> {
     let mut out = String::new(heaps.tried);
     push_contents(heaps.tried, &mut out, all)?;
-    shown(heaps.desk, out.as_str())
+    let told = shown(heaps.desk, out.as_str());
+    drop(out);
+    told
 }
 
 /// The text of the report.
@@ -108,13 +115,17 @@ fn report(heaps: Heaps, links: &LinkIndex, sight: &Counting) -> Result<String, M
     requires once { IsOnce links.now }
 {
     let all = links.broken(sight)?;
-    report_of(heaps, all.get())
+    let told = report_of(heaps, all.get());
+    drop(all);
+    told
 }
 
 fn report_of(heaps: Heaps, all: &[Broken]) -> Result<String, Memory> {
     let mut out = String::new(heaps.tried);
     push_report(heaps.tried, &mut out, all)?;
-    shown(heaps.desk, out.as_str())
+    let told = shown(heaps.desk, out.as_str());
+    drop(out);
+    told
 }
 
 /// `PATH`: the text of the pages with links to it.
@@ -127,7 +138,9 @@ fn backlinks(
     requires once { IsOnce links.now }
 {
     let target = path_of(heaps.desk, target)?;
-    Ok(backlinks_to(heaps, links, sight, &target)?)
+    let told = backlinks_to(heaps, links, sight, &target);
+    drop(target);
+    Ok(told?)
 }
 
 fn backlinks_to(
@@ -139,20 +152,28 @@ fn backlinks_to(
     requires once { IsOnce links.now }
 {
     let all = links.backlinks(target, sight)?;
-    sources_told(heaps, all.get())
+    let told = sources_told(heaps, all.get());
+    drop(all);
+    told
 }
 
 /// The text of pages with the numbers of their links.
 pub fn sources_told(heaps: Heaps, all: &[(Path, u64)]) -> Result<String, Memory> {
     let mut out = String::new(heaps.tried);
     push_backlinks(heaps.tried, &mut out, all)?;
-    shown(heaps.desk, out.as_str())
+    let told = shown(heaps.desk, out.as_str());
+    drop(out);
+    told
 }
 
 /// `QUERY`: the text of the pages that have its words, or why it has none.
 fn search(heaps: Heaps, words: &WordIndex, sight: &Counting, text: &str) -> Result<String, Stop> {
     match query(heaps.tried, text) {
-        Ok(query) => Ok(search_for(heaps, words, sight, query.get())?),
+        Ok(query) => {
+            let told = search_for(heaps, words, sight, query.get());
+            drop(query);
+            Ok(told?)
+        }
         Err(QueryError::Memory) => Err(Stop::Memory),
         Err(e) => written(heaps.desk, e),
     }
@@ -165,12 +186,16 @@ fn search_for(
     query: &[Word],
 ) -> Result<String, Memory> {
     let all = words.search(heaps.tried, query, sight)?;
-    hits_told(heaps, all.get())
+    let told = hits_told(heaps, all.get());
+    drop(all);
+    told
 }
 
 /// The text of the pages that a search found.
 pub fn hits_told(heaps: Heaps, all: &[Hit]) -> Result<String, Memory> {
     let mut out = String::new(heaps.tried);
     push_hits(heaps.tried, &mut out, all)?;
-    shown(heaps.desk, out.as_str())
+    let told = shown(heaps.desk, out.as_str());
+    drop(out);
+    told
 }

@@ -39,8 +39,8 @@ fn renew(heap: Heap, cache: &mut PageCache, capacity: usize) -> Result<(), Cache
 /// `KEY | TEXT`: true, or no memory.
 fn kept(desk: Heap, cache: &mut PageCache, given: &str) -> Result<String, Stop> {
     let (key, text) = two(given)?;
-    let text = Text::copy_of(desk, text)?;
     let key = key_of(desk, key)?;
+    let text = Text::copy_of(desk, text)?;
     if cache.keep(key, text) {
         told(desk, "true")
     } else {
@@ -51,7 +51,9 @@ fn kept(desk: Heap, cache: &mut PageCache, given: &str) -> Result<String, Stop> 
 /// `KEY`: the text under it.
 fn looked(desk: Heap, cache: &mut PageCache, given: &str) -> Result<String, Stop> {
     let key = key_of(desk, given)?;
-    written(desk, cache.look(&key))
+    let told = written(desk, cache.look(&key));
+    drop(key);
+    told
 }
 
 fn key_of(desk: Heap, given: &str) -> Result<Key, Stop> {

@@ -51,15 +51,18 @@ fn place_of(desk: Heap, given: &str) -> Result<(Place, &str), Stop> {
 /// `PATH STAMP VALUE KEY:COUNT ..`: holds a page, and answers whether there was none under that path and stamp.
 fn entered(desk: Heap, index: &mut Index<u64>, given: &str) -> Result<String, Stop> {
     let (place, rest) = place_of(desk, given)?;
-    let is_free = enter(desk, index, &place, rest)?;
-    told_whether(desk, is_free)
+    let is_free = enter(desk, index, &place, rest);
+    drop(place);
+    told_whether(desk, is_free?)
 }
 
 fn enter(desk: Heap, index: &mut Index<u64>, place: &Place, rest: &str) -> Result<bool, Stop> {
     let (value, keys) = last_word_of(rest);
     let value = number_of(value)?;
     let keys = keys_of(desk, keys)?;
-    Ok(add(index, place, value, &keys)?)
+    let is_free = add(index, place, value, &keys);
+    drop(keys);
+    Ok(is_free?)
 }
 
 fn add(
@@ -102,17 +105,20 @@ fn add_key(desk: Heap, keys: &mut BTreeMap<String, u64>, given: &str) -> Result<
 /// `PATH STAMP PATH STAMP VALUE`: holds a page with the keys of another, and answers likewise.
 fn copied(desk: Heap, index: &mut Index<u64>, given: &str) -> Result<String, Stop> {
     let (from, rest) = place_of(desk, given)?;
-    let is_free = copy_from(desk, index, &from, rest)?;
-    told_whether(desk, is_free)
+    let is_free = copy_from(desk, index, &from, rest);
+    drop(from);
+    told_whether(desk, is_free?)
 }
 
 fn copy_from(desk: Heap, index: &mut Index<u64>, from: &Place, rest: &str) -> Result<bool, Stop> {
     let (to, value) = place_of(desk, rest)?;
-    let value = number_of(value)?;
-    Ok(copy(index, from, &to, value)?)
+    let is_free = copy_to(index, from, &to, value);
+    drop(to);
+    is_free
 }
 
-fn copy(index: &mut Index<u64>, from: &Place, to: &Place, value: u64) -> Result<bool, Memory> {
+fn copy_to(index: &mut Index<u64>, from: &Place, to: &Place, value: &str) -> Result<bool, Stop> {
+    let value = number_of(value)?;
     if index.get(&to.path, to.stamp).is_some() {
         return Ok(false);
     }
@@ -124,14 +130,26 @@ fn copy(index: &mut Index<u64>, from: &Place, to: &Place, value: u64) -> Result<
 fn dropped(desk: Heap, index: &mut Index<u64>, given: &str) -> Result<String, Stop> {
     let (place, _) = place_of(desk, given)?;
     let was_there = index.drop_page(&place.path, place.stamp);
+    drop(place);
     told_whether(desk, was_there)
 }
 
 /// The pages with their values, or those that have a key with its counts.
 fn listed(heaps: Heaps, index: &Index<u64>, key: Option<&str>) -> Result<String, Stop> {
     let slots = index.in_order(heaps.tried)?;
-    let mut out = String::new(heaps.desk);
-    push_pages(&mut out, index, &slots, key)?;
+    let told = told_of(heaps.desk, index, &slots, key);
+    drop(slots);
+    Ok(told?)
+}
+
+fn told_of(
+    desk: Heap,
+    index: &Index<u64>,
+    slots: &[u64],
+    key: Option<&str>,
+) -> Result<String, Memory> {
+    let mut out = String::new(desk);
+    push_pages(&mut out, index, slots, key)?;
     Ok(out)
 }
 

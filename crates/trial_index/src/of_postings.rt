@@ -27,12 +27,16 @@ use doc_words::word::Word;
 /// `PATH`: the text of the pages with links to a page that is held and seen.
 pub fn backlinks(heaps: Heaps, site: &Site, reader: &Reader, path: &str) -> Result<String, Stop> {
     let target = path_of(heaps.desk, path)?;
-    backlinks_to(heaps, site, reader, &target)
+    let told = backlinks_to(heaps, site, reader, &target);
+    drop(target);
+    told
 }
 
 fn backlinks_to(heaps: Heaps, site: &Site, reader: &Reader, target: &Path) -> Result<String, Stop> {
     let all = sources(&site.store, site.indexes.links(), reader, target)?;
-    Ok(sources_told(heaps, all.get())?)
+    let told = sources_told(heaps, all.get());
+    drop(all);
+    Ok(told?)
 }
 
 fn sources(
@@ -54,7 +58,9 @@ fn sources(
         return Err(Stop::NoCall);
     }
     let names = store.names_of(target)?;
-    Ok(links.backlinks_under(target, &names, &sight)?)
+    let all = links.backlinks_under(target, &names, &sight);
+    drop(names);
+    Ok(all?)
 }
 
 /// `QUERY`: the text of the pages that have its words, of fewer than 100 that are seen, or why it has none.
@@ -65,7 +71,11 @@ pub fn search(
     text: &str,
 ) -> Result<String, Stop> {
     match query(heaps.tried, text) {
-        Ok(words) => search_for(heaps, index, sight, words.get()),
+        Ok(words) => {
+            let told = search_for(heaps, index, sight, words.get());
+            drop(words);
+            told
+        }
         Err(QueryError::Memory) => Err(Stop::Memory),
         Err(e) => written(heaps.desk, e),
     }
@@ -79,7 +89,9 @@ fn search_for(
 ) -> Result<String, Stop> {
     let count = count_seen(heaps.desk, index, sight.plain())?;
     let all = index.search_among(heaps.tried, words, sight, count)?;
-    Ok(hits_told(heaps, all.get())?)
+    let told = hits_told(heaps, all.get());
+    drop(all);
+    Ok(told?)
 }
 
 /// How many of the held pages are seen, if they are fewer than 100: a search for no words finds each of them.
@@ -89,6 +101,7 @@ fn count_seen(heap: Heap, index: &WordIndex, sight: &SiteSight) -> Result<u64, S
 {
     let all = index.search(heap, &[], sight)?;
     let count = all.get().len();
+    drop(all);
     if count >= 100 {
         return Err(Stop::NoCall);
     }

@@ -3,7 +3,7 @@
 use crate::given::{Heaps, path_of, two};
 use crate::indexes::Indexes;
 use crate::page::rendered;
-use crate::stop::{Stop, answered, told, told_whether};
+use crate::stop::{Stop, answered, told, told_whether, written};
 use doc_heap::{Heap, String};
 use doc_page::path::Path;
 use doc_page::rendered::Rendered;
@@ -36,7 +36,23 @@ impl Site {
     /// Holds the page of a path in both indexes.
     fn hold(&mut self, desk: Heap, path: &Path) -> Result<(), Stop> {
         let page = self.page(desk, path)?;
-        Ok(self.indexes.add(path, &page)?)
+        let held = self.indexes.add(path, &page);
+        drop(page);
+        Ok(held?)
+    }
+
+    fn hold_links(&mut self, desk: Heap, path: &Path) -> Result<(), Stop> {
+        let page = self.page(desk, path)?;
+        let held = self.indexes.add_links(path, &page);
+        drop(page);
+        Ok(held?)
+    }
+
+    fn hold_words(&mut self, desk: Heap, path: &Path) -> Result<(), Stop> {
+        let page = self.page(desk, path)?;
+        let held = self.indexes.add_words(path, &page);
+        drop(page);
+        Ok(held?)
     }
 }
 
@@ -69,14 +85,18 @@ fn renewed(heaps: Heaps, site: &mut Site) -> Result<String, Stop> {
 fn stored(desk: Heap, site: &mut Site, given: &str) -> Result<String, Stop> {
     let (path, rest) = two(given)?;
     let path = path_of(desk, path)?;
-    answered(desk, put_page(desk, &mut site.store, &path, rest)?)
+    let put = put_page(desk, &mut site.store, &path, rest);
+    drop(path);
+    answered(desk, put?)
 }
 
 /// `PATH | GROUPS | TEXT`: puts a page into the store and both indexes.
 fn put(desk: Heap, site: &mut Site, given: &str) -> Result<String, Stop> {
     let (path, rest) = two(given)?;
     let path = path_of(desk, path)?;
-    put_at(desk, site, &path, rest)
+    let told = put_at(desk, site, &path, rest);
+    drop(path);
+    told
 }
 
 fn put_at(desk: Heap, site: &mut Site, path: &Path, rest: &str) -> Result<String, Stop> {
@@ -95,7 +115,9 @@ fn put_page(
 ) -> Result<Result<Put, EditError>, Stop> {
     let (groups, text) = two(given)?;
     let groups = groups_of(desk, groups)?;
-    Ok(store.put(path, &groups, text))
+    let put = store.put(path, &groups, text);
+    drop(groups);
+    Ok(put)
 }
 
 /// The groups of names with commas between them.
@@ -111,12 +133,16 @@ pub fn groups_of(desk: Heap, names: &str) -> Result<Groups, Stop> {
 fn moved(desk: Heap, site: &mut Site, given: &str) -> Result<String, Stop> {
     let (from, to) = two(given)?;
     let from = path_of(desk, from)?;
-    move_from(desk, site, &from, to)
+    let told = move_from(desk, site, &from, to);
+    drop(from);
+    told
 }
 
 fn move_from(desk: Heap, site: &mut Site, from: &Path, to: &str) -> Result<String, Stop> {
     let to = path_of(desk, to)?;
-    move_to(desk, site, from, &to)
+    let told = move_to(desk, site, from, &to);
+    drop(to);
+    told
 }
 
 fn move_to(desk: Heap, site: &mut Site, from: &Path, to: &Path) -> Result<String, Stop> {
@@ -133,21 +159,22 @@ fn removed(desk: Heap, site: &mut Site, given: &str) -> Result<String, Stop> {
     let path = path_of(desk, given)?;
     site.indexes.remove(&path);
     let was_there = site.store.remove(&path);
+    drop(path);
     told_whether(desk, was_there)
 }
 
 /// `PATH`: holds a page of the store in the index of links.
 fn add_links(desk: Heap, site: &mut Site, given: &str) -> Result<String, Stop> {
     let path = path_of(desk, given)?;
-    let page = site.page(desk, &path)?;
-    site.indexes.add_links(&path, &page)?;
-    told(desk, "()")
+    let held = site.hold_links(desk, &path);
+    drop(path);
+    written(desk, held?)
 }
 
 /// `PATH`: holds a page of the store in the index of words.
 fn add_words(desk: Heap, site: &mut Site, given: &str) -> Result<String, Stop> {
     let path = path_of(desk, given)?;
-    let page = site.page(desk, &path)?;
-    site.indexes.add_words(&path, &page)?;
-    told(desk, "()")
+    let held = site.hold_words(desk, &path);
+    drop(path);
+    written(desk, held?)
 }

@@ -22,13 +22,21 @@ pub fn called(heaps: Heaps, name: &str, given: &str) -> Option<Result<String, St
 /// `TEXT | TEXT ..`: the words of a page of these texts, each with its count.
 fn words_told(heaps: Heaps, given: &str) -> Result<String, Stop> {
     let page = page_of_texts(heaps.desk, given)?;
-    Ok(words_of(heaps, &page)?)
+    let told = words_of(heaps, &page);
+    drop(page);
+    Ok(told?)
 }
 
 fn words_of(heaps: Heaps, page: &Rendered) -> Result<String, Memory> {
     let counts = words(heaps.tried, page)?;
-    let mut out = String::new(heaps.desk);
-    push_counts(&mut out, counts.get())?;
+    let told = counts_told(heaps.desk, counts.get());
+    drop(counts);
+    told
+}
+
+fn counts_told(desk: Heap, counts: &[(Word, u64)]) -> Result<String, Memory> {
+    let mut out = String::new(desk);
+    push_counts(&mut out, counts)?;
     Ok(out)
 }
 
@@ -43,7 +51,11 @@ fn push_counts(out: &mut String, counts: &[(Word, u64)]) -> Result<(), Memory> {
 /// `TEXT`: the words of a query, or why it has none.
 fn query_told(heaps: Heaps, given: &str) -> Result<String, Stop> {
     match query(heaps.tried, given) {
-        Ok(words) => Ok(listed(heaps.desk, words.get())?),
+        Ok(words) => {
+            let told = listed(heaps.desk, words.get());
+            drop(words);
+            Ok(told?)
+        }
         Err(QueryError::Memory) => Err(Stop::Memory),
         Err(e) => written(heaps.desk, e),
     }
