@@ -1,6 +1,6 @@
 -- The names of a page that is held in an index of links, and that a reader sees.
-use Rattle.std.proofs.Common.{◌≡◌, ℕ, List, [], ◌∷◌, Bool, true, false, cond, is_some, refl, ap, sym, subst, ◌∙◌}
-use Rattle.std.specs.Prelude.{◌||◌, Option, Some, None, IsTrue, bytes_eq, map as mapped, if◌then◌else◌}
+use Rattle.std.proofs.Common.{◌≡◌, ℕ, List, [], ◌∷◌, Bool, true, false, is_some, refl, ap, sym, subst, ◌∙◌}
+use Rattle.std.specs.Prelude.{◌||◌, Option, Some, None, bytes_eq, map as mapped, option_map, if◌then◌else◌}
 use Rattle.std.specs.FinMap as map
 use Rattle.std.specs.List.{list_any}
 use Rattle.std.specs.Ordering.{eq_by_cmp}
@@ -12,12 +12,13 @@ use Rattle.doc_links.specs.Links.{page_at}
 use Rattle.doc_links.specs.Names.{AreNames as WrittenNames}
 use Rattle.doc_links.specs.PageLinks.{pages_of}
 use Rattle.doc_links.specs.declared.page_links.PageLinks.{PageLinks}
+use Rattle.doc_resolve.specs.declared.link_kind.LinkKind.{LinkKind}
 use Rattle.doc_store.proofs.KeySteps.{bytes_eq_is, same_itself}
 use Rattle.doc_store.proofs.NamesLaw.{names_lead}
 use Rattle.doc_store.proofs.SightSteps.{itself_is}
 use Rattle.doc_store.specs.Names.{AreNames, names_of}
-use Rattle.doc_store.specs.Sites.{Site, IsSite, goal_in, may_see_at, view_of}
-use Rattle.doc_store.specs.Store.{is_goal}
+use Rattle.doc_store.specs.Sites.{Site, IsSite, View, goal_in, view_of}
+use Rattle.doc_store.specs.Store.{IsStore, StoreState, is_goal}
 use Rattle.doc_store.specs.declared.reader.Reader.{Reader}
 
 abbrev Entries : Type 0
@@ -49,10 +50,10 @@ module _ (goals : List ℕ → Option (List ℕ)) (target : List ℕ) (n : ℕ) 
       by false o false l same s more any = more any
       by false o true l false s more any = ap (λ b. is_some (if b then Some (e.0.0, e.1) else page_at later target)) s ∙ more any
       by true o false l same s more any =
-          absurd (both_ways (leads_to_itself (goals e.0.0) e.0.0) (ap (λ p. leads_to_itself (goals p) p) (is_target o) ∙ sees) l)
+          absurd (both_ways (leads_to_itself (goals e.0.0) e.0.0) l (ap (λ p. leads_to_itself (goals p) p) (is_target o) ∙ sees))
       by true o true l false s more any =
-          absurd (both_ways (bytes_eq e.0.0 target)
-          (ap (λ p. bytes_eq p target) (is_target o) ∙ bytes_eq_is target target ∙ same_itself target) s)
+          absurd (both_ways (bytes_eq e.0.0 target) s
+          (ap (λ p. bytes_eq p target) (is_target o) ∙ bytes_eq_is target target ∙ same_itself target))
 
   pub target_is_seen : (held : PairMap PageLinks) → map.contains_key held (target, n) ≡ true
       → is_some (page_at (seen goals (pages_of held)) target) ≡ true
@@ -75,3 +76,21 @@ names_are site is reader target sees pages =
       lead = λ name any. sym (is_led target (goals name)) ∙ sym (known.all name) ∙ any;
       all = λ name writes leads. known.all name ∙ is_led target (goals name) ∙ leads;
     }
+
+pub names_named : (store : StoreState) → IsStore store → (reader : Reader) (view : View) → view ≡ view_of store.site (Some reader)
+    → (target : List ℕ) → leads_to_itself (goal_in view target) target ≡ true
+    → (pages : List (List ℕ × PageLinks)) (names : List (List ℕ)) → names ≡ names_of store.site target
+    → WrittenNames names (goal_in view) pages target
+names_named store is reader view seen_by target sees pages names named =
+    subst (λ n. WrittenNames n (goal_in view) pages target) (sym named)
+    (subst (λ v. WrittenNames (names_of store.site target) (goal_in v) pages target) (sym seen_by)
+    (names_are store.site is.site reader target (ap (λ v. leads_to_itself (goal_in v target) target) (sym seen_by) ∙ sees) pages))
+
+-- a page whose links are told is held
+pub is_held : (held : PairMap PageLinks) (path : List ℕ) (stamp : ℕ) (links : List LinkKind)
+    → Some links ≡ option_map (λ page. page.links) (map.get held (path, stamp)) → map.contains_key held (path, stamp) ≡ true
+is_held held path stamp links told = by (map.get held (path, stamp)) told
+  where
+    by : (x : Option PageLinks) → Some links ≡ option_map (λ page. page.links) x → is_some x ≡ true
+    by None e = cc
+    by (Some page) e = refl
