@@ -1,12 +1,12 @@
 -- A search for no words finds each page, where there are fewer than 100.
 use Rattle.std.proofs.Common.{◌≡◌, ℕ, suc, List, [], ◌∷◌, Bool, true, false, length, take, if◌then◌else◌, refl, ap, arith, ◌∙◌}
-use Rattle.std.specs.Prelude.{◌<◌, map as mapped, min}
+use Rattle.std.specs.Prelude.{◌<◌, min}
 use Rattle.std.specs.FinMap as map
 use Rattle.std.specs.List.{filter}
 use Rattle.std.specs.Ordering.{is_lt}
 use Rattle.std.proofs.lemmas.List.{length-map, length-take}
 use Rattle.doc_index.specs.Maps.{TextMap}
-use Rattle.doc_words.specs.Searches.{hits, holds_all, placed, rank_cmp, ranked, score, search}
+use Rattle.doc_words.specs.Searches.{hits, holds_all, placed, rank_cmp, ranked, search}
 use Rattle.doc_words.specs.declared.hit.Hit.{Hit}
 
 length_placed : (hit : Hit) (found : List Hit) → length (placed hit found) ≡ suc (length found)

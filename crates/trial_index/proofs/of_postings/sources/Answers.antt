@@ -1,8 +1,4 @@
-use Rattle.std.proofs.Common.{ap, sym, subst, is_some, ◌∙◌}
-use Rattle.std.specs.Prelude.{map as mapped}
-use Rattle.doc_links.specs.Names.{AreNames}
-use Rattle.doc_links.specs.PageLinks.{pages_of}
-use Rattle.doc_page.specs.Sights.{seen}
+use Rattle.std.proofs.Common.{ap, sym, ◌∙◌}
 use Rattle.doc_store.specs.Groups.{texts_of}
 use Rattle.doc_store.specs.Sites.{goal_in}
 use Rattle.trial_index.proofs.NameSteps.{is_held, names_named, target_is_seen}
