@@ -31,6 +31,7 @@ def main():
         ("within 40 search owner | kiwi7", debug(cut.search("kiwi7"))),
         ("within 40 search owner | kiwi7 KIWI", debug(cut.search("kiwi7 KIWI"))),
         ("within 40 backlinks owner | 77.md", debug(cut.backlinks("77.md"))),
+        ("within 20 backlinks_under owner | 77.md", debug(cut.backlinks("77.md"))),
     ]
     write("large.py", lines)
 

@@ -1,1 +1,3 @@
-pub mod HoldSteps
+mod FewSteps
+mod HoldSteps
+mod NameSteps

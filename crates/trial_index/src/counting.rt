@@ -1,5 +1,6 @@
 //! A sight that counts how often it is asked.
 
+ghost use Rattle.std.specs.Prelude.{◌≡◌};
 ghost use Rattle.doc_store.specs.Sites.{goal_in};
 
 use doc_page::path::Path;
@@ -22,6 +23,13 @@ impl<'a> Counting<'a> {
             watched,
             asked: Cell::new(0),
         }
+    }
+
+    /// The sight that isn't counted.
+    pub fn plain(&self) -> &'a SiteSight<'a>
+        ensures { result.now ≡ self.now.sight.now }
+    {
+        self.sight
     }
 
     pub fn asked(&self) -> u64 {

@@ -1,7 +1,7 @@
 //! Many answers as one number.
 
 use crate::call::called;
-use crate::given::Trial;
+use crate::given::{Trial, last_word_of};
 use crate::stop::Stop;
 use doc_heap::String;
 
@@ -12,12 +12,25 @@ const PRIME: u64 = 0x0000_0100_0000_01b3;
 
 /// `CALL ; CALL ; ..`: makes the calls, and answers FNV-1a of their answers with a LF behind each.
 pub fn digested(trial: &mut Trial, calls: &str) -> Result<String, Stop> {
+    let value = digest_of(trial, calls)?;
+    Ok(format!(in trial.heaps.desk; "{value:016x}")?)
+}
+
+/// That number.
+pub fn digest_of(trial: &mut Trial, calls: &str) -> Result<u64, Stop> {
     let mut value = OFFSET;
     for call in calls.split(" ; ") {
-        let (name, given) = call.split_once(' ').unwrap_or((call, ""));
-        value = with_line(value, &called(trial, name, given)?);
+        value = with_answer(trial, value, call)?;
     }
-    Ok(format!(in trial.heaps.desk; "{value:016x}")?)
+    Ok(value)
+}
+
+fn with_answer(trial: &mut Trial, value: u64, call: &str) -> Result<u64, Stop> {
+    let (name, given) = last_word_of(call);
+    let answer = called(trial, name, given)?;
+    let value = with_line(value, &answer);
+    drop(answer);
+    Ok(value)
 }
 
 fn with_line(value: u64, line: &str) -> u64 {

@@ -5,8 +5,8 @@ use crate::stop::Stop;
 use doc_cache::cache::PageCache;
 use doc_heap::{Heap, String};
 use doc_index::index::Index;
-use doc_page::path::Path;
-use trial::answer::two_texts;
+use doc_page::path::{Path, PathError};
+use trial::answer::{two_texts, word_and_text};
 
 /// The heap of the crates under trial, whose growths may be refused, and the heap of what is given and answered, whose growths never
 /// are.
@@ -33,13 +33,16 @@ pub struct Trial {
 impl Trial {
     /// Everything empty.
     pub fn new(heaps: Heaps) -> Result<Trial, Stop> {
+        let cache = new_cache(heaps.tried)?;
+        let witness = String::from_str(heaps.desk, "pages")?;
+        let watched = path_of(heaps.desk, "a.md")?;
         Ok(Trial {
             heaps,
             site: Site::new(heaps.tried),
             index: Index::new(heaps.tried),
-            cache: new_cache(heaps.tried)?,
-            witness: String::from_str(heaps.desk, "pages")?,
-            watched: Path::new(heaps.desk, "a.md")?,
+            cache,
+            witness,
+            watched,
             asked: 0,
         })
     }
@@ -54,10 +57,41 @@ fn new_cache(heap: Heap) -> Result<PageCache, Stop> {
 
 /// Two texts that a call is given, or one and further ones.
 pub fn two(given: &str) -> Result<(&str, &str), Stop> {
-    two_texts(given).ok_or(Stop::NoCall)
+    match two_texts(given) {
+        Some(both) => Ok(both),
+        None => Err(Stop::NoCall),
+    }
+}
+
+/// A word that a call is given, and what stands behind its space.
+pub fn word_of(given: &str) -> Result<(&str, &str), Stop> {
+    match word_and_text(given) {
+        Some(both) => Ok(both),
+        None => Err(Stop::NoCall),
+    }
+}
+
+/// The same, where nothing need stand behind the word.
+pub fn last_word_of(given: &str) -> (&str, &str) {
+    match word_and_text(given) {
+        Some(both) => both,
+        None => (given, ""),
+    }
 }
 
 /// The number that a text writes.
 pub fn number_of(text: &str) -> Result<u64, Stop> {
-    text.parse::<u64>().ok().ok_or(Stop::NoCall)
+    match text.parse::<u64>() {
+        Ok(number) => Ok(number),
+        Err(_) => Err(Stop::NoCall),
+    }
+}
+
+/// The path that a text is.
+pub fn path_of(desk: Heap, text: &str) -> Result<Path, Stop> {
+    match Path::new(desk, text) {
+        Ok(path) => Ok(path),
+        Err(PathError::BadPath) => Err(Stop::NoCall),
+        Err(PathError::Memory) => Err(Stop::Memory),
+    }
 }

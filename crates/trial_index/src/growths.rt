@@ -1,9 +1,9 @@
 //! Calls while the heap refuses growths.
 
 use crate::call::called;
-use crate::digest::digested;
+use crate::digest::digest_of;
 use crate::given::Trial;
-use crate::stop::Stop;
+use crate::stop::{Stop, told};
 use doc_heap::{Heap, String};
 use trial::growths::Refusal;
 
@@ -16,22 +16,51 @@ const MANY: u64 = 100_000;
 pub fn grown(trial: &mut Trial, name: &str, given: &str) -> Result<String, Stop> {
     let before = witnessed(trial)?;
     for growth in 0..MANY {
-        let (answer, refused) = tried(trial, name, given, Refusal::Only(growth));
-        if !refused {
-            return told(trial.heaps.desk, growth > 0, answer?.as_str());
-        }
-        if !is_left(trial, &answer, &before)? {
-            return Ok(String::from_str(trial.heaps.desk, "not as before")?);
-        }
-        let (answer, _) = tried(trial, name, given, Refusal::After(growth));
-        if let Ok(answer) = answer {
-            return told(trial.heaps.desk, true, &answer);
-        }
-        if !is_left(trial, &answer, &before)? {
-            return Ok(String::from_str(trial.heaps.desk, "not as before")?);
+        if let Some(answer) = refused_at(trial, name, given, growth, before) {
+            return answer;
         }
     }
     Err(Stop::NoCall)
+}
+
+/// Makes a call with one growth refused, alone and with all later ones; answers what is printed where that is the end of the trial.
+fn refused_at(
+    trial: &mut Trial,
+    name: &str,
+    given: &str,
+    growth: u64,
+    before: u64,
+) -> Option<Result<String, Stop>> {
+    let (answer, was_refused) = tried(trial, name, given, Refusal::Only(growth));
+    if !was_refused {
+        return Some(told_of(trial.heaps.desk, growth > 0, answer));
+    }
+    let is_memory = is_memory(&answer);
+    drop(answer);
+    if !is_left(trial, is_memory, before) {
+        return Some(told(trial.heaps.desk, "not as before"));
+    }
+    refused_from(trial, name, given, growth, before)
+}
+
+/// The same with all later ones refused.
+fn refused_from(
+    trial: &mut Trial,
+    name: &str,
+    given: &str,
+    growth: u64,
+    before: u64,
+) -> Option<Result<String, Stop>> {
+    let (answer, _) = tried(trial, name, given, Refusal::After(growth));
+    if answer.is_ok() {
+        return Some(told_of(trial.heaps.desk, true, answer));
+    }
+    let is_memory = is_memory(&answer);
+    drop(answer);
+    if is_left(trial, is_memory, before) {
+        return None;
+    }
+    Some(told(trial.heaps.desk, "not as before"))
 }
 
 /// What a call answers while growths are refused, and whether the one that is refused alone was asked for.
@@ -48,22 +77,38 @@ pub fn tried(
     (answer, left == u64::MAX)
 }
 
-fn witnessed(trial: &mut Trial) -> Result<String, Stop> {
+/// The digest of what the witness answers.
+fn witnessed(trial: &mut Trial) -> Result<u64, Stop> {
     let calls = String::from_str(trial.heaps.desk, &trial.witness)?;
-    digested(trial, &calls)
+    let value = digest_of(trial, &calls);
+    drop(calls);
+    value
+}
+
+fn is_memory(answer: &Result<String, Stop>) -> bool {
+    matches!(answer, Err(Stop::Memory))
 }
 
 /// Whether a call answered `Memory` and all is as before.
-fn is_left(trial: &mut Trial, answer: &Result<String, Stop>, before: &str) -> Result<bool, Stop> {
-    Ok(matches!(answer, Err(Stop::Memory)) && witnessed(trial)?.as_str() == before)
+fn is_left(trial: &mut Trial, is_memory: bool, before: u64) -> bool {
+    if !is_memory {
+        return false;
+    }
+    match witnessed(trial) {
+        Ok(now) => now == before,
+        Err(_) => false,
+    }
 }
 
 /// What is printed of an answer behind refusals or none.
-fn told(desk: Heap, refused: bool, answer: &str) -> Result<String, Stop> {
+fn told_of(desk: Heap, refused: bool, answer: Result<String, Stop>) -> Result<String, Stop> {
+    let answer = answer?;
     let told = if refused {
         "Memory each time"
     } else {
         "no growth"
     };
-    Ok(format!(in desk; "{told}; {answer}")?)
+    let text = format!(in desk; "{told}; {answer}");
+    drop(answer);
+    Ok(text?)
 }

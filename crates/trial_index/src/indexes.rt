@@ -11,7 +11,7 @@ use doc_words::index::WordIndex;
 use std::marker::Model;
 
 /// The stamp of each page here.
-const STAMP: u64 = 7;
+pub const STAMP: u64 = 7;
 
 /// An index of links and one of words, in which each page is held under the same stamp.
 #[derive(Drop)]
@@ -58,6 +58,12 @@ impl Indexes {
     pub fn add_words(&mut self, path: &Path, page: &Rendered) -> Result<(), Memory> {
         self.words.drop_page(path, STAMP);
         self.words.add(path, STAMP, page)
+    }
+
+    /// Holds a page in both. Where the index of words is refused it, that of links holds it all the same.
+    pub fn add(&mut self, path: &Path, page: &Rendered) -> Result<(), Memory> {
+        self.add_links(path, page)?;
+        self.add_words(path, page)
     }
 
     /// Lets the page under a path go from both.

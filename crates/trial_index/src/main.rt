@@ -14,6 +14,7 @@ mod indexes;
 mod of_answers;
 mod of_cache;
 mod of_keys;
+mod of_postings;
 mod of_site;
 mod of_words;
 mod page;
@@ -23,12 +24,12 @@ use call::called;
 use digest::digested;
 use doc_heap::{Heap, String, heap};
 use doc_page::failure::Memory;
-use given::{Heaps, Trial};
+use given::{Heaps, Trial, number_of, word_of};
 use growths::{grown, tried};
 use std::io;
 use std::io::{BufRead, BufReader};
-use stop::{Stop, written};
-use trial::answer::{no_call, number_and_text, word_and_text};
+use stop::{Stop, told};
+use trial::answer::no_call;
 use trial::growths::Refusal;
 use trial::line::{Line, read_line};
 
@@ -47,13 +48,31 @@ fn main(rt: HostRuntime) -> io::Result<()> {
 /// Prints what each line of standard input answers.
 fn run<R: AllocGlobal + Input + Print>(rt: &R, trial: &mut Trial) -> io::Result<()> {
     for line in BufReader::new(rt.alloc(), rt.reader())?.lines(rt.alloc()) {
-        let line = line?;
-        match answer_of(trial, line.as_str()) {
-            Ok(answer) => println!(rt; "{answer}")?,
-            Err(Memory) => println!(rt; "no memory for the line")?,
-        }
+        print_line(rt, trial, line)?;
     }
     Ok(())
+}
+
+fn print_line<R: Print>(
+    rt: &R,
+    trial: &mut Trial,
+    line: io::Result<std::string::String>,
+) -> io::Result<()> {
+    let line = line?;
+    let printed = print_answer(rt, trial, line.as_str());
+    drop(line);
+    printed
+}
+
+fn print_answer<R: Print>(rt: &R, trial: &mut Trial, line: &str) -> io::Result<()> {
+    match answer_of(trial, line) {
+        Ok(answer) => {
+            let printed = println!(rt; "{answer}");
+            drop(answer);
+            printed
+        }
+        Err(Memory) => println!(rt; "no memory for the line"),
+    }
 }
 
 /// What is printed for a line.
@@ -61,7 +80,11 @@ fn answer_of(trial: &mut Trial, line: &str) -> Result<String, Memory> {
     let desk = trial.heaps.desk;
     match read_line(desk, line)? {
         Line::Comment => Ok(String::from_str(desk, line)?),
-        Line::Call { name, given } => said(desk, answer(trial, name, &given)),
+        Line::Call { name, given } => {
+            let said = said(desk, answer(trial, name, given.as_str()));
+            drop(given);
+            said
+        }
         Line::Wrong => no_call(desk),
     }
 }
@@ -82,14 +105,15 @@ fn answer(trial: &mut Trial, name: &str, given: &str) -> Result<String, Stop> {
 /// Sets the calls whose answers a refused call must leave as they were.
 fn set_witness(trial: &mut Trial, calls: &str) -> Result<String, Stop> {
     trial.witness = String::from_str(trial.heaps.desk, calls)?;
-    written(trial.heaps.desk, ())
+    told(trial.heaps.desk, "()")
 }
 
 /// `N CALL`: makes a call with all growths refused after N.
 fn within(trial: &mut Trial, given: &str) -> Result<String, Stop> {
-    let (growths, call) = number_and_text(given).ok_or(Stop::NoCall)?;
-    let (name, given) = word_and_text(call).ok_or(Stop::NoCall)?;
-    let (answer, _) = tried(trial, name, given, Refusal::After(growths as u64));
+    let (growths, call) = word_of(given)?;
+    let growths = number_of(growths)?;
+    let (name, given) = word_of(call)?;
+    let (answer, _) = tried(trial, name, given, Refusal::After(growths));
     answer
 }
 

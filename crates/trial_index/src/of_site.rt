@@ -1,14 +1,13 @@
 //! A site with its indexes, and its edits.
 
-use crate::given::{Heaps, two};
+use crate::given::{Heaps, path_of, two};
 use crate::indexes::Indexes;
 use crate::page::rendered;
-use crate::stop::{Stop, answered, written};
+use crate::stop::{Stop, answered, told, told_whether, written};
 use doc_heap::{Heap, String};
-use doc_page::failure::Memory;
 use doc_page::path::Path;
 use doc_page::rendered::Rendered;
-use doc_store::groups::Groups;
+use doc_store::groups::{Groups, GroupsError};
 use doc_store::store::{EditError, Put, Store};
 
 /// The pages of a site, and the indexes of them.
@@ -37,8 +36,23 @@ impl Site {
     /// Holds the page of a path in both indexes.
     fn hold(&mut self, desk: Heap, path: &Path) -> Result<(), Stop> {
         let page = self.page(desk, path)?;
-        self.indexes.add_links(path, &page)?;
-        Ok(self.indexes.add_words(path, &page)?)
+        let held = self.indexes.add(path, &page);
+        drop(page);
+        Ok(held?)
+    }
+
+    fn hold_links(&mut self, desk: Heap, path: &Path) -> Result<(), Stop> {
+        let page = self.page(desk, path)?;
+        let held = self.indexes.add_links(path, &page);
+        drop(page);
+        Ok(held?)
+    }
+
+    fn hold_words(&mut self, desk: Heap, path: &Path) -> Result<(), Stop> {
+        let page = self.page(desk, path)?;
+        let held = self.indexes.add_words(path, &page);
+        drop(page);
+        Ok(held?)
     }
 }
 
@@ -64,23 +78,31 @@ pub fn called(
 /// Begins an empty site.
 fn renewed(heaps: Heaps, site: &mut Site) -> Result<String, Stop> {
     *site = Site::new(heaps.tried);
-    written(heaps.desk, ())
+    told(heaps.desk, "()")
 }
 
 /// `PATH | GROUPS | TEXT`: puts a page into the store, and into no index.
 fn stored(desk: Heap, site: &mut Site, given: &str) -> Result<String, Stop> {
     let (path, rest) = two(given)?;
-    let path = Path::new(desk, path)?;
-    answered(desk, put_page(desk, &mut site.store, &path, rest)?)
+    let path = path_of(desk, path)?;
+    let put = put_page(desk, &mut site.store, &path, rest);
+    drop(path);
+    answered(desk, put?)
 }
 
 /// `PATH | GROUPS | TEXT`: puts a page into the store and both indexes.
 fn put(desk: Heap, site: &mut Site, given: &str) -> Result<String, Stop> {
     let (path, rest) = two(given)?;
-    let path = Path::new(desk, path)?;
-    let put = put_page(desk, &mut site.store, &path, rest)?;
+    let path = path_of(desk, path)?;
+    let told = put_at(desk, site, &path, rest);
+    drop(path);
+    told
+}
+
+fn put_at(desk: Heap, site: &mut Site, path: &Path, rest: &str) -> Result<String, Stop> {
+    let put = put_page(desk, &mut site.store, path, rest)?;
     if put.is_ok() {
-        site.hold(desk, &path)?;
+        site.hold(desk, path)?;
     }
     answered(desk, put)
 }
@@ -92,40 +114,67 @@ fn put_page(
     given: &str,
 ) -> Result<Result<Put, EditError>, Stop> {
     let (groups, text) = two(given)?;
-    let groups = Groups::new(desk, groups)?;
-    Ok(store.put(path, &groups, text))
+    let groups = groups_of(desk, groups)?;
+    let put = store.put(path, &groups, text);
+    drop(groups);
+    Ok(put)
+}
+
+/// The groups of names with commas between them.
+pub fn groups_of(desk: Heap, names: &str) -> Result<Groups, Stop> {
+    match Groups::new(desk, names) {
+        Ok(groups) => Ok(groups),
+        Err(GroupsError::Memory) => Err(Stop::Memory),
+        Err(_) => Err(Stop::NoCall),
+    }
 }
 
 /// `FROM | TO`: moves a page, in both indexes too.
 fn moved(desk: Heap, site: &mut Site, given: &str) -> Result<String, Stop> {
     let (from, to) = two(given)?;
-    let from = Path::new(desk, from)?;
-    let to = Path::new(desk, to)?;
-    let moved = site.store.move_page(&from, &to);
+    let from = path_of(desk, from)?;
+    let told = move_from(desk, site, &from, to);
+    drop(from);
+    told
+}
+
+fn move_from(desk: Heap, site: &mut Site, from: &Path, to: &str) -> Result<String, Stop> {
+    let to = path_of(desk, to)?;
+    let told = move_to(desk, site, from, &to);
+    drop(to);
+    told
+}
+
+fn move_to(desk: Heap, site: &mut Site, from: &Path, to: &Path) -> Result<String, Stop> {
+    let moved = site.store.move_page(from, to);
     if moved.is_ok() {
-        site.indexes.remove(&from);
-        site.hold(desk, &to)?;
+        site.indexes.remove(from);
+        site.hold(desk, to)?;
     }
     answered(desk, moved)
 }
 
 /// `PATH`: removes a page, from both indexes too, and answers whether it stood there.
 fn removed(desk: Heap, site: &mut Site, given: &str) -> Result<String, Stop> {
-    let path = Path::new(desk, given)?;
+    let path = path_of(desk, given)?;
     site.indexes.remove(&path);
-    written(desk, site.store.remove(&path))
+    let was_there = site.store.remove(&path);
+    drop(path);
+    told_whether(desk, was_there)
 }
 
 /// `PATH`: holds a page of the store in the index of links.
 fn add_links(desk: Heap, site: &mut Site, given: &str) -> Result<String, Stop> {
-    let path = Path::new(desk, given)?;
-    let page = site.page(desk, &path)?;
-    written(desk, site.indexes.add_links(&path, &page)?)
+    let path = path_of(desk, given)?;
+    let held = site.hold_links(desk, &path);
+    drop(path);
+    written(desk, held?)
 }
 
 /// `PATH`: holds a page of the store in the index of words.
 fn add_words(desk: Heap, site: &mut Site, given: &str) -> Result<String, Stop> {
-    let path = Path::new(desk, given)?;
-    let page = site.page(desk, &path)?;
-    written(desk, site.indexes.add_words(&path, &page)?)
+    let path = path_of(desk, given)?;
+    let held = site.hold_words(desk, &path);
+    drop(path);
+    written(desk, held?)
 }

@@ -5,6 +5,7 @@ use crate::page::page_of_texts;
 use crate::stop::{Stop, written};
 use doc_heap::{Heap, String};
 use doc_page::failure::Memory;
+use doc_page::rendered::Rendered;
 use doc_words::query::{QueryError, query};
 use doc_words::word::Word;
 use doc_words::words::words;
@@ -21,18 +22,40 @@ pub fn called(heaps: Heaps, name: &str, given: &str) -> Option<Result<String, St
 /// `TEXT | TEXT ..`: the words of a page of these texts, each with its count.
 fn words_told(heaps: Heaps, given: &str) -> Result<String, Stop> {
     let page = page_of_texts(heaps.desk, given)?;
-    let mut out = String::new(heaps.desk);
-    for (word, count) in words(heaps.tried, &page)?.get() {
-        push_word(&mut out, word)?;
+    let told = words_of(heaps, &page);
+    drop(page);
+    Ok(told?)
+}
+
+fn words_of(heaps: Heaps, page: &Rendered) -> Result<String, Memory> {
+    let counts = words(heaps.tried, page)?;
+    let told = counts_told(heaps.desk, counts.get());
+    drop(counts);
+    told
+}
+
+fn counts_told(desk: Heap, counts: &[(Word, u64)]) -> Result<String, Memory> {
+    let mut out = String::new(desk);
+    push_counts(&mut out, counts)?;
+    Ok(out)
+}
+
+fn push_counts(out: &mut String, counts: &[(Word, u64)]) -> Result<(), Memory> {
+    for (word, count) in counts {
+        push_word(out, word)?;
         write!(out, " {count}")?;
     }
-    Ok(out)
+    Ok(())
 }
 
 /// `TEXT`: the words of a query, or why it has none.
 fn query_told(heaps: Heaps, given: &str) -> Result<String, Stop> {
     match query(heaps.tried, given) {
-        Ok(words) => Ok(listed(heaps.desk, words.get())?),
+        Ok(words) => {
+            let told = listed(heaps.desk, words.get());
+            drop(words);
+            Ok(told?)
+        }
         Err(QueryError::Memory) => Err(Stop::Memory),
         Err(e) => written(heaps.desk, e),
     }
@@ -40,10 +63,15 @@ fn query_told(heaps: Heaps, given: &str) -> Result<String, Stop> {
 
 fn listed(desk: Heap, words: &[Word]) -> Result<String, Memory> {
     let mut out = String::new(desk);
-    for word in words {
-        push_word(&mut out, word)?;
-    }
+    push_words(&mut out, words)?;
     Ok(out)
+}
+
+fn push_words(out: &mut String, words: &[Word]) -> Result<(), Memory> {
+    for word in words {
+        push_word(out, word)?;
+    }
+    Ok(())
 }
 
 /// Writes a word behind others.

@@ -1,6 +1,7 @@
 //! Pages below any markup: a line `#2 one Two` is a heading of level 2 with the anchor `one`, a line `@a.md` a link, and any other a
 //! block's text.
 
+use crate::given::word_of;
 use crate::stop::Stop;
 use doc_heap::{Heap, Vec};
 use doc_page::failure::Memory;
@@ -41,6 +42,20 @@ impl Draft {
         }
     }
 
+    fn add_lines(&mut self, text: &str) -> Result<(), Stop> {
+        for line in text.split('\n') {
+            self.add_line(line)?;
+        }
+        Ok(())
+    }
+
+    fn add_texts(&mut self, texts: &str) -> Result<(), Memory> {
+        for text in texts.split(" | ") {
+            self.add_text(text)?;
+        }
+        Ok(())
+    }
+
     fn add_line(&mut self, line: &str) -> Result<(), Stop> {
         if let Some(dest) = line.strip_prefix("@") {
             return Ok(self.add_link(dest)?);
@@ -53,51 +68,68 @@ impl Draft {
 
     /// A link, and the HTML behind its opening tag.
     fn add_link(&mut self, dest: &str) -> Result<(), Memory> {
-        let dest = Text::copy_of(self.heap, dest)?;
-        self.pieces
-            .push(Piece::Link(LinkSpot { dest, title: None }))?;
-        self.pieces
-            .push(Piece::Html(Text::copy_of(self.heap, "link</a>")?))?;
-        Ok(())
+        let link = link(self.heap, dest)?;
+        self.add_piece(link)?;
+        let html = Text::copy_of(self.heap, "link</a>")?;
+        self.add_piece(Piece::Html(html))
+    }
+
+    fn add_piece(&mut self, piece: Piece) -> Result<(), Memory> {
+        Ok(self.pieces.push(piece)?)
     }
 
     fn add_heading(&mut self, given: &str) -> Result<(), Stop> {
-        let (level, rest) = given.split_once(' ').ok_or(Stop::NoCall)?;
-        let (anchor, text) = rest.split_once(' ').ok_or(Stop::NoCall)?;
-        let level = level.parse::<u8>().ok().ok_or(Stop::NoCall)?;
-        self.headings
-            .push(heading(self.heap, level, anchor, text)?)?;
+        let (level, rest) = word_of(given)?;
+        let (anchor, text) = word_of(rest)?;
+        let level = level_of(level)?;
+        let heading = heading(self.heap, level, anchor, text)?;
+        self.headings.push(heading)?;
         Ok(self.add_text(text)?)
     }
 
     fn add_text(&mut self, text: &str) -> Result<(), Memory> {
-        self.texts.push(Text::copy_of(self.heap, text)?)?;
-        Ok(())
+        let text = Text::copy_of(self.heap, text)?;
+        Ok(self.texts.push(text)?)
     }
 }
 
+fn level_of(text: &str) -> Result<u8, Stop> {
+    match text {
+        "1" => Ok(1),
+        "2" => Ok(2),
+        "3" => Ok(3),
+        "4" => Ok(4),
+        "5" => Ok(5),
+        "6" => Ok(6),
+        _ => Err(Stop::NoCall),
+    }
+}
+
+fn link(heap: Heap, dest: &str) -> Result<Piece, Memory> {
+    let dest = Text::copy_of(heap, dest)?;
+    Ok(Piece::Link(LinkSpot { dest, title: None }))
+}
+
 fn heading(heap: Heap, level: u8, anchor: &str, text: &str) -> Result<Heading, Memory> {
+    let anchor = Text::copy_of(heap, anchor)?;
+    let text = Text::copy_of(heap, text)?;
     Ok(Heading {
         level,
-        anchor: Text::copy_of(heap, anchor)?,
-        text: Text::copy_of(heap, text)?,
+        anchor,
+        text,
     })
 }
 
 /// The page of a text.
 pub fn rendered(heap: Heap, text: &str) -> Result<Rendered, Stop> {
     let mut draft = Draft::new(heap);
-    for line in text.split('\n') {
-        draft.add_line(line)?;
-    }
+    draft.add_lines(text)?;
     Ok(draft.into_page())
 }
 
 /// The page of these blocks' texts, which have ` | ` between them.
 pub fn page_of_texts(heap: Heap, texts: &str) -> Result<Rendered, Memory> {
     let mut draft = Draft::new(heap);
-    for text in texts.split(" | ") {
-        draft.add_text(text)?;
-    }
+    draft.add_texts(texts)?;
     Ok(draft.into_page())
 }

@@ -2,8 +2,6 @@
 
 use doc_heap::{Heap, String};
 use doc_page::failure::Memory;
-use doc_page::path::PathError;
-use doc_store::groups::GroupsError;
 use std::alloc::{AllocError, AllocFailed};
 use std::fmt::Debug;
 use trial::answer::shown;
@@ -35,24 +33,6 @@ impl<T: Drop> From<AllocFailed<T>> for Stop {
     }
 }
 
-impl From<PathError> for Stop {
-    fn from(e: PathError) -> Stop {
-        match e {
-            PathError::BadPath => Stop::NoCall,
-            PathError::Memory => Stop::Memory,
-        }
-    }
-}
-
-impl From<GroupsError> for Stop {
-    fn from(e: GroupsError) -> Stop {
-        match e {
-            GroupsError::BadGroup | GroupsError::TooMany => Stop::NoCall,
-            GroupsError::Memory => Stop::Memory,
-        }
-    }
-}
-
 /// What is printed for what a call answers or is refused for, which may be `Memory`.
 pub fn answered<T: Debug + Drop, E: Debug + Drop>(
     desk: Heap,
@@ -68,4 +48,14 @@ pub fn answered<T: Debug + Drop, E: Debug + Drop>(
 /// What is printed for a value.
 pub fn written<T: Debug + Drop>(desk: Heap, value: T) -> Result<String, Stop> {
     Ok(shown(desk, value)?)
+}
+
+/// What is printed for a value that is written so.
+pub fn told(desk: Heap, text: &str) -> Result<String, Stop> {
+    Ok(String::from_str(desk, text)?)
+}
+
+/// What is printed for whether something is so.
+pub fn told_whether(desk: Heap, is_so: bool) -> Result<String, Stop> {
+    told(desk, if is_so { "true" } else { "false" })
 }
