@@ -85,8 +85,10 @@ pub replayed : (render page : Renders) (config : SiteConfig) (texts : List (List
 replayed render page config texts input bytes script w Grows same made all utf8 shown told = (
   w,
   made,
-  bytes,
-  all,
-  utf8,
-  subst (λ (p : Renders). RunTells p w bytes Grows) same (subst (λ s. RunTells page w s Grows) shown told),
+  (
+    bytes,
+    all,
+    utf8,
+    subst (λ (p : Renders). RunTells p w bytes Grows) same (subst (λ s. RunTells page w s Grows) shown told),
+  ),
 )

@@ -1,11 +1,14 @@
 -- The lines of a script, one after the other.
 use Rattle.std.proofs.Common.{◌≡◌, ℕ, suc, ◌+◌, ◌<◌, ◌==◌, not, List, [], ◌∷◌, length, take, drop, Bool, true, false, cond, refl, ap, sym}
 use Rattle.std.proofs.Common.{subst, ◌∙◌, arith}
+use Rattle.std.proofs.Common.{◌≤◌, inl, inr, length-drop}
+use Rattle.std.specs.Prelude.{Option, Some, None, nat_lt}
 use Rattle.std.specs.List.{position_or_len, before_first, after_first}
+use Rattle.std.proofs.lemmas.List.Sums.{prefix_len-le-length}
+use Rattle.std.proofs.lemmas.Bool.{cases_Bool}
+use Rattle.std.proofs.lemmas.Bool.Decides.{nat_tests}
+use Rattle.doc_server_sites.specs.ScriptSteps.{cut, is_lf}
 use Rattle.doc_server_sites.specs.Scripts.{lines, onto_first}
-
-abbrev pub is_lf : ℕ → Bool
-is_lf b = b == 10
 
 cut_at : (t : Bool) (b : ℕ) (rest : List ℕ) → (t ≡ false → lines rest ≡ before_first is_lf rest ∷ lines (after_first is_lf rest))
     → cond t ([] ∷ lines rest) (onto_first b (lines rest))
@@ -51,17 +54,37 @@ whole (b ∷ c ∷ rest) some none =
 shorter : (script : List ℕ) → position_or_len is_lf script < length script → length (after_first is_lf script) < length script
 shorter script within = omega (arith, within, length-drop (position_or_len is_lf script + 1) script)
 
+abbrev Parts : List ℕ → Option (List ℕ × List ℕ) → Type 0
+Parts script None = lines script ≡ script ∷ []
+Parts script (Some parts) = (lines script ≡ parts.0 ∷ lines parts.1) × (length parts.1 < length script)
+
+found : (a b : ℕ) → nat_lt a b ≡ true → a < b
+found a b is = grind (arith, nat_tests)
+
+never : (script : List ℕ) → nat_lt (position_or_len is_lf script) (length script) ≡ false
+    → position_or_len is_lf script ≡ length script
+never script is =
+    let at_most : position_or_len is_lf script ≤ length script = prefix_len-le-length (λ b. not (is_lf b)) script in
+    grind (arith, nat_tests)
+
+parts_of : (script : List ℕ) → 0 < length script → Parts script (cut script)
+parts_of script some =
+    elim (cases_Bool (nat_lt (position_or_len is_lf script) (length script))) [
+      | inl is ↦
+          subst (λ t. Parts script (cond t (Some (before_first is_lf script, after_first is_lf script)) None)) (sym is)
+          (ended script (found _ _ is), shorter script (found _ _ is))
+      | inr other ↦
+          subst (λ t. Parts script (cond t (Some (before_first is_lf script, after_first is_lf script)) None)) (sym other)
+          (whole script some (never script other))
+    ]
+
 -- a script that was cut at its first LF
-pub cut_line : (script line more : List ℕ) → position_or_len is_lf script < length script → line ≡ before_first is_lf script
-    → more ≡ after_first is_lf script
+pub cut_line : (script line more : List ℕ) → 0 < length script → cut script ≡ Some (line, more)
     → (lines script ≡ line ∷ lines more) × (length more < length script)
-cut_line script line more within first behind = (
-  ended script within ∙ ap (λ l. l ∷ lines (after_first is_lf script)) (sym first) ∙ ap (λ l. line ∷ lines l) (sym behind),
-  subst (λ l. length l < length script) (sym behind) (shorter script within),
-)
+cut_line script line more some is = subst (Parts script) is (parts_of script some)
 
 -- a script without LF
-pub last_line : (script : List ℕ) → 0 < length script → position_or_len is_lf script ≡ length script
+pub last_line : (script : List ℕ) → 0 < length script → cut script ≡ None
     → (lines script ≡ script ∷ lines []) × (0 < length script)
 unfolding lines
-last_line script some none = (whole script some none, some)
+last_line script some is = (subst (Parts script) is (parts_of script some), some)

@@ -2,6 +2,7 @@
 
 ghost use Rattle.std.specs.Prelude.{◌≡◌, ◌≢◌, ◌<◌, [], ◌∷◌, length, None, Some, Ok, Err, IfOk, IfErr, MatchOption};
 ghost use Rattle.doc_server_script.specs.Lines.{event_of};
+ghost use Rattle.doc_server_sites.specs.ScriptSteps.{cut};
 ghost use Rattle.doc_server_sites.specs.Scripts.{events_of, lines};
 
 use doc_heap::{Heap, Vec};
@@ -51,8 +52,16 @@ fn first_line(script: &str) -> Option<(&str, &str)>
     if script.is_empty() {
         return None;
     }
-    match script.split_once('\n') {
+    match cut(script) {
         Some(cut) => Some(cut),
         None => Some((script, "")),
     }
+}
+
+/// What stands before the first line feed, and all that follows it.
+fn cut(script: &str) -> Option<(&str, &str)>
+    ensures { MatchOption result (cut script.now ≡ None)
+        (λ parts. cut script.now ≡ Some (parts.0.now, parts.1.now)) }
+{
+    script.split_once('\n')
 }
