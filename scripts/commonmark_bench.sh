@@ -2,14 +2,13 @@
 # Measures how the time of a layer of CommonMark grows with the text: `Lines` and `unescape` over 1, 2, 4 and 8 MiB,
 # `take_definitions` over 10,000 to 80,000 definitions, `blocks` over 1, 2, 4 and 8 MiB of six texts, and `inlines` over
 # as much of the paragraphs of a handbook and over hostile texts of one paragraph at four sizes. Prints the
-# least processor time of five runs of each, and its ratio to the one before (2 is linear). Run `rt run < stdin -- tasks`
-# in crates/bench first, which builds the program. With MD2HTML set to the program `md2html` of md4c, each of
+# least processor time of five runs of each, and its ratio to the one before (2 is linear). BENCH is the
+# program `bench`, which is built in a copy of the repository (scripts/lay_out.sh). With MD2HTML set to the program `md2html` of md4c, each of
 # these texts is given to it too, and with SPEC set to a file, copies of that file are a seventh text for `blocks`. With
 # names of tasks for arguments (lines, unescape, definitions, blocks, inlines) only these are run.
 set -eu
 cd "$(dirname "$0")/.."
-program=crates/bench/out/bench
-[ -x "$program" ] || { echo "run 'rt run < stdin -- tasks' in crates/bench first" >&2; exit 1; }
+program=${BENCH:?the program bench: scripts/lay_out.sh}
 scripts/measured.sh
 python3 - "$program" "$@" <<'PYTHON'
 import os, subprocess, sys, tempfile

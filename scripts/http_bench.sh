@@ -10,12 +10,11 @@
 # Prints the least processor time of five runs of each, and its ratio to the one before: of twice as much, 2 is linear. A body in pieces of
 # 16,384 and in one chunk or few is only copied, three times; copies within the processor's caches are faster than past them, so the ratio
 # there is that of memory (a program in C that makes the same copies had 3.5 and 2.7). What a run takes to start and to make its input is
-# measured apart and taken off. `scripts/nginx_bench.sh` has the time of nginx for such a page. Needs python3, and the program, which
-# `rt run < stdin -- tasks` in crates/bench builds.
+# measured apart and taken off. `scripts/nginx_bench.sh` has the time of nginx for such a page. Needs python3, and in BENCH
+# the program `bench`, which is built in a copy of the repository (scripts/lay_out.sh).
 set -eu
 cd "$(dirname "$0")/.."
-program=crates/bench/out/bench
-[ -x "$program" ] || { echo "run 'rt run < stdin -- tasks' in crates/bench first" >&2; exit 1; }
+program=${BENCH:?the program bench: scripts/lay_out.sh}
 scripts/measured.sh
 python3 - "$program" <<'PYTHON'
 import os, subprocess, sys

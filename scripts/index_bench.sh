@@ -4,24 +4,12 @@
 # sources, contents, report, and the resident memory of a page; then 100,000 edits on 1,000 pages, with the resident memory after each
 # tenth of them. Times are processor time, in microseconds, the least of three runs; where pages are added, without making them.
 #
-#     scripts/index_bench.sh --lay-out FOLDER     a copy of the repository in which the program is a crate, `bench_index`
-#     scripts/index_bench.sh PROGRAM              the measures, by that program
+#     scripts/index_bench.sh PROGRAM
 #
-# The program stands in no gate, since it isn't proved: it is built from the copy, without its proof. Needs python3.
+# PROGRAM is `bench_index`, which scripts/lay_out.sh makes a crate of a copy of the repository. It isn't proved, and is built from there
+# without its proof. Needs python3.
 set -eu
 cd "$(dirname "$0")/.."
-if [ "${1:-}" = --lay-out ]; then
-    folder=${2:?}
-    mkdir -p "$folder/crates/bench_index/src" "$folder/crates/bench_index/specs"
-    tar --exclude=./.git -cf - . | tar -C "$folder" -xf -
-    for file in scripts/index_bench/*.rt.txt; do
-        cp "$file" "$folder/crates/bench_index/src/$(basename "$file" .txt)"
-    done
-    touch "$folder/crates/bench_index/specs/Lib.antt"
-    echo "bench_index: doc_heap doc_page doc_store doc_links doc_words" >>"$folder/crates.txt"
-    rm -r "$folder/scripts/index_bench"
-    exit
-fi
 program=${1:?usage: scripts/index_bench.sh PROGRAM}
 scripts/measured.sh
 python3 - "$program" <<'PYTHON'

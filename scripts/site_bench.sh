@@ -4,11 +4,10 @@
 # 10,000 aliases, so many that 5,000,000 aliases are gone over. Prints the least processor time of five runs of each, for one call in the
 # case of look-ups and moves and for one page in that of links, and its ratio to the one before. Of ten times as much, a ratio of
 # 10 is linear; that of look-ups is to be near 1. What a run takes to make its site is measured apart and taken off. Needs python3, and
-# the program, which `rt run < stdin -- tasks` in crates/bench builds.
+# in BENCH the program `bench`, which is built in a copy of the repository (scripts/lay_out.sh).
 set -eu
 cd "$(dirname "$0")/.."
-program=crates/bench/out/bench
-[ -x "$program" ] || { echo "run 'rt run < stdin -- tasks' in crates/bench first" >&2; exit 1; }
+program=${BENCH:?the program bench: scripts/lay_out.sh}
 scripts/measured.sh
 python3 - "$program" <<'PYTHON'
 import os, subprocess, sys
