@@ -74,11 +74,11 @@ pub fn called(tools: Tools<'_>, name: &str, given: &str) -> Result<String, Memor
     }
 }
 
-fn counted(tools: Tools<'_>, call: Growing, given: &str) -> Result<String, Memory> {
+fn counted<'a>(tools: Tools<'a>, call: Growing, given: &'a str) -> Result<String, Memory> {
     tried(tools.tried, |refusal| answered(tools, call, given, refusal))
 }
 
-fn each(tools: Tools<'_>, call: Growing, given: &str) -> Result<String, Memory> {
+fn each<'a>(tools: Tools<'a>, call: Growing, given: &'a str) -> Result<String, Memory> {
     refused_each(tools.tried, |refusal| answered(tools, call, given, refusal))
 }
 
@@ -148,11 +148,7 @@ fn join_second(
     has_joined(refs, labels, joined)
 }
 
-fn has_joined(
-    refs: &RefMap,
-    labels: &str,
-    joined: Result<(), Memory>,
-) -> Result<bool, Memory> {
+fn has_joined(refs: &RefMap, labels: &str, joined: Result<(), Memory>) -> Result<bool, Memory> {
     let (old, new) = word_and_text(labels).unwrap_or(("", ""));
     match joined {
         Ok(()) => Ok(each_is(refs, old, true) && each_is(refs, new, true)),
@@ -177,12 +173,7 @@ fn unless_changed(is_as_before: bool) -> Result<bool, Memory> {
 
 /// `TEXT | END`: what is pushed at the end of a text that has no room to spare. The answer is whether it stands there then. Where a refused
 /// push does not leave the first text as it was, it answers `false`.
-fn pushed(
-    tools: Tools<'_>,
-    end: End,
-    given: &str,
-    refusal: Refusal,
-) -> Result<String, Memory> {
+fn pushed(tools: Tools<'_>, end: End, given: &str, refusal: Refusal) -> Result<String, Memory> {
     let (text, behind) = two_texts(given).unwrap_or(("", ""));
     let mut out = String::from_str(tools.tried, text)?;
     refusal.begin(tools.tried);

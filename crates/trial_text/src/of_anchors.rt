@@ -7,7 +7,7 @@ use doc_html_anchors::anchors_of;
 use doc_page::failure::Memory;
 use doc_page::list::List;
 use doc_page::text::Text;
-use trial::answer::{no_call, shown};
+use trial::answer::no_call;
 
 /// What is printed for a call of this name.
 pub fn called(tools: Tools<'_>, name: &str, given: &str) -> Result<String, Memory> {
@@ -21,9 +21,13 @@ pub fn called(tools: Tools<'_>, name: &str, given: &str) -> Result<String, Memor
 /// `HEADING | HEADING ..`: the anchors of headings with these texts.
 fn anchors(tools: Tools<'_>, given: &str) -> Result<String, Memory> {
     let anchors = anchors_for(tools, given)?;
-    let told = shown(tools.desk, anchors.get());
+    let told = shown_each(tools.desk, anchors.get());
     drop(anchors);
     told
+}
+
+fn shown_each(desk: Heap, anchors: &[Text]) -> Result<String, Memory> {
+    Ok(format!(in desk; "{anchors:?}")?)
 }
 
 /// The same as a list.
@@ -57,14 +61,6 @@ fn push_headings(desk: Heap, headings: &mut Vec<Text>, given: &str) -> Result<()
     Ok(())
 }
 
-/// The first and the last of some anchors, and how many different ones there are.
-#[derive(Clone, Copy, Debug)]
-struct Ends<'a> {
-    first: Option<&'a Text>,
-    last: Option<&'a Text>,
-    different: usize,
-}
-
 /// `N`: the anchors of N headings `A`.
 fn anchors_of_equal(tools: Tools<'_>, given: &str) -> Result<String, Memory> {
     let Ok(count) = given.parse::<usize>() else {
@@ -85,30 +81,17 @@ fn push_equal(desk: Heap, headings: &mut Vec<Text>, count: usize) -> Result<(), 
     Ok(())
 }
 
+/// The first and the last of some anchors, and how many different ones there are.
 fn shown_ends(desk: Heap, anchors: &[Text]) -> Result<String, Memory> {
+    let first = anchors.first();
+    let last = anchors.last();
     let different = different(desk, anchors)?;
-    shown(
-        desk,
-        Ends {
-            first: anchors.first(),
-            last: anchors.last(),
-            different,
-        },
-    )
+    Ok(format!(in desk; "Ends {{ first: {first:?}, last: {last:?}, different: {different} }}")?)
 }
 
 /// How many of the texts differ from all before them.
 fn different(desk: Heap, texts: &[Text]) -> Result<usize, Memory> {
     let mut seen: BTreeMap<&str, ()> = BTreeMap::new(desk);
-    let counted = count_different(&mut seen, texts);
-    drop(seen);
-    counted
-}
-
-fn count_different<'a>(
-    seen: &mut BTreeMap<&'a str, ()>,
-    texts: &'a [Text],
-) -> Result<usize, Memory> {
     for text in texts {
         seen.insert(text.get(), ())?;
     }

@@ -3,8 +3,8 @@
 use crate::of_inlines;
 use crate::of_refs::found;
 use crate::tools::Tools;
-use doc_blocks::blocks;
-use doc_heap::String;
+use doc_blocks::{Block, blocks};
+use doc_heap::{Heap, String};
 use doc_page::failure::Memory;
 use doc_refs::normalize_label;
 use trial::answer::{no_call, shown, two_texts};
@@ -22,9 +22,13 @@ pub fn called(tools: Tools<'_>, name: &str, given: &str) -> Result<String, Memor
 /// The blocks of a text.
 pub fn shown_blocks(tools: Tools<'_>, text: &str) -> Result<String, Memory> {
     let document = blocks(tools.tried, text, tools.entities)?;
-    let told = shown(tools.desk, document.blocks.as_slice());
+    let told = shown_each(tools.desk, &document.blocks);
     drop(document);
     told
+}
+
+fn shown_each(desk: Heap, blocks: &[Block]) -> Result<String, Memory> {
+    Ok(format!(in desk; "{blocks:?}")?)
 }
 
 /// How many blocks stand at the outermost level.

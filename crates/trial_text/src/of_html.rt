@@ -53,11 +53,7 @@ fn html_of_runs(tools: Tools<'_>, given: &str) -> Result<String, Memory> {
     told
 }
 
-fn html_of_more_runs(
-    tools: Tools<'_>,
-    text: &mut String,
-    most: usize,
-) -> Result<String, Memory> {
+fn html_of_more_runs(tools: Tools<'_>, text: &mut String, most: usize) -> Result<String, Memory> {
     push_runs(text, most)?;
     let text = text.as_str();
     let both = format!(in tools.desk; "{text} | <p>{text}</p>\n")?;

@@ -12,7 +12,11 @@ use trial::leads::Leads;
 
 /// What is printed for a call of this name.
 pub fn called(tools: Tools<'_>, name: &str, given: &str) -> Result<String, Memory> {
-    let Tools { tried, desk, entities } = tools;
+    let Tools {
+        tried,
+        desk,
+        entities,
+    } = tools;
     match name {
         "normalize_label" => label(tools, given),
         "destination" => shown(desk, destination(given)),

@@ -40,12 +40,7 @@ pub fn called(tools: Tools<'_>, name: &str, given: &str) -> Result<String, Memor
 }
 
 /// What is printed for a call of this name that is made on what is left of a line.
-fn in_line(
-    tools: Tools<'_>,
-    name: &str,
-    line: &Cursor,
-    given: &str,
-) -> Result<String, Memory> {
+fn in_line(tools: Tools<'_>, name: &str, line: &Cursor, given: &str) -> Result<String, Memory> {
     let desk = tools.desk;
     match name {
         "after_indent" => shown(desk, after_indent(line)),

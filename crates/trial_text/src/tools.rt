@@ -16,9 +16,6 @@ pub struct Tools<'a> {
 }
 
 /// What is printed for a value, where memory did not run out for it.
-pub fn shown_made<T: Debug + Drop>(
-    desk: Heap,
-    made: Result<T, Memory>,
-) -> Result<String, Memory> {
+pub fn shown_made<T: Debug + Drop>(desk: Heap, made: Result<T, Memory>) -> Result<String, Memory> {
     shown(desk, made?)
 }
