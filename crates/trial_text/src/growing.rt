@@ -38,6 +38,14 @@ enum End {
     Characters,
 }
 
+/// A call, and what it is made with.
+#[derive(Clone, Copy)]
+struct Asked<'a> {
+    tools: Tools<'a>,
+    call: Growing,
+    given: &'a str,
+}
+
 /// What is printed for an answer.
 #[derive(PartialEq, Drop)]
 struct Told {
@@ -74,21 +82,24 @@ pub fn called(tools: Tools<'_>, name: &str, given: &str) -> Result<String, Memor
     }
 }
 
-fn counted<'a>(tools: Tools<'a>, call: Growing, given: &'a str) -> Result<String, Memory> {
-    tried(tools.tried, |refusal| answered(tools, call, given, refusal))
+fn counted(tools: Tools<'_>, call: Growing, given: &str) -> Result<String, Memory> {
+    count(Asked { tools, call, given })
 }
 
-fn each<'a>(tools: Tools<'a>, call: Growing, given: &'a str) -> Result<String, Memory> {
-    refused_each(tools.tried, |refusal| answered(tools, call, given, refusal))
+fn each(tools: Tools<'_>, call: Growing, given: &str) -> Result<String, Memory> {
+    try_each(Asked { tools, call, given })
 }
 
-fn answered(
-    tools: Tools<'_>,
-    call: Growing,
-    given: &str,
-    refusal: Refusal,
-) -> Result<Told, Memory> {
-    let text = answer(tools, call, given, refusal)?;
+fn count(asked: Asked<'_>) -> Result<String, Memory> {
+    tried(asked.tools.tried, move |refusal| answered(asked, refusal))
+}
+
+fn try_each(asked: Asked<'_>) -> Result<String, Memory> {
+    refused_each(asked.tools.tried, move |refusal| answered(asked, refusal))
+}
+
+fn answered(asked: Asked<'_>, refusal: Refusal) -> Result<Told, Memory> {
+    let text = answer(asked.tools, asked.call, asked.given, refusal)?;
     Ok(Told { text })
 }
 
