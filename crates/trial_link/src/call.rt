@@ -1,26 +1,34 @@
-//! The calls by their names.
+//! The calls by their names, each with the others that are given the same.
 
-use crate::given::Trial;
+use crate::given::{Heaps, Trial, written};
+use crate::of_numbers::{moved_each, put_each};
+use crate::of_paths::{at_path, behind_path};
+use crate::of_references::resolved;
+use crate::of_sights::for_reader;
+use crate::of_tokens::behind_token;
 use crate::stop::Stop;
-use crate::{of_links, of_moves, of_pages, of_readers, of_references};
 use doc_heap::String;
+use doc_store::store::Store;
 
 /// What a call answers.
 pub fn called(trial: &mut Trial, name: &str, given: &str) -> Result<String, Stop> {
-    if let Some(answer) = of_references::called(trial.heaps, name, given) {
-        return answer;
+    let Heaps { tried, desk } = trial.heaps;
+    match name {
+        "new" => renewed(trial),
+        "next_stamp" => written(desk, trial.store.next_stamp()),
+        "remove_reader" => written(desk, trial.readers.remove(given)),
+        "resolve" => resolved(tried, desk, given),
+        "put_each" => put_each(desk, &mut trial.store, given),
+        "move_each" => moved_each(desk, &mut trial.store, given),
+        "get" | "remove" => at_path(trial, name, given, ""),
+        "goal" | "sees" | "show" | "goals" | "decisions" => for_reader(trial, name, given),
+        "set_reader" | "find_reader" => behind_token(trial, name, given),
+        _ => behind_path(trial, name, given),
     }
-    if let Some(answer) = of_links::called(trial, name, given) {
-        return answer;
-    }
-    if let Some(answer) = of_pages::called(trial, name, given) {
-        return answer;
-    }
-    if let Some(answer) = of_moves::called(trial, name, given) {
-        return answer;
-    }
-    if let Some(answer) = of_readers::called(trial, name, given) {
-        return answer;
-    }
-    Err(Stop::NoCall)
+}
+
+/// Begins an empty store.
+fn renewed(trial: &mut Trial) -> Result<String, Stop> {
+    trial.store = Store::new(trial.heaps.tried);
+    written(trial.heaps.desk, ())
 }

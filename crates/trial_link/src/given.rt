@@ -52,11 +52,6 @@ pub fn two(given: &str) -> Result<(&str, &str), Stop> {
     two_texts(given).ok_or(Stop::NoCall)
 }
 
-/// Two values of which each may be refused.
-pub fn both<A: Drop, B: Drop>(a: Result<A, Stop>, b: Result<B, Stop>) -> Result<(A, B), Stop> {
-    Ok((a?, b?))
-}
-
 pub fn path_of(desk: Heap, text: &str) -> Result<Path, Stop> {
     Path::new(desk, text).map_err(Stop::from)
 }
@@ -75,4 +70,9 @@ pub fn reader_of(heap: Heap, text: &str) -> Result<Reader, Stop> {
 /// What is printed for a value.
 pub fn written<T: Debug + Drop>(desk: Heap, value: T) -> Result<String, Stop> {
     shown(desk, value).map_err(Stop::from)
+}
+
+/// The same, where memory did not run out for it.
+pub fn written_made<T: Debug + Drop>(desk: Heap, made: Result<T, Memory>) -> Result<String, Stop> {
+    written(desk, made?)
 }

@@ -12,10 +12,11 @@ mod digest;
 mod given;
 mod growths;
 mod of_links;
-mod of_moves;
-mod of_pages;
-mod of_readers;
+mod of_numbers;
+mod of_paths;
 mod of_references;
+mod of_sights;
+mod of_tokens;
 mod stop;
 
 use call::called;

@@ -1,111 +1,180 @@
 //! Calls that are tried while the heap refuses growths.
 
-use crate::of_lines::Those;
 use crate::of_refs::refs_of;
-use doc_heap::{Heap, String};
-use doc_lines::entities::{Entities, TableError};
+use crate::tools::{Tools, shown_made};
+use crate::{of_anchors, of_blocks, of_filling, of_html, of_inlines, of_lines, of_pages, of_refs};
+use doc_heap::String;
 use doc_lines::pushing::{push_char, push_characters, push_text};
-use doc_lines::unescape;
 use doc_page::failure::Memory;
-use doc_refs::{RefMap, normalize_label, take_definitions};
-use trial::answer::{only_char, two_texts, word_and_text};
-use trial::growths::{Refusal, tried};
+use doc_refs::RefMap;
+use std::fmt;
+use trial::answer::{no_call, only_char, two_texts, word_and_text};
+use trial::growths::{Refusal, refused_each, tried};
 
-/// What a call of this name answers, if there is one.
-pub fn called(heap: Heap, name: &str, given: &str) -> Option<Result<String, Memory>> {
-    Some(match name {
-        "grow_unescape" => tried(heap, |refusal| unescaped(heap, given, refusal)),
-        "grow_unescape_by_table" => {
-            tried(heap, |refusal| unescaped_by_table(heap, given, refusal))
-        }
-        "grow_table" => tried(heap, |refusal| table_entity(heap, given, refusal)),
-        "grow_normalize_label" => tried(heap, |refusal| label(heap, given, refusal)),
-        "grow_definitions" => tried(heap, |refusal| definitions(heap, given, refusal)),
-        "grow_join" => tried(heap, |refusal| joined(heap, given, refusal)),
-        "grow_push_char" => tried(heap, |refusal| pushed_char(heap, given, refusal)),
-        "grow_push_text" => tried(heap, |refusal| pushed_text(heap, given, refusal)),
-        "grow_push_characters" => tried(heap, |refusal| pushed_characters(heap, given, refusal)),
-        _ => return None,
-    })
+/// A call that is made again and again.
+#[derive(Clone, Copy)]
+enum Growing {
+    Unescape,
+    UnescapeByTable,
+    Table,
+    NormalizeLabel,
+    Definitions,
+    Join,
+    Push(End),
+    Blocks,
+    Inlines,
+    Anchors,
+    Escape,
+    Fill,
+    Html,
+    Page,
 }
 
-fn unescaped(heap: Heap, text: &str, refusal: Refusal) -> Result<String, Memory> {
-    refusal.begin(heap);
-    let read = unescape(heap, text, &Entities::built_in())?;
-    Ok(read.into_inner())
+/// What is pushed at the end of a text: a text, a character, or one or two.
+#[derive(Clone, Copy)]
+enum End {
+    Text,
+    Char,
+    Characters,
 }
 
-/// `TABLE | TEXT`, where the table is a good one.
-fn unescaped_by_table(heap: Heap, given: &str, refusal: Refusal) -> Result<String, Memory> {
-    let (table, text) = two_texts(given).unwrap_or(("", ""));
-    let Ok(entities) = Entities::from_table(heap, table) else {
-        return Err(Memory);
-    };
-    refusal.begin(heap);
-    let read = unescape(heap, text, &entities)?;
-    Ok(read.into_inner())
+/// A call, and what it is made with.
+#[derive(Clone, Copy)]
+struct Asked<'a> {
+    tools: Tools<'a>,
+    call: Growing,
+    given: &'a str,
 }
 
-/// `NAME TABLE`: the characters of the name with the table, or its refusal.
-fn table_entity(
-    heap: Heap,
+/// What is printed for an answer.
+#[derive(PartialEq, Drop)]
+struct Told {
+    text: String,
+}
+
+impl fmt::Debug for Told {
+    fn fmt<W: fmt::Write>(&self, f: &mut fmt::Formatter<W>) -> fmt::Result {
+        let text = self.text.as_str();
+        write!(f, "{text}")
+    }
+}
+
+/// What is printed for the call of this name behind `grow_`: for texts up to the definitions how many growths it takes, for others not.
+pub fn called(tools: Tools<'_>, name: &str, given: &str) -> Result<String, Memory> {
+    match name {
+        "unescape" => counted(tools, Growing::Unescape, given),
+        "unescape_by_table" => counted(tools, Growing::UnescapeByTable, given),
+        "table" => counted(tools, Growing::Table, given),
+        "normalize_label" => counted(tools, Growing::NormalizeLabel, given),
+        "definitions" => counted(tools, Growing::Definitions, given),
+        "join" => counted(tools, Growing::Join, given),
+        "push_char" => counted(tools, Growing::Push(End::Char), given),
+        "push_text" => counted(tools, Growing::Push(End::Text), given),
+        "push_characters" => counted(tools, Growing::Push(End::Characters), given),
+        "blocks" => each(tools, Growing::Blocks, given),
+        "inlines" => each(tools, Growing::Inlines, given),
+        "anchors" => each(tools, Growing::Anchors, given),
+        "escape" => each(tools, Growing::Escape, given),
+        "fill" => each(tools, Growing::Fill, given),
+        "html" => each(tools, Growing::Html, given),
+        "page" => each(tools, Growing::Page, given),
+        _ => no_call(tools.desk),
+    }
+}
+
+fn counted(tools: Tools<'_>, call: Growing, given: &str) -> Result<String, Memory> {
+    count(Asked { tools, call, given })
+}
+
+fn each(tools: Tools<'_>, call: Growing, given: &str) -> Result<String, Memory> {
+    try_each(Asked { tools, call, given })
+}
+
+fn count(asked: Asked<'_>) -> Result<String, Memory> {
+    tried(asked.tools.tried, move |refusal| answered(asked, refusal))
+}
+
+fn try_each(asked: Asked<'_>) -> Result<String, Memory> {
+    refused_each(asked.tools.tried, move |refusal| answered(asked, refusal))
+}
+
+fn answered(asked: Asked<'_>, refusal: Refusal) -> Result<Told, Memory> {
+    let text = answer(asked.tools, asked.call, asked.given, refusal)?;
+    Ok(Told { text })
+}
+
+/// What is printed for an answer while growths are refused. What a call is given is made on the desk, or before they are.
+fn answer(
+    tools: Tools<'_>,
+    call: Growing,
     given: &str,
     refusal: Refusal,
-) -> Result<Result<Option<Those>, TableError>, Memory> {
-    let (name, table) = word_and_text(given).unwrap_or(("", ""));
-    refusal.begin(heap);
-    match Entities::from_table(heap, table) {
-        Ok(entities) => Ok(Ok(entities.find(name))),
-        Err(TableError::Memory) => Err(Memory),
-        Err(error) => Ok(Err(error)),
+) -> Result<String, Memory> {
+    match call {
+        Growing::Join => joined(tools, given, refusal),
+        Growing::Push(end) => pushed(tools, end, given, refusal),
+        Growing::Unescape => of_lines::unescaped(begun(tools, refusal), given),
+        Growing::UnescapeByTable => of_lines::unescaped_by_table(begun(tools, refusal), given),
+        Growing::Table => of_lines::table_entity(begun(tools, refusal), given),
+        Growing::NormalizeLabel => of_refs::label(begun(tools, refusal), given),
+        Growing::Definitions => of_refs::leads(begun(tools, refusal), given),
+        Growing::Blocks => of_blocks::shown_blocks(begun(tools, refusal), given),
+        Growing::Inlines => of_inlines::shown_marks(begun(tools, refusal), given),
+        Growing::Anchors => of_anchors::shown_anchors(begun(tools, refusal), given),
+        Growing::Escape => of_filling::shown_escaped(begun(tools, refusal), given),
+        Growing::Fill => of_filling::shown_filled(begun(tools, refusal), given),
+        Growing::Html => of_html::shown_html(begun(tools, refusal), given),
+        Growing::Page => of_pages::grown(tools, given, refusal),
     }
 }
 
-fn label(heap: Heap, text: &str, refusal: Refusal) -> Result<String, Memory> {
-    refusal.begin(heap);
-    let label = normalize_label(heap, text)?;
-    Ok(label.into_inner())
-}
-
-/// `LABEL DEST | TEXT`: how many bytes the definitions at the front of a text take, and whether they let a label, as it matches, lead
-/// there.
-fn definitions(heap: Heap, given: &str, refusal: Refusal) -> Result<(usize, bool), Memory> {
-    let (target, text) = two_texts(given).unwrap_or(("", ""));
-    let (label, dest) = word_and_text(target).unwrap_or(("", ""));
-    refusal.begin(heap);
-    let (refs, taken) = take_definitions(heap, text, &Entities::built_in())?;
-    Ok((taken, leads(&refs, label, dest)))
-}
-
-fn leads(refs: &RefMap, label: &str, dest: &str) -> bool {
-    match refs.find(label) {
-        Some(target) => target.dest.get() == dest,
-        None => false,
-    }
+/// The tools, with growths refused from now on.
+fn begun<'a>(tools: Tools<'a>, refusal: Refusal) -> Tools<'a> {
+    refusal.begin(tools.tried);
+    tools
 }
 
 /// `OLD NEW | FIRST | SECOND`: the definitions of two texts joined, where OLD and NEW are labels as they match, with `,` between two. The
 /// answer is whether all of OLD and all of NEW name something then. Where a refused join does not leave all of OLD and none of NEW, it
 /// answers `false`.
-fn joined(heap: Heap, given: &str, refusal: Refusal) -> Result<bool, Memory> {
+fn joined(tools: Tools<'_>, given: &str, refusal: Refusal) -> Result<String, Memory> {
     let (labels, texts) = two_texts(given).unwrap_or(("", ""));
-    let (old, new) = word_and_text(labels).unwrap_or(("", ""));
     let (first, second) = two_texts(texts).unwrap_or(("", ""));
-    let mut refs = refs_of(heap, first)?;
-    let other = refs_of(heap, second)?;
-    refusal.begin(heap);
-    match refs.join(other) {
-        Ok(()) => Ok(has_all(&refs, old) && has_all(&refs, new)),
-        Err(Memory) => unless_changed(has_all(&refs, old) && has_none(&refs, new)),
+    let mut refs = refs_of(tools, first)?;
+    let is_right = join_second(tools, &mut refs, labels, second, refusal);
+    drop(refs);
+    shown_made(tools.desk, is_right)
+}
+
+fn join_second(
+    tools: Tools<'_>,
+    refs: &mut RefMap,
+    labels: &str,
+    second: &str,
+    refusal: Refusal,
+) -> Result<bool, Memory> {
+    let other = refs_of(tools, second)?;
+    refusal.begin(tools.tried);
+    let joined = refs.join(other);
+    has_joined(refs, labels, joined)
+}
+
+fn has_joined(refs: &RefMap, labels: &str, joined: Result<(), Memory>) -> Result<bool, Memory> {
+    let (old, new) = word_and_text(labels).unwrap_or(("", ""));
+    match joined {
+        Ok(()) => Ok(each_is(refs, old, true) && each_is(refs, new, true)),
+        Err(Memory) => unless_changed(each_is(refs, old, true) && each_is(refs, new, false)),
     }
 }
 
-fn has_all(refs: &RefMap, labels: &str) -> bool {
-    labels.split(',').all(|label| refs.find(label).is_some())
-}
-
-fn has_none(refs: &RefMap, labels: &str) -> bool {
-    labels.split(',').all(|label| refs.find(label).is_none())
+/// Whether each of the labels names something, or none does.
+fn each_is(refs: &RefMap, labels: &str, is_there: bool) -> bool {
+    for label in labels.split(',') {
+        if refs.find(label).is_some() != is_there {
+            return false;
+        }
+    }
+    true
 }
 
 /// `Memory`, where what the call was to change is as before.
@@ -113,45 +182,46 @@ fn unless_changed(is_as_before: bool) -> Result<bool, Memory> {
     if is_as_before { Err(Memory) } else { Ok(false) }
 }
 
-/// `TEXT | END`: a text at the end of one that has no room to spare. The answer is whether it stands there then. Where a refused push does
-/// not leave the first text as it was, it answers `false`.
-fn pushed_text(heap: Heap, given: &str, refusal: Refusal) -> Result<bool, Memory> {
-    let (text, end) = two_texts(given).unwrap_or(("", ""));
-    let mut out = String::from_str(heap, text)?;
-    refusal.begin(heap);
-    match push_text(&mut out, end) {
-        Ok(()) => Ok(is_joined(&out, text, end)),
-        Err(Memory) => unless_changed(out.as_str() == text),
+/// `TEXT | END`: what is pushed at the end of a text that has no room to spare. The answer is whether it stands there then. Where a refused
+/// push does not leave the first text as it was, it answers `false`.
+fn pushed(tools: Tools<'_>, end: End, given: &str, refusal: Refusal) -> Result<String, Memory> {
+    let (text, behind) = two_texts(given).unwrap_or(("", ""));
+    let mut out = String::from_str(tools.tried, text)?;
+    refusal.begin(tools.tried);
+    let pushed = push_end(&mut out, end, behind);
+    let is_right = has_pushed(&out, text, behind, pushed);
+    drop(out);
+    shown_made(tools.desk, is_right)
+}
+
+fn push_end(out: &mut String, end: End, behind: &str) -> Result<(), Memory> {
+    match end {
+        End::Text => push_text(out, behind),
+        End::Char => push_char(out, only_char(behind).unwrap_or('?')),
+        End::Characters => push_characters(out, first_two(behind)),
     }
 }
 
-fn is_joined(out: &str, text: &str, end: &str) -> bool {
+fn first_two(text: &str) -> (char, Option<char>) {
+    let mut characters = text.chars();
+    (characters.next().unwrap_or('?'), characters.next())
+}
+
+fn has_pushed(
+    out: &str,
+    text: &str,
+    behind: &str,
+    pushed: Result<(), Memory>,
+) -> Result<bool, Memory> {
+    match pushed {
+        Ok(()) => Ok(is_joined(out, text, behind)),
+        Err(Memory) => unless_changed(out == text),
+    }
+}
+
+fn is_joined(out: &str, text: &str, behind: &str) -> bool {
     match out.strip_prefix(text) {
-        Some(behind) => behind == end,
+        Some(rest) => rest == behind,
         None => false,
-    }
-}
-
-/// The same with END a character.
-fn pushed_char(heap: Heap, given: &str, refusal: Refusal) -> Result<bool, Memory> {
-    let (text, end) = two_texts(given).unwrap_or(("", ""));
-    let mut out = String::from_str(heap, text)?;
-    refusal.begin(heap);
-    match push_char(&mut out, only_char(end).unwrap_or('?')) {
-        Ok(()) => Ok(is_joined(&out, text, end)),
-        Err(Memory) => unless_changed(out.as_str() == text),
-    }
-}
-
-/// The same with END one or two characters.
-fn pushed_characters(heap: Heap, given: &str, refusal: Refusal) -> Result<bool, Memory> {
-    let (text, end) = two_texts(given).unwrap_or(("", ""));
-    let mut characters = end.chars();
-    let those = (characters.next().unwrap_or('?'), characters.next());
-    let mut out = String::from_str(heap, text)?;
-    refusal.begin(heap);
-    match push_characters(&mut out, those) {
-        Ok(()) => Ok(is_joined(&out, text, end)),
-        Err(Memory) => unless_changed(out.as_str() == text),
     }
 }

@@ -1,29 +1,56 @@
-//! Tries the calls of `doc_lines`, `doc_blocks_starts` and `doc_refs`, as `trial` says.
+//! Tries the calls from a text to its HTML, as `trial` says: those of `doc_lines`, `doc_blocks_starts`, `doc_refs`, `doc_blocks`,
+//! `doc_inlines`, `doc_html_anchors` and `doc_html`, and those of `doc_page` on texts and pages. A page is printed on several lines.
+//!
+//! A value that owns memory goes by a call of `drop`, once on each way, and a call's answer is handed on as it is: that is much cheaper
+//! to prove than `?` where such a value is alive.
 #![tactic(auto)]
 
 mod growing;
+mod hides;
+mod of_anchors;
+mod of_blocks;
+mod of_filling;
+mod of_html;
+mod of_inlines;
 mod of_lines;
+mod of_pages;
 mod of_refs;
 mod of_scanners;
 mod of_starts;
+mod printed;
+mod tools;
 
-use doc_heap::{Heap, String};
+use doc_heap::{Heap, String, heap};
+use doc_lines::entities::Entities;
 use doc_page::failure::Memory;
 use std::io;
+use tools::Tools;
 use trial::run::{Calls, run};
 
-struct TextCalls;
+#[derive(Drop)]
+struct TextCalls {
+    tried: Heap,
+    entities: Entities,
+}
 
 impl Calls for TextCalls {
     fn called(&self, heap: Heap, name: &str, given: &str) -> Option<Result<String, Memory>> {
-        of_lines::called(heap, name, given)
-            .or_else(|| of_scanners::called(heap, name, given))
-            .or_else(|| of_starts::called(heap, name, given))
-            .or_else(|| of_refs::called(heap, name, given))
-            .or_else(|| growing::called(heap, name, given))
+        let tools = Tools {
+            tried: self.tried,
+            desk: heap,
+            entities: &self.entities,
+        };
+        Some(match name.strip_prefix("grow_") {
+            Some(name) => growing::called(tools, name, given),
+            None => of_lines::called(tools, name, given),
+        })
     }
 }
 
 fn main(rt: HostRuntime) -> io::Result<()> {
-    run(&rt, &TextCalls)
+    let calls = TextCalls {
+        tried: heap(rt.alloc(), u64::MAX)?,
+        entities: Entities::built_in(),
+    };
+    run(&rt, &calls)
 }

@@ -1,84 +1,118 @@
 //! Calls of `doc_refs`.
 
-use doc_heap::{Heap, String};
-use doc_lines::entities::Entities;
+use crate::of_blocks;
+use crate::tools::{Tools, shown_made};
+use doc_heap::String;
 use doc_page::failure::Memory;
 use doc_refs::{
-    RefMap, Target, destination, destination_value, normalize_label, take_definitions, title,
-    title_value,
+    RefMap, destination, destination_value, normalize_label, take_definitions, title, title_value,
 };
-use trial::answer::{no_call, shown, two_texts};
+use trial::answer::{no_call, shown, two_texts, word_and_text};
 use trial::leads::Leads;
 
-/// What a call of this name answers, if there is one.
-pub fn called(heap: Heap, name: &str, given: &str) -> Option<Result<String, Memory>> {
-    Some(match name {
-        "normalize_label" => label(heap, given),
-        "destination" => shown(heap, destination(given)),
-        "title" => shown(heap, title(given)),
-        "destination_value" => destination_text(heap, given),
-        "title_value" => title_text(heap, given),
-        "definitions" => definitions(heap, given),
-        "target" => target(heap, given),
-        "join" => joined(heap, given),
-        _ => return None,
-    })
+/// What is printed for a call of this name.
+pub fn called(tools: Tools<'_>, name: &str, given: &str) -> Result<String, Memory> {
+    let Tools {
+        tried,
+        desk,
+        entities,
+    } = tools;
+    match name {
+        "normalize_label" => label(tools, given),
+        "destination" => shown(desk, destination(given)),
+        "title" => shown(desk, title(given)),
+        "destination_value" => shown_made(desk, destination_value(tried, given, entities)),
+        "title_value" => shown_made(desk, title_value(tried, given, entities)),
+        "definitions" => definitions(tools, given),
+        "target" => target(tools, given),
+        "join" => joined(tools, given),
+        _ => of_blocks::called(tools, name, given),
+    }
 }
 
-fn label(heap: Heap, text: &str) -> Result<String, Memory> {
-    let label = normalize_label(heap, text)?;
-    shown(heap, label.get())
-}
-
-fn destination_text(heap: Heap, source: &str) -> Result<String, Memory> {
-    let text = destination_value(heap, source, &Entities::built_in())?;
-    shown(heap, text.get())
-}
-
-fn title_text(heap: Heap, source: &str) -> Result<String, Memory> {
-    let text = title_value(heap, source, &Entities::built_in())?;
-    shown(heap, text.get())
+pub fn label(tools: Tools<'_>, text: &str) -> Result<String, Memory> {
+    shown_made(tools.desk, normalize_label(tools.tried, text))
 }
 
 /// How many bytes the definitions at the front of a text take.
-fn definitions(heap: Heap, text: &str) -> Result<String, Memory> {
-    let (_refs, taken) = take_definitions(heap, text, &Entities::built_in())?;
-    shown(heap, taken)
+fn definitions(tools: Tools<'_>, text: &str) -> Result<String, Memory> {
+    let (_refs, taken) = take_definitions(tools.tried, text, tools.entities)?;
+    shown(tools.desk, taken)
 }
 
-/// `LABEL | TEXT`: the same, and what the definitions name for a label as it stands in a text.
-fn target(heap: Heap, given: &str) -> Result<String, Memory> {
+/// `LABEL DEST | TEXT`: the same, and whether they let a label, as it matches, lead there.
+pub fn leads(tools: Tools<'_>, given: &str) -> Result<String, Memory> {
+    let (target, text) = two_texts(given).unwrap_or(("", ""));
+    let (label, dest) = word_and_text(target).unwrap_or(("", ""));
+    let (refs, taken) = take_definitions(tools.tried, text, tools.entities)?;
+    let leads = leads_to(&refs, label, dest);
+    drop(refs);
+    shown(tools.desk, (taken, leads))
+}
+
+fn leads_to(refs: &RefMap, label: &str, dest: &str) -> bool {
+    match refs.find(label) {
+        Some(target) => target.dest.get() == dest,
+        None => false,
+    }
+}
+
+/// `LABEL | TEXT`: how many bytes the definitions take, and what they name for a label as it stands in a text.
+fn target(tools: Tools<'_>, given: &str) -> Result<String, Memory> {
     let Some((label, text)) = two_texts(given) else {
-        return no_call(heap);
+        return no_call(tools.desk);
     };
-    let (refs, taken) = take_definitions(heap, text, &Entities::built_in())?;
-    let label = normalize_label(heap, label)?;
-    shown(heap, (taken, refs.find(label.get()).map(shown_target)))
+    let label = normalize_label(tools.tried, label)?;
+    let told = target_of(tools, label.get(), text);
+    drop(label);
+    told
+}
+
+fn target_of(tools: Tools<'_>, label: &str, text: &str) -> Result<String, Memory> {
+    let (refs, taken) = take_definitions(tools.tried, text, tools.entities)?;
+    let told = shown(tools.desk, (taken, found(&refs, label)));
+    drop(refs);
+    told
+}
+
+/// What a label names as it matches, for printing.
+pub fn found<'a>(refs: &'a RefMap, label: &str) -> Option<Leads<'a>> {
+    let target = refs.find(label)?;
+    Some(Leads {
+        dest: target.dest.get(),
+        title: match &target.title {
+            Some(title) => Some(title.get()),
+            None => None,
+        },
+    })
 }
 
 /// `LABEL | TEXT | TEXT`: what the joined definitions of two texts name for a label as it matches.
-fn joined(heap: Heap, given: &str) -> Result<String, Memory> {
+fn joined(tools: Tools<'_>, given: &str) -> Result<String, Memory> {
     let Some((label, texts)) = two_texts(given) else {
-        return no_call(heap);
+        return no_call(tools.desk);
     };
     let Some((first, second)) = two_texts(texts) else {
-        return no_call(heap);
+        return no_call(tools.desk);
     };
-    let mut refs = refs_of(heap, first)?;
-    refs.join(refs_of(heap, second)?)?;
-    shown(heap, refs.find(label).map(shown_target))
+    let mut refs = refs_of(tools, first)?;
+    let told = join_second(tools, &mut refs, label, second);
+    drop(refs);
+    told
+}
+
+fn join_second(
+    tools: Tools<'_>,
+    refs: &mut RefMap,
+    label: &str,
+    second: &str,
+) -> Result<String, Memory> {
+    refs.join(refs_of(tools, second)?)?;
+    shown(tools.desk, found(refs, label))
 }
 
 /// What the definitions at the front of a text name.
-pub fn refs_of(heap: Heap, text: &str) -> Result<RefMap, Memory> {
-    let (refs, _taken) = take_definitions(heap, text, &Entities::built_in())?;
+pub fn refs_of(tools: Tools<'_>, text: &str) -> Result<RefMap, Memory> {
+    let (refs, _taken) = take_definitions(tools.tried, text, tools.entities)?;
     Ok(refs)
-}
-
-/// A target, for printing.
-fn shown_target(target: &Target) -> Leads {
-    Leads {
-        dest: target.dest.get(),
-        title: target.title.as_ref().map(|title| title.get()),
-    }
 }

@@ -1,70 +1,91 @@
 //! Calls of `doc_inlines`. Marks are printed as the HTML of the specification's examples has them, but for its escapes: a line ending is
 //! `\\n`, and an image is an element with the marks of its text inside.
 
-use doc_heap::{Heap, String, Vec};
+use crate::of_html;
+use crate::of_refs::refs_of;
+use crate::tools::{Tools, shown_made};
+use doc_heap::{Heap, String};
 use doc_inlines::{Mark, Span, inlines, inlines_counted};
-use doc_lines::entities::Entities;
 use doc_page::failure::Memory;
-use doc_refs::{RefMap, Target, take_definitions};
+use doc_refs::{RefMap, Target};
 use trial::answer::{no_call, number_and_text, shown, two_texts};
-use trial::growths::{Refusal, refused_each};
 
-/// What a call of this name answers, if there is one.
-pub fn called(heap: Heap, name: &str, given: &str) -> Option<Result<String, Memory>> {
-    Some(match name {
-        "inlines" => written(heap, &RefMap::new(heap), given),
-        "inlines_with" => with_definitions(heap, given),
-        "inlines_are_text" => are_text(heap, given),
-        "inlines_look_at" => look_at(heap, given),
-        "grow_inlines" => refused_each(heap, |refusal| grown(heap, given, refusal)),
-        _ => return None,
-    })
+/// What is printed for a call of this name.
+pub fn called(tools: Tools<'_>, name: &str, given: &str) -> Result<String, Memory> {
+    match name {
+        "inlines" => written(tools, "", given),
+        "inlines_with" => with_definitions(tools, given),
+        "inlines_are_text" => are_text(tools, given),
+        "inlines_look_at" => look_at(tools, given),
+        _ => of_html::called(tools, name, given),
+    }
 }
 
 /// `DEFINITIONS | TEXT`: the marks of a text beside definitions.
-fn with_definitions(heap: Heap, given: &str) -> Result<String, Memory> {
-    let Some((definitions, text)) = two_texts(given) else {
-        return no_call(heap);
-    };
-    let (refs, _taken) = take_definitions(heap, definitions, &Entities::built_in())?;
-    written(heap, &refs, text)
+fn with_definitions(tools: Tools<'_>, given: &str) -> Result<String, Memory> {
+    match two_texts(given) {
+        Some((definitions, text)) => written(tools, definitions, text),
+        None => no_call(tools.desk),
+    }
+}
+
+/// The same as a text in quotes.
+pub fn shown_marks(tools: Tools<'_>, given: &str) -> Result<String, Memory> {
+    shown_made(tools.desk, with_definitions(tools, given))
 }
 
 /// Whether the marks of a text are that text.
-fn are_text(heap: Heap, text: &str) -> Result<String, Memory> {
-    let read = written(heap, &RefMap::new(heap), text)?;
-    shown(heap, read.as_str() == text)
+fn are_text(tools: Tools<'_>, text: &str) -> Result<String, Memory> {
+    let read = written(tools, "", text)?;
+    let is_text = read.as_str() == text;
+    drop(read);
+    shown(tools.desk, is_text)
 }
 
 /// `N TEXT`: whether the searches for openers look at N runs at most.
-fn look_at(heap: Heap, given: &str) -> Result<String, Memory> {
+fn look_at(tools: Tools<'_>, given: &str) -> Result<String, Memory> {
     let Some((most, text)) = number_and_text(given) else {
-        return no_call(heap);
+        return no_call(tools.desk);
     };
-    let (_marks, looked) = inlines_counted(heap, text, &RefMap::new(heap), &Entities::built_in())?;
-    shown(heap, looked <= most as u64)
+    let refs = RefMap::new(tools.tried);
+    let looked = looked(tools, &refs, text);
+    drop(refs);
+    shown(tools.desk, looked? <= most as u64)
 }
 
-/// `DEFINITIONS | TEXT`, with growths refused while the text is read and its marks are written.
-fn grown(heap: Heap, given: &str, refusal: Refusal) -> Result<String, Memory> {
-    let (definitions, text) = two_texts(given).unwrap_or(("", ""));
-    let (refs, _taken) = take_definitions(heap, definitions, &Entities::built_in())?;
-    refusal.begin(heap);
-    let marks = inlines(heap, text, &refs, &Entities::built_in())?;
-    written_marks(heap, &marks)
+fn looked(tools: Tools<'_>, refs: &RefMap, text: &str) -> Result<u64, Memory> {
+    let (_marks, looked) = inlines_counted(tools.tried, text, refs, tools.entities)?;
+    Ok(looked)
 }
 
-fn written(heap: Heap, refs: &RefMap, text: &str) -> Result<String, Memory> {
-    let marks = inlines(heap, text, refs, &Entities::built_in())?;
-    written_marks(heap, &marks)
+/// The marks of a text beside the definitions of another.
+fn written(tools: Tools<'_>, definitions: &str, text: &str) -> Result<String, Memory> {
+    let refs = refs_of(tools, definitions)?;
+    let written = written_with(tools, &refs, text);
+    drop(refs);
+    written
 }
 
-fn written_marks(heap: Heap, marks: &[Mark]) -> Result<String, Memory> {
-    let mut out = String::new(heap);
-    for mark in marks {
-        push_mark(&mut out, mark)?;
+fn written_with(tools: Tools<'_>, refs: &RefMap, text: &str) -> Result<String, Memory> {
+    let marks = inlines(tools.tried, text, refs, tools.entities)?;
+    let written = written_marks(tools.desk, &marks);
+    drop(marks);
+    written
+}
+
+fn written_marks(desk: Heap, marks: &[Mark]) -> Result<String, Memory> {
+    let mut out = String::new(desk);
+    match push_marks(&mut out, marks) {
+        Ok(()) => Ok(out),
+        Err(Memory) => Err(Memory),
     }
-    Ok(out)
+}
+
+fn push_marks(out: &mut String, marks: &[Mark]) -> Result<(), Memory> {
+    for mark in marks {
+        push_mark(out, mark)?;
+    }
+    Ok(())
 }
 
 fn push_mark(out: &mut String, mark: &Mark) -> Result<(), Memory> {
