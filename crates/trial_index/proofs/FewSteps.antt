@@ -1,5 +1,5 @@
 -- A search for no words finds each page, where there are fewer than 100.
-use Rattle.std.proofs.Common.{◌≡◌, ℕ, suc, List, [], ◌∷◌, Bool, true, false, length, take, if◌then◌else◌, refl, ap, arith, ◌∙◌}
+use Rattle.std.proofs.Common.{◌≡◌, ℕ, suc, List, [], ◌∷◌, Bool, true, false, length, if◌then◌else◌, refl, ap, arith, ◌∙◌}
 use Rattle.std.specs.Prelude.{◌<◌, min}
 use Rattle.std.specs.FinMap as map
 use Rattle.std.specs.List.{filter}
