@@ -10,4 +10,3 @@ pub mod examples;
 pub mod rendering;
 
 pub use doc_server_input::{fault, input, output};
-pub use doc_server_sites::{check, replay, site};

@@ -9,7 +9,7 @@ use doc_html::CommonMark;
 use doc_page::renderer::Renderer;
 use doc_server::fault::Fault;
 use doc_server::output::{flush, send};
-use doc_server::site::site_hub;
+use doc_server_sites::site::site_hub;
 use doc_server_serving::fault::ServeFault;
 use doc_server_serving::serving::serve_on;
 use doc_server_streams::output::Output;
