@@ -7,6 +7,7 @@ use Rattle.std.proofs.lemmas.Cmp.{nat_cmp_total}
 use Rattle.std.proofs.lemmas.Bool.Decides.{nat_tests}
 use Rattle.std.proofs.lemmas.List.{map-append}
 use Rattle.std.proofs.lemmas.List.Elements.{All-nil, All-cons, All-append}
+use Rattle.doc_page.specs.Refusals.{IsAnswer}
 use Rattle.doc_hub.specs.Connections.{new_connection}
 use Rattle.doc_hub.specs.Replies.{Renders}
 use Rattle.doc_hub.specs.Runs.{Happened, Happens, Runs, nothing, first}
@@ -57,16 +58,18 @@ connects : (w v : World) (id : ConnId) → ◌≡◌ {A = Answer} (connected w) 
 connects w v id is = connects_by w v id (nat_lt w.given last_id) is
 
 -- a connect that was refused for want of numbers
-none_left_by : (w v : World) (t : Bool) → ◌≡◌ {A = Answer} (by_room w t) (v, Err connect_errors.NoIds) → t ≡ false
-none_left_by w v true is =
-    absurd (no_error (record { 0 = w.given + 1 }) connect_errors.NoIds (ap (λ (a : Answer). a.1) is))
-none_left_by w v false is = refl
+none_left_by : (w : World) (t : Bool) → IsAnswer connect_errors.Memory (by_room w t).1 (Err connect_errors.NoIds) → t ≡ false
+none_left_by w true is = absurd (unlike is)
+  where
+    unlike : connect_errors.NoIds ≡ connect_errors.Memory → ⊥
+    unlike e = cc
+none_left_by w false is = refl
 
 not_less : (a b : ℕ) → nat_lt a b ≡ false → b ≤ a
 not_less a b is = grind (arith, nat_tests)
 
 pub refused_for : (render : Renders) (w v : World) (e : ConnectError) → Happens render w events.Connect v (Err e) → IsRefusal w (fault_of e)
-refused_for render w v connect_errors.NoIds h = not_less w.given last_id (none_left_by w v (nat_lt w.given last_id) h)
+refused_for render w v connect_errors.NoIds h = not_less w.given last_id (none_left_by w (nat_lt w.given last_id) h.0)
 refused_for render w v connect_errors.Memory h = tt
 
 -- ---- one after another

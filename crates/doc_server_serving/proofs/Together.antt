@@ -1,6 +1,8 @@
 -- Connections that are made, served and dropped.
-use Rattle.std.proofs.Common.{◌≡◌, ◌≤◌, ℕ, ◌+◌, List, [], ◌++◌, Bool, true, false, cond, length, refl, sym, ap, ◌∙◌, subst, arith, inl, inr}
+use Rattle.std.proofs.Common.{◌≡◌, ◌≤◌, ℕ, ◌+◌, List, [], ◌++◌, Bool, true, false, cond, length, take, refl, sym, ap, ◌∙◌, subst, arith, inl, inr}
 use Rattle.std.specs.Prelude.{◌⊎◌, All, Contains, None, Some, Result, Ok, Err, IfOk, IfErr, OnOk}
+use Rattle.std.proofs.Math.Seq.{take-append_seam}
+use Rattle.std.proofs.lemmas.List.{length-map}
 use Rattle.std.proofs.lemmas.List.Elements.{All-append, All-nil}
 use Rattle.doc_hub.specs.Replies.{Renders}
 use Rattle.doc_hub.specs.Runs.{Happened, Runs, nothing}
@@ -114,6 +116,20 @@ rounds_of render page w t s count turns round ps qs same m all serves faults pas
   passes = passes;
   ends = ends;
 }
+
+same_length : (xs ys : List Peer) → ids_of xs ≡ ids_of ys → length xs ≡ length ys
+same_length xs ys is = sym (length-map xs (λ p. p.id)) ∙ ap length is ∙ length-map ys (λ p. p.id)
+
+-- the same of links in a vector, which a round is given as a slice
+pub rounds_in : (render page : Renders) (w t s : World) (count turns n : ℕ) (round : Round) (ps given qs rest : List Peer) → page ≡ render
+    → Makes render w ps t → length ps ≡ count → given ≡ ps → length given ≡ n → ServesAll page t given s qs
+    → round.faults ≡ fault_places given qs → round.passes ≤ turns → (round.passes ≡ turns) ⊎ AreClosed qs
+    → Rounds render w count turns round s (take n (qs ++ rest))
+rounds_in render page w t s count turns n round ps given qs rest same m all is long serves faults passes ends =
+    subst (Rounds render w count turns round s)
+    (sym (ap (λ k. take k (qs ++ rest)) (sym long ∙ sym (same_length qs given serves.ids)) ∙ take-append_seam qs rest))
+    (rounds_of render page w t s count turns round given qs same (subst (λ l. Makes render w l t) (sym is) m) (ap length is ∙ all) serves
+    faults passes ends)
 
 module _ (render : Renders) (w s v : World) (count turns : ℕ) (links : List Peer) (is : v ≡ dropped_all s (ids_of links)) where
   pub served_on : (r : Result Round ServeFault) → IfOk r (λ round. Rounds render w count turns round s links)
