@@ -1,6 +1,6 @@
 -- Connections that are made one after another.
-use Rattle.std.proofs.Common.{◌≡◌, ◌<◌, ◌≤◌, ℕ, suc, ◌+◌, List, [], ◌∷◌, ◌++◌, Bool, true, false, cond, T, length, map, refl, sym, ap, ◌∙◌, subst, ◌==◌, arith}
-use Rattle.std.specs.Prelude.{All, Option, Some, Result, Ok, Err, is_ok, nat_lt, if◌then◌else◌}
+use Rattle.std.proofs.Common.{◌≡◌, ◌<◌, ◌≤◌, ℕ, suc, ◌+◌, List, [], ◌∷◌, ◌++◌, Bool, true, false, cond, T, length, refl, sym, ap, ◌∙◌, subst, ◌==◌, arith}
+use Rattle.std.specs.Prelude.{Some, Result, Ok, Err, is_ok, nat_lt, if◌then◌else◌}
 use Rattle.std.specs.FinMap as fin
 use Rattle.std.specs.Cmp.{unsigned_tied}
 use Rattle.std.proofs.lemmas.Cmp.{nat_cmp_total}
@@ -10,7 +10,7 @@ use Rattle.std.proofs.lemmas.List.Elements.{All-nil, All-cons, All-append}
 use Rattle.doc_page.specs.Refusals.{IsAnswer}
 use Rattle.doc_hub.specs.Connections.{new_connection}
 use Rattle.doc_hub.specs.Replies.{Renders}
-use Rattle.doc_hub.specs.Runs.{Happened, Happens, Runs, nothing, first}
+use Rattle.doc_hub.specs.Runs.{Happened, Happens, nothing, first}
 use Rattle.doc_hub.specs.StepLaws.{connection}
 use Rattle.doc_hub.specs.Worlds.{World, connected, last_id}
 use Rattle.doc_hub.specs.declared.event.ConnId.{ConnId}

@@ -5,5 +5,3 @@ mod accepting;
 mod dropping;
 pub mod fault;
 pub mod serving;
-#[cfg(test)]
-mod tests;
