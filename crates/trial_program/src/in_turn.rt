@@ -145,7 +145,7 @@ enum Short {
 /// What is printed for `TURNS SCRIPT`: what the links are behind the script and a round of so many passes whose growths are refused in turn,
 /// alone and with all that follow, and a round with ample memory; and whether the first of these always left a link open.
 pub fn grown(heaps: Heaps, given: &str) -> Result<String, Memory> {
-    let Some(right) = ended(heaps, given, Way::After, MANY)? else {
+    let Some(right) = last_round(heaps, given, Way::After, MANY)? else {
         return no_call(heaps.desk);
     };
     let told = refuse_each(heaps, given, &right);
@@ -169,8 +169,8 @@ fn refuse_each(heaps: Heaps, given: &str, right: &Ended) -> Result<String, Memor
 
 /// With this growth refused, and then with this one alone.
 fn refused_at(heaps: Heaps, given: &str, growth: u64, right: &Ended) -> Result<Short, Memory> {
-    let after = short_of(ended(heaps, given, Way::After, growth)?, right);
-    let only = short_of(ended(heaps, given, Way::Only, growth)?, right);
+    let after = short_of(last_round(heaps, given, Way::After, growth)?, right);
+    let only = short_of(last_round(heaps, given, Way::Only, growth)?, right);
     Ok(match (after, only) {
         (Short::Waits, Short::Waits) => Short::Waits,
         (Short::Wrong, _) => Short::Wrong,
@@ -192,7 +192,7 @@ fn short_of(ended: Option<Ended>, right: &Ended) -> Short {
     }
 }
 
-fn ended(heaps: Heaps, given: &str, way: Way, growth: u64) -> Result<Option<Ended>, Memory> {
+fn last_round(heaps: Heaps, given: &str, way: Way, growth: u64) -> Result<Option<Ended>, Memory> {
     let Some((turns, script)) = given.split_once(' ') else {
         return Ok(None);
     };
