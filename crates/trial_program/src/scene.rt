@@ -65,7 +65,9 @@ pub fn act<R: Renderer + Drop>(scene: &mut Scene, hub: &mut Hub<R>, part: &str) 
 
 /// `link PIECE READ WRITE TEXT`: a link over such a stream.
 fn link<R: Renderer + Drop>(scene: &mut Scene, hub: &mut Hub<R>, given: &str) -> Option<()> {
-    let stream = Streamed::read(given)?.stream(scene.heaps.desk).ok()?;
+    let Ok(stream) = Streamed::read(given)?.stream(scene.heaps.desk) else {
+        return None;
+    };
     match Link::new(hub, stream) {
         Ok(link) => scene.links.push(link).ok(),
         Err(error) => push_refused(&mut scene.out, error).ok(),

@@ -1,5 +1,8 @@
 //! Streams over memory, as a line writes them.
 
+ghost use Rattle.std.specs.Prelude.{◌≡◌, IfOk};
+ghost use Rattle.doc_server_links.specs.MemoryStreams.{failures_of};
+
 use doc_heap::Heap;
 use doc_page::bytes::Bytes;
 use doc_page::failure::Memory;
@@ -29,7 +32,9 @@ impl Streamed<'_> {
     }
 
     /// The stream.
-    pub fn stream(self, heap: Heap) -> Result<MemoryStream, Memory> {
+    pub fn stream(self, heap: Heap) -> Result<MemoryStream, Memory>
+        ensures { IfOk result (λ stream. failures_of stream ≡ 0) }
+    {
         let input = Bytes::copy_of(heap, self.text.as_bytes())?;
         Ok(MemoryStream::new(heap, input, self.piece, self.fail_read, self.fail_write))
     }
