@@ -1,5 +1,0 @@
-mod Examples
-mod ReplaySteps
-mod ReportSteps
-mod ScriptSteps
-mod SiteSteps
