@@ -1,21 +1,28 @@
 #!/usr/bin/env bash
-# Lays out a copy of the repository in which the programs that scripts time are crates too: `bench`, which times layers, and `bench_index`,
-# which times the kept indexes. They serve no reader, so the gate doesn't prove them, and their sources stand as text in
-# scripts/programs. In the copy `rt run < stdin -- tasks` in crates/bench proves and builds the first.
+# Lays out a copy of the repository in which more programs are crates. The copies of scripts/programs are `bench`, which times layers, and
+# `bench_index`, which times the kept indexes: they serve no reader, so the gate doesn't prove them. With --drafts the crates of drafts/,
+# whose proof isn't finished, take their places too. All of these stand as text, since the gate reads every file of code. In the copy
+# `rt run < stdin -- tasks` in crates/bench proves and builds the first; a draft is only good for `rt check` and `rt try`.
 #
-#     scripts/lay_out.sh FOLDER
+#     scripts/lay_out.sh [--drafts] FOLDER
 set -eu
 cd "$(dirname "$0")/.."
-folder=${1:?usage: scripts/lay_out.sh FOLDER}
+sources=scripts/programs
+if [ "${1:-}" = --drafts ]; then
+    sources="scripts/programs drafts"
+    shift
+fi
+folder=${1:?usage: scripts/lay_out.sh [--drafts] FOLDER}
 mkdir -p "$folder"
 folder=$(realpath "$folder")
 tar --exclude=./.git -cf - . | tar -C "$folder" -xf -
-for program in scripts/programs/*; do
-    crate=$folder/crates/$(basename "$program")
-    rm -rf "$crate"
-    cp -r "$program" "$crate"
-    find "$crate" -name '*.txt' | while read -r file; do mv "$file" "${file%.txt}"; done
-    cat "$crate/line" >>"$folder/crates.txt"
-    rm "$crate/line"
+for program in $(find $sources -mindepth 1 -maxdepth 1 -type d); do
+    name=$(basename "$program")
+    rm -rf "$folder/crates/$name"
+    cp -r "$program" "$folder/crates/$name"
+    find "$folder/crates/$name" -name '*.txt' | while read -r file; do mv "$file" "${file%.txt}"; done
+    sed -i "/^$name:/d" "$folder/crates.txt"
+    cat "$folder/crates/$name/line" >>"$folder/crates.txt"
+    rm "$folder/crates/$name/line"
 done
-rm -r "$folder/scripts/programs"
+rm -r "$folder/scripts/programs" "$folder/drafts"
