@@ -1,9 +1,11 @@
 //! A file as the journal uses it: what it holds, and what a crash may leave of it.
 
-ghost use Rattle.std.specs.Prelude.{◌≡◌, ◌≤◌, List, ℕ, Bool, false, Option, length, is_err, OnOk, IfSome};
-ghost use Rattle.doc_server_journal.specs.Devices.{Writes, CutsTo, Torn, Shortened, Follows, LeavesFile, Elapses};
+ghost use Rattle.std.specs.Prelude.{◌≡◌, ◌≤◌, ◌<◌, List, ℕ, Bool, false, Option, length, is_err, OnOk, IfOk, IsErrOf, IfSome};
+ghost use Rattle.doc_server_journal.specs.Devices.{Writes, CutsTo, Torn, Shortened, Follows, LeavesFile, Elapses, is_failed};
 
-use crate::fault::DeviceFault;
+use crate::fault::{DeviceFault, LoadError};
+use doc_heap::Heap;
+use doc_page::bytes::Bytes;
 
 /// A file, used until the first call of it that fails. Of a file of the system nothing is known: its bytes are `None`, and no
 /// outcome of a crash is named.
@@ -22,6 +24,17 @@ pub trait Device {
 
     /// Whether a call has failed.
     ghost failed: { Self → Bool };
+
+    /// All bytes of the file, where they are no more than `most`.
+    fn read_whole(&mut self, heap: Heap, most: usize) -> Result<Bytes, LoadError>
+        requires usable { failed self.old ≡ false }
+        ensures bytes { IfOk result (λ bytes. IfSome (seen self.old) (λ file. file ≡ bytes)) }
+        ensures most { IfOk result (λ bytes. length bytes ≤ most) }
+        ensures long { IsErrOf result LoadError.Long → IfSome (seen self.old) (λ file. most < length file) }
+        ensures seen { seen self.new ≡ seen self.old }
+        ensures crash { (c : List ℕ) → may_leave self.new c → may_leave self.old c }
+        ensures time { Elapses (moment self.old) (moment self.new) (left_since self.old) (left_since self.new) (may_leave self.new) }
+        ensures cause { failed self.new ≡ is_failed result };
 
     /// Writes over what is there, and past the end. Until a sync, a crash may leave a part of it.
     fn write_at(&mut self, at: usize, bytes: &[u8]) -> Result<(), DeviceFault>

@@ -11,8 +11,11 @@ pub mod found;
 mod front;
 pub mod journal;
 pub mod laws;
+pub mod memory;
+pub mod opening;
 pub mod reading;
 pub mod record;
+mod repair;
 #[cfg(test)]
 mod tests;
 pub mod writing;
