@@ -10,6 +10,7 @@ use Rattle.doc_server_journal.proofs.Deciding.{Begins, begins, same_or_not}
 use Rattle.doc_server_journal.proofs.FrontLemmas.{long_enough}
 use Rattle.doc_server_journal.proofs.LawLemmas.{written_is_read}
 use Rattle.doc_server_journal.proofs.RecordLemmas.{length_record}
+use Rattle.doc_server_journal.proofs.Tearing.{before_all}
 
 abbrev open_gate : List ℕ
 open_gate = 1 ∷ []
@@ -80,7 +81,8 @@ module _ (texts : List (List ℕ)) (text : List ℕ) (all : AreWithin texts) (fi
         let tail = drop (end + 1) c in
         let whole : c ≡ front ++ (0 ∷ tail) =
         sym (take-append-drop (end + 1) c)
-        ∙ ap (λ l. l ++ tail) (torn.before ∙ take_all (end + 1) (journal_bytes texts) (omega (arith, length_rest)))
+        ∙ ap (λ l. l ++ tail)
+            (before_all (end + 1) written (journal_bytes texts) c (omega (arith, length_rest)) torn ∙ take_all (end + 1) (journal_bytes texts) (omega (arith, length_rest)))
         ∙ append_assoc front (0 ∷ []) tail in
         by_front c tail whole (omega (arith, length-drop (end + 1) c, length_rest, torn.no_longer)) (begins (last_digest seed texts) tail)
 
@@ -118,7 +120,7 @@ module _ (texts : List (List ℕ)) (text : List ℕ) (all : AreWithin texts) (fi
         let rest : drop end c ≡ gate ∷ written =
         drop_more c end 0 (omega (arith, torn.no_shorter, length_staged)) ∙ ap (λ (l : List ℕ). gate ∷ l) (torn.behind ∙ behind_part) in
         let whole : c ≡ front ++ (gate ∷ written) =
-        sym (take-append-drop end c) ∙ ap (λ l. l ++ drop end c) (torn.before ∙ front_part) ∙ ap (λ l. front ++ l) rest in
+        sym (take-append-drop end c) ∙ ap (λ l. l ++ drop end c) (before_all end open_gate staged c (omega (arith, length_staged)) torn ∙ front_part) ∙ ap (λ l. front ++ l) rest in
         by_gate gate whole (torn.each end (omega arith) (omega arith) (omega (arith, length_staged)))
       where
         first_byte : (k : ℕ) → k ≡ 0 → get_or open_gate k 0 ≡ 1

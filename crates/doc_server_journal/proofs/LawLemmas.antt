@@ -16,7 +16,7 @@ at_rest before = ([], refl, inr (omega arith, none_in_none before))
 pub written_is_read : WrittenIsRead
 written_is_read texts all = inl (0 ∷ [], record { within = all; split = refl }, at_rest (last_digest seed texts))
 
-none_of : (bytes : List ℕ) (texts : List (List ℕ)) (rest : List ℕ) → AreRecords bytes texts rest → length bytes ≤ 1 → texts ≡ []
+pub none_of : (bytes : List ℕ) (texts : List (List ℕ)) (rest : List ℕ) → AreRecords bytes texts rest → length bytes ≤ 1 → texts ≡ []
 none_of bytes texts rest are short = short_chain seed texts rest (omega (arith, short, ap length are.split))
 
 pub reads_one_way : ReadsOneWay

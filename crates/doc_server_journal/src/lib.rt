@@ -13,6 +13,8 @@ pub mod journal;
 pub mod laws;
 pub mod memory;
 pub mod opening;
+#[cfg(test)]
+mod opening_tests;
 pub mod reading;
 pub mod record;
 mod repair;

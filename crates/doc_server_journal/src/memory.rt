@@ -1,8 +1,8 @@
 //! A file in memory, for tests.
 
-ghost use Rattle.std.specs.Prelude.{◌≡◌, ◌≤◌, ◌++◌, ◌+◌, ◌∷◌, [], List as Seq, ℕ, length, take, drop, OnOk, OnErr, IfOk};
+ghost use Rattle.std.specs.Prelude.{◌≡◌, ◌≤◌, ◌++◌, ◌+◌, ◌∷◌, [], List as Seq, ℕ, length, take, drop, false, OnOk, OnErr, IfOk};
 ghost use Rattle.doc_server_journal.specs.declared.memory.Change.TheVariants as changes;
-ghost use Rattle.doc_server_journal.specs.Memories.{memory_bytes};
+ghost use Rattle.doc_server_journal.specs.Memories.{memory_bytes, memory_leaves, has_failed};
 
 use crate::device::Device;
 use crate::fault::{DeviceFault, LoadError};
@@ -94,7 +94,9 @@ pub struct MemoryDevice {
 impl MemoryDevice {
     /// A file of these bytes, on the disk. So many calls go well, and the next one fails.
     pub fn new(heap: Heap, first: Bytes, calls: u64) -> Result<MemoryDevice, Memory>
-        ensures { IfOk result (λ m. memory_bytes m ≡ first) }
+        ensures bytes { IfOk result (λ m. memory_bytes m ≡ first) }
+        ensures durable { IfOk result (λ m. (c : Seq ℕ) → memory_leaves m c → c ≡ first) }
+        ensures usable { IfOk result (λ m. has_failed m ≡ false) }
     {
         let bytes = Bytes::copy_of(heap, first.get())?;
         Ok(MemoryDevice {
@@ -129,18 +131,18 @@ fn goes_well(left: &mut u64) -> bool {
 }
 
 impl Device for MemoryDevice {
-    ghost use Rattle.std.specs.Prelude.{Some, length};
-    ghost use Rattle.doc_server_journal.specs.Memories.{Leaves, LeftSince, counts, only};
+    ghost use Rattle.std.specs.Prelude.{length};
+    ghost use Rattle.doc_server_journal.specs.Memories.{memory_seen, memory_leaves, has_failed, LeftSince, counts, only};
 
-    ghost seen = { λ m. Some m.file.bytes };
+    ghost seen = { memory_seen };
 
-    ghost may_leave = { λ m c. Leaves m.file.first m.file.changes.items c };
+    ghost may_leave = { memory_leaves };
 
     ghost moment = { λ m. length m.file.changes.items };
 
     ghost left_since = { λ m t c. LeftSince m.file.first m.file.changes.items t c };
 
-    ghost failed = { λ m. m.failed };
+    ghost failed = { has_failed };
 
     ghost counts_now = { λ m t c le now. counts m.file.first m.file.changes.items t c le now };
 
