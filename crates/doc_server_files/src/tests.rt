@@ -21,13 +21,13 @@ fn a_journal_is_opened_again(rt: HostRuntime) -> Result<(), Fail> {
     let device = FileDevice::open(&rt, NAME)?;
     assert!(rt; matches!(FileDevice::open(&rt, NAME), Err(FileFault::InUse)));
     let Ok(mut opened) = Journal::open(heap, device, MOST) else {
-        return Err(Fail);
+        return Err(Fail::new("not opened"));
     };
     assert_eq!(rt; opened.texts.get().len(), 0);
     opened.journal.append(heap, b"remove a\n")?;
     drop(opened);
     let Ok(again) = Journal::open(heap, FileDevice::open(&rt, NAME)?, MOST) else {
-        return Err(Fail);
+        return Err(Fail::new("not opened"));
     };
     assert_eq!(rt; again.texts.get().len(), 1);
     drop(again);

@@ -8,7 +8,7 @@ use Rattle.doc_server_journal.specs.Openings.{of_load, of_reading, WasLeftOrRead
 use Rattle.doc_server_journal.specs.declared.fault.LoadError.{LoadError}
 use Rattle.doc_server_journal.specs.declared.fault.LoadError.TheVariants as loads
 use Rattle.doc_server_journal.specs.declared.fault.ReadError.{ReadError}
-use Rattle.doc_server_journal.specs.declared.fault.ReadError.TheVariants as reads
+use Rattle.doc_server_journal.specs.declared.fault.ReadError.TheVariants as readings
 use Rattle.doc_server_journal.specs.declared.found.Found.{Found}
 use Rattle.doc_server_journal.proofs.LawLemmas.{reads_one_way}
 use Rattle.doc_server_journal.proofs.Moments.{if_known, known, weaker, goes_on}
@@ -25,11 +25,11 @@ not_loaded most old new failed loads.Failed long same cause = cause
 
 pub not_read : (most : ℕ) (old new : Option (List ℕ)) (failed : Bool) (bytes : List ℕ) (e : ReadError) → IfSome old (λ file. file ≡ bytes) → new ≡ old
     → failed ≡ false → IsWhy bytes e → IsRefused most old new failed (of_reading e)
-not_read most old new failed bytes (reads.Damaged n) known_is same usable why = (
+not_read most old new failed bytes (readings.Damaged n) known_is same usable why = (
   if_known old (λ file. IsDamaged file n) (λ file is. subst (λ f. IsDamaged f n) (sym (known old file (λ f. f ≡ bytes) is known_is)) why),
   (same, usable),
 )
-not_read most old new failed bytes reads.Memory known_is same usable why = (same, usable)
+not_read most old new failed bytes readings.Memory known_is same usable why = (same, usable)
 
 module _ {D : Type 0} (seen : D → Option (List ℕ)) (may_leave : D → List ℕ → Type 0) (moment : D → ℕ) (left_since : D → ℕ → List ℕ → Type 0) (old mid : D)
     (loaded : LeavesOnly moment left_since old mid (may_leave old)) where
@@ -41,25 +41,28 @@ module _ {D : Type 0} (seen : D → Option (List ℕ)) (may_leave : D → List �
 
   module _ (fewer : (c : List ℕ) → may_leave mid c → may_leave old c) (same : seen mid ≡ seen old) (bytes : List ℕ) (found : Found) (found_is : IsFound bytes found)
       (known_is : IfSome (seen old) (λ file. file ≡ bytes)) (new : D) where
-    pub repaired : IfSome (seen mid) (λ file. LeavesOnly moment left_since mid new (WasLeftOrReads (may_leave mid) found.texts)) → (texts : List (List ℕ))
-        → IfSome (seen old) (λ file. ReadsAs file texts → LeavesOnly moment left_since old new (WasLeftOrReads (may_leave old) texts))
-    repaired run texts = if_known (seen old) (λ file. ReadsAs file texts → LeavesOnly moment left_since old new After) each
-      where
-        abbrev After : List ℕ → Type 0
-        After c = WasLeftOrReads (may_leave old) texts c
+    module _ (texts : List (List ℕ)) where
+      abbrev After : List ℕ → Type 0
+      After c = WasLeftOrReads (may_leave old) texts c
 
-        on : texts ≡ found.texts → (c : List ℕ) → WasLeftOrReads (may_leave mid) found.texts c → After c
-        on texts_are c (inl left) = inl (fewer c left)
-        on texts_are c (inr these) = inr (subst (λ ts. ReadsAs c ts) (sym texts_are) these)
+      on : texts ≡ found.texts → (c : List ℕ) → WasLeftOrReads (may_leave mid) found.texts c → After c
+      on texts_are c (inl left) = inl (fewer c left)
+      on texts_are c (inr these) = inr (subst (λ ts. ReadsAs c ts) (sym texts_are) these)
 
-        each : (file : List ℕ) → seen old ≡ Some file → ReadsAs file texts → LeavesOnly moment left_since old new After
-        each file is reads =
-            let file_is : file ≡ bytes = known (seen old) file (λ f. f ≡ bytes) is known_is in
-            let texts_are : texts ≡ found.texts = reads_one_way bytes texts found.texts (subst (λ f. ReadsAs f texts) file_is reads) found_is.reads in
-            goes_on moment left_since old mid new After
-            (weaker moment left_since old mid (may_leave old) After loaded (λ c left. inl left))
-            (weaker moment left_since mid new (WasLeftOrReads (may_leave mid) found.texts) After
-            (known (seen mid) file (λ f. LeavesOnly moment left_since mid new (WasLeftOrReads (may_leave mid) found.texts)) (same ∙ is) run) (on texts_are))
+      run_of : IfSome (seen mid) (λ file. LeavesOnly moment left_since mid new (WasLeftOrReads (may_leave mid) found.texts)) → (file : List ℕ)
+          → seen old ≡ Some file → LeavesOnly moment left_since mid new (WasLeftOrReads (may_leave mid) found.texts)
+      run_of run file is = known (seen mid) file (λ f. LeavesOnly moment left_since mid new (WasLeftOrReads (may_leave mid) found.texts)) (same ∙ is) run
+
+      texts_of : (file : List ℕ) → seen old ≡ Some file → ReadsAs file texts → texts ≡ found.texts
+      texts_of file is reads =
+          reads_one_way bytes texts found.texts (subst (λ f. ReadsAs f texts) (known (seen old) file (λ f. f ≡ bytes) is known_is) reads) found_is.reads
+
+      pub repaired : IfSome (seen mid) (λ file. LeavesOnly moment left_since mid new (WasLeftOrReads (may_leave mid) found.texts))
+          → IfSome (seen old) (λ file. ReadsAs file texts → LeavesOnly moment left_since old new After)
+      repaired run = if_known (seen old) (λ file. ReadsAs file texts → LeavesOnly moment left_since old new After) (λ file is reads.
+          goes_on moment left_since old mid new After
+          (weaker moment left_since old mid (may_leave old) After loaded (λ c left. inl left))
+          (weaker moment left_since mid new (WasLeftOrReads (may_leave mid) found.texts) After (run_of run file is) (on (texts_of file is reads))))
 
 -- the texts are those of the file
 pub its_texts : (old : Option (List ℕ)) (bytes : List ℕ) (found : Found) → IsFound bytes found → IfSome old (λ file. file ≡ bytes)

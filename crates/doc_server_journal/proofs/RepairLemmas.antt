@@ -109,23 +109,21 @@ module _ {D : Type 0} (seen : D → Option (List ℕ)) (may_leave : D → List �
       subst (λ o. IfSome o (λ file. file ≡ journal_bytes texts)) (sym (writes ∙ ap (λ o. option_map f o) same))
       (if_mapped f (seen old) (λ file. file ≡ journal_bytes texts) (λ file is. ap f (file_is file is) ∙ done))
 
+  abbrev After : List ℕ → Type 0
+  After c = WasLeftOrReads (may_leave old) texts c
+
+  here : LeavesFile (seen mid) (may_leave mid) → (file : List ℕ) → seen old ≡ Some file → (c : List ℕ) → may_leave mid c → c ≡ bytes
+  here durable file is c left = known (seen mid) file (λ f. (x : List ℕ) → may_leave mid x → x ≡ f) (same ∙ is) durable c left ∙ file_is file is
+
+  by_step : LeavesFile (seen mid) (may_leave mid) → (file : List ℕ) → seen old ≡ Some file → (step : List ℕ → List ℕ → Type 0)
+      → ((c : List ℕ) → step bytes c → ReadsAs c texts) → (c : List ℕ) → Stepped step (may_leave mid) c → After c
+  by_step durable file is step on c (inl left) = inr (subst (λ f. ReadsAs f texts) (sym (here durable file is c left)) reads)
+  by_step durable file is step on c (inr (d, left, stepped)) = inr (on c (subst (λ f. step f c) (here durable file is d left) stepped))
+
   pub changed : LeavesOnly moment left_since old mid (may_leave old) → LeavesFile (seen mid) (may_leave mid) → (step : List ℕ → List ℕ → Type 0)
       → LeavesOnly moment left_since mid new (Stepped step (may_leave mid)) → ((c : List ℕ) → step bytes c → ReadsAs c texts)
-      → IfSome (seen old) (λ file. LeavesOnly moment left_since old new (WasLeftOrReads (may_leave old) texts))
-  changed synced durable step run on = if_known (seen old) (λ file. LeavesOnly moment left_since old new After) each
-    where
-      abbrev After : List ℕ → Type 0
-      After c = WasLeftOrReads (may_leave old) texts c
-
-      here : (file : List ℕ) → seen old ≡ Some file → (c : List ℕ) → may_leave mid c → c ≡ bytes
-      here file is c left = known (seen mid) file (λ f. (x : List ℕ) → may_leave mid x → x ≡ f) (same ∙ is) durable c left ∙ file_is file is
-
-      by_step : (file : List ℕ) → seen old ≡ Some file → (c : List ℕ) → Stepped step (may_leave mid) c → After c
-      by_step file is c (inl left) = inr (subst (λ f. ReadsAs f texts) (sym (here file is c left)) reads)
-      by_step file is c (inr (d, left, stepped)) = inr (on c (subst (λ f. step f c) (here file is d left) stepped))
-
-      each : (file : List ℕ) → seen old ≡ Some file → LeavesOnly moment left_since old new After
-      each file is =
-          goes_on moment left_since old mid new After
-          (weaker moment left_since old mid (may_leave old) After synced (λ c left. inl left))
-          (weaker moment left_since mid new (Stepped step (may_leave mid)) After run (by_step file is))
+      → IfSome (seen old) (λ file. LeavesOnly moment left_since old new After)
+  changed synced durable step run on = if_known (seen old) (λ file. LeavesOnly moment left_since old new After) (λ file is.
+      goes_on moment left_since old mid new After
+      (weaker moment left_since old mid (may_leave old) After synced (λ c left. inl left))
+      (weaker moment left_since mid new (Stepped step (may_leave mid)) After run (by_step durable file is step on)))

@@ -1,5 +1,5 @@
 -- Opening a journal.
-use Rattle.std.specs.Prelude.{⊤, ◌≡◌, ◌⊎◌, ◌<◌, ℕ, Bool, true, false, List, length, Option, IfSome}
+use Rattle.std.specs.Prelude.{◌≡◌, ◌⊎◌, ◌<◌, ℕ, Bool, true, false, List, length, Option, IfSome}
 use Rattle.doc_server_journal.specs.Readings.{ReadsAs, IsDamaged}
 use Rattle.doc_server_journal.specs.declared.fault.LoadError.{LoadError}
 use Rattle.doc_server_journal.specs.declared.fault.LoadError.TheVariants as loads

@@ -49,10 +49,14 @@ impl<D: Device> Journal<D> {
     {
         let mut device = device;
         match recover(heap, &mut device, most) {
-            Ok(Found { texts, end, digest }) => Ok(Opened {
-                journal: Journal { device, end, digest },
-                texts,
-            }),
+            Ok(found) => {
+                let end = found.end;
+                let digest = found.digest;
+                Ok(Opened {
+                    journal: Journal { device, end, digest },
+                    texts: found.texts,
+                })
+            }
             Err(fault) => Err(Refused { fault, device }),
         }
     }
