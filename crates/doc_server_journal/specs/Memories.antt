@@ -7,11 +7,12 @@ use Rattle.doc_server_journal.specs.declared.memory.Change.TheVariants.{Write, C
 use Rattle.doc_server_journal.specs.declared.memory.Kept.{Kept}
 use Rattle.doc_server_journal.specs.declared.memory.MemoryDevice.{MemoryDevice}
 
--- what a crash may leave after a change, by what it might have left before: all that the change may do, and nothing else
+-- What a crash may leave after a change, by what it might have left before: all that the change may do, and nothing else.
+-- A sync leaves of it the file as it was then.
 abbrev pub after_change : (List ℕ → Type 0) → Change → List ℕ → Type 0
 after_change before (Write at bytes) c = (d : List ℕ) × before d × Torn at bytes d c
 after_change before (Cut len) c = (d : List ℕ) × before d × Shortened len d c
-after_change before (Sync file) c = c ≡ file
+after_change before (Sync file) c = before c × (c ≡ file)
 
 -- the same after changes, the first of them first
 abbrev pub after_changes : (List ℕ → Type 0) → List Change → List ℕ → Type 0

@@ -181,10 +181,16 @@ impl Device for MemoryDevice {
     }
 
     fn sync(&mut self) -> Result<(), DeviceFault> {
-        if !goes_well(&mut self.left) || self.file.sync(self.heap).is_err() {
+        if !goes_well(&mut self.left) {
             self.failed = true;
             return Err(DeviceFault);
         }
-        Ok(())
+        match self.file.sync(self.heap) {
+            Ok(()) => Ok(()),
+            Err(_) => {
+                self.failed = true;
+                Err(DeviceFault)
+            }
+        }
     }
 }
