@@ -12,10 +12,9 @@ use doc_page::bytes::Bytes;
 use doc_server_journal::device::Device;
 use doc_server_journal::fault::{DeviceFault, LoadError};
 use std::error::Error;
-use std::fmt;
 use std::fs::{File, OpenOptions, TryLockError};
-use std::io;
 use std::os::unix::fs::FileExt;
+use std::{fmt, io};
 
 /// Why a file isn't opened.
 #[derive(Clone, Copy, Debug, PartialEq, Eq)]

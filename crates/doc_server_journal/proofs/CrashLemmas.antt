@@ -82,7 +82,7 @@ module _ (texts : List (List ℕ)) (text : List ℕ) (all : AreWithin texts) (fi
         let whole : c ≡ front ++ (0 ∷ tail) =
         sym (take-append-drop (end + 1) c)
         ∙ ap (λ l. l ++ tail)
-            (before_all (end + 1) written (journal_bytes texts) c (omega (arith, length_rest)) torn ∙ take_all (end + 1) (journal_bytes texts) (omega (arith, length_rest)))
+        (before_all (end + 1) written (journal_bytes texts) c (omega (arith, length_rest)) torn ∙ take_all (end + 1) (journal_bytes texts) (omega (arith, length_rest)))
         ∙ append_assoc front (0 ∷ []) tail in
         by_front c tail whole (omega (arith, length-drop (end + 1) c, length_rest, torn.no_longer)) (begins (last_digest seed texts) tail)
 

@@ -30,7 +30,8 @@ pub trait Device {
         requires usable { failed self.old ≡ false }
         ensures bytes { IfOk result (λ bytes. IfSome (seen self.old) (λ file. file ≡ bytes)) }
         ensures most { IfOk result (λ bytes. length bytes ≤ most) }
-        ensures long { IsErrOf result LoadError.Long → IfSome (seen self.old) (λ file. most < length file) }
+        ensures long { IsErrOf result LoadError.Long
+            → IfSome (seen self.old) (λ file. most < length file) }
         ensures seen { seen self.new ≡ seen self.old }
         ensures crash { (c : List ℕ) → may_leave self.new c → may_leave self.old c }
         ensures time { Elapses (moment self.old) (moment self.new) (left_since self.old) (left_since self.new) (may_leave self.new) }

@@ -29,7 +29,8 @@ struct Kept {
 /// Bytes with others written over them, and past their end.
 fn overwritten(heap: Heap, file: &[u8], at: usize, bytes: &[u8]) -> Result<Bytes, Memory>
     requires { at ≤ length file.now }
-    ensures { IfOk result (λ new. new ≡ take at file.now ++ bytes.now ++ drop (at + length bytes.now) file.now) }
+    ensures { IfOk result (λ new.
+        new ≡ take at file.now ++ bytes.now ++ drop (at + length bytes.now) file.now) }
 {
     let (front, behind) = file.split_at(at);
     let mut new = Vec::from_slice(heap, front)?;
@@ -44,8 +45,10 @@ impl Kept {
     /// Writes some of the bytes that were to be written.
     fn write(&mut self, heap: Heap, at: usize, bytes: &[u8], written: &[u8]) -> Result<(), Memory>
         requires { at ≤ length self.old.bytes }
-        ensures ok { OnOk result (self.new.changes.items ≡ self.old.changes.items ++ changes.Write at bytes.now ∷ []) }
-        ensures bytes { OnOk result (self.new.bytes ≡ take at self.old.bytes ++ written.now ++ drop (at + length written.now) self.old.bytes) }
+        ensures ok { OnOk result (self.new.changes.items
+            ≡ self.old.changes.items ++ changes.Write at bytes.now ∷ []) }
+        ensures bytes { OnOk result (self.new.bytes
+            ≡ take at self.old.bytes ++ written.now ++ drop (at + length written.now) self.old.bytes) }
         ensures first { self.new.first ≡ self.old.first }
         ensures err { OnErr result (self.new.changes.items ≡ self.old.changes.items) }
     {
@@ -58,7 +61,8 @@ impl Kept {
 
     fn cut(&mut self, heap: Heap, len: usize) -> Result<(), Memory>
         requires { len ≤ length self.old.bytes }
-        ensures ok { OnOk result (self.new.changes.items ≡ self.old.changes.items ++ changes.Cut len ∷ []) }
+        ensures ok { OnOk result (self.new.changes.items
+            ≡ self.old.changes.items ++ changes.Cut len ∷ []) }
         ensures bytes { OnOk result (self.new.bytes ≡ take len self.old.bytes) }
         ensures first { self.new.first ≡ self.old.first }
         ensures err { OnErr result (self.new.changes.items ≡ self.old.changes.items) }
@@ -70,7 +74,8 @@ impl Kept {
     }
 
     fn sync(&mut self, heap: Heap) -> Result<(), Memory>
-        ensures ok { OnOk result (self.new.changes.items ≡ self.old.changes.items ++ changes.Sync self.old.bytes ∷ []) }
+        ensures ok { OnOk result (self.new.changes.items
+            ≡ self.old.changes.items ++ changes.Sync self.old.bytes ∷ []) }
         ensures bytes { self.new.bytes ≡ self.old.bytes }
         ensures first { self.new.first ≡ self.old.first }
         ensures err { OnErr result (self.new.changes.items ≡ self.old.changes.items) }

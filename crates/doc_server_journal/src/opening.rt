@@ -53,7 +53,11 @@ impl<D: Device> Journal<D> {
                 let end = found.end;
                 let digest = found.digest;
                 Ok(Opened {
-                    journal: Journal { device, end, digest },
+                    journal: Journal {
+                        device,
+                        end,
+                        digest,
+                    },
                     texts: found.texts,
                 })
             }
@@ -67,7 +71,8 @@ fn recover<D: Device>(heap: Heap, device: &mut D, most: usize) -> Result<Found, 
     requires usable { D.failed device.old ≡ false }
     ensures found { IfOk result (λ found. (bytes : Seq ℕ) × IsFound bytes found
         × IfSome (D.seen device.old) (λ file. file ≡ bytes)) }
-    ensures file { IfOk result (λ found. IfSome (D.seen device.new) (λ file. file ≡ journal_bytes found.texts)) }
+    ensures file { IfOk result (λ found.
+        IfSome (D.seen device.new) (λ file. file ≡ journal_bytes found.texts)) }
     ensures durable { OnOk result (LeavesFile (D.seen device.new) (D.may_leave device.new)) }
     ensures usable { OnOk result (D.failed device.new ≡ false) }
     ensures refused { IfErr result (λ e. IsRefused most (D.seen device.old) (D.seen device.new)

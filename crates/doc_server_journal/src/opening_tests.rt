@@ -44,7 +44,8 @@ fn damaged(refused: &Refused<MemoryDevice>) -> usize {
 /// Adds three records.
 #[tactic(auto, unfolding(crate::specs::Records::text_limit))]
 fn add_three(heap: Heap, journal: &mut Journal<MemoryDevice>) -> Result<(), AppendError>
-    requires open { (texts : Seq (Seq ℕ)) × IsOpen memory_seen memory_leaves has_failed journal.old texts }
+    requires open { (texts : Seq (Seq ℕ))
+        × IsOpen memory_seen memory_leaves has_failed journal.old texts }
 {
     journal.append(heap, b"a\n")?;
     journal.append(heap, b"b\n")?;
@@ -55,7 +56,12 @@ fn add_three(heap: Heap, journal: &mut Journal<MemoryDevice>) -> Result<(), Appe
 fn filled(heap: Heap, calls: u64) -> Result<MemoryDevice, Memory> {
     let device = MemoryDevice::new(heap, Bytes::new(Vec::new(heap)), calls)?;
     match Journal::open(heap, device, 0) {
-        Ok(Opened { mut journal, texts: _ }) => {
+        Ok(
+            Opened {
+                mut journal,
+                texts: _,
+            },
+        ) => {
             let _ = add_three(heap, &mut journal);
             Ok(journal.device)
         }

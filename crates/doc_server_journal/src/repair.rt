@@ -16,7 +16,8 @@ pub fn repair<D: Device>(device: &mut D, bytes: &[u8], found: &Found) -> Result<
     requires usable { D.failed device.old ≡ false }
     requires known { IfSome (D.seen device.old) (λ file. file ≡ bytes.now) }
     requires found { IsFound bytes.now found.now }
-    ensures file { OnOk result (IfSome (D.seen device.new) (λ file. file ≡ journal_bytes found.now.texts)) }
+    ensures file { OnOk result
+        (IfSome (D.seen device.new) (λ file. file ≡ journal_bytes found.now.texts)) }
     ensures durable { OnOk result (LeavesFile (D.seen device.new) (D.may_leave device.new)) }
     ensures any_moment { IfSome (D.seen device.old) (λ file. LeavesOnly D.moment D.left_since
         device.old device.new (WasLeftOrReads (D.may_leave device.old) found.now.texts)) }

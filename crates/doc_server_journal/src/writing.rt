@@ -13,10 +13,12 @@ pub fn load<D: Device>(device: &mut D, heap: Heap, most: usize) -> Result<Bytes,
     requires usable { D.failed device.old ≡ false }
     ensures bytes { IfOk result (λ bytes. IfSome (D.seen device.old) (λ file. file ≡ bytes)) }
     ensures most { IfOk result (λ bytes. length bytes ≤ most) }
-    ensures long { IsErrOf result LoadError.Long → IfSome (D.seen device.old) (λ file. most < length file) }
+    ensures long { IsErrOf result LoadError.Long
+        → IfSome (D.seen device.old) (λ file. most < length file) }
     ensures seen { D.seen device.new ≡ D.seen device.old }
     ensures crash { (c : List ℕ) → D.may_leave device.new c → D.may_leave device.old c }
-    ensures any_moment { LeavesOnly D.moment D.left_since device.old device.new (D.may_leave device.old) }
+    ensures any_moment { LeavesOnly D.moment D.left_since device.old device.new
+        (D.may_leave device.old) }
     ensures cause { D.failed device.new ≡ is_failed result }
 {
     device.read_whole(heap, most)
@@ -27,7 +29,8 @@ pub fn sync<D: Device>(device: &mut D) -> Result<(), DeviceFault>
     requires usable { D.failed device.old ≡ false }
     ensures seen { D.seen device.new ≡ D.seen device.old }
     ensures durable { OnOk result (LeavesFile (D.seen device.new) (D.may_leave device.new)) }
-    ensures any_moment { LeavesOnly D.moment D.left_since device.old device.new (D.may_leave device.old) }
+    ensures any_moment { LeavesOnly D.moment D.left_since device.old device.new
+        (D.may_leave device.old) }
     ensures cause { D.failed device.new ≡ is_err result }
 {
     device.sync()
