@@ -13,8 +13,8 @@ use Rattle.matchit.specs.Seek.{seek, step, or_else, param_step, has_slash}
 use Rattle.matchit.specs.declared.error.InsertError.{InsertError}
 use Rattle.matchit.specs.declared.error.InsertError.TheVariants.{Conflict, InvalidParam, InvalidParamSegment, InvalidCatchAll, OutOfMemory}
 use Rattle.doc_http_targets.specs.RouteSteps.{CanStand, leads_to, place_of, route_table}
-use Rattle.doc_http_targets.specs.Targets.{Route, after, at_path, if_not_empty, origin_form, page_of, page_rest, path_part, rest_behind}
-use Rattle.doc_http_targets.specs.Targets.{route_at, route_of}
+use Rattle.doc_http_targets.specs.Targets.{Route, after, at_path, if_not_empty, rest_behind}
+use Rattle.doc_http_targets.specs.Targets.{route_at}
 use Rattle.doc_http_targets.specs.Targets as targets
 use Rattle.doc_http_targets.specs.declared.routes.Place.{Place}
 use Rattle.doc_http_targets.specs.declared.routes.Place.TheVariants.{Page, Backlinks, Contents, Search, Broken}
@@ -280,46 +280,6 @@ pub unrouted : (path : List ℕ) → place_of path ≡ None → route_at path �
 unrouted path missing =
     by_none path (route_at path)
     (subst (λ o. Fits path o (route_at path)) (sym (place_of-closed path) ∙ missing) (routes-fit path))
-
--- ---- pages
-
-abbrev page_in : Option Route → Option (List ℕ)
-page_in o = option_and_then page_of o
-
-none-or : (a b : Option Route) → page_in a ≡ None → page_in b ≡ None → page_in (option_or a b) ≡ None
-none-or None b first second = second
-none-or (Some route) b first second = first
-
-not-rest : (o : Option (List ℕ)) → page_in (option_map targets.Backlinks o) ≡ None
-not-rest None = refl
-not-rest (Some rest) = refl
-
-not-end : (name : List ℕ) (route : Route) (path : List ℕ) → page_of route ≡ None → page_in (at_path name route path) ≡ None
-not-end name route path e = cond_both (bytes_eq name path) (Some route) None (λ o. page_in o ≡ None) (λ _. e) (λ _. refl)
-
-no-page : (path : List ℕ) → rest_behind (codes "/page/") path ≡ None → page_in (route_at path) ≡ None
-no-page path e =
-    none-or _ _ (not-rest (rest_behind (codes "/backlinks/") path))
-    (none-or _ _ (not-end (codes "/broken") targets.Broken path refl)
-    (none-or _ _ (not-end (codes "/contents") targets.Contents path refl)
-    (none-or _ _ (ap (λ o. page_in (option_map targets.Page o)) e)
-    (not-end (codes "/search") targets.Search path refl))))
-
-by_front : (path : List ℕ) (o : Option (List ℕ)) → after (codes "/page/") path ≡ o → if_not_empty o ≡ page_in (route_at path)
-by_front path None e = sym (no-page path (ap if_not_empty e))
-by_front path (Some []) e = sym (no-page path (ap if_not_empty e))
-by_front path (Some (b ∷ rest)) e =
-    subst (λ text. Some (b ∷ rest) ≡ page_in (route_at text)) (sym (after-append (codes "/page/") path (b ∷ rest) e)) refl
-
-by_form : (o : Option (List ℕ)) → option_and_then (λ form. rest_behind (codes "/page/") (path_part form)) o
-    ≡ page_in (option_and_then (λ form. route_at (path_part form)) o)
-by_form None = refl
-by_form (Some form) = by_front (path_part form) (after (codes "/page/") (path_part form)) refl
-
--- a target names a page just where its route does
-pub page_rest-routed : (target : List ℕ) → page_rest target ≡ option_and_then page_of (route_of target)
-unfolding page_rest route_of
-page_rest-routed target = by_form (origin_form target)
 
 -- where nothing conflicts, a route is refused for want of memory alone
 pub refused-fitting : (scan : Result Scan InsertError) (place : Place) (old new : RowsOf (RouteOf Place)) (e : InsertError)

@@ -8,96 +8,88 @@ use Rattle.percent_encoding.specs.Percent.{percent_decode}
 use Rattle.doc_page.specs.Paths.{is_path}
 use Rattle.doc_resolve.specs.WrittenPaths.{path_written as path_of_segments}
 use Rattle.doc_http_targets.specs.Queries.{parameter, value_of}
-use Rattle.doc_http_targets.specs.Targets.{origin_form, page_rest, route_of, Page, Backlinks, Contents, Search, Broken}
+use Rattle.doc_http_targets.specs.Targets.{origin_form, route_of, Page, Backlinks, Contents, Search, Broken}
 use Rattle.doc_http_targets.specs.WrittenPaths.{path_written}
 
--- ---- the rest of a page
+-- ---- pages
 
-page : page_rest (codes "/page/a.md") ≡ Some (codes "a.md")
-unfolding page_rest origin_form
+page : route_of (codes "/page/a.md") ≡ Some (Page (codes "a.md"))
+unfolding route_of origin_form
 page = refl
 
-page_without_rest : page_rest (codes "/page/") ≡ None
-unfolding page_rest origin_form
+page_without_rest : route_of (codes "/page/") ≡ None
+unfolding route_of origin_form
 page_without_rest = refl
 
-page_without_slash : page_rest (codes "/page") ≡ None
-unfolding page_rest origin_form
+page_without_slash : route_of (codes "/page") ≡ None
+unfolding route_of origin_form
 page_without_slash = refl
 
-page_in_capitals : page_rest (codes "/Page/a.md") ≡ None
-unfolding page_rest origin_form
+page_in_capitals : route_of (codes "/Page/a.md") ≡ None
+unfolding route_of origin_form
 page_in_capitals = refl
 
-contents : page_rest (codes "/contents") ≡ None
-unfolding page_rest origin_form
-contents = refl
-
-two_slashes : page_rest (codes "/page//x") ≡ Some (codes "/x")
-unfolding page_rest origin_form
+two_slashes : route_of (codes "/page//x") ≡ Some (Page (codes "/x"))
+unfolding route_of origin_form
 two_slashes = refl
 
-with_query : page_rest (codes "/page/a.md?x") ≡ Some (codes "a.md")
-unfolding page_rest origin_form
+with_query : route_of (codes "/page/a.md?x") ≡ Some (Page (codes "a.md"))
+unfolding route_of origin_form
 with_query = refl
 
-empty_before_query : page_rest (codes "/page/?x") ≡ None
-unfolding page_rest origin_form
+empty_before_query : route_of (codes "/page/?x") ≡ None
+unfolding route_of origin_form
 empty_before_query = refl
 
-with_fragment : page_rest (codes "/page/a.md#x") ≡ Some (codes "a.md#x")
-unfolding page_rest origin_form
+with_fragment : route_of (codes "/page/a.md#x") ≡ Some (Page (codes "a.md#x"))
+unfolding route_of origin_form
 with_fragment = refl
 
-encoded_rest : page_rest (codes "/page/a%2Fb") ≡ Some (codes "a%2Fb")
-unfolding page_rest origin_form
+encoded_rest : route_of (codes "/page/a%2Fb") ≡ Some (Page (codes "a%2Fb"))
+unfolding route_of origin_form
 encoded_rest = refl
 
-absolute : page_rest (codes "http://h/page/a.md") ≡ Some (codes "a.md")
-unfolding page_rest origin_form
+absolute : route_of (codes "http://h/page/a.md") ≡ Some (Page (codes "a.md"))
+unfolding route_of origin_form
 absolute = refl
 
-absolute_with_port : page_rest (codes "HTTP://docs:80/page/a.md?x") ≡ Some (codes "a.md")
-unfolding page_rest origin_form
+absolute_with_port : route_of (codes "HTTP://docs:80/page/a.md?x") ≡ Some (Page (codes "a.md"))
+unfolding route_of origin_form
 absolute_with_port = refl
 
-no_path_left : page_rest (codes "HTTP://h") ≡ None
-unfolding page_rest origin_form
+no_path_left : route_of (codes "HTTP://h") ≡ None
+unfolding route_of origin_form
 no_path_left = refl
 
 slash_for_no_path : origin_form (codes "HTTP://h") ≡ Some (codes "/")
 unfolding origin_form
 slash_for_no_path = refl
 
-query_after_authority : page_rest (codes "http://h?/page/a.md") ≡ None
-unfolding page_rest origin_form
+query_after_authority : route_of (codes "http://h?/page/a.md") ≡ None
+unfolding route_of origin_form
 query_after_authority = refl
 
 slash_before_query : origin_form (codes "http://h?/page/a.md") ≡ Some (codes "/?/page/a.md")
 unfolding origin_form
 slash_before_query = refl
 
-fragment_after_authority : page_rest (codes "http://h#/page/a.md") ≡ None
-unfolding page_rest origin_form
+fragment_after_authority : route_of (codes "http://h#/page/a.md") ≡ None
+unfolding route_of origin_form
 fragment_after_authority = refl
 
-other_scheme : page_rest (codes "https://h/page/a.md") ≡ None
-unfolding page_rest origin_form
+other_scheme : route_of (codes "https://h/page/a.md") ≡ None
+unfolding route_of origin_form
 other_scheme = refl
 
-asterisk : page_rest (codes "*") ≡ None
-unfolding page_rest origin_form
+asterisk : route_of (codes "*") ≡ None
+unfolding route_of origin_form
 asterisk = refl
 
-authority_alone : page_rest (codes "docs:80") ≡ None
-unfolding page_rest origin_form
+authority_alone : route_of (codes "docs:80") ≡ None
+unfolding route_of origin_form
 authority_alone = refl
 
 -- ---- routes
-
-a_page : route_of (codes "/page/a.md") ≡ Some (Page (codes "a.md"))
-unfolding route_of origin_form
-a_page = refl
 
 links_to_a_page : route_of (codes "/backlinks/guide/start.md") ≡ Some (Backlinks (codes "guide/start.md"))
 unfolding route_of origin_form

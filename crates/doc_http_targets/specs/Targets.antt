@@ -91,15 +91,3 @@ route_at path =
 -- what a target asks for, by the part before its `?`
 unfoldable pub route_of : List ℕ → Option Route
 route_of target = option_and_then (λ form. route_at (path_part form)) (origin_form target)
-
--- the rest of a route to a page
-abbrev pub page_of : Route → Option (List ℕ)
-page_of (Page rest) = Some rest
-page_of (Backlinks rest) = None
-page_of Contents = None
-page_of Search = None
-page_of Broken = None
-
--- the rest of a target that names a page, as it is written in the target
-unfoldable pub page_rest : List ℕ → Option (List ℕ)
-page_rest target = option_and_then (λ form. rest_behind (codes "/page/") (path_part form)) (origin_form target)

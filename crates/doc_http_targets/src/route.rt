@@ -1,8 +1,5 @@
 //! What a target asks for.
 
-ghost use Rattle.std.specs.Prelude.{◌≡◌, option_copied};
-ghost use Rattle.doc_http_targets.specs.Targets.{page_of, route_shown};
-
 /// What a target asks for. REST is what follows the second `/` of its path, as it is written there; it isn't empty.
 #[derive(Clone, Copy, Debug, PartialEq, Eq)]
 pub enum Route<'a> {
@@ -16,16 +13,4 @@ pub enum Route<'a> {
     Search,
     /// `/broken`: the broken links.
     Broken,
-}
-
-impl<'a> Route<'a> {
-    /// The REST of a page.
-    pub fn page(self) -> Option<&'a str>
-        ensures { option_copied result ≡ page_of (route_shown self.entry) }
-    {
-        match self {
-            Route::Page(rest) => Some(rest),
-            _ => None,
-        }
-    }
 }

@@ -5,7 +5,7 @@ ghost use Rattle.matchit.specs.Route.{parse_route};
 ghost use Rattle.matchit.specs.Router.{InsertsRead};
 ghost use Rattle.doc_http_targets.specs.RouteSteps.{CanStand, leads_to, route_table};
 ghost use Rattle.doc_http_targets.specs.TargetSteps.{rest_of};
-ghost use Rattle.doc_http_targets.specs.Targets.{page_rest, route_at, route_of, route_shown};
+ghost use Rattle.doc_http_targets.specs.Targets.{route_at, route_of, route_shown};
 
 use crate::origin_form::{after_slash, origin_part, path_part};
 use crate::route::Route;
@@ -51,13 +51,6 @@ impl Routes {
     {
         let form = origin_part(target)?;
         self.at(path_part(form))
-    }
-
-    /// The REST of a request's target that names a page.
-    pub fn rest_of_page<'a>(&self, target: &'a str) -> Option<&'a str>
-        ensures { option_copied result ≡ page_rest target.now }
-    {
-        self.route(target)?.page()
     }
 
     /// What a path asks for.

@@ -7,13 +7,15 @@ use Rattle.doc_store.specs.Sites.{page_at, view_of}
 use Rattle.doc_store.specs.Store.{StoreState}
 use Rattle.doc_store.specs.declared.groups.GroupsError.{GroupsError}
 use Rattle.doc_store.specs.declared.reader.Reader.{Reader}
+use Rattle.doc_http.specs.declared.reply.Reply.{Reply}
 use Rattle.doc_http.specs.declared.request.Request.{Request}
 use Rattle.doc_http_targets.specs.Queries.{parameter}
-use Rattle.doc_http_targets.specs.Targets.{page_rest}
+use Rattle.doc_http_targets.specs.Targets.{Route, route_of}
+use Rattle.doc_http_targets.specs.Targets as routes
 use Rattle.doc_http_targets.specs.WrittenPaths.{path_written}
 use Rattle.doc_hub.specs.Edits.{CanBeMade, puts_left}
-use Rattle.doc_hub.specs.Replies.{Renders, answer_of, response_to, on_route, by_method, method_of, put_by, put_at, put_page, has_room}
-use Rattle.doc_hub.specs.Replies.{Response, delete_at, edited, refused}
+use Rattle.doc_hub.specs.Replies.{Renders, Response, answer_of, at_route, delete_at, edit_at, edit_page, edited, has_room, method_of}
+use Rattle.doc_hub.specs.Replies.{on_route, only_reply, put_at, put_by, put_page, reads, refused, reply_at, response_to}
 use Rattle.doc_hub.specs.declared.method.Method.{Method}
 use Rattle.doc_hub.specs.declared.method.Method.TheVariants.{Get, Head, Put, Delete, Other}
 use Rattle.doc_hub.specs.declared.response.Edit.TheVariants as edits
@@ -64,23 +66,42 @@ module _ (store : StoreState) (reader : Reader) where
   delete_if rest request true owns = delete_can (path_written rest) request.body owns
   delete_if rest request false owns = tt
 
-  method_can : (render : Renders) (rest : List ℕ) (request : Request) (method : Method)
-      → Can request.body (by_method render (view_of store.site (Some reader)) reader.owner (puts_left store.puts) rest request method)
-  method_can render rest request Get = tt
-  method_can render rest request Head = tt
-  method_can render rest request Put = put_if rest request reader.owner refl
-  method_can render rest request Delete = delete_if rest request reader.owner refl
-  method_can render rest request Other = tt
+  page_can_be : (rest : List ℕ) (request : Request) (method : Method)
+      → Can request.body (edit_page (view_of store.site (Some reader)) reader.owner (puts_left store.puts) rest request method)
+  page_can_be rest request Get = tt
+  page_can_be rest request Head = tt
+  page_can_be rest request Put = put_if rest request reader.owner refl
+  page_can_be rest request Delete = delete_if rest request reader.owner refl
+  page_can_be rest request Other = tt
 
-  route_can : (render : Renders) (rest : Option (List ℕ)) (request : Request)
-      → Can request.body (on_route render (view_of store.site (Some reader)) reader.owner (puts_left store.puts) rest request)
+  edit_can : (route : Route) (request : Request) (method : Method)
+      → Can request.body (edit_at (view_of store.site (Some reader)) reader.owner (puts_left store.puts) route request method)
+  edit_can (routes.Page rest) request method = page_can_be rest request method
+  edit_can (routes.Backlinks rest) request method = tt
+  edit_can routes.Contents request method = tt
+  edit_can routes.Search request method = tt
+  edit_can routes.Broken request method = tt
+
+  if_reads : (reply : Reply) (edit : Response) (text : List ℕ) (reading : Bool) → Can text edit
+      → Can text (if reading then only_reply reply else edit)
+  if_reads reply edit text true can = tt
+  if_reads reply edit text false can = can
+
+  at_can : (render : Renders) (route : Route) (request : Request) (method : Method)
+      → Can request.body (at_route render (view_of store.site (Some reader)) reader.owner (puts_left store.puts) route request method)
+  at_can render route request method =
+      if_reads (reply_at render (view_of store.site (Some reader)) route request) _ request.body (reads method)
+      (edit_can route request method)
+
+  route_can : (render : Renders) (route : Option Route) (request : Request)
+      → Can request.body (on_route render (view_of store.site (Some reader)) reader.owner (puts_left store.puts) route request)
   route_can render None request = tt
-  route_can render (Some rest) request = method_can render rest request (method_of request.method)
+  route_can render (Some route) request = at_can render route request (method_of request.method)
 
 response_can : (render : Renders) (store : StoreState) (reader : Option Reader) (request : Request)
     → CanBeMade store request.body (response_to render (view_of store.site reader) reader (puts_left store.puts) request).edit
 response_can render store None request = tt
-response_can render store (Some reader) request = route_can store reader render (page_rest request.target) request
+response_can render store (Some reader) request = route_can store reader render (route_of request.target) request
 
 pub answer_can_be_made : (render : Renders) (store : StoreState) (reader : Option Reader) (keep_alive : Bool) (request : Request)
     → CanBeMade store request.body (answer_of render (view_of store.site reader) reader (puts_left store.puts) keep_alive request).edit

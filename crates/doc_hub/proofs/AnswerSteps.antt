@@ -1,5 +1,5 @@
 -- Answers as they are sent.
-use Rattle.std.proofs.Common.{◌≡◌, ℕ, List, Bool, true, false, bytes_eq, codes, refl, ap, sym, ◌∙◌, subst}
+use Rattle.std.proofs.Common.{◌≡◌, ℕ, List, Bor, Bool, true, false, bytes_eq, codes, refl, ap, sym, ◌∙◌, subst}
 use Rattle.std.specs.Prelude.{not, ◌||◌, IfOk, Option, Some, None, Result, Ok, Err, if◌then◌else◌}
 use Rattle.std.proofs.lemmas.Slice.Eq.{bytes_eq-Decides}
 use Rattle.doc_page.specs.declared.failure.Memory.{Memory}
@@ -7,14 +7,17 @@ use Rattle.doc_store.specs.Sites.{Site, View, view_of}
 use Rattle.doc_store.specs.Store.{StoreState}
 use Rattle.doc_store.specs.declared.reader.Reader.{Reader}
 use Rattle.doc_http.specs.Replies.{reply_bytes}
+use Rattle.doc_http.specs.declared.reply.Allow.TheVariants.{Read}
 use Rattle.doc_http.specs.Requests.{is_bare}
 use Rattle.doc_http.specs.declared.request.Request.{Request}
-use Rattle.doc_http_targets.specs.Targets.{page_rest}
+use Rattle.doc_http_targets.specs.Targets.{Route, route_of, route_shown}
+use Rattle.doc_http_targets.specs.declared.route.Route as found
+use Rattle.doc_http_targets.specs.declared.route.Route.TheVariants as found_routes
 use Rattle.doc_http_targets.specs.WrittenPaths.{path_written}
 use Rattle.doc_hub.specs.AnswerSteps.{Answered, AnsweredSo, after_edit, is_head, sent_in}
 use Rattle.doc_hub.specs.Edits.{store_after}
-use Rattle.doc_hub.specs.Replies.{Renders, Response, answer_of, by_method, delete_at, edited, method_of, on_route, put_by, refused}
-use Rattle.doc_hub.specs.Replies.{response_to}
+use Rattle.doc_hub.specs.Replies.{Renders, Response, answer_of, at_route, delete_at, edit_at, edit_page, edited, method_of, not_allowed}
+use Rattle.doc_hub.specs.Replies.{on_route, only_reply, put_by, reads, refused, reply_at, response_to}
 use Rattle.doc_hub.specs.declared.answer.Answer.{Answer}
 use Rattle.doc_hub.specs.declared.exchange.Exchange.{Exchange}
 use Rattle.doc_hub.specs.declared.method.Method.{Method}
@@ -85,34 +88,69 @@ module _ (exchange : Exchange) (request : Request) (render : Renders) (view : Vi
 
 -- ---- the response to a request, by what was found for it
 
-module _ (render : Renders) (view : View) (owner left : Bool) (rest : List ℕ) (request : Request) (method : Method) where
-  pub put_is_by_method : method ≡ Put → owner ≡ true
-      → put_by view left rest request ≡ by_method render view owner left rest request method
-  put_is_by_method is owns =
-      sym (ap (by_method render view owner left rest request) is ∙ ap (λ o. if o then put_by view left rest request else refused 403) owns)
+module _ (view : View) (owner left : Bool) (rest : List ℕ) (request : Request) (method : Method) where
+  pub put_is_edit : method ≡ Put → owner ≡ true → put_by view left rest request ≡ edit_page view owner left rest request method
+  put_is_edit is owns =
+      sym (ap (edit_page view owner left rest request) is ∙ ap (λ o. if o then put_by view left rest request else refused 403) owns)
 
-  pub delete_is_by_method : method ≡ Delete → owner ≡ true
-      → delete_at view (path_written rest) ≡ by_method render view owner left rest request method
-  delete_is_by_method is owns =
-      sym (ap (by_method render view owner left rest request) is
+  pub delete_is_edit : method ≡ Delete → owner ≡ true
+      → delete_at view (path_written rest) ≡ edit_page view owner left rest request method
+  delete_is_edit is owns =
+      sym (ap (edit_page view owner left rest request) is
       ∙ ap (λ o. if o then delete_at view (path_written rest) else refused 403) owns)
 
 module _ (render : Renders) (view : View) (left : Bool) (request : Request) where
   pub unknown : (entry : Option Reader) → None ≡ entry → refused 401 ≡ response_to render view entry left request
   unknown entry none = ap (λ r. response_to render view r left request) none
 
-  pub unrouted : (reader : Reader) (entry : Option Reader) → Some reader ≡ entry → None ≡ page_rest request.target
+  pub unrouted : (reader : Reader) (entry : Option Reader) → Some reader ≡ entry → None ≡ route_of request.target
       → refused 404 ≡ response_to render view entry left request
   unrouted reader entry found none =
       ap (λ p. on_route render view reader.owner left p request) none ∙ ap (λ r. response_to render view r left request) found
 
 pub routed : (exchange : Exchange) (request : Request) (render : Renders) (site : Site) (left : Bool) (reader : Reader)
-    (entry : Option Reader) (rest : List ℕ)
+    (entry : Option Reader) (route : Route)
     → exchange.request.now ≡ request → exchange.method ≡ method_of request.method → Some reader ≡ entry
-    → Some rest ≡ page_rest request.target
-    → by_method render (view_of site (Some reader)) reader.owner left rest exchange.request.now exchange.method
+    → Some route ≡ route_of request.target
+    → at_route render (view_of site (Some reader)) reader.owner left route exchange.request.now exchange.method
     ≡ response_to render (view_of site entry) entry left request
-routed exchange request render site left reader entry rest same named found path =
-    (λ i. by_method render (view_of site (found i)) reader.owner left rest (same i) (named i))
+routed exchange request render site left reader entry route same named found path =
+    (λ i. at_route render (view_of site (found i)) reader.owner left route (same i) (named i))
     ∙ ap (λ p. on_route render (view_of site entry) reader.owner left p request) path
     ∙ ap (λ r. response_to render (view_of site entry) r left request) found
+
+-- ---- the response at a route
+
+module _ (exchange : Exchange) (old new : StoreState) (render : Renders) (view : View) (owner left : Bool) (route : Route)
+    (result : Result Answer Memory) where
+  -- by a method that reads
+  pub read_so : reads exchange.method ≡ true
+      → IfOk result (λ a. a ≡ sent_in exchange (only_reply (reply_at render view route exchange.request.now))) → new ≡ old
+      → Answered exchange old (at_route render view owner left route exchange.request.now exchange.method) new result
+  read_so is told stays =
+      sent_alone exchange old new exchange.request.now.body (only_reply (reply_at render view route exchange.request.now)) _ result told
+      (sym (ap (λ b. if b then only_reply (reply_at render view route exchange.request.now)
+      else edit_at view owner left route exchange.request.now exchange.method) is)) refl stays
+
+  -- or by another
+  pub edited_so : reads exchange.method ≡ false
+      → Answered exchange old (edit_at view owner left route exchange.request.now exchange.method) new result
+      → Answered exchange old (at_route render view owner left route exchange.request.now exchange.method) new result
+  edited_so is answered =
+      subst (λ b. Answered exchange old (if b then only_reply (reply_at render view route exchange.request.now)
+      else edit_at view owner left route exchange.request.now exchange.method) new result) (sym is) answered
+
+-- another method at a route that is no page
+pub edit_refused : (exchange : Exchange) (store : StoreState) (view : View) (owner left : Bool) (route : found.Route)
+    (result : Result Answer Memory)
+    → ((rest : Bor (List ℕ)) → route ≡ found_routes.Page rest → ⊥) → IfOk result (λ a. a ≡ sent_in exchange (only_reply (not_allowed Read)))
+    → Answered exchange store (edit_at view owner left (route_shown route) exchange.request.now exchange.method) store result
+edit_refused exchange store view owner left (found_routes.Page rest) result other told = absurd (other rest refl)
+edit_refused exchange store view owner left (found_routes.Backlinks rest) result other told =
+    sent_alone exchange store store exchange.request.now.body (only_reply (not_allowed Read)) _ result told refl refl refl
+edit_refused exchange store view owner left found_routes.Contents result other told =
+    sent_alone exchange store store exchange.request.now.body (only_reply (not_allowed Read)) _ result told refl refl refl
+edit_refused exchange store view owner left found_routes.Search result other told =
+    sent_alone exchange store store exchange.request.now.body (only_reply (not_allowed Read)) _ result told refl refl refl
+edit_refused exchange store view owner left found_routes.Broken result other told =
+    sent_alone exchange store store exchange.request.now.body (only_reply (not_allowed Read)) _ result told refl refl refl

@@ -1,6 +1,7 @@
 mod AnswerEdits
 mod AnswerSteps
 mod ConnectionSteps
+mod CountSteps
 mod CutLaws
 mod DropLaws
 mod FreshLaws

@@ -81,7 +81,7 @@ by_equation {S = S} given w v said more is = subst (λ (q : World × S). Counts 
 by_stay : (w v : World) → v ≡ w → Counts w v
 by_stay w v is = subst (Counts w) (sym is) (none_more w.puts)
 
-abbrev connected_if : World → Bool → World × Result ConnId ConnectError
+abbrev pub connected_if : World → Bool → World × Result ConnId ConnectError
 connected_if w t = if t then (
   record w { given = w.given + 1; connections = map.insert w.connections (w.given + 1) new_connection },
   Ok

@@ -23,14 +23,16 @@ use Rattle.doc_http.specs.Replies.{reason_of, field_line, reply_head, reply_byte
 use Rattle.doc_http.specs.declared.request.Request.{Request}
 use Rattle.doc_resolve.specs.DotSegments.{put_all, without_dots}
 use Rattle.doc_page_encoding.specs.Encoding.{encoded, encoded_path}
-use Rattle.doc_resolve.specs.Links.{kind_on}
+use Rattle.doc_resolve.specs.Links.{kind_on, kinds}
 use Rattle.doc_resolve.specs.References.{reference}
 use Rattle.doc_resolve.specs.Resolution.{resolve}
 use Rattle.doc_resolve.specs.WrittenPaths.{path_written as target_path_written}
+use Rattle.doc_links.specs.Links.{backlinks, broken, contents}
+use Rattle.doc_listings.specs.Listings.{backlinks_text, entry_lines, heading_line, report_text}
 use Rattle.doc_hub.specs.Connections.{pushed_onto, finished, backlog_limit}
 use Rattle.doc_hub.specs.Replies.{Renders, answer_of, fault_bytes}
 use Rattle.doc_http_targets.specs.Queries.{value_of}
-use Rattle.doc_http_targets.specs.Targets.{origin_form, page_rest}
+use Rattle.doc_http_targets.specs.Targets.{origin_form, route_of}
 use Rattle.doc_http_targets.specs.WrittenPaths.{path_written}
 use Rattle.doc_hub.specs.declared.answer.Answer.{Answer}
 use Rattle.doc_hub.specs.declared.connection.Connection.{Connection}
@@ -42,8 +44,8 @@ use Rattle.doc_hub.specs.declared.response.Edit.TheVariants as edits
 unfoldable computing : Unit {0}
 unfolding digits chars is_utf8 encode percent_decode percent_encode_byte encoded encoded_path kind_on target_path_written put_all reference
     resolve without_dots escaped lines without_ending stripped filled is_path paragraphs plain_html reason_of field_line reply_head
-    reply_bytes answer_of origin_form page_rest path_written value_of raw_pairs split utf8_lossy utf8_valid_len groups_of_names text_limit
-    page_limit backlog_limit
+    reply_bytes answer_of origin_form route_of path_written value_of raw_pairs split utf8_lossy utf8_valid_len groups_of_names text_limit
+    page_limit backlog_limit kinds backlinks broken contents backlinks_text entry_lines heading_line report_text
 computing = tt
 
 -- the pages of the demonstration site
@@ -150,7 +152,7 @@ dot_segments : (answer_of plain_page staff_view ann true true (asked (codes "GET
 unfolding computing
 dot_segments = refl
 
-head_has_no_body : (answer_of plain_page staff_view ann true true (asked (codes "HEAD") (codes "/contents"))).bytes
+head_has_no_body : (answer_of plain_page staff_view ann true true (asked (codes "HEAD") (codes "/Contents"))).bytes
     ≡ codes "HTTP/1.1 404 Not Found\r\nContent-Type: text/plain; charset=utf-8\r\nContent-Length: 14\r\n\r\n"
 unfolding computing
 head_has_no_body = refl
@@ -386,6 +388,94 @@ removal_of_an_alias = refl
 removal_of_a_bad_path : answered owner_view owner (asked (codes "DELETE") (codes "/page/%2e%2e")) ≡ only not_found
 unfolding computing
 removal_of_a_bad_path = refl
+
+-- ---- lists
+
+-- the answer of such a server with the table of renderings
+abbrev listed : View → Option Reader → Request → Answer
+listed view reader request = answer_of by_table view reader true true request
+
+contents_of_staff : listed staff_view ann (asked (codes "GET") (codes "/contents"))
+    ≡ only (codes "HTTP/1.1 200 OK\r\nContent-Type: text/html; charset=utf-8\r\nContent-Length: 129\r\n\r\n"
+    ++ codes "<!DOCTYPE html>\n<title>Contents</title>\n<ul>\n<li><a href=\"/page/a.md\">a.md</a></li>\n<li><a href=\"/page/b.md\">b.md</a></li>\n</ul>\n")
+unfolding computing
+contents_of_staff = refl
+
+head_of_contents : listed staff_view ann (asked (codes "HEAD") (codes "/contents?x"))
+    ≡ only (codes "HTTP/1.1 200 OK\r\nContent-Type: text/html; charset=utf-8\r\nContent-Length: 129\r\n\r\n")
+unfolding computing
+head_of_contents = refl
+
+-- who links to a page, where that is seen
+backlinks_for_an_owner : listed owner_view owner (asked (codes "GET") (codes "/backlinks/c.md"))
+    ≡ only (codes "HTTP/1.1 200 OK\r\nContent-Type: text/plain; charset=utf-8\r\nContent-Length: 7\r\n\r\n"
+    ++ codes "b.md\t1\n")
+unfolding computing
+backlinks_for_an_owner = refl
+
+backlinks_of_a_hidden_page : listed staff_view ann (asked (codes "GET") (codes "/backlinks/c.md")) ≡ only not_found
+unfolding computing
+backlinks_of_a_hidden_page = refl
+
+backlinks_of_no_page : listed staff_view ann (asked (codes "GET") (codes "/backlinks/zz.md")) ≡ only not_found
+unfolding computing
+backlinks_of_no_page = refl
+
+backlinks_of_a_bad_path : listed staff_view ann (asked (codes "GET") (codes "/backlinks/%2e%2e")) ≡ only not_found
+unfolding computing
+backlinks_of_a_bad_path = refl
+
+backlinks_of_an_alias : listed moved_view owner (asked (codes "GET") (codes "/backlinks/c.md?x"))
+    ≡ only (codes "HTTP/1.1 301 Moved Permanently\r\nContent-Type: text/plain; charset=utf-8\r\nContent-Length: 22\r\n"
+    ++ codes "Location: /backlinks/e/c.md\r\n\r\n301 Moved Permanently\n")
+unfolding computing
+backlinks_of_an_alias = refl
+
+backlinks_of_a_goal : listed moved_view owner (asked (codes "GET") (codes "/backlinks/e/c.md"))
+    ≡ only (codes "HTTP/1.1 200 OK\r\nContent-Type: text/plain; charset=utf-8\r\nContent-Length: 7\r\n\r\n"
+    ++ codes "b.md\t1\n")
+unfolding computing
+backlinks_of_a_goal = refl
+
+-- a link to a hidden page is broken as one to no page is
+broken_for_staff : listed staff_view ann (asked (codes "GET") (codes "/broken"))
+    ≡ only (codes "HTTP/1.1 200 OK\r\nContent-Type: text/plain; charset=utf-8\r\nContent-Length: 34\r\n\r\n"
+    ++ codes "b.md\t1\tpage\tc.md\nb.md\t2\tpage\td.md\n")
+unfolding computing
+broken_for_staff = refl
+
+broken_for_an_owner : listed owner_view owner (asked (codes "GET") (codes "/broken"))
+    ≡ only (codes "HTTP/1.1 200 OK\r\nContent-Type: text/plain; charset=utf-8\r\nContent-Length: 17\r\n\r\n"
+    ++ codes "b.md\t2\tpage\td.md\n")
+unfolding computing
+broken_for_an_owner = refl
+
+-- lists are read alone, by owners too; the reader comes before that, and the method before the path and the query
+abbrev only_read : List ℕ
+only_read = codes
+    "HTTP/1.1 405 Method Not Allowed\r\nContent-Type: text/plain; charset=utf-8\r\n"
+    ++ codes "Content-Length: 23\r\nAllow: GET, HEAD\r\n\r\n405 Method Not Allowed\n"
+
+put_of_contents : listed owner_view owner (sent (codes "PUT") (codes "/contents") (codes "hi")) ≡ only only_read
+unfolding computing
+put_of_contents = refl
+
+put_of_contents_by_another : listed staff_view ann (sent (codes "PUT") (codes "/contents") (codes "hi")) ≡ only only_read
+unfolding computing
+put_of_contents_by_another = refl
+
+removal_of_backlinks : listed owner_view owner (asked (codes "DELETE") (codes "/backlinks/%2e%2e")) ≡ only only_read
+unfolding computing
+removal_of_backlinks = refl
+
+post_of_a_search : listed staff_view ann (asked (codes "POST") (codes "/search")) ≡ only only_read
+unfolding computing
+post_of_a_search = refl
+
+lists_of_an_unknown_reader : (listed empty_view None (asked (codes "PUT") (codes "/broken"))).bytes
+    ≡ (listed empty_view None (asked (codes "GET") (codes "/page/a.md"))).bytes
+unfolding computing
+lists_of_an_unknown_reader = refl
 
 -- ---- connections
 

@@ -10,7 +10,8 @@ use Rattle.doc_http.specs.declared.request.Next.{Next}
 use Rattle.doc_http.specs.declared.request.Next.TheVariants as nexts
 use Rattle.doc_http.proofs.LawLemmas.{read_in_one_way}
 use Rattle.doc_http.specs.Replies.{reply_bytes}
-use Rattle.doc_http_targets.specs.Targets.{page_rest}
+use Rattle.doc_http_targets.specs.Targets.{Route, route_of}
+use Rattle.doc_http_targets.specs.Targets as routes
 use Rattle.doc_hub.specs.declared.answer.Answer.{Answer}
 use Rattle.doc_hub.specs.declared.connection.Connection.{Connection}
 use Rattle.doc_hub.specs.declared.event.Step.{Step}
@@ -18,7 +19,8 @@ use Rattle.doc_hub.specs.declared.method.Method.{Method}
 use Rattle.doc_hub.specs.declared.method.Method.TheVariants.{Get, Head, Put, Delete, Other}
 use Rattle.doc_hub.specs.declared.refusal.StepError.{StepError}
 use Rattle.doc_hub.specs.Edits.{puts_left}
-use Rattle.doc_hub.specs.Replies.{Renders, Response, answer_of, by_method, method_of, on_route, put_by, refused, response_to}
+use Rattle.doc_hub.specs.Replies.{Renders, Response, answer_of, at_route, edit_at, edit_page, method_of, on_route, only_reply, put_by}
+use Rattle.doc_hub.specs.Replies.{reads, refused, reply_at, response_to}
 use Rattle.doc_hub.specs.StepLaws.{AgreeOn, AnswersAlike, StepsAlike, connection, is_owners_put, open_with}
 use Rattle.doc_hub.specs.Worlds.{World, Steps, StepsAt, reader_of, stepped_by, step_said}
 
@@ -56,24 +58,37 @@ module _ (render : Renders) (view : View) (left other : Bool) (request : Request
   same_put true rest same = ap (λ l. put_by view l rest request) (same refl)
   same_put false rest same = refl
 
-  same_method : (owner : Bool) (rest : List ℕ) (method : Method) → (method ≡ Put → owner ≡ true → left ≡ other)
-      → by_method render view owner left rest request method ≡ by_method render view owner other rest request method
-  same_method owner rest Get same = refl
-  same_method owner rest Head same = refl
-  same_method owner rest Put same = same_put owner rest (same refl)
-  same_method owner rest Delete same = refl
-  same_method owner rest Other same = refl
+  same_page : (owner : Bool) (rest : List ℕ) (method : Method) → (method ≡ Put → owner ≡ true → left ≡ other)
+      → edit_page view owner left rest request method ≡ edit_page view owner other rest request method
+  same_page owner rest Get same = refl
+  same_page owner rest Head same = refl
+  same_page owner rest Put same = same_put owner rest (same refl)
+  same_page owner rest Delete same = refl
+  same_page owner rest Other same = refl
 
-  same_route : (owner : Bool) (rest : Option (List ℕ)) → (method_of request.method ≡ Put → owner ≡ true → left ≡ other)
-      → on_route render view owner left rest request ≡ on_route render view owner other rest request
+  same_edit : (owner : Bool) (route : Route) (method : Method) → (method ≡ Put → owner ≡ true → left ≡ other)
+      → edit_at view owner left route request method ≡ edit_at view owner other route request method
+  same_edit owner (routes.Page rest) method same = same_page owner rest method same
+  same_edit owner (routes.Backlinks rest) method same = refl
+  same_edit owner routes.Contents method same = refl
+  same_edit owner routes.Search method same = refl
+  same_edit owner routes.Broken method same = refl
+
+  same_at : (owner : Bool) (route : Route) (method : Method) → (method ≡ Put → owner ≡ true → left ≡ other)
+      → at_route render view owner left route request method ≡ at_route render view owner other route request method
+  same_at owner route method same =
+      ap (λ edit. if reads method then only_reply (reply_at render view route request) else edit) (same_edit owner route method same)
+
+  same_route : (owner : Bool) (route : Option Route) → (method_of request.method ≡ Put → owner ≡ true → left ≡ other)
+      → on_route render view owner left route request ≡ on_route render view owner other route request
   same_route owner None same = refl
-  same_route owner (Some rest) same = same_method owner rest (method_of request.method) same
+  same_route owner (Some route) same = same_at owner route (method_of request.method) same
 
   same_response : (reader : Option Reader) → (is_owners_put reader request ≡ true → left ≡ other)
       → response_to render view reader left request ≡ response_to render view reader other request
   same_response None same = refl
   same_response (Some reader) same =
-      same_route reader.owner (page_rest request.target)
+      same_route reader.owner (route_of request.target)
       (λ puts owns. same (ap (λ b. b && bytes_eq request.method (codes "PUT")) owns ∙ put_is_named request.method puts))
 
   asks_of_puts : (reader : Option Reader) (keep_alive : Bool) → (is_owners_put reader request ≡ true → left ≡ other)

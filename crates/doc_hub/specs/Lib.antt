@@ -1,6 +1,7 @@
 pub mod AnswerSteps
 pub mod ConnectionLaws
 pub mod Connections
+pub mod Counts
 pub mod CutLaws
 pub mod EditLaws
 pub mod Edits

@@ -1,7 +1,7 @@
 -- The reply to a request. It is a function of the reader's view, the reader's entry, the request, the
 -- keep-alive setting and whether a put is left, and never of the whole site: that is what makes
 -- noninterference true.
-use Rattle.std.specs.Prelude.{ℕ, List, [], Bool, true, false, not, ◌||◌, ◌&&◌, bytes_eq, codes, is_some, length, nat_lt, nat_le}
+use Rattle.std.specs.Prelude.{ℕ, List, [], ◌++◌, Bool, true, false, not, ◌||◌, ◌&&◌, bytes_eq, codes, is_some, length, nat_lt, nat_le}
 use Rattle.std.specs.Prelude.{Option, Some, None, Result, Ok, Err, if◌then◌else◌}
 use Rattle.std.specs.Str.{is_utf8}
 use Rattle.doc_page.specs.Pages.{body_of}
@@ -13,15 +13,22 @@ use Rattle.doc_store.specs.Store.{text_limit, page_limit}
 use Rattle.doc_store.specs.declared.groups.GroupsError.{GroupsError}
 use Rattle.doc_store.specs.declared.reader.Reader.{Reader}
 use Rattle.doc_store.specs.Sites.{View, page_at, goal_in}
-use Rattle.doc_resolve.specs.Hrefs.{shown, page_href}
-use Rattle.doc_http.specs.declared.reply.Allow.TheVariants.{Page as page_methods}
+use Rattle.doc_page_encoding.specs.Encoding.{encoded_path}
+use Rattle.doc_resolve.specs.Hrefs.{shown}
+use Rattle.doc_http.specs.declared.reply.Allow.{Allow}
+use Rattle.doc_http.specs.declared.reply.Allow.TheVariants as resources
 use Rattle.doc_http.specs.declared.reply.Reply.{Reply}
 use Rattle.doc_http.specs.declared.request.Request.{Request}
 use Rattle.doc_http.specs.Replies.{reply_bytes}
+use Rattle.doc_http.specs.ReplyForms.{content_reply}
 use Rattle.doc_http.specs.Requests.{is_bare}
 use Rattle.doc_http_targets.specs.Queries.{parameter}
-use Rattle.doc_http_targets.specs.Targets.{page_rest}
+use Rattle.doc_http_targets.specs.Targets.{Route, route_of}
+use Rattle.doc_http_targets.specs.Targets as routes
 use Rattle.doc_http_targets.specs.WrittenPaths.{path_written}
+use Rattle.doc_shelf_views.specs.Views.{backlinks_body, contents_body, report_body, search_body}
+use Rattle.doc_words.specs.Words.{query_of}
+use Rattle.doc_words.specs.declared.query.QueryError.{QueryError}
 use Rattle.doc_hub.specs.declared.answer.Answer.{Answer}
 use Rattle.doc_hub.specs.declared.method.Method.{Method}
 use Rattle.doc_hub.specs.declared.method.Method.TheVariants.{Get, Head, Put, Delete, Other}
@@ -46,34 +53,59 @@ method_of name =
 abbrev pub status_reply : ℕ → Reply
 status_reply code = record { code = code; html = false; allow = None; location = None; body = [] }
 
-abbrev pub page_reply : List ℕ → Reply
-page_reply body = record { code = 200; html = true; allow = None; location = None; body = body }
+abbrev pub html_reply : List ℕ → Reply
+html_reply body = content_reply true body
 
-abbrev pub not_allowed : Reply
-not_allowed = record (status_reply 405) { allow = Some page_methods }
+abbrev pub text_reply : List ℕ → Reply
+text_reply body = content_reply false body
 
--- the page stands under another path now
-abbrev pub moved_reply : List ℕ → Reply
-moved_reply goal = record (status_reply 301) { location = Some (page_href goal None) }
+-- a method that the resource hasn't
+abbrev pub not_allowed : Allow → Reply
+not_allowed resource = record (status_reply 405) { allow = Some resource }
+
+-- the page stands under another path now; the front is that of its route
+abbrev pub moved_reply : List ℕ → List ℕ → Reply
+moved_reply front goal = record (status_reply 301) { location = Some (front ++ encoded_path goal) }
 
 -- how a link to a destination is shown in the page at this path: by what the reader sees, whatever else stands in the site
 abbrev pub link_shown : View → List ℕ → List ℕ → Shown
 link_shown view path dest = shown (goal_in view) path dest
 
 -- where nothing is seen at a path: where it leads, if anywhere
-abbrev pub goal_reply : Option (List ℕ) → Reply
-goal_reply (Some goal) = moved_reply goal
-goal_reply None = status_reply 404
+abbrev pub goal_reply : List ℕ → Option (List ℕ) → Reply
+goal_reply front (Some goal) = moved_reply front goal
+goal_reply front None = status_reply 404
 
 -- a page that the reader sees, or where an alias that they see leads, or nothing: what is hidden and what is absent are the same here
 abbrev pub page_or_goal : Renders → View → List ℕ → Option Page → Option (List ℕ) → Reply
-page_or_goal render view path (Some page) goal = page_reply (body_of path (link_shown view path) (render page.text))
-page_or_goal render view path None goal = goal_reply goal
+page_or_goal render view path (Some page) goal = html_reply (body_of path (link_shown view path) (render page.text))
+page_or_goal render view path None goal = goal_reply (codes "/page/") goal
 
 -- GET and HEAD of the path that the target writes, or of none
 abbrev pub at_path : Renders → View → Option (List ℕ) → Reply
 at_path render view None = status_reply 404
 at_path render view (Some path) = page_or_goal render view path (page_at view.pages path) (goal_in view path)
+
+-- ---- lists, which are read alone
+
+-- the backlinks of a page that the reader sees, or where an alias that they see leads, or nothing
+abbrev pub backlinks_or_goal : Renders → View → List ℕ → Option Page → Option (List ℕ) → Reply
+backlinks_or_goal render view path (Some page) goal = text_reply (backlinks_body render view path)
+backlinks_or_goal render view path None goal = goal_reply (codes "/backlinks/") goal
+
+-- the backlinks of the path that the target writes, or of none
+abbrev pub backlinks_at : Renders → View → Option (List ℕ) → Reply
+backlinks_at render view None = status_reply 404
+backlinks_at render view (Some path) = backlinks_or_goal render view path (page_at view.pages path) (goal_in view path)
+
+-- what a search for the words of a query finds, where it has some and not too many
+abbrev pub found : Renders → View → Result (List (List ℕ)) QueryError → Reply
+found render view (Ok words) = text_reply (search_body render view words)
+found render view (Err e) = status_reply 400
+
+-- the same by the query that the target names `q`
+abbrev pub search_at : Renders → View → List ℕ → Reply
+search_at render view target = found render view (query_of (parameter target (codes "q")))
 
 -- ---- responses: a reply, and the edit of the site that goes with it
 
@@ -118,23 +150,50 @@ abbrev pub delete_at : View → Option (List ℕ) → Response
 delete_at view None = refused 404
 delete_at view (Some path) = if is_some (page_at view.pages path) then edited 204 (edits.Remove path) else refused 404
 
--- the method; a page is written by owners alone, whatever its path
-abbrev pub by_method : Renders → View → Bool → Bool → List ℕ → Request → Method → Response
-by_method render view owner puts_left rest request Get = only_reply (at_path render view (path_written rest))
-by_method render view owner puts_left rest request Head = only_reply (at_path render view (path_written rest))
-by_method render view owner puts_left rest request Put = if owner then put_by view puts_left rest request else refused 403
-by_method render view owner puts_left rest request Delete = if owner then delete_at view (path_written rest) else refused 403
-by_method render view owner puts_left rest request Other = only_reply not_allowed
+-- another method than GET and HEAD at a page, which owners alone write, whatever its path
+abbrev pub edit_page : View → Bool → Bool → List ℕ → Request → Method → Response
+edit_page view owner puts_left rest request Put = if owner then put_by view puts_left rest request else refused 403
+edit_page view owner puts_left rest request Delete = if owner then delete_at view (path_written rest) else refused 403
+edit_page view owner puts_left rest request _ = only_reply (not_allowed resources.Page)
+
+-- ---- what a route leads to
+
+-- GET and HEAD
+abbrev pub reply_at : Renders → View → Route → Request → Reply
+reply_at render view (routes.Page rest) request = at_path render view (path_written rest)
+reply_at render view (routes.Backlinks rest) request = backlinks_at render view (path_written rest)
+reply_at render view routes.Contents request = html_reply (contents_body render view)
+reply_at render view routes.Search request = search_at render view request.target
+reply_at render view routes.Broken request = text_reply (report_body render view)
+
+-- the other methods; lists are read alone, by owners too
+abbrev pub edit_at : View → Bool → Bool → Route → Request → Method → Response
+edit_at view owner puts_left (routes.Page rest) request method = edit_page view owner puts_left rest request method
+edit_at view owner puts_left (routes.Backlinks rest) request method = only_reply (not_allowed resources.Read)
+edit_at view owner puts_left routes.Contents request method = only_reply (not_allowed resources.Read)
+edit_at view owner puts_left routes.Search request method = only_reply (not_allowed resources.Read)
+edit_at view owner puts_left routes.Broken request method = only_reply (not_allowed resources.Read)
+
+-- whether the method only reads
+abbrev pub reads : Method → Bool
+reads Get = true
+reads Head = true
+reads _ = false
+
+abbrev pub at_route : Renders → View → Bool → Bool → Route → Request → Method → Response
+at_route render view owner puts_left route request method =
+    if reads method then only_reply (reply_at render view route request) else edit_at view owner puts_left route request method
 
 -- the route, then the method
-abbrev pub on_route : Renders → View → Bool → Bool → Option (List ℕ) → Request → Response
+abbrev pub on_route : Renders → View → Bool → Bool → Option Route → Request → Response
 on_route render view owner puts_left None request = refused 404
-on_route render view owner puts_left (Some rest) request = by_method render view owner puts_left rest request (method_of request.method)
+on_route render view owner puts_left (Some route) request =
+    at_route render view owner puts_left route request (method_of request.method)
 
 -- the reader first: no entry gets nothing, whatever is asked
 abbrev pub response_to : Renders → View → Option Reader → Bool → Request → Response
 response_to render view None puts_left request = refused 401
-response_to render view (Some reader) puts_left request = on_route render view reader.owner puts_left (page_rest request.target) request
+response_to render view (Some reader) puts_left request = on_route render view reader.owner puts_left (route_of request.target) request
 
 -- The bytes that are sent, whether the connection closes after them, and the edit that is made.
 unfoldable pub answer_of : Renders → View → Option Reader → Bool → Bool → Request → Answer

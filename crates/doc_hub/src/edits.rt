@@ -1,6 +1,6 @@
 //! Edits of the site that requests of owners ask for.
 
-ghost use Rattle.std.specs.Prelude.{◌≡◌, IfOk, Some, true, codes, if◌then◌else◌};
+ghost use Rattle.std.specs.Prelude.{◌≡◌, IfOk, OnOk, Some, true, codes, if◌then◌else◌};
 ghost use Rattle.std.specs.FinMap as map;
 ghost use Rattle.std.specs.Result.{result_ok};
 ghost use Rattle.doc_http.specs.ReplyForms.{code_of};
@@ -10,6 +10,7 @@ ghost use Rattle.doc_store.specs.Groups.{groups_of};
 ghost use Rattle.doc_store.specs.Sites.{view_of};
 ghost use Rattle.doc_store.specs.declared.reader.Reader.{Reader};
 ghost use Rattle.doc_hub.specs.AnswerSteps.{Answered, AnsweredSo, sent_in};
+ghost use Rattle.doc_hub.specs.Counts.{RendersPuts};
 ghost use Rattle.doc_hub.specs.Edits.{puts_left};
 ghost use Rattle.doc_hub.specs.Replies.{delete_at, put_by, put_page};
 
@@ -41,6 +42,8 @@ pub fn put_page<R: Renderer + Drop>(
         (put_by (view_of shelf.old.1.site (Some reader)) (puts_left shelf.old.1.puts) rest.now
         exchange.now.request.now) shelf.new.1 result }
     ensures same { R.page shelf.new.0 ≡ R.page shelf.old.0 }
+    ensures counted { OnOk result (RendersPuts (R.count shelf.old.0) shelf.old.1.puts
+        (R.count shelf.new.0) shelf.new.1.puts 0) }
 {
     let Some(path) = written_path(exchange.heap, rest)? else {
         return exchange.status(Status::BadRequest);
@@ -67,6 +70,8 @@ fn put_text<R: Renderer + Drop>(
         (sent_in exchange.now (put_page (view_of shelf.old.1.site (Some reader))
         (puts_left shelf.old.1.puts) path groups text.now)) shelf.new.1 result }
     ensures same { R.page shelf.new.0 ≡ R.page shelf.old.0 }
+    ensures counted { OnOk result (RendersPuts (R.count shelf.old.0) shelf.old.1.puts
+        (R.count shelf.new.0) shelf.new.1.puts 0) }
 {
     if shelf.store().fits(&path, text).is_err() {
         return exchange.status(Status::InsufficientStorage);
@@ -119,6 +124,8 @@ pub fn delete_page<R: Renderer + Drop>(
         (delete_at (view_of shelf.old.1.site (Some reader)) (path_written rest.now))
         shelf.new.1 result }
     ensures same { R.page shelf.new.0 ≡ R.page shelf.old.0 }
+    ensures counted { OnOk result (RendersPuts (R.count shelf.old.0) shelf.old.1.puts
+        (R.count shelf.new.0) shelf.new.1.puts 0) }
 {
     let Some(path) = written_path(exchange.heap, rest)? else {
         return exchange.status(Status::NotFound);

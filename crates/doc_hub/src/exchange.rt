@@ -1,18 +1,20 @@
 //! One request, and how the reply to it is written.
 
 ghost use Rattle.std.specs.Prelude.{◌≡◌, IfOk, None};
-ghost use Rattle.doc_http.specs.ReplyForms.{code_of, reply_of};
+ghost use Rattle.doc_http.specs.ReplyForms.{code_of, content_reply, reply_of};
 ghost use Rattle.doc_hub.specs.AnswerSteps.{is_head, sent_in};
 ghost use Rattle.doc_hub.specs.Replies.{only_reply, refused};
 
 use crate::answer::Answer;
 use crate::method::Method;
 use doc_heap::Heap;
+use doc_http::reply::write_content;
 use doc_http::reply_form::ReplyForm;
 use doc_http::request::Request;
 use doc_http::status::Status;
 use doc_page::bytes::Bytes;
 use doc_page::failure::Memory;
+use doc_page::text::Text;
 
 /// A request, and how the reply to it is written.
 #[derive(Clone, Copy)]
@@ -49,6 +51,16 @@ impl Exchange<'_> {
         ensures { IfOk result (λ a. a ≡ sent_in self.now (only_reply (reply_of form))) }
     {
         Ok(self.sent(form.write(self.heap, self.head_only(), self.close)?))
+    }
+
+    /// The answer that is this text, HTML or else plain, after no edit.
+    pub fn content(&self, html: bool, text: &Text) -> Result<Answer, Memory>
+        ensures { IfOk result
+            (λ a. a ≡ sent_in self.now (only_reply (content_reply html text.now))) }
+    {
+        let bytes = text.get().as_bytes();
+        let reply = write_content(self.heap, html, bytes, self.head_only(), self.close)?;
+        Ok(self.sent(reply))
     }
 
     /// The answer that says no more than a status, after no edit.

@@ -10,11 +10,16 @@
 //! 3. The edit is made. Where it finds no memory the reply is dropped, and the request waits.
 //! 4. The bytes of the request are taken, and the connection closes or not; that takes no memory.
 
-ghost use Rattle.std.specs.Prelude.{◌≡◌, IfOk};
+ghost use Rattle.std.specs.Prelude.{◌≡◌, ◌+◌, false, IfOk};
 ghost use Rattle.std.specs.FinMap as map;
+ghost use Rattle.std.specs.List.{list_any};
 ghost use Rattle.doc_page.specs.Refusals.{Gives, IsAnswer};
+ghost use Rattle.doc_hub.specs.Counts.{Counted, RendersPuts, moves_in, ran_out};
+ghost use Rattle.doc_hub.specs.Events.{stepping};
 ghost use Rattle.doc_hub.specs.Runs.{Happens, Leaves, GivesRun};
-ghost use Rattle.doc_hub.specs.Worlds.{hub_made, report_in};
+ghost use Rattle.doc_hub.specs.Worlds.{hub_made, report_in, store_of};
+ghost use Rattle.doc_shelf.specs.Shelves.{rendered_for};
+ghost use Rattle.doc_store.specs.Store.{fits_in};
 
 use crate::answer::answer_to_fault;
 use crate::connection::Connection;
@@ -117,6 +122,7 @@ impl<R: Renderer + Drop> Hub<R> {
         ensures world { Happens (R.page self.old.0) self.old.1 Event.Connect self.new.1 result }
         ensures fresh { IfOk result (λ id. map.get self.old.1.connections id.0 ≡ None) }
         ensures same { R.page self.new.0 ≡ R.page self.old.0 }
+        ensures counted { R.count self.new.0 ≡ R.count self.old.0 }
     {
         if self.given == u64::MAX {
             return Err(ConnectError::NoIds);
@@ -136,6 +142,7 @@ impl<R: Renderer + Drop> Hub<R> {
         ensures world { Happens (R.page self.old.0) self.old.1
             (Event.Push id bytes.now) self.new.1 result }
         ensures same { R.page self.new.0 ≡ R.page self.old.0 }
+        ensures counted { R.count self.new.0 ≡ R.count self.old.0 }
     {
         self.connections.push(id.0, bytes)
     }
@@ -146,6 +153,8 @@ impl<R: Renderer + Drop> Hub<R> {
     pub fn step(&mut self, id: ConnId) -> Result<Step, StepError>
         ensures world { Happens (R.page self.old.0) self.old.1 (Event.Step id) self.new.1 result }
         ensures same { R.page self.new.0 ≡ R.page self.old.0 }
+        ensures counted { Counted (R.count self.old.0) self.old.1
+            (R.count self.new.0) self.new.1 (stepping result) }
     {
         let Some(connection) = self.connections.get(id.0) else {
             return Err(StepError::NoConnection);
@@ -180,6 +189,7 @@ impl<R: Renderer + Drop> Hub<R> {
         ensures world { Happens (R.page self.old.0) self.old.1
             (Event.Disconnect id) self.new.1 result }
         ensures same { R.page self.new.0 ≡ R.page self.old.0 }
+        ensures counted { R.count self.new.0 ≡ R.count self.old.0 }
     {
         self.connections.remove(id.0)
     }
@@ -189,6 +199,8 @@ impl<R: Renderer + Drop> Hub<R> {
         ensures world { Happens (R.page self.old.0) self.old.1
             (Event.Put path.now groups.now text.now) self.new.1 result }
         ensures same { R.page self.new.0 ≡ R.page self.old.0 }
+        ensures counted { R.count self.new.0 ≡ R.count self.old.0
+            + rendered_for (fits_in (store_of self.old.1) path.now text.now) }
     {
         self.shelf.put(path, groups, text)
     }
@@ -199,6 +211,7 @@ impl<R: Renderer + Drop> Hub<R> {
         ensures world { Happens (R.page self.old.0) self.old.1
             (Event.Remove path.now) self.new.1 result }
         ensures same { R.page self.new.0 ≡ R.page self.old.0 }
+        ensures counted { R.count self.new.0 ≡ R.count self.old.0 }
     {
         self.shelf.remove(path)
     }
@@ -209,6 +222,7 @@ impl<R: Renderer + Drop> Hub<R> {
         ensures world { Happens (R.page self.old.0) self.old.1
             (Event.MovePage from.now to.now) self.new.1 result }
         ensures same { R.page self.new.0 ≡ R.page self.old.0 }
+        ensures counted { R.count self.new.0 ≡ R.count self.old.0 }
     {
         self.shelf.move_page(from, to)
     }
@@ -219,6 +233,7 @@ impl<R: Renderer + Drop> Hub<R> {
         ensures world { Happens (R.page self.old.0) self.old.1
             (Event.SetReader token.now reader.now) self.new.1 result }
         ensures same { R.page self.new.0 ≡ R.page self.old.0 }
+        ensures counted { R.count self.new.0 ≡ R.count self.old.0 }
     {
         self.readers.set(token, reader)
     }
@@ -229,6 +244,7 @@ impl<R: Renderer + Drop> Hub<R> {
         ensures world { Happens (R.page self.old.0) self.old.1
             (Event.RemoveReader token.now) self.new.1 result }
         ensures same { R.page self.new.0 ≡ R.page self.old.0 }
+        ensures counted { R.count self.new.0 ≡ R.count self.old.0 }
     {
         self.readers.remove(token)
     }
@@ -252,6 +268,9 @@ impl<R: Renderer + Drop> Hub<R> {
     pub fn run(&mut self, events: &[Event]) -> Result<List<Outcome>, Memory>
         ensures world { GivesRun (R.page self.old.0) events.now self.old.1 self.new.1 result }
         ensures same { R.page self.new.0 ≡ R.page self.old.0 }
+        ensures counted { IfOk result (λ told. list_any ran_out told ≡ false → RendersPuts
+            (R.count self.old.0) self.old.1.puts (R.count self.new.0) self.new.1.puts
+            (moves_in told)) }
     {
         let mut outcomes = Vec::with_capacity(self.heap, events.len())?;
         for event in events {
@@ -265,6 +284,8 @@ impl<R: Renderer + Drop> Hub<R> {
     fn happen(&mut self, event: &Event) -> Outcome
         ensures world { Leaves (R.page self.old.0) self.old.1 event.now self.new.1 result }
         ensures same { R.page self.new.0 ≡ R.page self.old.0 }
+        ensures counted { Counted (R.count self.old.0) self.old.1
+            (R.count self.new.0) self.new.1 result }
     {
         match event {
             Event::Connect => Outcome::from(self.connect()),

@@ -2,7 +2,7 @@
 
 ghost use Rattle.std.specs.Prelude.{◌≡◌};
 ghost use Rattle.doc_hub.specs.AnswerSteps.{is_head};
-ghost use Rattle.doc_hub.specs.Replies.{method_of};
+ghost use Rattle.doc_hub.specs.Replies.{method_of, reads};
 
 /// What a request asks for (RFC 9110, section 9.3).
 #[derive(Clone, Copy, Debug, PartialEq, Eq)]
@@ -34,5 +34,12 @@ impl Method {
         ensures { result ≡ is_head self }
     {
         matches!(self, Method::Head)
+    }
+
+    /// Whether it only reads: GET and HEAD, which every resource here has.
+    pub fn reads(self) -> bool
+        ensures { result ≡ reads self }
+    {
+        matches!(self, Method::Get | Method::Head)
     }
 }

@@ -2,28 +2,19 @@
 
 ghost use Rattle.std.specs.Prelude.{◌≡◌, IfOk, Some};
 ghost use Rattle.doc_store.specs.Sites.{view_of};
-ghost use Rattle.doc_http.specs.ReplyForms.{reply_of};
 ghost use Rattle.doc_http_targets.specs.WrittenPaths.{path_written};
 ghost use Rattle.doc_hub.specs.AnswerSteps.{sent_in};
-ghost use Rattle.doc_hub.specs.Replies.{at_path, goal_reply, moved_reply, only_reply};
+ghost use Rattle.doc_hub.specs.Replies.{at_path, only_reply};
 
 use crate::answer::Answer;
 use crate::exchange::Exchange;
-use doc_heap::{Heap, String};
-use doc_http::reply_form::ReplyForm;
+use crate::goals::goal_reply;
 use doc_http::status::Status;
 use doc_http_targets::written_path::written_path;
 use doc_page::failure::Memory;
-use doc_page::path::Path;
 use doc_page::renderer::Renderer;
-use doc_page::sight::Sight;
-use doc_page::text::Text;
-use doc_resolve::encoding::push_encoded_path;
 use doc_shelf::Shelf;
 use doc_store::reader::Reader;
-
-/// Room for `/page/` and a path of which no byte has to be encoded.
-const LOCATION_ROOM: usize = 6;
 
 /// The answer to GET and HEAD of the page that the rest of a target writes: the page as the reader sees
 /// it, or where it stands now, where the path is an alias of a page that they see; what they don't see is
@@ -45,27 +36,7 @@ pub fn answer_at<R: Renderer + Drop>(
     let shown = shelf.page(&path, reader, exchange.head_only(), exchange.close)?;
     let Some(bytes) = shown else {
         let sight = shelf.store().sight(reader);
-        return exchange.reply(goal_reply(exchange.heap, &path, &sight)?);
+        return exchange.reply(goal_reply(exchange.heap, "/page/", &path, &sight)?);
     };
     Ok(exchange.sent(bytes))
-}
-
-/// The reply at a path where the reader sees no page.
-fn goal_reply<S: Sight>(heap: Heap, path: &Path, sight: &S) -> Result<ReplyForm, Memory>
-    ensures { IfOk result (λ form. reply_of form ≡ goal_reply (S.goals sight.now path.now)) }
-{
-    match sight.goal(path) {
-        Some(goal) => moved_reply(heap, goal),
-        None => Ok(ReplyForm::Status(Status::NotFound)),
-    }
-}
-
-/// The page stands under this path now.
-fn moved_reply(heap: Heap, goal: &Path) -> Result<ReplyForm, Memory>
-    ensures { IfOk result (λ form. reply_of form ≡ moved_reply goal.now) }
-{
-    let mut location = String::with_capacity(heap, LOCATION_ROOM + goal.text().len())?;
-    location.push_str("/page/")?;
-    push_encoded_path(&mut location, goal.text())?;
-    Ok(ReplyForm::Moved(Text::new(location)))
 }

@@ -5,11 +5,13 @@ use crate::given::id_and_bytes;
 use crate::outcomes::{all_said, one_said};
 use crate::stop::{Answer, Stop};
 use crate::world::{World, asked, set_witness};
-use doc_heap::Heap;
+use crate::written::Written;
+use doc_heap::{Heap, String};
 use doc_hub::event::Event;
 use doc_hub::hub::Hub;
 use doc_hub::outcome::Outcome;
 use doc_page::renderer::Renderer;
+use doc_page::text::Text;
 
 /// What a call of this name answers: that of an event, or of one of these.
 pub fn called<R: Renderer + Drop>(
@@ -20,6 +22,7 @@ pub fn called<R: Renderer + Drop>(
     let desk = world.heaps.desk;
     match name {
         "ask" => ask(desk, &mut world.hub, given),
+        "report" => report(desk, &mut world.hub, given),
         "run" => run(desk, &mut world.hub, given),
         "witness" => set_witness(world, given),
         _ => call(desk, &mut world.hub, name, given),
@@ -64,6 +67,22 @@ fn ask<R: Renderer + Drop>(desk: Heap, hub: &mut Hub<R>, given: &str) -> Result<
     let said = one_said(desk, &outcome);
     drop(outcome);
     said
+}
+
+/// `TOKEN`: the report of the token's reader.
+fn report<R: Renderer + Drop>(desk: Heap, hub: &mut Hub<R>, token: &str) -> Result<Answer, Stop> {
+    match hub.report(token) {
+        Ok(Some(text)) => reported(desk, text),
+        Ok(None) => Ok(Answer::of(String::from_str(desk, "no reader")?)),
+        Err(_) => Answer::memory(desk),
+    }
+}
+
+fn reported(desk: Heap, report: Text) -> Result<Answer, Stop> {
+    let lines = Written::new(report.get().as_bytes());
+    let text = format!(in desk; "report {lines}");
+    drop(report);
+    Ok(Answer::of(text?))
 }
 
 /// `EVENT ; EVENT ..`: a run of these events.

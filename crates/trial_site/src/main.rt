@@ -2,8 +2,8 @@
 //!
 //! - `world keep CACHE READERS` makes a hub with the readers of a TOML text, and `world close CACHE READERS` one that keeps no connection
 //!   alive. It answers `()`, or what refuses it; then no calls follow.
-//! - `next BYTES` and `drip BYTES` (`requests`), an event (`events`), and `ask ID BYTES`, `run EVENT ; EVENT ..` and `witness ID BYTES`
-//!   (`hubs`) are the calls.
+//! - `next BYTES` and `drip BYTES` (`requests`), an event (`events`), and `ask ID BYTES`, `report TOKEN`, `run EVENT ; EVENT ..` and
+//!   `witness ID BYTES` (`hubs`) are the calls.
 //! - `times N CALL` makes a call N times, and `only N CALL` with one growth refused; a call whose name begins with `grow_` is made with
 //!   each of its growths refused (`rounds`).
 //!
