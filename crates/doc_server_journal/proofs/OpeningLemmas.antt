@@ -1,5 +1,5 @@
 -- A journal that is opened, and one that is refused.
-use Rattle.std.proofs.Common.{◌≡◌, inl, inr, ℕ, ◌<◌, Bool, false, List, length, Option, Some, IfSome, Result, Err, IsErrOf, refl, sym, subst, ◌∙◌}
+use Rattle.std.proofs.Common.{◌≡◌, inl, inr, ℕ, ◌<◌, Bool, false, List, length, Option, Some, IfSome, Err, refl, sym, subst, ◌∙◌}
 use Rattle.doc_server_journal.specs.Devices.{LeavesFile, LeavesOnly, is_failed}
 use Rattle.doc_server_journal.specs.Records.{journal_bytes, AreWithin}
 use Rattle.doc_server_journal.specs.Readings.{ReadsAs, IsDamaged, IsWhy, IsFound}

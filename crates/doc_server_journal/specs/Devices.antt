@@ -1,7 +1,7 @@
 -- What the calls of a device do to its file, and what a crash leaves of it.
 use Rattle.std.specs.Prelude.{◌≡◌, ◌⊎◌, ℕ, ◌+◌, ◌-◌, ◌≤◌, ◌<◌, max, min, List, ◌++◌, length, take, drop, get_or, Option, IfSome}
 use Rattle.std.specs.Option.{option_map}
-use Rattle.std.specs.Prelude.{Bool, true, false, Result, Ok, Err}
+use Rattle.std.specs.Prelude.{Bool, true, false, Result, Err}
 use Rattle.doc_server_journal.specs.declared.fault.LoadError.{LoadError}
 use Rattle.doc_server_journal.specs.declared.fault.LoadError.TheVariants.{Failed}
 

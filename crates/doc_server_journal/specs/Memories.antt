@@ -4,7 +4,6 @@ use Rattle.std.proofs.Math.Seq.{take-length}
 use Rattle.doc_server_journal.specs.Devices.{Torn, Shortened}
 use Rattle.doc_server_journal.specs.declared.memory.Change.{Change}
 use Rattle.doc_server_journal.specs.declared.memory.Change.TheVariants.{Write, Cut, Sync}
-use Rattle.doc_server_journal.specs.declared.memory.Kept.{Kept}
 use Rattle.doc_server_journal.specs.declared.memory.MemoryDevice.{MemoryDevice}
 
 -- What a crash may leave after a change, by what it might have left before: all that the change may do, and nothing else.

@@ -1,4 +1,4 @@
-use Rattle.std.proofs.Common.{[], ◌+◌, ◌∷◌, ◌++◌, take, drop, length}
+use Rattle.std.proofs.Common.{[], ◌+◌, ◌∷◌, take}
 use Rattle.doc_server_journal.specs.Devices.{Torn, Shortened}
 use Rattle.doc_server_journal.proofs.RepairLemmas.{on_ok, begun_torn, cut_done, cut_reads, filled, changed}
 use Rattle.doc_server_journal.proofs.repair.repair.Goals as goal
