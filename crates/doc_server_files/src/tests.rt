@@ -14,6 +14,7 @@ const NAME: &str = "doc_server_files_test/journal";
 const MOST: usize = 1000;
 
 #[test]
+#[tactic(auto, unfolding(doc_server_journal::specs::Records::text_limit))]
 fn a_journal_is_opened_again(rt: HostRuntime) -> Result<(), Fail> {
     let heap = heap(rt.alloc(), u64::MAX)?;
     let _ = fs::remove_dir_all(&rt, FOLDER);
