@@ -44,7 +44,8 @@ module _ (first : List ℕ) (changes : List Change) where
     on = record {
       later = omega (arith, size);
       nothing_else = λ t c le left. by_place t left.0 c left.1 left.2 left.3 (cases_lt (length changes) left.0);
-      keeps = λ t c le left. (left.0, left.1, omega (arith, left.2, size), subst (λ l. Leaves first l c) (sym (front left.0 left.2)) left.3);
+      keeps = λ t c le left. (left.0, left.1, omega (arith, left.2, size), subst (λ l. Leaves first l c)
+          (sym (front left.0 left.2)) left.3);
     }
 
     pub more_time : (now : List Change) → now ≡ changes ++ change ∷ []
@@ -52,7 +53,8 @@ module _ (first : List ℕ) (changes : List Change) where
     more_time now is =
         subst (λ l. Elapses (length changes) (length l) (LeftSince first changes) (LeftSince first l) (Leaves first l)) (sym is) on
 
-    pub changed : (now : List Change) → now ≡ changes ++ change ∷ [] → (c : List ℕ) → Leaves first now c → after_change (Leaves first changes) change c
+    pub changed : (now : List Change) → now ≡ changes ++ change ∷ [] → (c : List ℕ) → Leaves first now c
+        → after_change (Leaves first changes) change c
     changed now is c left = pushed (λ d. d ≡ first) changes change c (subst (λ l. Leaves first l c) is left)
 
   torn_step : (at : ℕ) (bytes : List ℕ) (now : List Change) → (now ≡ changes ++ Write at bytes ∷ []) ⊎ (now ≡ changes)
@@ -74,15 +76,19 @@ module _ (first : List ℕ) (changes : List Change) where
   module _ (now : List Change) (later : List ℕ) (same : later ≡ first) where
     pub torn_follows : (at : ℕ) (bytes : List ℕ) → (now ≡ changes ++ Write at bytes ∷ []) ⊎ (now ≡ changes)
         → Follows (Torn at bytes) (Leaves first changes) (Leaves later now)
-    torn_follows at bytes noted = subst (λ f. Follows (Torn at bytes) (Leaves first changes) (Leaves f now)) (sym same) (torn_step at bytes now noted)
+    torn_follows at bytes noted = subst (λ f. Follows (Torn at bytes) (Leaves first changes) (Leaves f now)) (sym same)
+        (torn_step at bytes now noted)
 
-    pub cut_follows : (len : ℕ) → (now ≡ changes ++ Cut len ∷ []) ⊎ (now ≡ changes) → Follows (Shortened len) (Leaves first changes) (Leaves later now)
+    pub cut_follows : (len : ℕ) → (now ≡ changes ++ Cut len ∷ []) ⊎ (now ≡ changes)
+        → Follows (Shortened len) (Leaves first changes) (Leaves later now)
     cut_follows len noted = subst (λ f. Follows (Shortened len) (Leaves first changes) (Leaves f now)) (sym same) (cut_step len now noted)
 
     pub noted_time : (change : Change) → (now ≡ changes ++ change ∷ []) ⊎ (now ≡ changes)
         → Elapses (length changes) (length now) (LeftSince first changes) (LeftSince later now) (Leaves later now)
     noted_time change noted =
-        subst (λ f. Elapses (length changes) (length now) (LeftSince first changes) (LeftSince f now) (Leaves f now)) (sym same) (step_time change now noted)
+        subst (λ f. Elapses (length changes) (length now) (LeftSince first changes) (LeftSince f now) (Leaves f now)) (sym same)
+            (step_time change now noted)
 
-    pub settled : (file : List ℕ) → now ≡ changes ++ Sync file ∷ [] → (c : List ℕ) → Leaves later now c → Leaves first changes c × (c ≡ file)
+    pub settled : (file : List ℕ) → now ≡ changes ++ Sync file ∷ [] → (c : List ℕ) → Leaves later now c → Leaves first changes c
+        × (c ≡ file)
     settled file is c left = changed (Sync file) now is c (subst (λ f. Leaves f now c) same left)

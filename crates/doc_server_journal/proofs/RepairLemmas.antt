@@ -25,7 +25,8 @@ front_of_tail before tail n whole = by_front (begins before (take n tail)) whole
     onto : (text rest : List ℕ) → IsRecord before text (take n tail) rest → IsRecord before text tail (rest ++ drop n tail)
     onto text rest found = record {
       within = found.within;
-      split = sym (take-append-drop n tail) ∙ ap (λ l. l ++ drop n tail) found.split ∙ append_assoc (record_bytes before text) rest (drop n tail);
+      split = sym (take-append-drop n tail) ∙ ap (λ l. l ++ drop n tail) found.split
+          ∙ append_assoc (record_bytes before text) rest (drop n tail);
     }
 
     by_front : Begins before (take n tail) → IsTail before tail → IsTail before (take n tail)
@@ -65,7 +66,8 @@ ends bytes texts (inl (rest, are, end)) long = record {
 ends bytes texts (inr (short, none)) long = absurd (omega (arith, short, long))
 
 -- a file with a closed gate, and what stands behind it
-module _ (bytes : List ℕ) (texts : List (List ℕ)) (reads : ReadsAs bytes texts) (long : 1 < length bytes) (end : ℕ) (end_is : end ≡ length (chain seed texts)) where
+module _ (bytes : List ℕ) (texts : List (List ℕ)) (reads : ReadsAs bytes texts) (long : 1 < length bytes) (end : ℕ)
+    (end_is : end ≡ length (chain seed texts)) where
   it : Ends bytes texts
   it = ends bytes texts reads long
 
@@ -91,11 +93,14 @@ module _ (bytes : List ℕ) (texts : List (List ℕ)) (reads : ReadsAs bytes tex
       ∙ ap (λ k. take k (journal_bytes texts ++ it.tail)) size
       ∙ take-append-add (journal_bytes texts) it.tail n
       ∙ append_assoc (chain seed texts) (0 ∷ []) (take n it.tail) in
-      inl (0 ∷ take n it.tail, record { within = it.within; split = whole }, (take n it.tail, refl, front_of_tail (last_digest seed texts) it.tail n it.is_tail))
+      inl (0 ∷ take n it.tail, record { within = it.within; split = whole },
+          (take n it.tail, refl, front_of_tail (last_digest seed texts) it.tail n it.is_tail))
 
 -- a sync, and then a change
-module _ {D : Type 0} (seen : D → Option (List ℕ)) (may_leave : D → List ℕ → Type 0) (moment : D → ℕ) (left_since : D → ℕ → List ℕ → Type 0) (old mid new : D)
-    (bytes : List ℕ) (texts : List (List ℕ)) (reads : ReadsAs bytes texts) (known_is : IfSome (seen old) (λ file. file ≡ bytes)) (same : seen mid ≡ seen old) where
+module _ {D : Type 0} (seen : D → Option (List ℕ)) (may_leave : D → List ℕ → Type 0) (moment : D → ℕ) (left_since : D → ℕ → List ℕ
+    → Type 0) (old mid new : D)
+    (bytes : List ℕ) (texts : List (List ℕ)) (reads : ReadsAs bytes texts) (known_is : IfSome (seen old) (λ file. file ≡ bytes))
+        (same : seen mid ≡ seen old) where
   file_is : (file : List ℕ) → seen old ≡ Some file → file ≡ bytes
   file_is file is = known (seen old) file (λ f. f ≡ bytes) is known_is
 
@@ -104,7 +109,8 @@ module _ {D : Type 0} (seen : D → Option (List ℕ)) (may_leave : D → List �
       subst (λ o. IfSome o (λ file. n ≤ length file)) (sym same)
       (if_known (seen old) (λ file. n ≤ length file) (λ file is. omega (arith, fits, ap length (file_is file is))))
 
-  pub filled : (f : List ℕ → List ℕ) → seen new ≡ option_map f (seen mid) → f bytes ≡ journal_bytes texts → IfSome (seen new) (λ file. file ≡ journal_bytes texts)
+  pub filled : (f : List ℕ → List ℕ) → seen new ≡ option_map f (seen mid) → f bytes ≡ journal_bytes texts
+      → IfSome (seen new) (λ file. file ≡ journal_bytes texts)
   filled f writes done =
       subst (λ o. IfSome o (λ file. file ≡ journal_bytes texts)) (sym (writes ∙ ap (λ o. option_map f o) same))
       (if_mapped f (seen old) (λ file. file ≡ journal_bytes texts) (λ file is. ap f (file_is file is) ∙ done))
@@ -113,14 +119,16 @@ module _ {D : Type 0} (seen : D → Option (List ℕ)) (may_leave : D → List �
   After c = WasLeftOrReads (may_leave old) texts c
 
   here : LeavesFile (seen mid) (may_leave mid) → (file : List ℕ) → seen old ≡ Some file → (c : List ℕ) → may_leave mid c → c ≡ bytes
-  here durable file is c left = known (seen mid) file (λ f. (x : List ℕ) → may_leave mid x → x ≡ f) (same ∙ is) durable c left ∙ file_is file is
+  here durable file is c left = known (seen mid) file (λ f. (x : List ℕ) → may_leave mid x → x ≡ f) (same ∙ is) durable c left
+      ∙ file_is file is
 
   by_step : LeavesFile (seen mid) (may_leave mid) → (file : List ℕ) → seen old ≡ Some file → (step : List ℕ → List ℕ → Type 0)
       → ((c : List ℕ) → step bytes c → ReadsAs c texts) → (c : List ℕ) → Stepped step (may_leave mid) c → After c
   by_step durable file is step on c (inl left) = inr (subst (λ f. ReadsAs f texts) (sym (here durable file is c left)) reads)
   by_step durable file is step on c (inr (d, left, stepped)) = inr (on c (subst (λ f. step f c) (here durable file is d left) stepped))
 
-  pub changed : LeavesOnly moment left_since old mid (may_leave old) → LeavesFile (seen mid) (may_leave mid) → (step : List ℕ → List ℕ → Type 0)
+  pub changed : LeavesOnly moment left_since old mid (may_leave old) → LeavesFile (seen mid) (may_leave mid)
+      → (step : List ℕ → List ℕ → Type 0)
       → LeavesOnly moment left_since mid new (Stepped step (may_leave mid)) → ((c : List ℕ) → step bytes c → ReadsAs c texts)
       → IfSome (seen old) (λ file. LeavesOnly moment left_since old new After)
   changed synced durable step run on = if_known (seen old) (λ file. LeavesOnly moment left_since old new After) (λ file is.

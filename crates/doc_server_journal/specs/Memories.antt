@@ -41,7 +41,8 @@ memory_leaves m c = Leaves m.file.first m.file.changes.items c
 abbrev pub has_failed : MemoryDevice → Bool
 has_failed m = m.failed
 
-pub counts : (first : List ℕ) (changes : List Change) (t : ℕ) (c : List ℕ) → t ≤ length changes → Leaves first changes c → LeftSince first changes t c
+pub counts : (first : List ℕ) (changes : List Change) (t : ℕ) (c : List ℕ) → t ≤ length changes → Leaves first changes c
+    → LeftSince first changes t c
 counts first changes t c le now = (length changes, le, omega arith, subst (λ l. Leaves first l c) (sym (take-length changes)) now)
 
 pub only : (first : List ℕ) (changes : List Change) (c : List ℕ) → LeftSince first changes (length changes) c → Leaves first changes c

@@ -34,7 +34,8 @@ pub trait Device {
             → IfSome (seen self.old) (λ file. most < length file) }
         ensures seen { seen self.new ≡ seen self.old }
         ensures crash { (c : List ℕ) → may_leave self.new c → may_leave self.old c }
-        ensures time { Elapses (moment self.old) (moment self.new) (left_since self.old) (left_since self.new) (may_leave self.new) }
+        ensures time { Elapses (moment self.old) (moment self.new) (left_since self.old)
+            (left_since self.new) (may_leave self.new) }
         ensures cause { failed self.new ≡ is_failed result };
 
     /// Writes over what is there, and past the end. Until a sync, a crash may leave a part of it.
@@ -43,7 +44,8 @@ pub trait Device {
         requires place { IfSome (seen self.old) (λ file. at ≤ length file) }
         ensures written { OnOk result (Writes (seen self.old) at bytes.now (seen self.new)) }
         ensures crash { Follows (Torn at bytes.now) (may_leave self.old) (may_leave self.new) }
-        ensures time { Elapses (moment self.old) (moment self.new) (left_since self.old) (left_since self.new) (may_leave self.new) }
+        ensures time { Elapses (moment self.old) (moment self.new) (left_since self.old)
+            (left_since self.new) (may_leave self.new) }
         ensures cause { failed self.new ≡ is_err result };
 
     /// Cuts the file to a length.
@@ -52,7 +54,8 @@ pub trait Device {
         requires place { IfSome (seen self.old) (λ file. len ≤ length file) }
         ensures cut { OnOk result (CutsTo (seen self.old) len (seen self.new)) }
         ensures crash { Follows (Shortened len) (may_leave self.old) (may_leave self.new) }
-        ensures time { Elapses (moment self.old) (moment self.new) (left_since self.old) (left_since self.new) (may_leave self.new) }
+        ensures time { Elapses (moment self.old) (moment self.new) (left_since self.old)
+            (left_since self.new) (may_leave self.new) }
         ensures cause { failed self.new ≡ is_err result };
 
     /// After it, a crash leaves the file as it is known.
@@ -61,12 +64,15 @@ pub trait Device {
         ensures durable { OnOk result (LeavesFile (seen self.old) (may_leave self.new)) }
         ensures seen { seen self.new ≡ seen self.old }
         ensures crash { (c : List ℕ) → may_leave self.new c → may_leave self.old c }
-        ensures time { Elapses (moment self.old) (moment self.new) (left_since self.old) (left_since self.new) (may_leave self.new) }
+        ensures time { Elapses (moment self.old) (moment self.new) (left_since self.old)
+            (left_since self.new) (may_leave self.new) }
         ensures cause { failed self.new ≡ is_err result };
 
     /// This moment is one of those since an earlier one.
-    ghost counts_now: { (file : Self) (t : ℕ) (c : List ℕ) → t ≤ moment file → may_leave file c → left_since file t c };
+    ghost counts_now: { (file : Self) (t : ℕ) (c : List ℕ)
+        → t ≤ moment file → may_leave file c → left_since file t c };
 
     /// Since this moment there is no other.
-    ghost only_now: { (file : Self) (c : List ℕ) → left_since file (moment file) c → may_leave file c };
+    ghost only_now: { (file : Self) (c : List ℕ)
+        → left_since file (moment file) c → may_leave file c };
 }

@@ -47,8 +47,8 @@ impl Kept {
         requires { at ≤ length self.old.bytes }
         ensures ok { OnOk result (self.new.changes.items
             ≡ self.old.changes.items ++ changes.Write at bytes.now ∷ []) }
-        ensures bytes { OnOk result (self.new.bytes
-            ≡ take at self.old.bytes ++ written.now ++ drop (at + length written.now) self.old.bytes) }
+        ensures bytes { OnOk result (self.new.bytes ≡ take at self.old.bytes ++ written.now
+            ++ drop (at + length written.now) self.old.bytes) }
         ensures first { self.new.first ≡ self.old.first }
         ensures err { OnErr result (self.new.changes.items ≡ self.old.changes.items) }
     {
