@@ -1,6 +1,6 @@
 //! A journal opened.
 
-ghost use Rattle.std.specs.Prelude.{◌≡◌, List as Seq, ℕ, false, OnOk, IfOk, IfErr, IfSome};
+ghost use Rattle.std.specs.Prelude.{◌≡◌, ◌≢◌, List as Seq, ℕ, false, OnOk, IfOk, IfErr, IfSome};
 ghost use Rattle.doc_server_journal.specs.Journals.{IsOpen};
 ghost use Rattle.doc_server_journal.specs.Readings.{ReadsAs, IsFound};
 ghost use Rattle.doc_server_journal.specs.Records.{journal_bytes};
@@ -46,6 +46,8 @@ impl<D: Device> Journal<D> {
         ensures any_moment_refused { IfErr result (λ r. (texts : Seq (Seq ℕ))
             → IfSome (D.seen device) (λ file. ReadsAs file texts → LeavesOnly D.moment D.left_since
             device r.device (WasLeftOrReads (D.may_leave device) texts))) }
+        ensures untouched { IfErr result (λ r. r.fault ≢ OpenFault.Failed
+            → LeavesOnly D.moment D.left_since device r.device (D.may_leave device)) }
     {
         let mut device = device;
         match recover(heap, &mut device, most) {
@@ -80,6 +82,8 @@ fn recover<D: Device>(heap: Heap, device: &mut D, most: usize) -> Result<Found, 
     ensures any_moment { (texts : Seq (Seq ℕ))
         → IfSome (D.seen device.old) (λ file. ReadsAs file texts → LeavesOnly D.moment D.left_since
         device.old device.new (WasLeftOrReads (D.may_leave device.old) texts)) }
+    ensures untouched { IfErr result (λ e. e ≢ OpenFault.Failed
+        → LeavesOnly D.moment D.left_since device.old device.new (D.may_leave device.old)) }
 {
     let bytes = load(device, heap, most)?;
     let found = read(heap, bytes.get())?;
