@@ -36,13 +36,16 @@ tail_same : (x y : List ℕ) → 1 ∷ x ≡ 1 ∷ y → x ≡ y
 tail_same x y same = ap (λ (l : List ℕ). drop 1 l) same
 
 -- bytes are one chain alone, where no open record stands behind it
-pub chain_unique : (before : List ℕ) (ts us : List (List ℕ)) (x y : List ℕ) → AreWithin ts → AreWithin us → chain before ts ++ x ≡ chain before us ++ y
+pub chain_unique : (before : List ℕ) (ts us : List (List ℕ)) (x y : List ℕ) → AreWithin ts → AreWithin us
+    → chain before ts ++ x ≡ chain before us ++ y
     → HasNoOpenRecord (last_digest before ts) x → HasNoOpenRecord (last_digest before us) y → (ts ≡ us) × (x ≡ y)
 chain_unique before [] [] x y all others same no_x no_y = (refl, same)
 chain_unique before [] (u ∷ us) x y all others same no_x no_y =
-    absurd (no_x ((record_bytes before u ++ chain (digest_behind before u) us) ++ y) same u (chain (digest_behind before u) us ++ y) (head_record before u us y others.0))
+    absurd (no_x ((record_bytes before u ++ chain (digest_behind before u) us) ++ y) same u (chain (digest_behind before u) us ++ y)
+        (head_record before u us y others.0))
 chain_unique before (t ∷ ts) [] x y all others same no_x no_y =
-    absurd (no_y ((record_bytes before t ++ chain (digest_behind before t) ts) ++ x) (sym same) t (chain (digest_behind before t) ts ++ x) (head_record before t ts x all.0))
+    absurd (no_y ((record_bytes before t ++ chain (digest_behind before t) ts) ++ x) (sym same) t (chain (digest_behind before t) ts ++ x)
+        (head_record before t ts x all.0))
 chain_unique before (t ∷ ts) (u ∷ us) x y all others same no_x no_y =
     let left = (record_bytes before t ++ chain (digest_behind before t) ts) ++ x in
     let right = (record_bytes before u ++ chain (digest_behind before u) us) ++ y in

@@ -10,6 +10,7 @@ use Rattle.doc_server_journal.proofs.Deciding.{Begins, begins, same_or_not}
 use Rattle.doc_server_journal.proofs.FrontLemmas.{long_enough}
 use Rattle.doc_server_journal.proofs.LawLemmas.{written_is_read}
 use Rattle.doc_server_journal.proofs.RecordLemmas.{length_record}
+use Rattle.doc_server_journal.proofs.Tearing.{before_all}
 
 abbrev open_gate : List ℕ
 open_gate = 1 ∷ []
@@ -57,15 +58,18 @@ module _ (texts : List (List ℕ)) (text : List ℕ) (all : AreWithin texts) (fi
       let P : List ℕ → Type 0 = λ x. ReadsAs x texts in
       inl (subst P (sym is) (written_is_read texts all))
 
-  by_text : (c tail other rest : List ℕ) → c ≡ front ++ (0 ∷ tail) → length tail ≤ length written → IsRecord (last_digest seed texts) other tail rest
+  by_text : (c tail other rest : List ℕ) → c ≡ front ++ (0 ∷ tail) → length tail ≤ length written
+      → IsRecord (last_digest seed texts) other tail rest
       → (other ≡ text) ⊎ (other ≡ text → ⊥) → IsBeforeOrAfter texts text c
   by_text c tail other rest is short found (inl same) =
-      let brief : length rest ≤ 1 = omega (arith, short, length_written, ap length same, long_enough (last_digest seed texts) tail other rest found) in
+      let brief : length rest ≤ 1 = omega (arith, short, length_written, ap length same, long_enough
+          (last_digest seed texts) tail other rest found) in
       inl (reads_before c tail is (inl (other, rest, found, brief)))
   by_text c tail other rest is short found (inr differs) =
       inr (inr (record { other = other; tail = tail; rest = rest; split = is; is_record = found; differs = differs }))
 
-  by_front : (c tail : List ℕ) → c ≡ front ++ (0 ∷ tail) → length tail ≤ length written → Begins (last_digest seed texts) tail → IsBeforeOrAfter texts text c
+  by_front : (c tail : List ℕ) → c ≡ front ++ (0 ∷ tail) → length tail ≤ length written → Begins (last_digest seed texts) tail
+      → IsBeforeOrAfter texts text c
   unfolding tail_limit
   by_front c tail is short (inl (other, rest, found)) = by_text c tail other rest is short found (same_or_not other text)
   by_front c tail is short (inr none) = inl (reads_before c tail is (inr (omega (arith, short, length_written, fits), none)))
@@ -80,15 +84,19 @@ module _ (texts : List (List ℕ)) (text : List ℕ) (all : AreWithin texts) (fi
         let tail = drop (end + 1) c in
         let whole : c ≡ front ++ (0 ∷ tail) =
         sym (take-append-drop (end + 1) c)
-        ∙ ap (λ l. l ++ tail) (torn.before ∙ take_all (end + 1) (journal_bytes texts) (omega (arith, length_rest)))
+        ∙ ap (λ l. l ++ tail)
+        (before_all (end + 1) written (journal_bytes texts) c (omega (arith, length_rest)) torn
+            ∙ take_all (end + 1) (journal_bytes texts) (omega (arith, length_rest)))
         ∙ append_assoc front (0 ∷ []) tail in
         by_front c tail whole (omega (arith, length-drop (end + 1) c, length_rest, torn.no_longer)) (begins (last_digest seed texts) tail)
 
     -- the first write, done
     pub first_done : take (end + 1) (journal_bytes texts) ++ written ++ drop (end + 1 + length written) (journal_bytes texts) ≡ staged
     first_done =
-        ap (λ l. l ++ written ++ drop (end + 1 + length written) (journal_bytes texts)) (take_all (end + 1) (journal_bytes texts) (omega (arith, length_rest)))
-        ∙ ap (λ l. journal_bytes texts ++ written ++ l) (drop_all (end + 1 + length written) (journal_bytes texts) (omega (arith, length_rest)))
+        ap (λ l. l ++ written ++ drop (end + 1 + length written) (journal_bytes texts))
+            (take_all (end + 1) (journal_bytes texts) (omega (arith, length_rest)))
+        ∙ ap (λ l. journal_bytes texts ++ written ++ l) (drop_all (end + 1 + length written) (journal_bytes texts)
+            (omega (arith, length_rest)))
         ∙ append-nil (journal_bytes texts ++ written)
         ∙ append_assoc front (0 ∷ []) written
 
@@ -118,13 +126,15 @@ module _ (texts : List (List ℕ)) (text : List ℕ) (all : AreWithin texts) (fi
         let rest : drop end c ≡ gate ∷ written =
         drop_more c end 0 (omega (arith, torn.no_shorter, length_staged)) ∙ ap (λ (l : List ℕ). gate ∷ l) (torn.behind ∙ behind_part) in
         let whole : c ≡ front ++ (gate ∷ written) =
-        sym (take-append-drop end c) ∙ ap (λ l. l ++ drop end c) (torn.before ∙ front_part) ∙ ap (λ l. front ++ l) rest in
+        sym (take-append-drop end c) ∙ ap (λ l. l ++ drop end c) (before_all end open_gate staged c (omega (arith, length_staged)) torn
+            ∙ front_part) ∙ ap (λ l. front ++ l) rest in
         by_gate gate whole (torn.each end (omega arith) (omega arith) (omega (arith, length_staged)))
       where
         first_byte : (k : ℕ) → k ≡ 0 → get_or open_gate k 0 ≡ 1
         first_byte k is = ap (λ (n : ℕ). get_or open_gate n 0) is
 
-        by_gate : (gate : ℕ) → c ≡ front ++ (gate ∷ written) → (gate ≡ get_or staged end 0) ⊎ (gate ≡ get_or open_gate (end - end) 0) → IsBeforeOrAfter texts text c
+        by_gate : (gate : ℕ) → c ≡ front ++ (gate ∷ written) → (gate ≡ get_or staged end 0) ⊎ (gate ≡ get_or open_gate (end - end) 0)
+            → IsBeforeOrAfter texts text c
         by_gate gate whole (inl shut) = staged_reads c (whole ∙ ap (λ (g : ℕ). front ++ (g ∷ written)) (shut ∙ gate_was))
         by_gate gate whole (inr is_open) =
             opened_reads c (whole ∙ ap (λ (g : ℕ). front ++ (g ∷ written)) (is_open ∙ first_byte (end - end) (omega arith)))

@@ -35,19 +35,23 @@ module _ (before bytes : List ℕ) where
   after = drop len behind
 
   by_digest : to_le_bytes w32 len ≡ head → len ≤ text_limit → len + 32 ≤ length behind
-      → (take 32 after ≡ digest_behind before (take len behind)) ⊎ (take 32 after ≡ digest_behind before (take len behind) → ⊥) → Begins before bytes
+      → (take 32 after ≡ digest_behind before (take len behind)) ⊎ (take 32 after ≡ digest_behind before (take len behind) → ⊥)
+          → Begins before bytes
   by_digest written fits fills (inl same) = inl (
     take len behind,
     drop 32 after,
-    is_front before bytes head behind (take len behind) after (take 32 after) (drop 32 after) (digest_behind before (take len behind)) len refl refl written fits fills
+    is_front before bytes head behind (take len behind) after (take 32 after) (drop 32 after) (digest_behind before (take len behind)) len
+        refl refl written fits fills
         refl refl refl refl same refl,
   )
   by_digest written fits fills (inr other) =
-      inr (λ t r is. other (right_digest before bytes t r is head behind refl refl (take len behind) after (take 32 after) (digest_behind before (take len behind)) len refl refl refl refl refl))
+      inr (λ t r is. other (right_digest before bytes t r is head behind refl refl (take len behind) after (take 32 after)
+          (digest_behind before (take len behind)) len refl refl refl refl refl))
 
   by_room : to_le_bytes w32 len ≡ head → len ≤ text_limit → (length behind < len + 32) ⊎ (len + 32 ≤ length behind) → Begins before bytes
   by_room written fits (inl short) =
-      inr (λ t r is. omega (arith, short, len_is before bytes t r is head behind refl refl len refl, room before bytes t r is head behind refl refl))
+      inr (λ t r is. omega (arith, short, len_is before bytes t r is head behind refl refl len refl, room before bytes t r is head behind
+          refl refl))
   by_room written fits (inr fills) = by_digest written fits fills (same_or_not (take 32 after) (digest_behind before (take len behind)))
 
   by_limit : to_le_bytes w32 len ≡ head → (text_limit < len) ⊎ (len ≤ text_limit) → Begins before bytes
@@ -56,7 +60,8 @@ module _ (before bytes : List ℕ) where
 
   no_length : (t r : List ℕ) → IsRecord before t bytes r → to_le_bytes w32 len ≡ head
   unfolding length_bytes
-  no_length t r is = ap (λ n. to_le_bytes w32 n) (len_is before bytes t r is head behind refl refl len refl) ∙ sym (head_part before bytes t r is head behind refl refl)
+  no_length t r is = ap (λ n. to_le_bytes w32 n) (len_is before bytes t r is head behind refl refl len refl)
+      ∙ sym (head_part before bytes t r is head behind refl refl)
 
   by_length : (to_le_bytes w32 len ≡ head) ⊎ (to_le_bytes w32 len ≡ head → ⊥) → Begins before bytes
   by_length (inl written) = by_limit written (cases_lt text_limit len)

@@ -12,11 +12,14 @@ length_of text len same = ap (λ n. to_le_bytes w32 n) same
 
 pub is_front : (before bytes head behind text after written rest digest : List ℕ) (len : ℕ) → head ≡ take 4 bytes → behind ≡ drop 4 bytes
     → to_le_bytes w32 len ≡ head → len ≤ text_limit → len + 32 ≤ length behind → text ≡ take len behind → after ≡ drop len behind
-    → written ≡ take 32 after → rest ≡ drop 32 after → written ≡ digest → digest ≡ digest_behind before text → IsRecord before text bytes rest
-is_front before bytes head behind text after written rest digest len head_is behind_is len_is fits room text_is after_is written_is rest_is same
+    → written ≡ take 32 after → rest ≡ drop 32 after → written ≡ digest → digest ≡ digest_behind before text
+        → IsRecord before text bytes rest
+is_front before bytes head behind text after written rest digest len head_is behind_is len_is fits room text_is after_is written_is
+    rest_is same
     digest_is =
     let long : length text ≡ len = omega (arith, ap length text_is, length-take len behind) in
-    let first : bytes ≡ head ++ behind = sym (take-append-drop 4 bytes) ∙ ap (λ l. l ++ drop 4 bytes) (sym head_is) ∙ ap (λ l. head ++ l) (sym behind_is) in
+    let first : bytes ≡ head ++ behind = sym (take-append-drop 4 bytes) ∙ ap (λ l. l ++ drop 4 bytes) (sym head_is)
+        ∙ ap (λ l. head ++ l) (sym behind_is) in
     let second : behind ≡ text ++ after =
     sym (take-append-drop len behind) ∙ ap (λ l. l ++ drop len behind) (sym text_is) ∙ ap (λ l. text ++ l) (sym after_is) in
     let third : after ≡ written ++ rest =
@@ -38,7 +41,8 @@ module _ (before bytes t r : List ℕ) (is : IsRecord before t bytes r) where
 
   module _ (head behind : List ℕ) (head_is : head ≡ take 4 bytes) (behind_is : behind ≡ drop 4 bytes) where
     pub behind_parts : behind ≡ t ++ (digest_behind before t ++ r)
-    behind_parts = behind_is ∙ ap (λ l. drop 4 l) its_parts ∙ drop_at (length_bytes t) (t ++ (digest_behind before t ++ r)) 4 (length_length t)
+    behind_parts = behind_is ∙ ap (λ l. drop 4 l) its_parts ∙ drop_at (length_bytes t) (t ++ (digest_behind before t ++ r)) 4
+        (length_length t)
 
     pub head_part : head ≡ length_bytes t
     head_part = head_is ∙ ap (λ l. take 4 l) its_parts ∙ take_at (length_bytes t) (t ++ (digest_behind before t ++ r)) 4 (length_length t)
@@ -56,7 +60,8 @@ module _ (before bytes t r : List ℕ) (is : IsRecord before t bytes r) where
           length_digest_behind before t,
         )
 
-    pub right_digest : (text after written digest : List ℕ) (len : ℕ) → len ≡ from_le_bytes w32 head → text ≡ take len behind → after ≡ drop len behind
+    pub right_digest : (text after written digest : List ℕ) (len : ℕ) → len ≡ from_le_bytes w32 head → text ≡ take len behind
+        → after ≡ drop len behind
         → written ≡ take 32 after → digest ≡ digest_behind before text → written ≡ digest
     right_digest text after written digest len same text_is after_is written_is digest_is =
         let long = sym (len_is len same) in

@@ -4,6 +4,10 @@ mod CrashLemmas
 mod Deciding
 mod FrontLemmas
 mod LawLemmas
+mod MemoryLemmas
 mod Moments
+mod OpeningLemmas
 mod ReadingLemmas
 mod RecordLemmas
+mod RepairLemmas
+mod Tearing

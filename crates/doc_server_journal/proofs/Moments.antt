@@ -17,10 +17,12 @@ if_mapped f (Some x) P g = g x refl
 
 module _ {D : Type 0} (moment : D → ℕ) (left_since : D → ℕ → List ℕ → Type 0) where
   -- before the first change
-  pub started : (old : D) (P : List ℕ → Type 0) → ((c : List ℕ) → left_since old (moment old) c → P c) → LeavesOnly moment left_since old old P
+  pub started : (old : D) (P : List ℕ → Type 0) → ((c : List ℕ) → left_since old (moment old) c → P c)
+      → LeavesOnly moment left_since old old P
   started old P here = record { later = omega arith; each = here; before = λ t c le left. inl left }
 
-  pub weaker : (old new : D) (P Q : List ℕ → Type 0) → LeavesOnly moment left_since old new P → ((c : List ℕ) → P c → Q c) → LeavesOnly moment left_since old new Q
+  pub weaker : (old new : D) (P Q : List ℕ → Type 0) → LeavesOnly moment left_since old new P → ((c : List ℕ) → P c → Q c)
+      → LeavesOnly moment left_since old new Q
   weaker old new P Q run on = record {
     later = run.later;
     each = λ c left. on c (run.each c left);
@@ -32,5 +34,6 @@ module _ {D : Type 0} (moment : D → ℕ) (left_since : D → ℕ → List ℕ 
   goes_on old mid new P first second = record {
     later = omega (arith, first.later, second.later);
     each = λ c left. ⊎_elim (λ was. first.each c was) (λ now. now) (second.before (moment old) c first.later left);
-    before = λ t c le left. ⊎_elim (λ was. first.before t c le was) (λ now. inr now) (second.before t c (omega (arith, le, first.later)) left);
+    before = λ t c le left. ⊎_elim (λ was. first.before t c le was) (λ now. inr now)
+        (second.before t c (omega (arith, le, first.later)) left);
   }

@@ -12,21 +12,24 @@ no_tail before bytes text rest is long (inl (t, r, found, short)) =
 no_tail before bytes text rest is long (inr (fits, none)) = none text rest is
 
 -- one open record more
-pub one_more : (bytes : List ℕ) (texts : List (List ℕ)) (digest text rest behind : List ℕ) → AreRecords bytes texts rest → digest ≡ last_digest seed texts
+pub one_more : (bytes : List ℕ) (texts : List (List ℕ)) (digest text rest behind : List ℕ) → AreRecords bytes texts rest
+    → digest ≡ last_digest seed texts
     → IsOpenRecord digest text rest behind → AreRecords bytes (texts ++ text ∷ []) behind
 one_more bytes texts digest text rest behind are digest_is (inner, is_open, is) =
     let last = last_digest seed texts in
     record {
       within = within_push texts text are.within is.within;
       split = are.split
-          ∙ ap (λ l. chain seed texts ++ l) (is_open ∙ ap (λ (l : List ℕ). 1 ∷ l) (is.split ∙ ap (λ d. record_bytes d text ++ behind) digest_is))
+          ∙ ap (λ l. chain seed texts ++ l) (is_open ∙ ap (λ (l : List ℕ). 1 ∷ l) (is.split
+              ∙ ap (λ d. record_bytes d text ++ behind) digest_is))
           ∙ sym (chain_push seed texts text behind);
     }
 
 pub shorter : (digest text rest behind : List ℕ) → IsOpenRecord digest text rest behind → length behind < length rest
 shorter digest text rest behind (inner, is_open, is) = omega (arith, ap length is_open, long_enough digest inner text behind is)
 
-pub size : (bytes : List ℕ) (texts : List (List ℕ)) (rest : List ℕ) → AreRecords bytes texts rest → length bytes ≡ length (chain seed texts) + length rest
+pub size : (bytes : List ℕ) (texts : List (List ℕ)) (rest : List ℕ) → AreRecords bytes texts rest
+    → length bytes ≡ length (chain seed texts) + length rest
 size bytes texts rest are = ap length are.split ∙ length-append (chain seed texts) rest
 
 -- what a reading knows after one record more
@@ -40,10 +43,12 @@ going_on bytes texts news digest next text rest behind are digest_is count found
     let fewer = shorter digest text rest behind found in
     let counted : length (texts ++ text ∷ []) + length behind ≤ length bytes =
     omega (arith, count, fewer, length-append texts (text ∷ [])) in
-    subst (λ ts. AreRecords bytes ts behind × (next ≡ last_digest seed ts) × (length ts + length behind ≤ length bytes)) (sym news_is) (more, last, counted)
+    subst (λ ts. AreRecords bytes ts behind × (next ≡ last_digest seed ts) × (length ts + length behind ≤ length bytes)) (sym news_is)
+        (more, last, counted)
 
 -- a reading that comes to an end
-pub found : (bytes : List ℕ) (texts : List (List ℕ)) (rest digest : List ℕ) (end : ℕ) → AreRecords bytes texts rest → digest ≡ last_digest seed texts
+pub found : (bytes : List ℕ) (texts : List (List ℕ)) (rest digest : List ℕ) (end : ℕ) → AreRecords bytes texts rest
+    → digest ≡ last_digest seed texts
     → IsEnd digest rest → end ≡ length bytes - length rest → IsFound bytes (record { texts = texts; end = end; digest = digest })
 found bytes texts rest digest end are digest_is ends end_is = record {
   reads = inl (rest, are, subst (λ d. IsEnd d rest) digest_is ends);
@@ -52,7 +57,8 @@ found bytes texts rest digest end are digest_is ends end_is = record {
 }
 
 -- a reading that comes to none
-pub damaged : (bytes : List ℕ) (texts : List (List ℕ)) (rest digest : List ℕ) → 1 < length bytes → AreRecords bytes texts rest → digest ≡ last_digest seed texts
+pub damaged : (bytes : List ℕ) (texts : List (List ℕ)) (rest digest : List ℕ) → 1 < length bytes → AreRecords bytes texts rest
+    → digest ≡ last_digest seed texts
     → HasNoOpenRecord digest rest → (IsEnd digest rest → ⊥) → IsDamaged bytes (length texts + 1)
 damaged bytes texts rest digest long are digest_is not_open no_end = record {
   texts = texts;

@@ -1,6 +1,9 @@
 -- What the calls of a device do to its file, and what a crash leaves of it.
-use Rattle.std.specs.Prelude.{◌≡◌, ◌⊎◌, ℕ, ◌+◌, ◌-◌, ◌≤◌, ◌<◌, max, List, ◌++◌, length, take, drop, get_or, Option, IfSome}
+use Rattle.std.specs.Prelude.{◌≡◌, ◌⊎◌, ℕ, ◌+◌, ◌-◌, ◌≤◌, ◌<◌, max, min, List, ◌++◌, length, take, drop, get_or, Option, IfSome}
 use Rattle.std.specs.Option.{option_map}
+use Rattle.std.specs.Prelude.{Bool, true, false, Result, Err}
+use Rattle.doc_server_journal.specs.declared.fault.LoadError.{LoadError}
+use Rattle.doc_server_journal.specs.declared.fault.LoadError.TheVariants.{Failed}
 
 -- a known file has these bytes from there on
 abbrev pub Writes : Option (List ℕ) → ℕ → List ℕ → Option (List ℕ) → Type 0
@@ -13,16 +16,16 @@ CutsTo old len new = new ≡ option_map (λ file. take len file) old
 -- After a write that a crash cuts short. A byte is never torn: in the old file each is the one that was there or the one
 -- that was written. Behind its end any bytes may stand.
 pub record Torn (at : ℕ) (bytes old new : List ℕ) : Type 0 where
-  pub before : take at new ≡ take at old
+  pub before : take (length old) (take at new) ≡ take at old
   pub behind : drop (at + length bytes) new ≡ drop (at + length bytes) old
   pub no_shorter : length old ≤ length new
   pub no_longer : length new ≤ max (length old) (at + length bytes)
   pub each : (i : ℕ) → at ≤ i → i < at + length bytes → i < length old
       → (get_or new i 0 ≡ get_or old i 0) ⊎ (get_or new i 0 ≡ get_or bytes (i - at) 0)
 
--- after a cut that a crash may stop: some length between
+-- After a cut that a crash may stop: some length between. What a crash left shorter than that isn't cut.
 pub record Shortened (len : ℕ) (old new : List ℕ) : Type 0 where
-  pub no_shorter : len ≤ length new
+  pub no_shorter : min len (length old) ≤ length new
   pub front : new ≡ take (length new) old
 
 -- each outcome of a crash now is one from before, after this step
@@ -40,7 +43,8 @@ pub record Elapses (before now : ℕ) (past since : ℕ → List ℕ → Type 0)
   pub keeps : (t : ℕ) (c : List ℕ) → t ≤ before → past t c → since t c
 
 -- a crash at any moment since old leaves a file that has P
-pub record LeavesOnly {D : Type 0} (moment : D → ℕ) (left_since : D → ℕ → List ℕ → Type 0) (old new : D) (P : List ℕ → Type 0) : Type 0 where
+pub record LeavesOnly {D : Type 0} (moment : D → ℕ) (left_since : D → ℕ → List ℕ → Type 0) (old new : D) (P : List ℕ
+    → Type 0) : Type 0 where
   pub later : moment old ≤ moment new
   pub each : (c : List ℕ) → left_since new (moment old) c → P c
   -- for a run that began earlier
@@ -49,3 +53,8 @@ pub record LeavesOnly {D : Type 0} (moment : D → ℕ) (left_since : D → ℕ 
 -- what was there, or that after this step
 abbrev pub Stepped : (List ℕ → List ℕ → Type 0) → (List ℕ → Type 0) → List ℕ → Type 0
 Stepped step old c = old c ⊎ ((d : List ℕ) × old d × step d c)
+
+-- whether a reading failed by the device
+abbrev pub is_failed : Result (List ℕ) LoadError → Bool
+is_failed (Err Failed) = true
+is_failed result = false

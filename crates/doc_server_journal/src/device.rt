@@ -1,9 +1,11 @@
 //! A file as the journal uses it: what it holds, and what a crash may leave of it.
 
-ghost use Rattle.std.specs.Prelude.{◌≡◌, ◌≤◌, List, ℕ, Bool, false, Option, length, is_err, OnOk, IfSome};
-ghost use Rattle.doc_server_journal.specs.Devices.{Writes, CutsTo, Torn, Shortened, Follows, LeavesFile, Elapses};
+ghost use Rattle.std.specs.Prelude.{◌≡◌, ◌≤◌, ◌<◌, List, ℕ, Bool, false, Option, length, is_err, OnOk, IfOk, IsErrOf, IfSome};
+ghost use Rattle.doc_server_journal.specs.Devices.{Writes, CutsTo, Torn, Shortened, Follows, LeavesFile, Elapses, is_failed};
 
-use crate::fault::DeviceFault;
+use crate::fault::{DeviceFault, LoadError};
+use doc_heap::Heap;
+use doc_page::bytes::Bytes;
 
 /// A file, used until the first call of it that fails. Of a file of the system nothing is known: its bytes are `None`, and no
 /// outcome of a crash is named.
@@ -23,13 +25,27 @@ pub trait Device {
     /// Whether a call has failed.
     ghost failed: { Self → Bool };
 
+    /// All bytes of the file, where they are no more than `most`.
+    fn read_whole(&mut self, heap: Heap, most: usize) -> Result<Bytes, LoadError>
+        requires usable { failed self.old ≡ false }
+        ensures bytes { IfOk result (λ bytes. IfSome (seen self.old) (λ file. file ≡ bytes)) }
+        ensures most { IfOk result (λ bytes. length bytes ≤ most) }
+        ensures long { IsErrOf result LoadError.Long
+            → IfSome (seen self.old) (λ file. most < length file) }
+        ensures seen { seen self.new ≡ seen self.old }
+        ensures crash { (c : List ℕ) → may_leave self.new c → may_leave self.old c }
+        ensures time { Elapses (moment self.old) (moment self.new) (left_since self.old)
+            (left_since self.new) (may_leave self.new) }
+        ensures cause { failed self.new ≡ is_failed result };
+
     /// Writes over what is there, and past the end. Until a sync, a crash may leave a part of it.
     fn write_at(&mut self, at: usize, bytes: &[u8]) -> Result<(), DeviceFault>
         requires usable { failed self.old ≡ false }
         requires place { IfSome (seen self.old) (λ file. at ≤ length file) }
         ensures written { OnOk result (Writes (seen self.old) at bytes.now (seen self.new)) }
         ensures crash { Follows (Torn at bytes.now) (may_leave self.old) (may_leave self.new) }
-        ensures time { Elapses (moment self.old) (moment self.new) (left_since self.old) (left_since self.new) (may_leave self.new) }
+        ensures time { Elapses (moment self.old) (moment self.new) (left_since self.old)
+            (left_since self.new) (may_leave self.new) }
         ensures cause { failed self.new ≡ is_err result };
 
     /// Cuts the file to a length.
@@ -38,7 +54,8 @@ pub trait Device {
         requires place { IfSome (seen self.old) (λ file. len ≤ length file) }
         ensures cut { OnOk result (CutsTo (seen self.old) len (seen self.new)) }
         ensures crash { Follows (Shortened len) (may_leave self.old) (may_leave self.new) }
-        ensures time { Elapses (moment self.old) (moment self.new) (left_since self.old) (left_since self.new) (may_leave self.new) }
+        ensures time { Elapses (moment self.old) (moment self.new) (left_since self.old)
+            (left_since self.new) (may_leave self.new) }
         ensures cause { failed self.new ≡ is_err result };
 
     /// After it, a crash leaves the file as it is known.
@@ -47,12 +64,15 @@ pub trait Device {
         ensures durable { OnOk result (LeavesFile (seen self.old) (may_leave self.new)) }
         ensures seen { seen self.new ≡ seen self.old }
         ensures crash { (c : List ℕ) → may_leave self.new c → may_leave self.old c }
-        ensures time { Elapses (moment self.old) (moment self.new) (left_since self.old) (left_since self.new) (may_leave self.new) }
+        ensures time { Elapses (moment self.old) (moment self.new) (left_since self.old)
+            (left_since self.new) (may_leave self.new) }
         ensures cause { failed self.new ≡ is_err result };
 
     /// This moment is one of those since an earlier one.
-    ghost counts_now: { (file : Self) (t : ℕ) (c : List ℕ) → t ≤ moment file → may_leave file c → left_since file t c };
+    ghost counts_now: { (file : Self) (t : ℕ) (c : List ℕ)
+        → t ≤ moment file → may_leave file c → left_since file t c };
 
     /// Since this moment there is no other.
-    ghost only_now: { (file : Self) (c : List ℕ) → left_since file (moment file) c → may_leave file c };
+    ghost only_now: { (file : Self) (c : List ℕ)
+        → left_since file (moment file) c → may_leave file c };
 }

@@ -27,7 +27,8 @@ pub struct Journal<D: Device> {
 impl<D: Device> Journal<D> {
     /// Adds a record. At `Ok` it is on the disk, and each crash from then on leaves a journal that has it.
     pub fn append(&mut self, heap: Heap, text: &[u8]) -> Result<(), AppendError>
-        requires open { (texts : List (List ℕ)) × IsOpen D.seen D.may_leave D.failed self.old texts }
+        requires open { (texts : List (List ℕ))
+            × IsOpen D.seen D.may_leave D.failed self.old texts }
         requires within { length text.now ≤ text_limit }
         ensures acknowledged { (texts : List (List ℕ))
             → IsOpen D.seen D.may_leave D.failed self.old texts

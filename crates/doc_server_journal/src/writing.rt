@@ -1,10 +1,40 @@
-//! A change of a file, and a sync.
+//! A reading of a file, a sync, and a change with its sync.
 
-ghost use Rattle.std.specs.Prelude.{◌≡◌, ◌≤◌, List, ℕ, false, length, is_err, OnOk, IfSome};
-ghost use Rattle.doc_server_journal.specs.Devices.{Writes, CutsTo, Torn, Shortened, LeavesFile, LeavesOnly, Stepped};
+ghost use Rattle.std.specs.Prelude.{◌≡◌, ◌≤◌, ◌<◌, List, ℕ, false, length, is_err, OnOk, IfOk, IsErrOf, IfSome};
+ghost use Rattle.doc_server_journal.specs.Devices.{Writes, CutsTo, Torn, Shortened, LeavesFile, LeavesOnly, Stepped, is_failed};
 
 use crate::device::Device;
-use crate::fault::DeviceFault;
+use crate::fault::{DeviceFault, LoadError};
+use doc_heap::Heap;
+use doc_page::bytes::Bytes;
+
+/// Reads all bytes, `most` at most.
+pub fn load<D: Device>(device: &mut D, heap: Heap, most: usize) -> Result<Bytes, LoadError>
+    requires usable { D.failed device.old ≡ false }
+    ensures bytes { IfOk result (λ bytes. IfSome (D.seen device.old) (λ file. file ≡ bytes)) }
+    ensures most { IfOk result (λ bytes. length bytes ≤ most) }
+    ensures long { IsErrOf result LoadError.Long
+        → IfSome (D.seen device.old) (λ file. most < length file) }
+    ensures seen { D.seen device.new ≡ D.seen device.old }
+    ensures crash { (c : List ℕ) → D.may_leave device.new c → D.may_leave device.old c }
+    ensures any_moment { LeavesOnly D.moment D.left_since device.old device.new
+        (D.may_leave device.old) }
+    ensures cause { D.failed device.new ≡ is_failed result }
+{
+    device.read_whole(heap, most)
+}
+
+/// Syncs.
+pub fn sync<D: Device>(device: &mut D) -> Result<(), DeviceFault>
+    requires usable { D.failed device.old ≡ false }
+    ensures seen { D.seen device.new ≡ D.seen device.old }
+    ensures durable { OnOk result (LeavesFile (D.seen device.new) (D.may_leave device.new)) }
+    ensures any_moment { LeavesOnly D.moment D.left_since device.old device.new
+        (D.may_leave device.old) }
+    ensures cause { D.failed device.new ≡ is_err result }
+{
+    device.sync()
+}
 
 /// Writes bytes and syncs.
 pub fn write_and_sync<D: Device>(device: &mut D, at: usize, bytes: &[u8]) -> Result<(), DeviceFault>

@@ -27,8 +27,10 @@ pub returns-then-eq-clause-found : goal.returns-then-eq-clause-found
 unfolding text_limit
 returns-then-eq-clause-found c =
     let same = (slice_eq-Decides Decides-eqb _ _ _ c.eq.ensures).0 c.if-eq.true ∙ c.as_slice.ensures in (
-      is_front c.args.before.now c.args.bytes.now _ _ _ _ _ _ _ _ c.split_at.ensures.front c.split_at.ensures.back c.written_len-len.ensures.back
-          (omega (arith, c.if-len-gt-TEXT_LIMIT.false)) (omega (arith, c.if-behind-len.false)) c.split_at-2.ensures.front c.split_at-2.ensures.back
+      is_front c.args.before.now c.args.bytes.now _ _ _ _ _ _ _ _ c.split_at.ensures.front c.split_at.ensures.back
+          c.written_len-len.ensures.back
+          (omega (arith, c.if-len-gt-TEXT_LIMIT.false)) (omega (arith, c.if-behind-len.false)) c.split_at-2.ensures.front
+              c.split_at-2.ensures.back
           c.split_at-3.ensures.front c.split_at-3.ensures.back same c.digest_behind-digest.ensures,
       c.digest_behind-digest.ensures,
     )

@@ -1,0 +1,34 @@
+-- Opening a journal.
+use Rattle.std.specs.Prelude.{◌≡◌, ◌⊎◌, ◌<◌, ℕ, Bool, true, false, List, length, Option, IfSome}
+use Rattle.doc_server_journal.specs.Readings.{ReadsAs, IsDamaged}
+use Rattle.doc_server_journal.specs.declared.fault.LoadError.{LoadError}
+use Rattle.doc_server_journal.specs.declared.fault.LoadError.TheVariants as loads
+use Rattle.doc_server_journal.specs.declared.fault.ReadError.{ReadError}
+use Rattle.doc_server_journal.specs.declared.fault.ReadError.TheVariants as reads
+use Rattle.doc_server_journal.specs.declared.fault.OpenFault.{OpenFault}
+use Rattle.doc_server_journal.specs.declared.fault.OpenFault.TheVariants.{Damaged, Memory, Long, Failed}
+
+abbrev pub of_load : LoadError → OpenFault
+of_load loads.Memory = Memory
+of_load loads.Long = Long
+of_load loads.Failed = Failed
+
+abbrev pub of_reading : ReadError → OpenFault
+of_reading (reads.Damaged n) = Damaged n
+of_reading reads.Memory = Memory
+
+-- A crash may have left this before, or it reads as the records of these texts. Where a crash before left the file as it is
+-- known, and that reads as these records, all that a crash leaves does.
+abbrev pub WasLeftOrReads : (List ℕ → Type 0) → List (List ℕ) → List ℕ → Type 0
+WasLeftOrReads old texts c = old c ⊎ ReadsAs c texts
+
+-- the file and whether the device has failed, before and after a refusal
+abbrev pub IsUntouched : Option (List ℕ) → Option (List ℕ) → Bool → Type 0
+IsUntouched old new failed = (new ≡ old) × (failed ≡ false)
+
+-- why a journal of at most so many bytes isn't opened, and what its file is then
+abbrev pub IsRefused : ℕ → Option (List ℕ) → Option (List ℕ) → Bool → OpenFault → Type 0
+IsRefused most old new failed (Damaged n) = IfSome old (λ file. IsDamaged file n) × IsUntouched old new failed
+IsRefused most old new failed Memory = IsUntouched old new failed
+IsRefused most old new failed Long = IfSome old (λ file. most < length file) × IsUntouched old new failed
+IsRefused most old new failed Failed = failed ≡ true

@@ -1,0 +1,92 @@
+//! A journal opened.
+
+ghost use Rattle.std.specs.Prelude.{◌≡◌, ◌≢◌, List as Seq, ℕ, false, OnOk, IfOk, IfErr, IfSome};
+ghost use Rattle.doc_server_journal.specs.Journals.{IsOpen};
+ghost use Rattle.doc_server_journal.specs.Readings.{ReadsAs, IsFound};
+ghost use Rattle.doc_server_journal.specs.Records.{journal_bytes};
+ghost use Rattle.doc_server_journal.specs.Devices.{LeavesFile, LeavesOnly};
+ghost use Rattle.doc_server_journal.specs.Openings.{WasLeftOrReads, IsRefused};
+
+use crate::device::Device;
+use crate::fault::OpenFault;
+use crate::found::Found;
+use crate::journal::Journal;
+use crate::reading::read;
+use crate::repair::repair;
+use crate::writing::load;
+use doc_heap::Heap;
+use doc_page::bytes::Bytes;
+use doc_page::list::List;
+
+/// A journal that was opened, and the texts of its records in their order.
+#[derive(Drop)]
+pub struct Opened<D: Device> {
+    pub journal: Journal<D>,
+    pub texts: List<Bytes>,
+}
+
+/// Why a journal wasn't opened, and its device.
+#[derive(Drop)]
+pub struct Refused<D: Device> {
+    pub fault: OpenFault,
+    pub device: D,
+}
+
+impl<D: Device> Journal<D> {
+    /// Opens the journal of a file, of at most `most` bytes. A torn last record is cut off; an empty file becomes an empty journal.
+    pub fn open(heap: Heap, device: D, most: usize) -> Result<Opened<D>, Refused<D>>
+        requires usable { D.failed device ≡ false }
+        ensures opened { IfOk result (λ o. IsOpen D.seen D.may_leave D.failed o.journal o.texts) }
+        ensures texts { IfOk result (λ o. IfSome (D.seen device) (λ file. ReadsAs file o.texts)) }
+        ensures refused { IfErr result (λ r. IsRefused most (D.seen device) (D.seen r.device)
+            (D.failed r.device) r.fault) }
+        ensures any_moment { IfOk result (λ o. (texts : Seq (Seq ℕ))
+            → IfSome (D.seen device) (λ file. ReadsAs file texts → LeavesOnly D.moment D.left_since
+            device o.journal.device (WasLeftOrReads (D.may_leave device) texts))) }
+        ensures any_moment_refused { IfErr result (λ r. (texts : Seq (Seq ℕ))
+            → IfSome (D.seen device) (λ file. ReadsAs file texts → LeavesOnly D.moment D.left_since
+            device r.device (WasLeftOrReads (D.may_leave device) texts))) }
+        ensures untouched { IfErr result (λ r. r.fault ≢ OpenFault.Failed
+            → LeavesOnly D.moment D.left_since device r.device (D.may_leave device)) }
+    {
+        let mut device = device;
+        match recover(heap, &mut device, most) {
+            Ok(found) => {
+                let end = found.end;
+                let digest = found.digest;
+                Ok(Opened {
+                    journal: Journal {
+                        device,
+                        end,
+                        digest,
+                    },
+                    texts: found.texts,
+                })
+            }
+            Err(fault) => Err(Refused { fault, device }),
+        }
+    }
+}
+
+/// Reads a journal and puts its end right.
+fn recover<D: Device>(heap: Heap, device: &mut D, most: usize) -> Result<Found, OpenFault>
+    requires usable { D.failed device.old ≡ false }
+    ensures found { IfOk result (λ found. (bytes : Seq ℕ) × IsFound bytes found
+        × IfSome (D.seen device.old) (λ file. file ≡ bytes)) }
+    ensures file { IfOk result (λ found.
+        IfSome (D.seen device.new) (λ file. file ≡ journal_bytes found.texts)) }
+    ensures durable { OnOk result (LeavesFile (D.seen device.new) (D.may_leave device.new)) }
+    ensures usable { OnOk result (D.failed device.new ≡ false) }
+    ensures refused { IfErr result (λ e. IsRefused most (D.seen device.old) (D.seen device.new)
+        (D.failed device.new) e) }
+    ensures any_moment { (texts : Seq (Seq ℕ))
+        → IfSome (D.seen device.old) (λ file. ReadsAs file texts → LeavesOnly D.moment D.left_since
+        device.old device.new (WasLeftOrReads (D.may_leave device.old) texts)) }
+    ensures untouched { IfErr result (λ e. e ≢ OpenFault.Failed
+        → LeavesOnly D.moment D.left_since device.old device.new (D.may_leave device.old)) }
+{
+    let bytes = load(device, heap, most)?;
+    let found = read(heap, bytes.get())?;
+    repair(device, bytes.get(), &found)?;
+    Ok(found)
+}
