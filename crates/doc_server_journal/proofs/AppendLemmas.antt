@@ -25,7 +25,7 @@ module _ {D : Type 0} (seen : D → Option (List ℕ)) (may_leave : D → List �
   pub nothing : IfSome (seen device) (λ file. LeavesOnly moment left_since device device After)
   nothing = if_known (seen device) (λ file. LeavesOnly moment left_since device device After) (λ file known_is.
       started moment left_since device After (λ c left. rest_reads texts text is.within fits c
-          (here file known_is c (only_now device c left))))
+      (here file known_is c (only_now device c left))))
 
   module _ (bytes_are : bytes ≡ record_bytes digest text ++ 0 ∷ []) where
     bytes_written : bytes ≡ written texts text is.within fits
@@ -40,7 +40,7 @@ module _ {D : Type 0} (seen : D → Option (List ℕ)) (may_leave : D → List �
           step c (inr (d, left, torn)) =
               first_torn texts text is.within fits end is.end c
               (subst (λ b. Torn (end + 1) b (journal_bytes texts) c) bytes_written
-                  (subst (λ f. Torn (end + 1) bytes f c) (here file known_is d left) torn))
+              (subst (λ f. Torn (end + 1) bytes f c) (here file known_is d left) torn))
 
       pub after_first : IfSome (seen device) (λ file. LeavesOnly moment left_since device mid After)
       after_first = if_known (seen device) (λ file. LeavesOnly moment left_since device mid After) first
@@ -57,28 +57,28 @@ module _ {D : Type 0} (seen : D → Option (List ℕ)) (may_leave : D → List �
         mid_is : (file : List ℕ) → seen device ≡ Some file → seen mid ≡ Some (staged texts text is.within fits)
         mid_is file known_is =
             writes ∙ ap (λ o. option_map (λ f. take (end + 1) f ++ bytes ++ drop (end + 1 + length bytes) f) o) known_is
-                ∙ ap Some (laid file known_is)
+            ∙ ap Some (laid file known_is)
 
         pub place : IfSome (seen mid) (λ file. end ≤ length file)
         place =
             let fills : (file : List ℕ) → seen device ≡ Some file
-                → end ≤ length (take (end + 1) file ++ bytes ++ drop (end + 1 + length bytes) file) = λ file known_is.
+            → end ≤ length (take (end + 1) file ++ bytes ++ drop (end + 1 + length bytes) file) = λ file known_is.
             omega (arith, ap length (laid file known_is), length_staged texts text is.within fits end is.end) in
             subst (λ o. IfSome o (λ file. end ≤ length file)) (sym writes)
             (if_mapped (λ file. take (end + 1) file ++ bytes ++ drop (end + 1 + length bytes) file) (seen device)
-                (λ file. end ≤ length file) fills)
+            (λ file. end ≤ length file) fills)
 
         module _ (durable : LeavesFile (seen mid) (may_leave mid)) (new : D)
             (opening : LeavesOnly moment left_since mid new (Stepped (Torn end (1 ∷ [])) (may_leave mid))) where
           second : (file : List ℕ) → seen device ≡ Some file → LeavesOnly moment left_since device new After
           second file known_is =
               goes_on moment left_since device mid new After (first file known_is)
-                  (weaker moment left_since mid new (Stepped (Torn end (1 ∷ [])) (may_leave mid)) After opening step)
+              (weaker moment left_since mid new (Stepped (Torn end (1 ∷ [])) (may_leave mid)) After opening step)
             where
               there : (c : List ℕ) → may_leave mid c → c ≡ staged texts text is.within fits
               there c left =
                   known (seen mid) (staged texts text is.within fits) (λ f. (c : List ℕ) → may_leave mid c → c ≡ f)
-                      (mid_is file known_is) durable c left
+                  (mid_is file known_is) durable c left
 
               step : (c : List ℕ) → Stepped (Torn end (1 ∷ [])) (may_leave mid) c → After c
               step c (inl left) = staged_reads texts text is.within fits c (there c left)
@@ -104,7 +104,7 @@ module _ {D : Type 0} (seen : D → Option (List ℕ)) (may_leave : D → List �
                 by_old None none =
                     let gone : seen new ≡ None = writes_gate
                     ∙ ap (λ o. option_map (λ f. take end f ++ (1 ∷ []) ++ drop (end + 1) f) o) (writes
-                        ∙ ap (λ o. option_map (λ f. take (end + 1) f ++ bytes ++ drop (end + 1 + length bytes) f) o) none) in
+                    ∙ ap (λ o. option_map (λ f. take (end + 1) f ++ bytes ++ drop (end + 1 + length bytes) f) o) none) in
                     subst (λ o. IfSome o (λ file. file ≡ journal_bytes (texts ++ text ∷ []))) (sym gone) tt
                 by_old (Some file) known_is =
                     subst (λ o. IfSome o (λ file. file ≡ journal_bytes (texts ++ text ∷ []))) (sym (opened_is file known_is)) refl

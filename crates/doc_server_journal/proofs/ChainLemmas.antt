@@ -42,10 +42,10 @@ pub chain_unique : (before : List ℕ) (ts us : List (List ℕ)) (x y : List ℕ
 chain_unique before [] [] x y all others same no_x no_y = (refl, same)
 chain_unique before [] (u ∷ us) x y all others same no_x no_y =
     absurd (no_x ((record_bytes before u ++ chain (digest_behind before u) us) ++ y) same u (chain (digest_behind before u) us ++ y)
-        (head_record before u us y others.0))
+    (head_record before u us y others.0))
 chain_unique before (t ∷ ts) [] x y all others same no_x no_y =
     absurd (no_y ((record_bytes before t ++ chain (digest_behind before t) ts) ++ x) (sym same) t (chain (digest_behind before t) ts ++ x)
-        (head_record before t ts x all.0))
+    (head_record before t ts x all.0))
 chain_unique before (t ∷ ts) (u ∷ us) x y all others same no_x no_y =
     let left = (record_bytes before t ++ chain (digest_behind before t) ts) ++ x in
     let right = (record_bytes before u ++ chain (digest_behind before u) us) ++ y in

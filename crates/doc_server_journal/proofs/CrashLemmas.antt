@@ -62,8 +62,14 @@ module _ (texts : List (List ℕ)) (text : List ℕ) (all : AreWithin texts) (fi
       → IsRecord (last_digest seed texts) other tail rest
       → (other ≡ text) ⊎ (other ≡ text → ⊥) → IsBeforeOrAfter texts text c
   by_text c tail other rest is short found (inl same) =
-      let brief : length rest ≤ 1 = omega (arith, short, length_written, ap length same, long_enough
-          (last_digest seed texts) tail other rest found) in
+      let brief : length rest ≤ 1 = omega (
+        arith,
+        short,
+        length_written,
+        ap length same,
+        long_enough
+            (last_digest seed texts) tail other rest found,
+      ) in
       inl (reads_before c tail is (inl (other, rest, found, brief)))
   by_text c tail other rest is short found (inr differs) =
       inr (inr (record { other = other; tail = tail; rest = rest; split = is; is_record = found; differs = differs }))
@@ -86,7 +92,7 @@ module _ (texts : List (List ℕ)) (text : List ℕ) (all : AreWithin texts) (fi
         sym (take-append-drop (end + 1) c)
         ∙ ap (λ l. l ++ tail)
         (before_all (end + 1) written (journal_bytes texts) c (omega (arith, length_rest)) torn
-            ∙ take_all (end + 1) (journal_bytes texts) (omega (arith, length_rest)))
+        ∙ take_all (end + 1) (journal_bytes texts) (omega (arith, length_rest)))
         ∙ append_assoc front (0 ∷ []) tail in
         by_front c tail whole (omega (arith, length-drop (end + 1) c, length_rest, torn.no_longer)) (begins (last_digest seed texts) tail)
 
@@ -94,9 +100,9 @@ module _ (texts : List (List ℕ)) (text : List ℕ) (all : AreWithin texts) (fi
     pub first_done : take (end + 1) (journal_bytes texts) ++ written ++ drop (end + 1 + length written) (journal_bytes texts) ≡ staged
     first_done =
         ap (λ l. l ++ written ++ drop (end + 1 + length written) (journal_bytes texts))
-            (take_all (end + 1) (journal_bytes texts) (omega (arith, length_rest)))
+        (take_all (end + 1) (journal_bytes texts) (omega (arith, length_rest)))
         ∙ ap (λ l. journal_bytes texts ++ written ++ l) (drop_all (end + 1 + length written) (journal_bytes texts)
-            (omega (arith, length_rest)))
+        (omega (arith, length_rest)))
         ∙ append-nil (journal_bytes texts ++ written)
         ∙ append_assoc front (0 ∷ []) written
 
@@ -127,7 +133,7 @@ module _ (texts : List (List ℕ)) (text : List ℕ) (all : AreWithin texts) (fi
         drop_more c end 0 (omega (arith, torn.no_shorter, length_staged)) ∙ ap (λ (l : List ℕ). gate ∷ l) (torn.behind ∙ behind_part) in
         let whole : c ≡ front ++ (gate ∷ written) =
         sym (take-append-drop end c) ∙ ap (λ l. l ++ drop end c) (before_all end open_gate staged c (omega (arith, length_staged)) torn
-            ∙ front_part) ∙ ap (λ l. front ++ l) rest in
+        ∙ front_part) ∙ ap (λ l. front ++ l) rest in
         by_gate gate whole (torn.each end (omega arith) (omega arith) (omega (arith, length_staged)))
       where
         first_byte : (k : ℕ) → k ≡ 0 → get_or open_gate k 0 ≡ 1

@@ -36,7 +36,7 @@ module _ (before bytes : List ℕ) where
 
   by_digest : to_le_bytes w32 len ≡ head → len ≤ text_limit → len + 32 ≤ length behind
       → (take 32 after ≡ digest_behind before (take len behind)) ⊎ (take 32 after ≡ digest_behind before (take len behind) → ⊥)
-          → Begins before bytes
+      → Begins before bytes
   by_digest written fits fills (inl same) = inl (
     take len behind,
     drop 32 after,
@@ -46,12 +46,17 @@ module _ (before bytes : List ℕ) where
   )
   by_digest written fits fills (inr other) =
       inr (λ t r is. other (right_digest before bytes t r is head behind refl refl (take len behind) after (take 32 after)
-          (digest_behind before (take len behind)) len refl refl refl refl refl))
+      (digest_behind before (take len behind)) len refl refl refl refl refl))
 
   by_room : to_le_bytes w32 len ≡ head → len ≤ text_limit → (length behind < len + 32) ⊎ (len + 32 ≤ length behind) → Begins before bytes
   by_room written fits (inl short) =
-      inr (λ t r is. omega (arith, short, len_is before bytes t r is head behind refl refl len refl, room before bytes t r is head behind
-          refl refl))
+      inr (λ t r is. omega (
+        arith,
+        short,
+        len_is before bytes t r is head behind refl refl len refl,
+        room before bytes t r is head behind
+            refl refl,
+      ))
   by_room written fits (inr fills) = by_digest written fits fills (same_or_not (take 32 after) (digest_behind before (take len behind)))
 
   by_limit : to_le_bytes w32 len ≡ head → (text_limit < len) ⊎ (len ≤ text_limit) → Begins before bytes

@@ -13,13 +13,13 @@ length_of text len same = ap (λ n. to_le_bytes w32 n) same
 pub is_front : (before bytes head behind text after written rest digest : List ℕ) (len : ℕ) → head ≡ take 4 bytes → behind ≡ drop 4 bytes
     → to_le_bytes w32 len ≡ head → len ≤ text_limit → len + 32 ≤ length behind → text ≡ take len behind → after ≡ drop len behind
     → written ≡ take 32 after → rest ≡ drop 32 after → written ≡ digest → digest ≡ digest_behind before text
-        → IsRecord before text bytes rest
+    → IsRecord before text bytes rest
 is_front before bytes head behind text after written rest digest len head_is behind_is len_is fits room text_is after_is written_is
     rest_is same
     digest_is =
     let long : length text ≡ len = omega (arith, ap length text_is, length-take len behind) in
     let first : bytes ≡ head ++ behind = sym (take-append-drop 4 bytes) ∙ ap (λ l. l ++ drop 4 bytes) (sym head_is)
-        ∙ ap (λ l. head ++ l) (sym behind_is) in
+    ∙ ap (λ l. head ++ l) (sym behind_is) in
     let second : behind ≡ text ++ after =
     sym (take-append-drop len behind) ∙ ap (λ l. l ++ drop len behind) (sym text_is) ∙ ap (λ l. text ++ l) (sym after_is) in
     let third : after ≡ written ++ rest =

@@ -22,7 +22,7 @@ none_of bytes texts rest are short = short_chain seed texts rest (omega (arith, 
 pub reads_one_way : ReadsOneWay
 reads_one_way bytes texts others (inl (x, are, end)) (inl (y, these, ends)) =
     (chain_unique seed texts others x y are.within these.within (sym are.split ∙ these.split) (end_not_open _ x end)
-        (end_not_open _ y ends)).0
+    (end_not_open _ y ends)).0
 reads_one_way bytes texts others (inl (x, are, end)) (inr (short, none)) = none_of bytes texts x are short ∙ sym none
 reads_one_way bytes texts others (inr (short, none)) (inl (y, these, ends)) = none ∙ sym (none_of bytes others y these short)
 reads_one_way bytes texts others (inr (short, none)) (inr (brief, nothing)) = none ∙ sym nothing

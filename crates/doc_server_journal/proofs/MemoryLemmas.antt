@@ -44,8 +44,13 @@ module _ (first : List ℕ) (changes : List Change) where
     on = record {
       later = omega (arith, size);
       nothing_else = λ t c le left. by_place t left.0 c left.1 left.2 left.3 (cases_lt (length changes) left.0);
-      keeps = λ t c le left. (left.0, left.1, omega (arith, left.2, size), subst (λ l. Leaves first l c)
-          (sym (front left.0 left.2)) left.3);
+      keeps = λ t c le left. (
+        left.0,
+        left.1,
+        omega (arith, left.2, size),
+        subst (λ l. Leaves first l c)
+            (sym (front left.0 left.2)) left.3,
+      );
     }
 
     pub more_time : (now : List Change) → now ≡ changes ++ change ∷ []
@@ -87,7 +92,7 @@ module _ (first : List ℕ) (changes : List Change) where
         → Elapses (length changes) (length now) (LeftSince first changes) (LeftSince later now) (Leaves later now)
     noted_time change noted =
         subst (λ f. Elapses (length changes) (length now) (LeftSince first changes) (LeftSince f now) (Leaves f now)) (sym same)
-            (step_time change now noted)
+        (step_time change now noted)
 
     pub settled : (file : List ℕ) → now ≡ changes ++ Sync file ∷ [] → (c : List ℕ) → Leaves later now c → Leaves first changes c
         × (c ≡ file)

@@ -63,7 +63,7 @@ module _ {D : Type 0} (seen : D → Option (List ℕ)) (may_leave : D → List �
       texts_of : (file : List ℕ) → seen old ≡ Some file → ReadsAs file texts → texts ≡ found.texts
       texts_of file is reads =
           reads_one_way bytes texts found.texts (subst (λ f. ReadsAs f texts) (known (seen old) file (λ f. f ≡ bytes) is known_is) reads)
-              found_is.reads
+          found_is.reads
 
       pub repaired : IfSome (seen mid) (λ file. LeavesOnly moment left_since mid new (WasLeftOrReads (may_leave mid) found.texts))
           → IfSome (seen old) (λ file. ReadsAs file texts → LeavesOnly moment left_since old new After)
@@ -71,19 +71,19 @@ module _ {D : Type 0} (seen : D → Option (List ℕ)) (may_leave : D → List �
           goes_on moment left_since old mid new After
           (weaker moment left_since old mid (may_leave old) After loaded (λ c left. inl left))
           (weaker moment left_since mid new (WasLeftOrReads (may_leave mid) found.texts) After (run_of run file is)
-              (on (texts_of file is reads))))
+          (on (texts_of file is reads))))
 
 -- the texts are those of the file
 pub its_texts : (old : Option (List ℕ)) (bytes : List ℕ) (found : Found) → IsFound bytes found → IfSome old (λ file. file ≡ bytes)
     → IfSome old (λ file. ReadsAs file found.texts)
 its_texts old bytes found is known_is =
     if_known old (λ file. ReadsAs file found.texts) (λ file there. subst (λ f. ReadsAs f found.texts)
-        (sym (known old file (λ f. f ≡ bytes) there known_is)) is.reads)
+    (sym (known old file (λ f. f ≡ bytes) there known_is)) is.reads)
 
 pub is_open : {D : Type 0} (seen : D → Option (List ℕ)) (may_leave : D → List ℕ → Type 0) (failed : D → Bool) (device : D)
     (bytes : List ℕ) (found : Found)
     → IsFound bytes found → IfSome (seen device) (λ file. file ≡ journal_bytes found.texts) → LeavesFile (seen device) (may_leave device)
-        → failed device ≡ false
+    → failed device ≡ false
     → IsOpen seen may_leave failed (record { device = device; end = found.end; digest = found.digest }) found.texts
 is_open seen may_leave failed device bytes found is file durable usable = record {
   file = file;

@@ -21,7 +21,7 @@ one_more bytes texts digest text rest behind are digest_is (inner, is_open, is) 
       within = within_push texts text are.within is.within;
       split = are.split
           ∙ ap (λ l. chain seed texts ++ l) (is_open ∙ ap (λ (l : List ℕ). 1 ∷ l) (is.split
-              ∙ ap (λ d. record_bytes d text ++ behind) digest_is))
+          ∙ ap (λ d. record_bytes d text ++ behind) digest_is))
           ∙ sym (chain_push seed texts text behind);
     }
 
@@ -44,7 +44,7 @@ going_on bytes texts news digest next text rest behind are digest_is count found
     let counted : length (texts ++ text ∷ []) + length behind ≤ length bytes =
     omega (arith, count, fewer, length-append texts (text ∷ [])) in
     subst (λ ts. AreRecords bytes ts behind × (next ≡ last_digest seed ts) × (length ts + length behind ≤ length bytes)) (sym news_is)
-        (more, last, counted)
+    (more, last, counted)
 
 -- a reading that comes to an end
 pub found : (bytes : List ℕ) (texts : List (List ℕ)) (rest digest : List ℕ) (end : ℕ) → AreRecords bytes texts rest

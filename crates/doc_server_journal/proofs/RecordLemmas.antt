@@ -69,5 +69,5 @@ record_unique before bytes t u r s x y =
     let len : length t ≡ length u = sym (written_length t x.within) ∙ ap (λ l. from_le_bytes w32 l) heads.0 ∙ written_length u y.within in
     let texts = parts t u (digest_behind before t ++ r) (digest_behind before u ++ s) len heads.1 in
     let digests = parts (digest_behind before t) (digest_behind before u) r s (length_digest_behind before t
-        ∙ sym (length_digest_behind before u)) texts.1 in
+    ∙ sym (length_digest_behind before u)) texts.1 in
     (texts.0, digests.1)

@@ -93,14 +93,17 @@ module _ (bytes : List ℕ) (texts : List (List ℕ)) (reads : ReadsAs bytes tex
       ∙ ap (λ k. take k (journal_bytes texts ++ it.tail)) size
       ∙ take-append-add (journal_bytes texts) it.tail n
       ∙ append_assoc (chain seed texts) (0 ∷ []) (take n it.tail) in
-      inl (0 ∷ take n it.tail, record { within = it.within; split = whole },
-          (take n it.tail, refl, front_of_tail (last_digest seed texts) it.tail n it.is_tail))
+      inl (
+        0 ∷ take n it.tail,
+        record { within = it.within; split = whole },
+        (take n it.tail, refl, front_of_tail (last_digest seed texts) it.tail n it.is_tail),
+      )
 
 -- a sync, and then a change
 module _ {D : Type 0} (seen : D → Option (List ℕ)) (may_leave : D → List ℕ → Type 0) (moment : D → ℕ) (left_since : D → ℕ → List ℕ
     → Type 0) (old mid new : D)
     (bytes : List ℕ) (texts : List (List ℕ)) (reads : ReadsAs bytes texts) (known_is : IfSome (seen old) (λ file. file ≡ bytes))
-        (same : seen mid ≡ seen old) where
+    (same : seen mid ≡ seen old) where
   file_is : (file : List ℕ) → seen old ≡ Some file → file ≡ bytes
   file_is file is = known (seen old) file (λ f. f ≡ bytes) is known_is
 

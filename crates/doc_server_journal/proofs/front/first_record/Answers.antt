@@ -30,7 +30,7 @@ returns-then-eq-clause-found c =
       is_front c.args.before.now c.args.bytes.now _ _ _ _ _ _ _ _ c.split_at.ensures.front c.split_at.ensures.back
           c.written_len-len.ensures.back
           (omega (arith, c.if-len-gt-TEXT_LIMIT.false)) (omega (arith, c.if-behind-len.false)) c.split_at-2.ensures.front
-              c.split_at-2.ensures.back
+          c.split_at-2.ensures.back
           c.split_at-3.ensures.front c.split_at-3.ensures.back same c.digest_behind-digest.ensures,
       c.digest_behind-digest.ensures,
     )
