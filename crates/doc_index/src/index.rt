@@ -104,7 +104,8 @@ impl<T> Index<T> {
 
     /// The page under a path and a stamp.
     fn page(&self, path: &Path, stamp: u64) -> Option<&Held<T>>
-        ensures { option_map known (option_copied result) ≡ map.get (held self.now) (path.now, stamp) }
+        ensures { option_map known (option_copied result)
+            ≡ map.get (held self.now) (path.now, stamp) }
     {
         let Some(slot) = self.places.get(path.text(), stamp) else {
             return None;
@@ -174,7 +175,8 @@ impl<T> Index<T> {
 
     /// A copy of the counts of the page under a path and a stamp: none where no page is.
     fn counts_of(&self, path: &Path, stamp: u64) -> Result<Counts, Memory>
-        ensures { IfOk result (λ counts. counts ≡ counts_of (map.get (held self.now) (path.now, stamp))) }
+        ensures { IfOk result
+            (λ counts. counts ≡ counts_of (map.get (held self.now) (path.now, stamp))) }
     {
         let Some(page) = self.page(path, stamp) else {
             return Ok(Counts::none(self.heap));
@@ -243,7 +245,8 @@ fn place<T>(
     slot: u64,
 ) -> Result<(), Memory>
     requires { (text : Seq ℕ) → number_at postings.old text slot ≡ None }
-    ensures places { OnOk result (places.new ≡ with_number places.old page.now.path page.now.stamp slot) }
+    ensures places { OnOk result
+        (places.new ≡ with_number places.old page.now.path page.now.stamp slot) }
     ensures postings { OnOk result (HasCounts page.now.counts slot postings.old postings.new) }
     ensures places_err { OnErr result (places.new ≡ places.old) }
     ensures postings_err { OnErr result (HasSame postings.old postings.new) }

@@ -14,7 +14,7 @@ pub fn is_token(bytes: &[u8]) -> bool
     start > 0 && is_padding(&bytes[start..])
 }
 
-// How many bytes stand before the padding.
+/// How many bytes stand before the padding.
 fn token_bytes(bytes: &[u8]) -> usize
     ensures count { result ≡ prefix_len token_byte_test bytes.now }
     ensures within { result ≤ length bytes.now }

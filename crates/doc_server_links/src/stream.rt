@@ -34,7 +34,7 @@ pub trait Stream {
         ensures stalls { stalls self.new ≡ stalls self.old }
         ensures count { failed self.new ≡ failures_after (failed self.old) result };
 
-    /// Writes some of the bytes, from the front, and answers how many. A write that fails takes nothing.
+    /// Writes some of the bytes, from the front, and answers how many. A failed write takes none.
     fn write(&mut self, buf: &[u8]) -> Result<usize, StreamFault>
         requires { failed self.old ≡ 0 }
         ensures bound { WritesAtMost result buf.now }

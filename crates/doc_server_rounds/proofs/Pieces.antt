@@ -215,7 +215,8 @@ module _ (render : Renders) (w v u : World) (p q : Peer) (id : ConnId) (said : B
       (inr (inr (inr (subst (IsShut w) own (step_finds_none render w v id h)))))
 
   -- its input has ended, or its stream moves no byte
-  end_why : IsDry q.unread q.stalls → HasFault q.failed q.stalls ⊎ ((IsAtEnd q.unread × IsMore (outcomes.Stepped steps.More)) ⊎ IsShut w p.id)
+  end_why : IsDry q.unread q.stalls → HasFault q.failed q.stalls
+      ⊎ ((IsAtEnd q.unread × IsMore (outcomes.Stepped steps.More)) ⊎ IsShut w p.id)
   end_why (inl dry) = inr (inl (dry, tt))
   end_why (inr stalls) = inl (inr stalls)
 

@@ -49,11 +49,14 @@ space_back rest = refl
 byte_back : (b : ℕ) (rest : List ℕ) → b < 256 → unescaped (escaped_byte b ++ rest) ≡ in_front (Some b) (unescaped rest)
 byte_back b rest small =
     elim (cases_Bool (b == 13)) [
-      | inl is ↦ let e : b ≡ 13 = grind (arith, nat_tests) in subst (λ x. unescaped (escaped_byte x ++ rest) ≡ in_front (Some x) (unescaped rest)) (sym e) (letter_r rest)
+      | inl is ↦ let e : b ≡ 13 = grind (arith, nat_tests) in subst
+          (λ x. unescaped (escaped_byte x ++ rest) ≡ in_front (Some x) (unescaped rest)) (sym e) (letter_r rest)
       | inr r ↦ elim (cases_Bool (b == 10)) [
-        | inl is ↦ let e : b ≡ 10 = grind (arith, nat_tests) in subst (λ x. unescaped (escaped_byte x ++ rest) ≡ in_front (Some x) (unescaped rest)) (sym e) (letter_n rest)
+        | inl is ↦ let e : b ≡ 10 = grind (arith, nat_tests) in subst
+            (λ x. unescaped (escaped_byte x ++ rest) ≡ in_front (Some x) (unescaped rest)) (sym e) (letter_n rest)
         | inr n ↦ elim (cases_Bool (b == 92)) [
-          | inl is ↦ let e : b ≡ 92 = grind (arith, nat_tests) in subst (λ x. unescaped (escaped_byte x ++ rest) ≡ in_front (Some x) (unescaped rest)) (sym e) (backslash rest)
+          | inl is ↦ let e : b ≡ 92 = grind (arith, nat_tests) in subst
+              (λ x. unescaped (escaped_byte x ++ rest) ≡ in_front (Some x) (unescaped rest)) (sym e) (backslash rest)
           | inr other ↦ elim (cases_Bool (is_printable b)) [
             | inl is ↦ rw (r, n, other, is) (plain_back b rest other)
             | inr is ↦ rw (r, n, other, is) (numbered_back b rest small)
@@ -65,7 +68,8 @@ byte_back b rest small =
 spaceless_back : (b : ℕ) (rest : List ℕ) → b < 256 → unescaped (spaceless_byte b ++ rest) ≡ in_front (Some b) (unescaped rest)
 spaceless_back b rest small =
     elim (cases_Bool (b == 32)) [
-      | inl is ↦ let e : b ≡ 32 = grind (arith, nat_tests) in subst (λ x. unescaped (spaceless_byte x ++ rest) ≡ in_front (Some x) (unescaped rest)) (sym e) (space_back rest)
+      | inl is ↦ let e : b ≡ 32 = grind (arith, nat_tests) in subst
+          (λ x. unescaped (spaceless_byte x ++ rest) ≡ in_front (Some x) (unescaped rest)) (sym e) (space_back rest)
       | inr other ↦ ap (λ t. unescaped (cond t (codes "\\x20") (escaped_byte b) ++ rest)) other ∙ byte_back b rest small
     ]
 

@@ -64,7 +64,8 @@ is_comma b = b == 44
 -- what the bytes of a name are not
 no_comma : (b : ℕ) → is_group_byte b ≡ true → is_comma b ≡ false
 no_comma b is = elim (cases_Bool (b == 44)) [
-  | inl e ↦ let same : b ≡ 44 = grind (arith, nat_tests) in let other : is_group_byte 44 ≡ true = sym (ap is_group_byte same) ∙ is in absurd (cc)
+  | inl e ↦ let same : b ≡ 44 = grind (arith, nat_tests) in let other : is_group_byte 44 ≡ true = sym (ap is_group_byte same)
+      ∙ is in absurd (cc)
   | inr e ↦ e
 ]
 

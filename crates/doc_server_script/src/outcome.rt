@@ -18,7 +18,8 @@ use std::fmt::Write;
 /// `conn N`, `ok`, `sent BYTES`, `last BYTES`, `more`, `closed`, `true`, `false`, `created`, `replaced`, `moved`, `added`, or
 /// `refused NAME`.
 pub fn push_outcome(out: &mut String, outcome: &Outcome) -> Result<(), Memory>
-    ensures { OnOk result (string_bytes out.new ≡ string_bytes out.old ++ outcome_line outcome.now) }
+    ensures { OnOk result
+        (string_bytes out.new ≡ string_bytes out.old ++ outcome_line outcome.now) }
 {
     match outcome {
         Outcome::Conn(id) => push_connection(out, *id),
@@ -70,7 +71,8 @@ fn push_reply(out: &mut String, word: &str, bytes: &[u8]) -> Result<(), Memory>
 
 fn push_refusal(out: &mut String, refusal: Refusal) -> Result<(), Memory>
     ensures { OnOk result
-        (string_bytes out.new ≡ string_bytes out.old ++ (codes "refused " ++ refusal_name refusal)) }
+        (string_bytes out.new ≡ string_bytes out.old
+        ++ (codes "refused " ++ refusal_name refusal)) }
 {
     push_word(out, "refused ")?;
     push_word(out, refusal_name(refusal))

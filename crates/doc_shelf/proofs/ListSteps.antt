@@ -39,12 +39,14 @@ nothing page e = cc
 found_in : (render : Renders) (path : List ℕ) (page : Page) (pages : List (List ℕ × Page)) → page_at pages path ≡ Some page
     → is_some (page_with_links (linked render path page pages) path) ≡ true
 found_in render path page [] there = absurd (nothing page there)
-found_in render path page (first ∷ pages) there = by (bytes_eq first.0 path) (bytes_eq path first.0) refl refl there (found_in render path page pages)
+found_in render path page (first ∷ pages) there = by (bytes_eq first.0 path) (bytes_eq path first.0) refl refl there
+    (found_in render path page pages)
   where
     by : (b c : Bool) → bytes_eq first.0 path ≡ b → bytes_eq path first.0 ≡ c
         → (if c then Some first.1 else page_at pages path) ≡ Some page
         → (page_at pages path ≡ Some page → is_some (page_with_links (linked render path page pages) path) ≡ true)
-        → is_some (if b then Some (first.0, links_in first.0 (render first.1.text)) else page_with_links (linked render path page pages) path)
+        → is_some (if b then Some (first.0, links_in first.0 (render first.1.text)) else page_with_links (linked render path page pages)
+            path)
         ≡ true
     by true c same other e rest = refl
     by false false same other e rest = rest e

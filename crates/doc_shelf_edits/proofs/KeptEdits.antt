@@ -59,7 +59,8 @@ module _ (render : Renders) (store : StoreState) (is : IsStore store) where
   made : (kept : Kept) (path text : List ℕ) (groups : List (List ℕ)) → IsBeingPut render store path text kept
       → IsKept render (with_page store path (record { groups = groups; text = text })) (let_go kept path (map.get store.stamps path))
   made kept path text groups put =
-      subst (λ k. IsKept render (with_page store path (record { groups = groups; text = text })) (let_go k path (map.get store.stamps path)))
+      subst (λ k. IsKept render (with_page store path (record { groups = groups; text = text }))
+          (let_go k path (map.get store.stamps path)))
       (sym put.added) (made_before path (record { groups = groups; text = text }) put.before put.is_kept)
 
   refused : (kept : Kept) (path text : List ℕ) → IsBeingPut render store path text kept
@@ -137,7 +138,8 @@ module _ (render : Renders) (store : StoreState) (is : IsStore store) where
         (words_are render store kept k from stamp page here);
   }
 
-  module _ (from to : List ℕ) (stamp : ℕ) (page : Page) (here : Stands store from stamp page) (free_path : map.get store.site.pages to ≡ None)
+  module _ (from to : List ℕ) (stamp : ℕ) (page : Page) (here : Stands store from stamp page)
+      (free_path : map.get store.site.pages to ≡ None)
     where
       moved_before : (before : Kept) → IsKept render store before
           → IsKept render (with_move store from to) (kept_without_page (kept_with_page before to store.puts (render page.text)) from stamp)
@@ -165,7 +167,8 @@ nothing_kept render = record {
 }
   where
     nothing_there : (path : List ℕ) (stamp : ℕ) → page_under render empty_store path stamp ≡ None
-    nothing_there path stamp = ap (λ s. rendered_under render stamp s (map.get empty_store.site.pages path)) (map.get-empty (slice_cmp nat_cmp) path)
+    nothing_there path stamp = ap (λ s. rendered_under render stamp s (map.get empty_store.site.pages path))
+        (map.get-empty (slice_cmp nat_cmp) path)
 
 pub edits_of_kept : EditsOfKept
 edits_of_kept = record {

@@ -154,7 +154,8 @@ module _ {X : Type 0} (known : List ℕ → Rendered → X) (render : Renders) (
 
     put_left : (at : ℕ) (present : Option ℕ) → map.get store.stamps path ≡ present
         → map.get (gone added path present) (path, at) ≡ cond (at == store.puts) (Some value) None
-    put_left at None stamped = set_here held path store.puts at value ∙ ap (cond (at == store.puts) (Some value)) (none_known path at stamped)
+    put_left at None stamped = set_here held path store.puts at value
+        ∙ ap (cond (at == store.puts) (Some value)) (none_known path at stamped)
     put_left at (Some present) stamped =
         taken_here added path present at
         ∙ ap (cond (at == present) None) (set_here held path store.puts at value)
@@ -182,7 +183,8 @@ module _ {X : Type 0} (known : List ℕ → Rendered → X) (render : Renders) (
         ∙ ap (known_by path at (map.get after_put.stamps path)) (sym (get_own store.site.pages path page))
 
     put_apart : (other : List ℕ) (at : ℕ) → same_key other path ≡ false
-        → map.get (gone added path (map.get store.stamps path)) (other, at) ≡ option_map (known other) (page_under render after_put other at)
+        → map.get (gone added path (map.get store.stamps path)) (other, at) ≡ option_map (known other)
+            (page_under render after_put other at)
     put_apart other at apart =
         gone_apart added path other (map.get store.stamps path) at apart
         ∙ set_apart held path other store.puts at value apart
@@ -194,7 +196,8 @@ module _ {X : Type 0} (known : List ℕ → Rendered → X) (render : Renders) (
     put_knows other at = by (same_key other path) refl
       where
         by : (b : Bool) → same_key other path ≡ b
-            → map.get (gone added path (map.get store.stamps path)) (other, at) ≡ option_map (known other) (page_under render after_put other at)
+            → map.get (gone added path (map.get store.stamps path)) (other, at) ≡ option_map (known other)
+                (page_under render after_put other at)
         by true same =
             subst (λ q. map.get (gone added path (map.get store.stamps path)) (q, at)
             ≡ option_map (known q) (page_under render after_put q at)) (sym (same_from other path same)) (put_here at)
@@ -266,7 +269,8 @@ module _ {X : Type 0} (known : List ℕ → Rendered → X) (render : Renders) (
     differ a b has none = by (same_key a b) refl
       where
         by : (c : Bool) → same_key a b ≡ c → c ≡ false
-        by true same = absurd (both_ways true (sym (ap is_some has) ∙ ap (λ q. map.contains_key store.site.pages q) (same_from a b same) ∙ ap is_some none) refl)
+        by true same = absurd (both_ways true (sym (ap is_some has) ∙ ap (λ q. map.contains_key store.site.pages q) (same_from a b same)
+            ∙ ap is_some none) refl)
         by false apart = refl
 
     from_to : same_key from to ≡ false
@@ -322,7 +326,8 @@ module _ {X : Type 0} (known : List ℕ → Rendered → X) (render : Renders) (
         by : (b c : Bool) → same_key other to ≡ b → same_key other from ≡ c
             → map.get left (other, at) ≡ option_map (known other) (page_under render after_move other at)
         by true c same d =
-            subst (λ q. map.get left (q, at) ≡ option_map (known q) (page_under render after_move q at)) (sym (same_from other to same)) (at_to at)
+            subst (λ q. map.get left (q, at) ≡ option_map (known q) (page_under render after_move q at)) (sym (same_from other to same))
+                (at_to at)
         by false true apart same =
             subst (λ q. map.get left (q, at) ≡ option_map (known q) (page_under render after_move q at)) (sym (same_from other from same))
             (at_from at)

@@ -142,8 +142,8 @@ enum Short {
     Wrong,
 }
 
-/// What is printed for `TURNS SCRIPT`: what the links are behind the script and a round of so many passes whose growths are refused in turn,
-/// alone and with all that follow, and a round with ample memory; and whether the first of these always left a link open.
+/// What is printed for `TURNS SCRIPT`: what the links are behind the script and a round of so many passes whose growths are refused in
+/// turn, alone and with all that follow, and a round with ample memory; and whether the first of these always left a link open.
 pub fn grown(heaps: Heaps, given: &str) -> Result<String, Memory> {
     let Some(right) = last_round(heaps, given, Way::After, MANY)? else {
         return no_call(heaps.desk);
