@@ -1,22 +1,16 @@
 #!/usr/bin/env bash
 # Lays out a copy of the repository in which more programs are crates. The copies of scripts/programs are `bench`, which times layers, and
-# `bench_index`, which times the kept indexes: they serve no reader, so the gate doesn't prove them. With --drafts the crates of drafts/,
-# whose proof isn't finished, take their places too. All of these stand as text, since the gate reads every file of code. In the copy
-# `rt run < stdin -- tasks` in crates/bench proves and builds the first; a draft is only good for `rt check` and `rt try`.
+# `bench_index`, which times the kept indexes: they serve no reader, so the gate doesn't prove them. They stand as text, since the gate
+# reads every file of code. In the copy `rt run < stdin -- tasks` in crates/bench proves and builds the first.
 #
-#     scripts/lay_out.sh [--drafts] FOLDER
+#     scripts/lay_out.sh FOLDER
 set -eu
 cd "$(dirname "$0")/.."
-sources=scripts/programs
-if [ "${1:-}" = --drafts ]; then
-    sources="scripts/programs drafts"
-    shift
-fi
-folder=${1:?usage: scripts/lay_out.sh [--drafts] FOLDER}
+folder=${1:?usage: scripts/lay_out.sh FOLDER}
 mkdir -p "$folder"
 folder=$(realpath "$folder")
 tar --exclude=./.git -cf - . | tar -C "$folder" -xf -
-for program in $(find $sources -mindepth 1 -maxdepth 1 -type d); do
+for program in $(find scripts/programs -mindepth 1 -maxdepth 1 -type d); do
     name=$(basename "$program")
     rm -rf "$folder/crates/$name"
     cp -r "$program" "$folder/crates/$name"
@@ -25,4 +19,4 @@ for program in $(find $sources -mindepth 1 -maxdepth 1 -type d); do
     cat "$folder/crates/$name/line" >>"$folder/crates.txt"
     rm "$folder/crates/$name/line"
 done
-rm -r "$folder/scripts/programs" "$folder/drafts"
+rm -r "$folder/scripts/programs"
