@@ -20,8 +20,15 @@ for name in "${names[@]}"; do
 done
 room=$(mktemp -d)
 trap 'rm -rf "$room"' EXIT
-# The kept proofs in out/ come along, so that what is proved already is not proved again.
-tar -C "$top" --exclude=./.git -cf - . | tar -C "$room" -xf -
+tar -C "$top" --exclude=./.git --exclude='./crates/*/out' -cf - . | tar -C "$room" -xf -
+# The kept proofs in out/ come along, so that what is proved already is not proved again: as links, since they take gigabytes, and as
+# files where links can't be made. A check never writes into such a file: it removes the folder and makes another.
+for kept in "$top"/crates/*/out/rlib; do
+    [ -d "$kept" ] || continue
+    to=$room${kept#"$top"}
+    mkdir -p "${to%/rlib}"
+    cp -al "$kept" "$to" 2>/dev/null || { rm -rf "$to" && cp -a "$kept" "$to"; }
+done
 for folder in "$room"/crates/*/must-fail; do
     rm -r "$folder"
 done
