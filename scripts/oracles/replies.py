@@ -324,5 +324,27 @@ def grown_step(hub, request):
     yield "grow_step 2", "Memory each time; " + hub.happen(("step", 2))
 
 
+# How many growths a step of GET /page/a.md takes where its document is kept, and before it keeps one. These alone were found by trying.
+FOUND, MADE = 9, 15
+
+
+def refused_keep():
+    """A document that finds no memory to be kept is sent all the same: so the next step makes it anew, and takes more growths."""
+    hub = Hub()
+    yield world(4)
+    yield f"# Where a document finds no memory to be kept, growth {MADE}, its reply is the same, and the next step makes it anew:"
+    yield f"# so it asks for growth {FOUND}, which a step that finds a document doesn't."
+    site = [("connect",), ("connect",), ("put", "a.md", "staff", "# Kiwi\n\nkiwi [b](b.md)"), ("put", "b.md", "staff", "plum")]
+    yield from ((line_of(event), hub.happen(event)) for event in site)
+    request = [("a", "GET", "/page/a.md")]
+    yield line_of(("push", 2, request)), hub.happen(("push", 2, request))
+    yield f"only {MADE} step 2", hub.happen(("step", 2))
+    yield line_of(("push", 2, request)), hub.happen(("push", 2, request))
+    yield f"only {FOUND} step 2", "refused: out of memory"
+    yield "step 2", hub.happen(("step", 2))
+    yield line_of(("push", 2, request)), hub.happen(("push", 2, request))
+    yield f"only {FOUND} step 2", hub.happen(("step", 2))
+
+
 if __name__ == "__main__":
-    write("replies.py", [*histories(), *growths()], "trial_site")
+    write("replies.py", [*histories(), *growths(), *refused_keep()], "trial_site")
