@@ -1,7 +1,8 @@
 #!/usr/bin/env bash
-# Lays out a copy of the repository in which more programs are crates. The copies of scripts/programs are `bench`, which times layers, and
-# `bench_index`, which times the kept indexes: they serve no reader, so the gate doesn't prove them. They stand as text, since the gate
-# reads every file of code. In the copy `rt run < stdin -- tasks` in crates/bench proves and builds the first.
+# Lays out a copy of the repository in which more programs are crates. The copies of scripts/programs are `bench`, which times layers,
+# `bench_index`, which times the kept indexes, and `bench_hub`, which times a hub over kept pages: they serve no reader, so the gate
+# doesn't prove them. They stand as text, since the gate reads every file of code. In the copy `rt run < stdin -- tasks` in
+# crates/bench proves and builds the first.
 #
 #     scripts/lay_out.sh FOLDER
 set -eu

@@ -1,13 +1,13 @@
 """What the oracles share: dice that fall alike in each version of Python, how lines of a trial are written, and where they go.
 
-Each oracle writes calls and their answers between two comments that name it, in stdin and stdout of crates/trial_index, in place of
-what stands there; so it can be run again, and `git diff` shows whether anything changed.
+Each oracle writes calls and their answers between two comments that name it, in stdin and stdout of crates/trial_index or of another
+trial, in place of what stands there; so it can be run again, and `git diff` shows whether anything changed.
 """
 
 import os
 import random
 
-TRIAL = os.path.join(os.path.dirname(os.path.abspath(__file__)), "..", "..", "crates", "trial_index")
+CRATES = os.path.join(os.path.dirname(os.path.abspath(__file__)), "..", "..", "crates")
 
 
 class Dice:
@@ -69,11 +69,11 @@ def several(calls):
     return "digest " + given(" ; ".join(call for call, _ in calls)), digest([answer for _, answer in calls])
 
 
-def write(name, lines):
+def write(name, lines, trial="trial_index"):
     """Sets the lines of an oracle, which are pairs of a call and an answer; a comment stands alone."""
     pairs = [line if isinstance(line, tuple) else (line, line) for line in lines]
     for number, file in enumerate(("stdin", "stdout")):
-        path = os.path.join(TRIAL, file)
+        path = os.path.join(CRATES, trial, file)
         first, last = f"# From scripts/oracles/{name}:", f"# So far scripts/oracles/{name}."
         with open(path, encoding="utf-8", newline="\n") as f:
             before, rest = f.read().split(first + "\n")

@@ -93,7 +93,8 @@ fn run<R: Renderer + Drop>(desk: Heap, hub: &mut Hub<R>, given: &str) -> Result<
     said
 }
 
-fn run_of<R: Renderer + Drop>(
+/// What comes of these events, one after another.
+pub fn run_of<R: Renderer + Drop>(
     desk: Heap,
     hub: &mut Hub<R>,
     events: &[Event],

@@ -3,7 +3,7 @@
 //! - `world keep CACHE READERS` makes a hub with the readers of a TOML text, and `world close CACHE READERS` one that keeps no connection
 //!   alive. It answers `()`, or what refuses it; then no calls follow.
 //! - `next BYTES` and `drip BYTES` (`requests`), an event (`events`), and `ask ID BYTES`, `report TOKEN`, `run EVENT ; EVENT ..` and
-//!   `witness ID BYTES` (`hubs`) are the calls.
+//!   `witness EVENT ; EVENT ..` (`hubs`) are the calls. Pages are rendered as CommonMark.
 //! - `times N CALL` makes a call N times, and `only N CALL` with one growth refused; a call whose name begins with `grow_` is made with
 //!   each of its growths refused (`rounds`).
 //!
@@ -27,9 +27,10 @@ mod stop;
 mod world;
 mod written;
 
-use doc_heap::{Heap, String, heap};
+use doc_heap::{String, heap};
+use doc_html::CommonMark;
+use doc_lines::entities::Entities;
 use doc_page::failure::Memory;
-use doc_page::plain::PlainRenderer;
 use doc_page::renderer::Renderer;
 use rounds::answer;
 use std::alloc::AllocError;
@@ -42,40 +43,38 @@ use trial::line::{Line, read_line};
 use world::{Heaps, World, new_world};
 
 fn main(rt: HostRuntime) -> io::Result<()> {
-    let desk = heap(rt.alloc(), u64::MAX)?;
     let text = io::read_to_string(rt.alloc(), rt.reader())?;
-    let ran = run(&rt, desk, &text);
+    let ran = run(&rt, &text);
     drop(text);
     ran
 }
 
 /// Prints what the lines of each world answer, behind the comments in front of the first one.
-fn run<R: AllocGlobal + Print>(rt: &R, desk: Heap, text: &str) -> io::Result<()> {
+fn run<P: AllocGlobal + Print>(rt: &P, text: &str) -> io::Result<()> {
     let (comments, worlds) = text.split_once("\nworld ").unwrap_or((text, ""));
     println!(rt; "{comments}")?;
     for lines in worlds.split("\nworld ") {
-        begin_world(rt, desk, lines)?;
+        begin_world(rt, lines)?;
     }
     Ok(())
 }
 
-/// Makes a world and its calls on a new heap.
-fn begin_world<R: AllocGlobal + Print>(rt: &R, desk: Heap, lines: &str) -> io::Result<()> {
-    let heaps = new_heaps(rt, desk)?;
+/// Makes a world and its calls on new heaps.
+fn begin_world<P: AllocGlobal + Print>(rt: &P, lines: &str) -> io::Result<()> {
     let (line, calls) = lines.split_once('\n').unwrap_or((lines, ""));
-    run_world::<Brand, R>(rt, heaps, Blank::new(1), &[line, calls])
+    run_world::<Brand, P>(rt, Blank::new(1), &[line, calls])
 }
 
 /// The heaps of one world.
-fn new_heaps<R: AllocGlobal>(rt: &R, desk: Heap) -> Result<Heaps, AllocError> {
+fn new_heaps<P: AllocGlobal>(rt: &P) -> Result<Heaps, AllocError> {
     let tried = heap(rt.alloc(), u64::MAX)?;
+    let desk = heap(rt.alloc(), u64::MAX)?;
     Ok(Heaps { tried, desk })
 }
 
-/// Makes a world as the first of two texts says, and the calls of the lines of the second.
-fn run_world<L: Ledger, P: Print>(
+/// Makes a world of CommonMark as the first of two texts says, and the calls of the lines of the second.
+fn run_world<L: Ledger, P: AllocGlobal + Print>(
     rt: &P,
-    heaps: Heaps,
     blank: Blank,
     texts: &[&str; 2],
 ) -> io::Result<()>
@@ -83,7 +82,17 @@ fn run_world<L: Ledger, P: Print>(
     requires parts { blank.parts ≡ L.parts }
     requires some { 0 < L.parts }
 {
-    let renderer: PlainRenderer<L> = PlainRenderer::new(blank);
+    let renderer: CommonMark<L> = CommonMark::new(Entities::built_in(), blank);
+    run_world_with(rt, renderer, texts)
+}
+
+/// The same with any renderer, on heaps of its own: a call that names both a renderer which holds texts and a heap can't be proved.
+fn run_world_with<R: Renderer + Drop, P: AllocGlobal + Print>(
+    rt: &P,
+    renderer: R,
+    texts: &[&str; 2],
+) -> io::Result<()> {
+    let heaps = new_heaps(rt)?;
     match new_world(heaps, renderer, texts[0]) {
         Ok(mut world) => {
             let ran = run_calls(rt, &mut world, texts[1]);

@@ -1,10 +1,11 @@
 //! What the calls of one world share.
 
-use crate::given::{id_and_bytes, number_first};
-use crate::outcomes::text_of;
+use crate::events::events_of;
+use crate::given::number_first;
+use crate::hubs::run_of;
 use crate::stop::{Answer, Stop};
 use doc_heap::{Heap, String, Vec};
-use doc_hub::event::ConnId;
+use doc_hub::event::{ConnId, Event};
 use doc_hub::hub::Hub;
 use doc_hub::outcome::Outcome;
 use doc_page::renderer::Renderer;
@@ -18,19 +19,13 @@ pub struct Heaps {
     pub desk: Heap,
 }
 
-/// A request of another connection, which is to be answered as before after each refused growth.
-#[derive(Drop)]
-pub struct Witness {
-    pub id: ConnId,
-    pub request: Vec<u8>,
-}
-
 /// What the calls of one world share.
 #[derive(Drop)]
 pub struct World<R: Renderer + Drop> {
     pub heaps: Heaps,
     pub hub: Hub<R>,
-    pub witness: Option<Witness>,
+    /// Requests on other connections, as events, which are to be answered as before after each refused growth.
+    pub witness: Option<Vec<Event>>,
 }
 
 /// The world of a line `keep CACHE READERS`, or `close CACHE READERS` where no connection is kept alive.
@@ -67,16 +62,14 @@ fn new_hub<R: Renderer + Drop>(
     Hub::new(tried, renderer, readers, keep_alive, cache as usize).map_err(Stop::from)
 }
 
-/// What comes of the witness's request, with ample memory; empty where there is no witness.
+/// What comes of the witness's events, with ample memory; empty where there is no witness.
 pub fn witnessed<R: Renderer + Drop>(world: &mut World<R>) -> Result<String, Stop> {
     let desk = world.heaps.desk;
-    let Some(witness) = &world.witness else {
+    let Some(events) = &world.witness else {
         return Ok(String::new(desk));
     };
-    let outcome = asked(&mut world.hub, witness.id, &witness.request);
-    let text = text_of(desk, &outcome);
-    drop(outcome);
-    text
+    let answer = run_of(desk, &mut world.hub, events)?;
+    Ok(answer.text)
 }
 
 /// What comes of a step on a connection once these bytes are pushed.
@@ -87,9 +80,8 @@ pub fn asked<R: Renderer + Drop>(hub: &mut Hub<R>, id: ConnId, bytes: &[u8]) -> 
     }
 }
 
-/// `ID BYTES`: has a connection make this request now, and after each refused growth from now on.
+/// `EVENT ; EVENT ..`: has these events happen now, and after each refused growth from now on.
 pub fn set_witness<R: Renderer + Drop>(world: &mut World<R>, given: &str) -> Result<Answer, Stop> {
-    let (id, request) = id_and_bytes(world.heaps.desk, given)?;
-    world.witness = Some(Witness { id, request });
+    world.witness = Some(events_of(world.heaps.desk, given)?);
     Ok(Answer::of(witnessed(world)?))
 }
