@@ -1,5 +1,5 @@
-"""Questions about many pages, by the model of listings.py: a search with 101 hits, of which 100 are told, and questions that must not
-take a growth for each page.
+"""Questions about many pages, by the model of listings.py: searches with 101 hits, of which 100 are told, also after each page was put
+again; questions that must not take a growth for each page; and 100,000 links to as many headings.
 
     python3 scripts/oracles/large.py
 
@@ -7,7 +7,9 @@ writes its lines into stdin and stdout of crates/trial_index.
 """
 
 from listings import Cut, Page
-from trial_lines import debug, digest, write
+from trial_lines import debug, digest, several, write
+
+READERS = (("owner", None), ("staff", {"staff"}), ("ops", {"ops"}))
 
 
 def put_each(count, text):
@@ -19,11 +21,37 @@ def put_each(count, text):
     return pages, [("new", "()"), (line, digest(["Ok(Created)"] * count + ["Ok(Replaced)"]))]
 
 
+def few_more(pages):
+    found = debug(Cut(pages, None).search("KIWI"))
+    return [("within 120 search owner | KIWI", found), ("within 120 search owner | kiwi KIWI", found)]
+
+
+def hidden_first():
+    """101 pages, each put and then put again."""
+    pages = {f"s{number:03}.md": Page("", {"staff"}, "kiwi") for number in range(1, 101)}
+    pages["s000.md"] = Page("", {"ops"}, "kiwi kiwi")
+    calls = [f"put {path} | {','.join(page.groups)} | {page.text}" for path, page in sorted(pages.items())]
+    asked = [(f"search {name} | KIWI", debug(Cut(pages, groups).search("KIWI"))) for name, groups in READERS]
+    created, replaced = several([(call, "Ok(Created)") for call in calls]), several([(call, "Ok(Replaced)") for call in calls])
+    return [("new", "()"), created, *asked, replaced, *asked]
+
+
+def many_links():
+    headings = "".join(f"#1 {number} \n" for number in range(100_000))
+    links = "".join(f"@h#{number}\n" for number in range(100_000)) + "@h#none"
+    pages = {"h": Page("h", {"staff"}, headings.removesuffix("\n")), "l": Page("l", {"staff"}, links)}
+    puts = [("put h | staff | \\{100000 #1 \\# \\n}", "Ok(Created)"), ("put l | staff | \\{100000 @h#\\#\\n}@h#none", "Ok(Created)")]
+    cut = Cut(pages, None)
+    return [("new", "()"), *puts, ("report staff", debug(cut.report())), ("backlinks staff | h", debug(cut.backlinks("h")))]
+
+
 def main():
     pages, lines = put_each(101, "kiwi")
     lines = ["# 101 pages hold the word, of which the last is left out; one of them has it twice."] + lines
-    for name, groups in (("owner", None), ("staff", {"staff"}), ("ops", {"ops"})):
+    for name, groups in READERS:
         lines.append((f"search {name} | KIWI", debug(Cut(pages, groups).search("KIWI"))))
+    lines += ["# It takes a growth for each page that it tells, and few more.", *few_more(pages)]
+    lines += ["# The first of 101 pages is hidden from all but one reader, and has the word twice.", *hidden_first()]
     pages, more = put_each(1000, "kiwi\\#\n@7.md")
     lines += ["# A question about few of 1,000 pages takes few growths.", *more]
     cut = Cut(pages, None)
@@ -33,6 +61,7 @@ def main():
         ("within 40 backlinks owner | 77.md", debug(cut.backlinks("77.md"))),
         ("within 20 backlinks_under owner | 77.md", debug(cut.backlinks("77.md"))),
     ]
+    lines += ["# 100,000 links to headings of one page, each of which has an anchor of its own, and one to none.", *many_links()]
     write("large.py", lines)
 
 

@@ -57,7 +57,7 @@ class Page:
     """A page of a trial: its groups, and its lines, of which `#2 one Two` is a heading and `@a.md` a link."""
 
     def __init__(self, path, groups, text):
-        self.groups, self.texts, self.headings, self.links, self.aliases = groups, [], [], [], set()
+        self.groups, self.texts, self.headings, self.links, self.aliases, self.anchors = groups, [], [], [], set(), set()
         self.text = text
         for line in text.split("\n"):
             if line.startswith("@"):
@@ -65,6 +65,7 @@ class Page:
             elif line.startswith("#"):
                 level, anchor, heading = line[1:].split(" ", 2)
                 self.headings.append((level, anchor, heading))
+                self.anchors.add(anchor)
                 self.texts.append(heading)
             else:
                 self.texts.append(line)
@@ -96,7 +97,7 @@ class Cut:
         _, path, anchor = link
         if path not in self.goals:
             return "page", path
-        if anchor == "" or anchor in [heading[1] for heading in self.pages[self.goals[path]].headings]:
+        if anchor == "" or anchor in self.pages[self.goals[path]].anchors:
             return None
         return "anchor", f"{path}#{encoded(anchor)}"
 
