@@ -21,6 +21,7 @@ mod ReplyExamples
 mod RunLaws
 mod RunSteps
 mod SiteLaws
+pub mod StepEdits
 mod StepLaws
 mod StoreSteps
 mod StoredSteps

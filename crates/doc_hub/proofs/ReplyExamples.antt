@@ -1,5 +1,5 @@
 -- Worked examples: answers from a reader's view, the edits that go with them, and connections.
-use Rattle.std.proofs.Common.{◌≡◌, ℕ, List, [], ◌∷◌, ◌++◌, true, false, codes, refl}
+use Rattle.std.proofs.Common.{◌≡◌, ℕ, List, [], ◌∷◌, ◌++◌, Bool, true, false, codes, refl}
 use Rattle.std.specs.Prelude.{replicate, Option, Some, None, Ok, Err, bytes_eq, if◌then◌else◌}
 use Rattle.std.specs.Fmt.{digits}
 use Rattle.std.specs.Str.{chars, is_utf8}
@@ -16,10 +16,11 @@ use Rattle.doc_page.specs.declared.rendered.Piece.TheVariants.{Html, Link}
 use Rattle.doc_page.specs.declared.rendered.Rendered.{Rendered}
 use Rattle.doc_store.specs.Groups.{groups_of_names}
 use Rattle.doc_store.specs.Pages.{Page}
-use Rattle.doc_store.specs.Sites.{View}
+use Rattle.doc_store.specs.Sites.{View, view_of}
 use Rattle.doc_store.specs.Store.{text_limit, page_limit}
 use Rattle.doc_store.specs.declared.reader.Reader.{Reader}
 use Rattle.doc_http.specs.Replies.{reason_of, field_line, reply_head, reply_bytes}
+use Rattle.doc_http.specs.declared.request.Next.TheVariants as nexts
 use Rattle.doc_http.specs.declared.request.Request.{Request}
 use Rattle.doc_resolve.specs.DotSegments.{put_all, without_dots}
 use Rattle.doc_page_encoding.specs.Encoding.{encoded, encoded_path}
@@ -30,12 +31,17 @@ use Rattle.doc_resolve.specs.WrittenPaths.{path_written as target_path_written}
 use Rattle.doc_links.specs.Links.{backlinks, broken, contents}
 use Rattle.doc_listings.specs.Listings.{backlinks_text, entry_lines, heading_line, report_text}
 use Rattle.doc_hub.specs.Connections.{pushed_onto, finished, backlog_limit}
+use Rattle.doc_hub.specs.Edits.{puts_left}
 use Rattle.doc_hub.specs.Replies.{Renders, answer_of, fault_bytes}
+use Rattle.doc_hub.specs.StepEdits.{edit_of_step, told_edit}
+use Rattle.doc_hub.specs.Worlds.{World, reader_of}
 use Rattle.doc_http_targets.specs.Queries.{value_of}
 use Rattle.doc_http_targets.specs.Targets.{origin_form, route_of}
 use Rattle.doc_http_targets.specs.WrittenPaths.{path_written}
 use Rattle.doc_hub.specs.declared.answer.Answer.{Answer}
 use Rattle.doc_hub.specs.declared.connection.Connection.{Connection}
+use Rattle.doc_hub.specs.declared.edited.Edited.{Edited}
+use Rattle.doc_hub.specs.declared.edited.Edited.TheVariants.{Put, Removed}
 use Rattle.doc_hub.specs.declared.refusal.PushError.TheVariants.{Closed}
 use Rattle.doc_hub.specs.declared.response.Edit.{Edit}
 use Rattle.doc_hub.specs.declared.response.Edit.TheVariants as edits
@@ -388,6 +394,80 @@ removal_of_an_alias = refl
 removal_of_a_bad_path : answered owner_view owner (asked (codes "DELETE") (codes "/page/%2e%2e")) ≡ only not_found
 unfolding computing
 removal_of_a_bad_path = refl
+
+-- ---- the edit that a step tells
+
+-- by what a step knows of a world for a request
+abbrev edit_seen : View → Option Reader → Bool → Request → Option Edited
+edit_seen view reader left request = told_edit (answer_of plain_page view reader left true request).edit
+
+step_tells_what_is_seen : (w : World) (used : ℕ) (request : Request) (view : View) (reader : Option Reader) (left : Bool)
+    → view_of w.site (reader_of w request) ≡ view → reader_of w request ≡ reader → puts_left w.puts ≡ left → w.keep_alive ≡ true
+    → edit_of_step plain_page w (nexts.Request used request) ≡ edit_seen view reader left request
+step_tells_what_is_seen w used request view reader left sees is remains keeps =
+    λ i. told_edit (answer_of plain_page (sees i) (is i) (remains i) (keeps i) request).edit
+
+step_of_a_fault : (w : World) → edit_of_step plain_page w (nexts.Fault 400 false) ≡ None
+step_of_a_fault w = refl
+
+step_of_no_request : (w : World) → edit_of_step plain_page w nexts.More ≡ None
+step_of_no_request w = refl
+
+step_of_a_get : edit_seen owner_view owner true (asked (codes "GET") (codes "/page/a.md")) ≡ None
+unfolding computing
+step_of_a_get = refl
+
+step_of_a_put : edit_seen owner_view owner true (sent (codes "PUT") (codes "/page/n.md?groups=staff") (codes "hi")) ≡ Some (Put (codes "n.md"))
+unfolding computing
+step_of_a_put = refl
+
+step_of_a_put_of_an_old_page : edit_seen owner_view owner true (sent (codes "PUT") (codes "/page/a.md") (codes "hi"))
+    ≡ Some (Put (codes "a.md"))
+unfolding computing
+step_of_a_put_of_an_old_page = refl
+
+-- a put under an alias makes a page there; a removal under one is refused, since no page stands there
+step_of_a_put_of_an_alias : edit_seen moved_view owner true (sent (codes "PUT") (codes "/page/c.md") (codes "hi"))
+    ≡ Some (Put (codes "c.md"))
+unfolding computing
+step_of_a_put_of_an_alias = refl
+
+step_of_a_removal_of_an_alias : edit_seen moved_view owner true (asked (codes "DELETE") (codes "/page/c.md")) ≡ None
+unfolding computing
+step_of_a_removal_of_an_alias = refl
+
+step_of_a_removal : edit_seen owner_view owner true (asked (codes "DELETE") (codes "/page/a.md")) ≡ Some (Removed (codes "a.md"))
+unfolding computing
+step_of_a_removal = refl
+
+-- refused by 404, 403, 507, 400 and 401
+step_of_a_removal_of_no_page : edit_seen owner_view owner true (asked (codes "DELETE") (codes "/page/zz.md")) ≡ None
+unfolding computing
+step_of_a_removal_of_no_page = refl
+
+step_of_a_put_by_another : edit_seen staff_view ann true (sent (codes "PUT") (codes "/page/a.md") (codes "hi")) ≡ None
+unfolding computing
+step_of_a_put_by_another = refl
+
+step_of_a_removal_by_another : edit_seen staff_view ann true (asked (codes "DELETE") (codes "/page/a.md")) ≡ None
+unfolding computing
+step_of_a_removal_by_another = refl
+
+step_of_a_put_of_none_left : edit_seen owner_view owner false (sent (codes "PUT") (codes "/page/n.md") (codes "hi")) ≡ None
+unfolding computing
+step_of_a_put_of_none_left = refl
+
+step_of_a_put_into_a_full_site : edit_seen (pages_in_number 10000) owner true (sent (codes "PUT") (codes "/page/n.md") (codes "hi")) ≡ None
+unfolding computing
+step_of_a_put_into_a_full_site = refl
+
+step_of_a_put_of_bad_groups : edit_seen owner_view owner true (sent (codes "PUT") (codes "/page/n.md?groups=A") (codes "hi")) ≡ None
+unfolding computing
+step_of_a_put_of_bad_groups = refl
+
+step_of_an_unknown_reader : edit_seen empty_view None true (sent (codes "PUT") (codes "/page/a.md") (codes "hi")) ≡ None
+unfolding computing
+step_of_an_unknown_reader = refl
 
 -- ---- lists
 

@@ -58,7 +58,7 @@ removed_site store path stood is = removed_by store path (map.contains_key store
     ∙ ap (λ t. site_after store.site (removed_if t path)) is
 
 -- the edit of a request that can be made is that of the site
-made_site : (store : StoreState) (text : List ℕ) (edit : Option Edit) → CanBeMade store text edit
+pub made_site : (store : StoreState) (text : List ℕ) (edit : Option Edit) → CanBeMade store text edit
     → (store_after store text edit).site ≡ site_after store.site (site_edit text edit)
 made_site store text None can = refl
 made_site store text (Some (edits.Put path groups)) can = refl
@@ -135,7 +135,7 @@ module _ (render : Renders) where
   refused_open w v n c e true h = ap (λ (x : World). x.site) h.0
   refused_open w v n c e false h = refused_answer w v n c e h
 
-  refused_step : (w v : World) (n : ℕ) (e : StepError) (k : Option Connection) → StepsAt render w n v (Err e) k → SameSite v w
+  pub refused_step : (w v : World) (n : ℕ) (e : StepError) (k : Option Connection) → StepsAt render w n v (Err e) k → SameSite v w
   refused_step w v n e None h = ap (λ (x : World). x.site) h.0
   refused_step w v n e (Some c) h = refused_open w v n c e c.closed h
 

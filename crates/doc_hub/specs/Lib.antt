@@ -11,5 +11,6 @@ pub mod MadeLaws
 pub mod Replies
 pub mod RunLaws
 pub mod Runs
+pub mod StepEdits
 pub mod StepLaws
 pub mod Worlds

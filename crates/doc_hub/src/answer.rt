@@ -4,8 +4,10 @@ ghost use Rattle.std.specs.Prelude.{◌≡◌, IsTrue, IfOk};
 ghost use Rattle.doc_http.specs.Laws.{is_fault_code};
 ghost use Rattle.doc_hub.specs.AnswerSteps.{after_edit};
 ghost use Rattle.doc_hub.specs.Replies.{fault_bytes};
+ghost use Rattle.doc_hub.specs.StepEdits.{told_edit};
 ghost use Rattle.doc_hub.specs.Worlds.{step_said};
 
+use crate::edited::Edited;
 use crate::event::Step;
 use crate::response::Edit;
 use doc_heap::Heap;
@@ -36,15 +38,32 @@ impl Answer {
         }
     }
 
-    /// What the step does that sends it.
-    pub fn into_step(self) -> Step
-        ensures { result ≡ step_said self.closes self.bytes }
+    /// What the step does that sends it, and the edit that it tells. The path is moved, so that none is copied.
+    pub fn into_step(self) -> (Step, Option<Edited>)
+        ensures step { result.0 ≡ step_said self.closes self.bytes }
+        ensures edited { result.1 ≡ told_edit self.edit }
     {
-        if self.closes {
-            Step::Last(self.bytes)
+        let Answer {
+            bytes,
+            closes,
+            edit,
+        } = self;
+        let edited = told(edit);
+        if closes {
+            (Step::Last(bytes), edited)
         } else {
-            Step::Sent(self.bytes)
+            (Step::Sent(bytes), edited)
         }
+    }
+}
+
+/// The edit by its path.
+fn told(edit: Option<Edit>) -> Option<Edited>
+    ensures { result ≡ told_edit edit }
+{
+    match edit? {
+        Edit::Put(path, _) => Some(Edited::Put(path)),
+        Edit::Remove(path) => Some(Edited::Removed(path)),
     }
 }
 

@@ -10,13 +10,14 @@
 //! 3. The edit is made. Where it finds no memory the reply is dropped, and the request waits.
 //! 4. The bytes of the request are taken, and the connection closes or not; that takes no memory.
 
-ghost use Rattle.std.specs.Prelude.{◌≡◌, ◌+◌, false, IfOk};
+ghost use Rattle.std.specs.Prelude.{◌≡◌, ◌+◌, false, IfOk, option_map};
 ghost use Rattle.std.specs.FinMap as map;
 ghost use Rattle.std.specs.List.{list_any};
 ghost use Rattle.doc_page.specs.Refusals.{Gives, IsAnswer};
 ghost use Rattle.doc_hub.specs.Counts.{Counted, RendersPuts, moves_in, ran_out};
 ghost use Rattle.doc_hub.specs.Events.{stepping};
 ghost use Rattle.doc_hub.specs.Runs.{Happens, Leaves, GivesRun};
+ghost use Rattle.doc_hub.specs.StepEdits.{StepTells, step_in};
 ghost use Rattle.doc_hub.specs.Worlds.{hub_made, report_in, store_of};
 ghost use Rattle.doc_shelf.specs.Shelves.{rendered_for};
 ghost use Rattle.doc_store.specs.Store.{fits_in};
@@ -24,6 +25,7 @@ ghost use Rattle.doc_store.specs.Store.{fits_in};
 use crate::answer::answer_to_fault;
 use crate::connection::Connection;
 use crate::connections::Connections;
+use crate::edited::Edited;
 use crate::event::{ConnId, Event, Step};
 use crate::outcome::Outcome;
 use crate::refusal::{ConnectError, HubError, PushError, StepError};
@@ -40,6 +42,7 @@ use doc_page::text::Text;
 use doc_shelf::Shelf;
 use doc_store::groups::Groups;
 use doc_store::moving::MoveError;
+use doc_store::page::Page;
 use doc_store::reader::Reader;
 use doc_store::readers::{ReaderError, Readers, Set};
 use doc_store::store::{EditError, Put};
@@ -156,18 +159,33 @@ impl<R: Renderer + Drop> Hub<R> {
         ensures counted { Counted (R.count self.old.0) self.old.1
             (R.count self.new.0) self.new.1 (stepping result) }
     {
+        let (step, _edited) = self.step_edited(id)?;
+        Ok(step)
+    }
+
+    /// The same step, and beside it the edit that it made, if any: so that a server can write it down before
+    /// the next step. It takes no more memory than `step`.
+    pub fn step_edited(&mut self, id: ConnId) -> Result<(Step, Option<Edited>), StepError>
+        ensures world { Happens (R.page self.old.0) self.old.1
+            (Event.Step id) self.new.1 (step_in result) }
+        ensures edited { IfOk result
+            (λ told. StepTells (R.page self.old.0) self.old.1 id.0 told.1) }
+        ensures same { R.page self.new.0 ≡ R.page self.old.0 }
+        ensures counted { Counted (R.count self.old.0) self.old.1
+            (R.count self.new.0) self.new.1 (stepping (step_in result)) }
+    {
         let Some(connection) = self.connections.get(id.0) else {
             return Err(StepError::NoConnection);
         };
         if connection.closed {
-            return Ok(Step::Closed);
+            return Ok((Step::Closed, None));
         }
         match self.connections.next_request(id.0)? {
-            Next::More => Ok(Step::More),
+            Next::More => Ok((Step::More, None)),
             Next::Fault { code, bare } => {
                 let bytes = answer_to_fault(self.heap, code, bare)?;
                 self.connections.finish(id.0, 0, true);
-                Ok(Step::Last(bytes))
+                Ok((Step::Last(bytes), None))
             }
             Next::Request { used, request } => {
                 let serving = Serving {
@@ -192,6 +210,14 @@ impl<R: Renderer + Drop> Hub<R> {
         ensures counted { R.count self.new.0 ≡ R.count self.old.0 }
     {
         self.connections.remove(id.0)
+    }
+
+    /// The page of a path with its groups and its text, where one stands there.
+    pub fn page(&self, path: &Path) -> Option<&Page>
+        ensures { option_map (λ page. page.now.page) result
+            ≡ map.get self.now.1.site.pages path.now }
+    {
+        self.shelf.store().get(path)
     }
 
     /// Puts a page under a path, in place of the one that stands there.

@@ -8,6 +8,7 @@ ghost use Rattle.doc_hub.specs.FreshLaws.{NewRepliesAsFresh, PutsAreCounted, Put
 ghost use Rattle.doc_hub.specs.FreshLaws.{RepliesAsFresh};
 ghost use Rattle.doc_hub.specs.MadeLaws.{FreshIsMade, MadeReplies};
 ghost use Rattle.doc_hub.specs.RunLaws.{RunsAlike};
+ghost use Rattle.doc_hub.specs.StepEdits.{StepsChange};
 ghost use Rattle.doc_hub.specs.StepLaws.{AnswersAlike, StepsAlike};
 
 /// A request has one answer, with one edit, in two worlds with one keep-alive setting, one entry for its
@@ -103,6 +104,14 @@ pub fn no_number_is_given_again()
 #[tactic(auto, using(crate::proofs::SiteLaws::site_is_of_edits))]
 pub fn the_site_is_the_effect_of_the_edits()
     ensures { SiteIsOfEdits }
+{}
+
+/// An answered step changes the site by just the edit that it tells, or not at all where it tells none, and a
+/// refused step leaves it. A page that was put fits, and stands under its path after the step; one that was
+/// removed stood there before.
+#[tactic(auto, using(crate::proofs::StepEdits::steps_change))]
+pub fn a_step_makes_the_edit_that_it_tells()
+    ensures { StepsChange }
 {}
 
 /// The law of the cut for decisions: the pages that a page's links lead to for a reader are the same on

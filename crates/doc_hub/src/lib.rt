@@ -4,6 +4,7 @@
 mod answer;
 mod connection;
 mod connections;
+pub mod edited;
 mod edits;
 pub mod event;
 mod exchange;

@@ -5,7 +5,7 @@ use Rattle.doc_hub.proofs.NumberSteps.{finished_have, same_have}
 use Rattle.doc_http.specs.Requests.{IsNext}
 use Rattle.doc_hub.specs.Connections.{finished}
 use Rattle.doc_hub.proofs.StoreSteps.{request_answered}
-use Rattle.doc_hub.proofs.hub.Hub.step.Goals as goal
+use Rattle.doc_hub.proofs.hub.Hub.step_edited.Goals as goal
 
 pub answer_to_fault-requires : goal.answer_to_fault-requires
 answer_to_fault-requires g c =
@@ -41,4 +41,4 @@ returns-in_ok-answer-in-Request-clause-world g c =
     hub.shelf.1 c.answer.new.shelf.1 c.args.self.now.1 (λ i. (c.self.view_is i).1) c.args.id.0 connection c.in-Some.ensures
     c.if-connection.false c.in-Request.used c.in-Request.request begins answer
     c.in_ok-answer-in-Request.ensures.answer.0 c.in_ok-answer-in-Request.ensures.answer.1 set
-    (g.R.Renderer.page c.args.self.now.0) (λ i. g.R.Renderer.page (c.self.view_is i).0) c.into_step.result c.into_step.ensures
+    (g.R.Renderer.page c.args.self.now.0) (λ i. g.R.Renderer.page (c.self.view_is i).0) c.into_step.result.0 c.into_step.ensures.step

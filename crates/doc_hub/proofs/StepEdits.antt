@@ -1,0 +1,67 @@
+-- The edit that a step tells is the one that it makes.
+use Rattle.std.proofs.Common.{◌≡◌, ℕ, List, Bool, true, false, cond, ap, sym, ◌∙◌, subst}
+use Rattle.std.specs.Prelude.{MatchBool, Option, Some, None, Result, Ok}
+use Rattle.std.specs.FinMap as map
+use Rattle.doc_store.proofs.KeySteps.{get_set, same_itself}
+use Rattle.doc_store.specs.Pages.{Page}
+use Rattle.doc_store.specs.Sites.{Site}
+use Rattle.doc_http.specs.Requests.{IsNext}
+use Rattle.doc_http.specs.declared.request.Next.{Next}
+use Rattle.doc_http.specs.declared.request.Next.TheVariants as nexts
+use Rattle.doc_http.proofs.LawLemmas.{read_in_one_way}
+use Rattle.doc_hub.specs.Edits.{CanBeMade, store_after}
+use Rattle.doc_hub.specs.Replies.{Renders}
+use Rattle.doc_hub.specs.StepEdits.{Changes, StepsChange, TellsAt, edit_of_step, told_edit}
+use Rattle.doc_hub.specs.Worlds.{World, Answers, Stays, StepsAt, answer_in, reader_of, stepped_by, store_of}
+use Rattle.doc_hub.specs.declared.connection.Connection.{Connection}
+use Rattle.doc_hub.specs.declared.edited.Edited.{Edited}
+use Rattle.doc_hub.specs.declared.event.Step.{Step}
+use Rattle.doc_hub.specs.declared.event.Step.TheVariants as steps
+use Rattle.doc_hub.specs.declared.refusal.StepError.{StepError}
+use Rattle.doc_hub.specs.declared.response.Edit.{Edit}
+use Rattle.doc_hub.specs.declared.response.Edit.TheVariants as edits
+use Rattle.doc_hub.proofs.AnswerEdits.{answer_can_be_made}
+use Rattle.doc_hub.proofs.SiteLaws.{made_site, refused_step}
+
+module _ (render : Renders) (w v : World) where
+  -- the store's edit, which can be made
+  edit_changes : (text : List ℕ) (edit : Option Edit) → CanBeMade (store_of w) text edit
+      → v.site ≡ (store_after (store_of w) text edit).site
+      → Changes w (told_edit edit) v
+  edit_changes text None can site = site
+  edit_changes text (Some (edits.Put path groups)) can site = let page : Page = record { groups = groups; text = text } in record {
+    page = page;
+    stands = ap (λ (s : Site). map.get s.pages path) site ∙ get_set w.site.pages path page path
+        ∙ ap (λ t. cond t (Some page) (map.get w.site.pages path)) (same_itself path);
+    fits = can.1;
+    site = site;
+  }
+  edit_changes text (Some (edits.Remove path)) can site =
+      record { stood = can; site = site ∙ made_site (store_of w) text (Some (edits.Remove path)) can }
+
+  next_changes : (n : ℕ) (c : Connection) (next : Next) → v.site ≡ (stepped_by render w n c next).0.site
+      → Changes w (edit_of_step render w next) v
+  next_changes n c nexts.More site = site
+  next_changes n c (nexts.Fault code bare) site = site
+  next_changes n c (nexts.Request used request) site =
+      edit_changes request.body (answer_in render w request).edit
+      (answer_can_be_made render (store_of w) (reader_of w request) w.keep_alive request) site
+
+  open_changes : (n : ℕ) (c : Connection) (said : Step) (edit : Option Edited) (closed : Bool)
+      → MatchBool closed (Stays w (Ok steps.Closed) v (Ok said)) (Answers render w n v (Ok said) c)
+      → MatchBool closed (edit ≡ None) ((next : Next) × IsNext c.unread next × (edit ≡ edit_of_step render w next)) → Changes w edit v
+  open_changes n c said edit true h told = subst (λ e. Changes w e v) (sym told) (ap (λ (x : World). x.site) h.0)
+  open_changes n c said edit false (next, begins, is) (other, also, told) =
+      subst (λ e. Changes w e v) (ap (edit_of_step render w) (read_in_one_way c.unread next other begins also) ∙ sym told)
+      (next_changes n c next (sym (ap (λ (q : World × Result Step StepError). q.0.site) is)))
+
+  at_changes : (n : ℕ) (said : Step) (edit : Option Edited) (k : Option Connection) → StepsAt render w n v (Ok said) k
+      → TellsAt render w k edit → Changes w edit v
+  at_changes n said edit None h told = subst (λ e. Changes w e v) (sym told) (ap (λ (x : World). x.site) h.0)
+  at_changes n said edit (Some c) h told = open_changes n c said edit c.closed h told
+
+pub steps_change : StepsChange
+steps_change = record {
+  answered = λ render w v id said edit h told. at_changes render w v id.0 said edit (map.get w.connections id.0) h told;
+  refused = λ render w v id e h. refused_step render w v id.0 e (map.get w.connections id.0) h;
+}
