@@ -1,14 +1,15 @@
 //! The command `serve`: a configured site over TCP.
 
 ghost use Rattle.std.specs.Prelude.{◌≡◌, ◌<◌};
+ghost use Rattle.docs_server.specs.Serving.{fault_of};
 
 use crate::arguments::Serve;
 use crate::files::{Pages, Site, read_site};
 use doc_heap::heap;
 use doc_html::CommonMark;
 use doc_page::renderer::Renderer;
-use doc_server::fault::Fault;
-use doc_server::output::{flush, send};
+use doc_server_input::fault::Fault;
+use doc_server_input::output::{flush, send};
 use doc_server_serving::fault::ServeFault;
 use doc_server_serving::serving::serve_on;
 use doc_server_sites::site::site_hub;

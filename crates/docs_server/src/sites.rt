@@ -7,7 +7,7 @@ use crate::files::{Pages, Site, read_site};
 use doc_heap::heap;
 use doc_html::CommonMark;
 use doc_page::renderer::Renderer;
-use doc_server::fault::Fault;
+use doc_server_input::fault::Fault;
 use doc_server_sites::check::check;
 use doc_server_sites::replay::replay;
 use doc_server_streams::read_from::ReadFrom;
