@@ -1,6 +1,2 @@
-mod EventSteps
-mod Examples
-mod ReplaySteps
 mod ReportSteps
-mod ScriptSteps
 mod SiteSteps

@@ -2,8 +2,8 @@
 
 ghost use Rattle.std.specs.Prelude.{◌≡◌, ◌≢◌, ◌<◌, [], ◌∷◌, length, None, Some, Ok, Err, IfOk, IfErr, MatchOption};
 ghost use Rattle.doc_server_script.specs.Lines.{event_of};
-ghost use Rattle.doc_server_sites.specs.ScriptSteps.{cut};
-ghost use Rattle.doc_server_sites.specs.Scripts.{events_of, lines};
+ghost use Rattle.doc_server_replay.specs.ScriptSteps.{cut};
+ghost use Rattle.doc_server_replay.specs.Scripts.{events_of, lines};
 
 use doc_heap::{Heap, Vec};
 use doc_hub::event::Event;

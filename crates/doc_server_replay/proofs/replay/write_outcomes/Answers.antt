@@ -1,8 +1,8 @@
 use Rattle.std.proofs.Common.{◌+◌, ◌∷◌, drop, arith, ap, sym, ◌∙◌}
 use Rattle.std.proofs.lemmas.List.{drop_more}
 use Rattle.std.proofs.lemmas.Result.{err_from_is_err_and}
-use Rattle.doc_server_sites.proofs.ReplaySteps.{line_sent, line_cut, line_unmade}
-use Rattle.doc_server_sites.proofs.replay.write_outcomes.Goals as goal
+use Rattle.doc_server_replay.proofs.ReplaySteps.{line_sent, line_cut, line_unmade}
+use Rattle.doc_server_replay.proofs.replay.write_outcomes.Goals as goal
 
 pub loop-outcome-preserved : goal.loop-outcome-preserved
 loop-outcome-preserved g c =

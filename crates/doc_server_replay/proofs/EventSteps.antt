@@ -3,7 +3,7 @@ use Rattle.std.proofs.Common.{◌≡◌, ℕ, List, [], ap, ◌∙◌}
 use Rattle.std.specs.Prelude.{Result, Ok}
 use Rattle.doc_hub.specs.declared.event.Event.{Event}
 use Rattle.doc_server_input.specs.declared.fault.Fault.{Fault}
-use Rattle.doc_server_sites.specs.Scripts.{events_from, lines}
+use Rattle.doc_server_replay.specs.Scripts.{events_from, lines}
 
 -- no line is left
 pub all_read : (answer : Result (List Event) Fault) (found : List Event) (n : ℕ) (left : List ℕ)

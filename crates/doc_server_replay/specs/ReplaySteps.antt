@@ -6,8 +6,8 @@ use Rattle.doc_hub.specs.Worlds.{World}
 use Rattle.doc_server_streams.specs.Streams.{AppendsPrefix}
 use Rattle.doc_server_input.specs.declared.fault.Fault.{Fault}
 use Rattle.doc_server_input.specs.declared.fault.Fault.TheVariants as faults
-use Rattle.doc_server_sites.specs.Replays.{RunTells}
-use Rattle.doc_server_sites.specs.Scripts.{events_of}
+use Rattle.doc_server_replay.specs.Replays.{RunTells}
+use Rattle.doc_server_replay.specs.Scripts.{events_of}
 
 -- A script on this world has a bad line, or the outcomes' lines were cut off, or memory ran out.
 abbrev pub StopsScript : Renders → World → List ℕ → Option (List ℕ) → Option (List ℕ) → Fault → Type 0

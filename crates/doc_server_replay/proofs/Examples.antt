@@ -9,8 +9,8 @@ use Rattle.doc_hub.specs.declared.refusal.Refusal.TheVariants as refusals
 use Rattle.doc_server_script.specs.Escapes.{unescaped, escaped}
 use Rattle.doc_server_script.specs.Lines.{event_of}
 use Rattle.doc_server_input.specs.declared.fault.Fault.TheVariants as faults
-use Rattle.doc_server_sites.specs.Replays.{outcome_lines}
-use Rattle.doc_server_sites.specs.Scripts.{lines, events_of}
+use Rattle.doc_server_replay.specs.Replays.{outcome_lines}
+use Rattle.doc_server_replay.specs.Scripts.{lines, events_of}
 
 -- ---- lines end at a LF alone
 

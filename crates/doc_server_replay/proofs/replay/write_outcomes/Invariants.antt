@@ -1,6 +1,6 @@
 use Rattle.std.proofs.Common.{◌≡◌, drop}
-use Rattle.doc_server_sites.proofs.ReplaySteps.{AreLeft}
-use Rattle.doc_server_sites.proofs.replay.write_outcomes.Given as goal
+use Rattle.doc_server_replay.proofs.ReplaySteps.{AreLeft}
+use Rattle.doc_server_replay.proofs.replay.write_outcomes.Given as goal
 
 abbrev pub invariant-loop-outcome : goal.invariant-loop-outcome
 invariant-loop-outcome g l = record {

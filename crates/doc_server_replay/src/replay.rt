@@ -6,11 +6,11 @@ ghost use Rattle.doc_server_script.specs.Outcomes.{outcome_line};
 ghost use Rattle.doc_server_input.specs.Faults.{failed_writes_after, IsNoText, ReadsFailed};
 ghost use Rattle.doc_server_input.specs.InputSteps.{IsRead};
 ghost use Rattle.doc_server_input.specs.OutputSteps.{StopsAt};
-ghost use Rattle.doc_server_sites.specs.Replays.{outcome_lines, Replays, RunTells, StopsReplay};
-ghost use Rattle.doc_server_sites.specs.ReplaySteps.{StopsScript};
+ghost use Rattle.doc_server_replay.specs.Replays.{outcome_lines, Replays, RunTells, StopsReplay};
+ghost use Rattle.doc_server_replay.specs.ReplaySteps.{StopsScript};
 
 use crate::script::events_of;
-use crate::site::site_hub;
+use doc_server_sites::site::site_hub;
 use doc_heap::{Heap, String};
 use doc_hub::hub::Hub;
 use doc_hub::outcome::Outcome;

@@ -12,7 +12,7 @@ use Rattle.doc_server_streams.specs.Streams.{AppendsPrefix}
 use Rattle.doc_server_input.specs.Inputs.{OfText}
 use Rattle.doc_server_input.specs.declared.fault.Fault.{Fault}
 use Rattle.doc_server_input.specs.declared.fault.Fault.TheVariants as faults
-use Rattle.doc_server_sites.specs.Scripts.{events_of}
+use Rattle.doc_server_replay.specs.Scripts.{events_of}
 use Rattle.doc_server_sites.specs.Sites.{site_world}
 
 -- a line for each outcome, with its LF

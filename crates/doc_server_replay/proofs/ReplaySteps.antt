@@ -16,8 +16,8 @@ use Rattle.doc_server_input.specs.OutputSteps.{StopsAt}
 use Rattle.doc_server_input.specs.declared.fault.Fault.{Fault}
 use Rattle.doc_server_input.specs.declared.fault.Fault.TheVariants as faults
 use Rattle.doc_server_input.proofs.Prefixes.{front_is_prefix, prefix_behind}
-use Rattle.doc_server_sites.specs.Replays.{outcome_lines, RunTells, Replays}
-use Rattle.doc_server_sites.specs.Scripts.{events_of}
+use Rattle.doc_server_replay.specs.Replays.{outcome_lines, RunTells, Replays}
+use Rattle.doc_server_replay.specs.Scripts.{events_of}
 use Rattle.doc_server_sites.specs.Sites.{site_world}
 
 -- of all these lines some are sent, and those of the rest are left

@@ -1,0 +1,4 @@
+mod EventSteps
+mod Examples
+mod ReplaySteps
+mod ScriptSteps
