@@ -4,7 +4,6 @@ ghost use Rattle.std.specs.Prelude.{◌≡◌, ◌∷◌, [], ◌++◌, true, st
 ghost use Rattle.std.specs.Io.KnownBytes.{Appends};
 ghost use Rattle.doc_server_script.specs.Outcomes.{outcome_line};
 ghost use Rattle.doc_server_input.specs.Faults.{failed_writes_after, IsNoText, ReadsFailed};
-ghost use Rattle.doc_server_input.specs.InputSteps.{IsRead};
 ghost use Rattle.doc_server_input.specs.OutputSteps.{StopsAt};
 ghost use Rattle.doc_server_replay.specs.Replays.{outcome_lines, Replays, RunTells, StopsReplay};
 ghost use Rattle.doc_server_replay.specs.ReplaySteps.{StopsScript};
