@@ -27,6 +27,6 @@ pub site_refused : (config : SiteConfig) (texts : List (List ℕ)) (w : World) (
 site_refused config texts w rows fault can made same (why, none) =
     let first = new_world config.readers config.keep_alive in
     let none_there : with_pages first config.pages texts ≡ None =
-        sym (ap (λ v. with_pages v config.pages texts) made) ∙ sym (ap (λ ps. with_pages w ps texts) same) ∙ none
+    sym (ap (λ v. with_pages v config.pages texts) made) ∙ sym (ap (λ ps. with_pages w ps texts) same) ∙ none
     in ap (λ t. cond t (ok_or (with_pages first config.pages texts) faults.Refused) (Err faults.Config)) can
     ∙ ap (λ o. ok_or o faults.Refused) none_there ∙ ap (λ e. Err e) (sym why)
