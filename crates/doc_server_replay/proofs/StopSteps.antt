@@ -1,6 +1,7 @@
 -- What stops a script on a world, and then the command.
-use Rattle.std.proofs.Common.{◌≡◌, ◌≢◌, ◌⊎◌, inl, inr, ℕ, ◌+◌, List, [], ◌∷◌, ◌++◌, Bool, true, false, cond, T, tt, refl, ap, sym, subst, ◌∙◌, append-nil}
-use Rattle.std.specs.Prelude.{codes, string_bytes, Option, Some, None, IfSome, IsUtf8, Result, Ok, Err, IfErr, OnOk, is_ok}
+use Rattle.std.proofs.Common.{◌≡◌, ◌≢◌, ◌⊎◌, inl, inr, ℕ, ◌+◌, List, [], ◌∷◌, ◌++◌, Bool, true, false, cond, T, refl}
+use Rattle.std.proofs.Common.{ap, sym, subst, ◌∙◌, append-nil}
+use Rattle.std.specs.Prelude.{codes, Option, Some, None, IfSome, IsUtf8, Result, Ok, Err, IfErr, OnOk, is_ok}
 use Rattle.std.specs.Option.{ok_or}
 use Rattle.std.specs.Io.KnownBytes.{Appends, Keeps}
 use Rattle.std.proofs.KnownBytes.{Appends-kept, Keeps-refl}
@@ -12,14 +13,14 @@ use Rattle.doc_hub.specs.declared.event.Event.{Event}
 use Rattle.doc_hub.specs.declared.outcome.Outcome.{Outcome}
 use Rattle.doc_server_config.specs.declared.config.SiteConfig.{SiteConfig}
 use Rattle.doc_server_script.specs.Lines.{event_of}
-use Rattle.doc_server_streams.specs.Streams.{AppendsPrefix, failures_after, one_more}
+use Rattle.doc_server_streams.specs.Streams.{AppendsPrefix}
 use Rattle.doc_server_input.specs.Faults.{failed_writes_after, ReadsFailed}
 use Rattle.doc_server_input.specs.InputSteps.{IsNamed}
 use Rattle.doc_server_input.specs.OutputSteps.{StopsAt}
 use Rattle.doc_server_input.specs.declared.fault.Fault.{Fault}
 use Rattle.doc_server_input.specs.declared.fault.Fault.TheVariants as faults
 use Rattle.doc_server_input.proofs.Prefixes.{front_is_prefix}
-use Rattle.doc_server_replay.specs.Replays.{outcome_lines, OfSite, Replays, RunTells, StopsReplay}
+use Rattle.doc_server_replay.specs.Replays.{outcome_lines, Replays, RunTells, StopsReplay}
 use Rattle.doc_server_replay.specs.ReplaySteps.{StopsScript}
 use Rattle.doc_server_replay.specs.Scripts.{events_from, events_of, lines}
 use Rattle.doc_server_replay.proofs.ReplaySteps.{script_told, replayed}
@@ -28,14 +29,14 @@ use Rattle.doc_server_sites.specs.Sites.{site_world, with_pages}
 no_error : {X E : Type 0} (x : X) (e : E) → Ok x ≡ Err e → ⊥
 no_error x e is = subst T (ap is_ok is) tt
 
-fault_or : {X : Type 0} → Fault → Result X Fault → Fault
+abbrev fault_or : {X : Type 0} → Fault → Result X Fault → Fault
 fault_or other (Ok x) = other
 fault_or other (Err fault) = fault
 
-same_fault : {X : Type 0} (a b : Fault) → Err {T = X} a ≡ Err b → b ≡ a
+same_fault : {X : Type 0} (a b : Fault) → ◌≡◌ {A = Result X Fault} (Err a) (Err b) → b ≡ a
 same_fault a b is = sym (ap (fault_or a) is)
 
-is_memory : Fault → Bool
+abbrev is_memory : Fault → Bool
 is_memory faults.Memory = true
 is_memory other = false
 
@@ -62,10 +63,10 @@ IsBad fault = (n : ℕ) × (fault ≡ faults.BadScriptLine n)
 
 line_fails : (found : Option Event) (n : ℕ) (onto : Event → Result (List Event) Fault) (fault : Fault)
     → ((event : Event) → onto event ≡ Err fault → IsBad fault)
-    → elim found [
+    → ◌≡◌ {A = Result (List Event) Fault} (elim found [
       | None ↦ Err (faults.BadScriptLine n)
       | Some event ↦ onto event
-    ] ≡ Err fault → IsBad fault
+    ]) (Err fault) → IsBad fault
 line_fails None n onto fault behind is = (n, same_fault (faults.BadScriptLine n) fault is)
 line_fails (Some event) n onto fault behind is = behind event is
 
@@ -87,9 +88,9 @@ script_bad render w script old fault holds =
     ]
 
 -- and no write fails
-pub bad_writes : {X : Type 0} (script : List ℕ) (before : ℕ) (fault : Fault)
+pub bad_writes : (X : Type 0) (script : List ℕ) (before : ℕ) (fault : Fault)
     → (fault ≢ faults.Memory → events_of script ≡ Err fault) → before ≡ failed_writes_after {X = X} before (Err fault)
-bad_writes script before fault holds =
+bad_writes X script before fault holds =
     elim (memory_or fault holds) [
       | inl why ↦ subst (λ f. before ≡ failed_writes_after {X = X} before (Err f)) (sym why) refl
       | inr is ↦
@@ -144,12 +145,6 @@ told_unflushed render w v script events these outcomes told old mid new (Err fau
     (front_is_prefix old new (outcome_lines told) (outcome_lines told) [] (sym (append-nil (outcome_lines told)))
     (Appends-kept old mid new (outcome_lines told) grew kept)))
 
-pub flush_writes : {X : Type 0} (before mid after : ℕ) (answer : Result X Fault) → mid ≡ before → after ≡ failures_after mid answer
-    → IfErr answer (λ fault. fault ≡ faults.CannotWrite) → after ≡ failed_writes_after before answer
-flush_writes before mid after (Ok x) same is why = is ∙ same
-flush_writes before mid after (Err fault) same is why =
-    subst (λ f. after ≡ failed_writes_after {X = X} before (Err f)) (sym why) (is ∙ ap one_more same)
-
 -- ---- no site
 
 no_site : (t : Bool) (w : Option World) (fault : Fault) → cond t (ok_or w faults.Refused) (Err faults.Config) ≡ Err fault
@@ -166,8 +161,8 @@ module _ (config : SiteConfig) (texts : List (List ℕ)) (fault : Fault)
   site_fails : (fault ≡ faults.Memory) ⊎ Fails
   site_fails =
       memory_or fault (λ other.
-        let is = holds other in
-        (is, no_site (is_capacity config.cache) (with_pages (new_world config.readers config.keep_alive) config.pages texts) fault is))
+      let is = holds other in
+      (is, no_site (is_capacity config.cache) (with_pages (new_world config.readers config.keep_alive) config.pages texts) fault is))
 
   -- one of three
   by_three : (P : Fault → Type 0) → P faults.Memory → (site_world config texts ≡ Err faults.Refused → P faults.Refused)
@@ -184,16 +179,16 @@ module _ (config : SiteConfig) (texts : List (List ℕ)) (fault : Fault)
       by_three (StopsReplay render config texts input old old) (inl (Keeps-refl old)) (λ is. (is, Keeps-refl old))
       (λ is. (is, Keeps-refl old))
 
-  pub site_reads : {X : Type 0} (Reason : Type 0) (before : ℕ) → ReadsFailed {X = X} Reason before before (Err fault)
-  site_reads Reason before = by_three (λ f. ReadsFailed {X = X} Reason before before (Err f)) (inr refl) (λ is. refl) (λ is. refl)
+  pub site_reads : (X Reason : Type 0) (before : ℕ) → ReadsFailed {X = X} Reason before before (Err fault)
+  site_reads X Reason before = by_three (λ f. ReadsFailed {X = X} Reason before before (Err f)) (inr refl) (λ is. refl) (λ is. refl)
 
-  pub site_writes : {X : Type 0} (before : ℕ) → before ≡ failed_writes_after {X = X} before (Err fault)
-  site_writes before = by_three (λ f. before ≡ failed_writes_after {X = X} before (Err f)) refl (λ is. refl) (λ is. refl)
+  pub site_writes : (X : Type 0) (before : ℕ) → before ≡ failed_writes_after {X = X} before (Err fault)
+  site_writes X before = by_three (λ f. before ≡ failed_writes_after {X = X} before (Err f)) refl (λ is. refl) (λ is. refl)
 
 -- ---- an input that can't be read
 
-pub unread_stops : (render : Renders) (config : SiteConfig) (texts : List (List ℕ)) (w : World) (input old : Option (List ℕ)) (fault : Fault)
-    → site_world config texts ≡ Ok w → IsNamed (codes "-") fault → StopsReplay render config texts input old old fault
+pub unread_stops : (render : Renders) (config : SiteConfig) (texts : List (List ℕ)) (w : World) (input old : Option (List ℕ))
+    (fault : Fault) → site_world config texts ≡ Ok w → IsNamed (codes "-") fault → StopsReplay render config texts input old old fault
 unread_stops render config texts w input old faults.Usage made named = absurd named
 unread_stops render config texts w input old faults.Config made named = absurd named
 unread_stops render config texts w input old faults.BadTable made named = absurd named
@@ -202,34 +197,21 @@ unread_stops render config texts w input old faults.Socket made named = absurd n
 unread_stops render config texts w input old faults.Refused made named = absurd named
 unread_stops render config texts w input old faults.CannotWrite made named = absurd named
 unread_stops render config texts w input old (faults.BadScriptLine line) made named = absurd named
-unread_stops render config texts w input old (faults.CannotRead called) made named = (w, made, named, Keeps-refl old)
+unread_stops render config texts w input old (faults.CannotRead called) made named = (w, made, (named, Keeps-refl old))
 unread_stops render config texts w input old faults.Memory made named = inl (Keeps-refl old)
 
-pub unread_writes : {X : Type 0} (before : ℕ) (name : List ℕ) (fault : Fault) → IsNamed name fault
+pub unread_writes : (X : Type 0) (before : ℕ) (name : List ℕ) (fault : Fault) → IsNamed name fault
     → before ≡ failed_writes_after {X = X} before (Err fault)
-unread_writes before name faults.Usage named = refl
-unread_writes before name faults.Config named = refl
-unread_writes before name faults.BadTable named = refl
-unread_writes before name faults.UnknownToken named = refl
-unread_writes before name faults.Socket named = refl
-unread_writes before name faults.Refused named = refl
-unread_writes before name faults.CannotWrite named = absurd named
-unread_writes before name (faults.BadScriptLine line) named = refl
-unread_writes before name (faults.CannotRead called) named = refl
-unread_writes before name faults.Memory named = refl
-
-pub unread_reads : {X Y : Type 0} (Reason : Type 0) (before after : ℕ) (fault : Fault)
-    → ReadsFailed {X = X} Reason before after (Err fault) → ReadsFailed {X = Y} Reason before after (Err fault)
-unread_reads Reason before after faults.Usage reads = reads
-unread_reads Reason before after faults.Config reads = reads
-unread_reads Reason before after faults.BadTable reads = reads
-unread_reads Reason before after faults.UnknownToken reads = reads
-unread_reads Reason before after faults.Socket reads = reads
-unread_reads Reason before after faults.Refused reads = reads
-unread_reads Reason before after faults.CannotWrite reads = reads
-unread_reads Reason before after (faults.BadScriptLine line) reads = reads
-unread_reads Reason before after (faults.CannotRead called) reads = reads
-unread_reads Reason before after faults.Memory reads = reads
+unread_writes X before name faults.Usage named = refl
+unread_writes X before name faults.Config named = refl
+unread_writes X before name faults.BadTable named = refl
+unread_writes X before name faults.UnknownToken named = refl
+unread_writes X before name faults.Socket named = refl
+unread_writes X before name faults.Refused named = refl
+unread_writes X before name faults.CannotWrite named = absurd named
+unread_writes X before name (faults.BadScriptLine line) named = refl
+unread_writes X before name (faults.CannotRead called) named = refl
+unread_writes X before name faults.Memory named = refl
 
 -- ---- a script that stops, of a site and an input
 
@@ -247,21 +229,21 @@ module _ (render page : Renders) (config : SiteConfig) (texts : List (List ℕ))
   replay_stops faults.Socket stops = absurd stops
   replay_stops faults.Refused stops = absurd stops
   replay_stops (faults.CannotRead called) stops = absurd stops
-  replay_stops (faults.BadScriptLine line) (is, kept) = (w, made, bytes, all, utf8, ap events_of (sym shown) ∙ is, kept)
+  replay_stops (faults.BadScriptLine line) (is, kept) = (w, made, (bytes, all, utf8, (ap events_of (sym shown) ∙ is, kept)))
   replay_stops faults.CannotWrite tells = told_then tells
   replay_stops faults.Memory (inl kept) = inl kept
   replay_stops faults.Memory (inr tells) = inr (told_then tells)
 
-pub stop_reads : {X : Type 0} (Reason : Type 0) (before after : ℕ) (render : Renders) (w : World) (script : List ℕ)
+pub stop_reads : (X Reason : Type 0) (before after : ℕ) (render : Renders) (w : World) (script : List ℕ)
     (old new : Option (List ℕ)) (fault : Fault) → after ≡ before → StopsScript render w script old new fault
     → ReadsFailed {X = X} Reason before after (Err fault)
-stop_reads Reason before after render w script old new faults.Usage same stops = same
-stop_reads Reason before after render w script old new faults.Config same stops = same
-stop_reads Reason before after render w script old new faults.BadTable same stops = same
-stop_reads Reason before after render w script old new faults.UnknownToken same stops = same
-stop_reads Reason before after render w script old new faults.Socket same stops = same
-stop_reads Reason before after render w script old new faults.Refused same stops = same
-stop_reads Reason before after render w script old new faults.CannotWrite same stops = same
-stop_reads Reason before after render w script old new (faults.BadScriptLine line) same stops = same
-stop_reads Reason before after render w script old new (faults.CannotRead called) same stops = absurd stops
-stop_reads Reason before after render w script old new faults.Memory same stops = inr same
+stop_reads X Reason before after render w script old new faults.Usage same stops = same
+stop_reads X Reason before after render w script old new faults.Config same stops = same
+stop_reads X Reason before after render w script old new faults.BadTable same stops = same
+stop_reads X Reason before after render w script old new faults.UnknownToken same stops = same
+stop_reads X Reason before after render w script old new faults.Socket same stops = same
+stop_reads X Reason before after render w script old new faults.Refused same stops = same
+stop_reads X Reason before after render w script old new faults.CannotWrite same stops = same
+stop_reads X Reason before after render w script old new (faults.BadScriptLine line) same stops = same
+stop_reads X Reason before after render w script old new (faults.CannotRead called) same stops = absurd stops
+stop_reads X Reason before after render w script old new faults.Memory same stops = inr same
