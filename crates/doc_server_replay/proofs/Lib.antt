@@ -1,0 +1,5 @@
+mod EventSteps
+mod Examples
+mod ReplaySteps
+mod ScriptSteps
+mod StopSteps

@@ -1,0 +1,4 @@
+pub mod ReplaySteps
+pub mod Replays
+pub mod ScriptSteps
+pub mod Scripts

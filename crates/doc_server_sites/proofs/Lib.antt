@@ -1,0 +1,2 @@
+mod ReportSteps
+mod SiteSteps

@@ -1,0 +1,89 @@
+//! The files that the arguments and a configuration name.
+
+use doc_heap::{Heap, String, Vec, heap};
+use doc_lines::entities::Entities;
+use doc_page::failure::Memory;
+use doc_page::list::List;
+use doc_page::text::Text;
+use doc_server::entity_table::entities_of;
+use doc_server_input::fault::Fault;
+use doc_server_input::input::{cannot_read, read_text};
+use doc_server_config::config::{ConfigError, SiteConfig};
+use doc_server_config::page_row::{PageRow, Source};
+use doc_server_streams::read_from::ReadFrom;
+use std::fs::File;
+use std::rt::Files;
+
+/// A configured site, with what stands in the files that its configuration names.
+pub struct Site {
+    pub pages: Pages,
+    /// The built-in entities, and those of the table that is named.
+    pub entities: Entities,
+}
+
+/// A configuration with the texts of its pages' files.
+#[derive(Drop)]
+pub struct Pages {
+    pub config: SiteConfig,
+    /// The texts of the pages that name a file, in the order of these pages.
+    pub texts: List<Text>,
+}
+
+/// The site of the configuration of this name. All files are read before the table of entities is looked at.
+pub fn read_site<R: AllocGlobal + Files>(rt: &R, name: &str) -> Result<Site, Fault> {
+    let heap = heap(rt.alloc(), u64::MAX)?;
+    let text = read_file(rt, heap, name)?;
+    let config = config_of(heap, &text)?;
+    let table = read_table(rt, heap, &config)?;
+    let texts = read_pages(rt, heap, config.pages.get())?;
+    let entities = match table {
+        None => Entities::built_in(),
+        Some(table) => entities_of(heap, &table)?,
+    };
+    Ok(Site {
+        pages: Pages { config, texts },
+        entities,
+    })
+}
+
+/// A file that is read.
+pub fn open_file<R: Files>(rt: &R, heap: Heap, name: &str) -> Result<ReadFrom<R::File>, Fault> {
+    match File::open(rt, name) {
+        Ok(file) => Ok(ReadFrom::new(file)),
+        Err(_) => Err(cannot_read(heap, name)),
+    }
+}
+
+/// The text of a file.
+fn read_file<R: Files>(rt: &R, heap: Heap, name: &str) -> Result<String, Fault> {
+    let mut input = open_file(rt, heap, name)?;
+    read_text(heap, name, &mut input)
+}
+
+fn config_of(heap: Heap, text: &str) -> Result<SiteConfig, Fault> {
+    match SiteConfig::from_toml(heap, text) {
+        Ok(config) => Ok(config),
+        Err(ConfigError::Memory) => Err(Fault::Memory),
+        Err(_) => Err(Fault::Config),
+    }
+}
+
+/// The text of the table of entities, where one is named.
+fn read_table<R: Files>(rt: &R, heap: Heap, config: &SiteConfig) -> Result<Option<String>, Fault> {
+    match &config.entities {
+        None => Ok(None),
+        Some(name) => Ok(Some(read_file(rt, heap, name.get())?)),
+    }
+}
+
+/// The texts of the pages that name a file.
+fn read_pages<R: Files>(rt: &R, heap: Heap, pages: &[PageRow]) -> Result<List<Text>, Fault> {
+    let mut texts = Vec::new(heap);
+    for page in pages {
+        if let Source::File(name) = &page.source {
+            let text = Text::new(read_file(rt, heap, name.get())?);
+            texts.push(text).map_err(Memory::from)?;
+        }
+    }
+    Ok(List::new(texts))
+}
