@@ -21,8 +21,6 @@ pub enum Command<'a> {
     /// The examples of the file of this name.
     Examples(&'a str),
     Check(Check<'a>),
-    /// Events on the site of the configuration of this name.
-    Replay(&'a str),
     Serve(Serve<'a>),
 }
 
@@ -87,7 +85,6 @@ pub fn command_of(words: &[String]) -> Result<Command<'_>, Fault> {
             config: config.as_str(),
             token: token.as_str(),
         })),
-        ("replay", [config]) => Ok(Command::Replay(config.as_str())),
         ("serve", [config, address, count, turns]) => {
             serve_of(
                 config.as_str(),

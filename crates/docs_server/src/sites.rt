@@ -4,20 +4,19 @@ ghost use Rattle.std.specs.Prelude.{◌≡◌, ◌<◌};
 
 use crate::arguments::Check;
 use crate::files::{Pages, Site, read_site};
+use crate::status::status_of;
 use doc_heap::heap;
 use doc_html::CommonMark;
 use doc_page::renderer::Renderer;
 use doc_server_input::fault::Fault;
 use doc_server_sites::check::check;
-use doc_server_replay::replay::replay;
-use doc_server_streams::read_from::ReadFrom;
 use doc_server_streams::write_to::WriteTo;
 use std::io;
 use std::rt::Files;
 use std::sync::ledger::{Blank, Ledger};
 
 /// Runs `check` over pages of CommonMark, and answers the status to end with.
-pub fn run_check<L: Ledger, P: AllocGlobal + Files + Print>(
+pub fn run_check<L: Ledger, P: AllocGlobal + Eprint + Files + Print>(
     rt: &P,
     blank: Blank,
     command: &Check<'_>,
@@ -28,7 +27,17 @@ pub fn run_check<L: Ledger, P: AllocGlobal + Files + Print>(
 {
     let Site { pages, entities } = read_site(rt, command.config)?;
     let renderer: CommonMark<L> = CommonMark::new(entities, blank);
-    check_with(rt, renderer, pages, command.token)
+    Ok(run_check_with(rt, renderer, pages, command.token))
+}
+
+/// The same with any renderer: a call that names both a renderer which holds texts and the heap, as the pages do, can't be proved.
+fn run_check_with<R: Renderer + Drop, S: Into<Pages>, P: AllocGlobal + Eprint + Print>(
+    rt: &P,
+    renderer: R,
+    pages: S,
+    token: &str,
+) -> u8 {
+    status_of(rt, check_with(rt, renderer, pages.into(), token))
 }
 
 fn check_with<R: Renderer + Drop, P: AllocGlobal + Print>(
@@ -45,39 +54,6 @@ fn check_with<R: Renderer + Drop, P: AllocGlobal + Print>(
         pages.config,
         pages.texts.get(),
         token,
-        &mut output,
-    )
-}
-
-/// Runs `replay` over pages of CommonMark, and answers the status to end with.
-pub fn run_replay<L: Ledger, P: AllocGlobal + Files + Input + Print>(
-    rt: &P,
-    blank: Blank,
-    config: &str,
-) -> Result<u8, Fault>
-    requires name { blank.name ≡ L.name }
-    requires parts { blank.parts ≡ L.parts }
-    requires some { 0 < L.parts }
-{
-    let Site { pages, entities } = read_site(rt, config)?;
-    let renderer: CommonMark<L> = CommonMark::new(entities, blank);
-    replay_with(rt, renderer, pages)
-}
-
-fn replay_with<R: Renderer + Drop, P: AllocGlobal + Input + Print>(
-    rt: &P,
-    renderer: R,
-    pages: Pages,
-) -> Result<u8, Fault> {
-    let heap = heap(rt.alloc(), u64::MAX)?;
-    let mut input = ReadFrom::new(rt.reader());
-    let mut output = WriteTo::new(io::writer(rt));
-    replay(
-        heap,
-        renderer,
-        pages.config,
-        pages.texts.get(),
-        &mut input,
         &mut output,
     )
 }
