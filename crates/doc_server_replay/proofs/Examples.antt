@@ -1,5 +1,5 @@
 -- Scripts, their lines and events, and the lines of outcomes.
-use Rattle.std.proofs.Common.{◌≡◌, List, ℕ, [], ◌∷◌, refl}
+use Rattle.std.proofs.Common.{◌≡◌, [], ◌∷◌, refl}
 use Rattle.std.specs.Prelude.{codes, Ok, Err}
 use Rattle.std.specs.Fmt.{digits}
 use Rattle.doc_hub.specs.declared.event.Event.TheVariants as events
@@ -53,7 +53,8 @@ empty_line_is_bad = refl
 -- ---- outcomes
 
 three_outcomes :
-    outcome_lines (outcomes.Conn (record { 0 = 12 }) ∷ outcomes.Stepped (steps.Last (codes "no\r\n")) ∷ outcomes.Refused refusals.Closed ∷ [])
+    outcome_lines
+    (outcomes.Conn (record { 0 = 12 }) ∷ outcomes.Stepped (steps.Last (codes "no\r\n")) ∷ outcomes.Refused refusals.Closed ∷ [])
     ≡ codes "conn 12\nlast no\\r\\n\nrefused Closed\n"
 unfolding digits escaped
 three_outcomes = refl

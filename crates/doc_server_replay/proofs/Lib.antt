@@ -2,3 +2,4 @@ mod EventSteps
 mod Examples
 mod ReplaySteps
 mod ScriptSteps
+mod StopSteps

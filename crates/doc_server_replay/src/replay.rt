@@ -4,13 +4,11 @@ ghost use Rattle.std.specs.Prelude.{◌≡◌, ◌∷◌, [], ◌++◌, true, st
 ghost use Rattle.std.specs.Io.KnownBytes.{Appends};
 ghost use Rattle.doc_server_script.specs.Outcomes.{outcome_line};
 ghost use Rattle.doc_server_input.specs.Faults.{failed_writes_after, IsNoText, ReadsFailed};
-ghost use Rattle.doc_server_input.specs.InputSteps.{IsRead};
 ghost use Rattle.doc_server_input.specs.OutputSteps.{StopsAt};
 ghost use Rattle.doc_server_replay.specs.Replays.{outcome_lines, Replays, RunTells, StopsReplay};
 ghost use Rattle.doc_server_replay.specs.ReplaySteps.{StopsScript};
 
 use crate::script::events_of;
-use doc_server_sites::site::site_hub;
 use doc_heap::{Heap, String};
 use doc_hub::hub::Hub;
 use doc_hub::outcome::Outcome;
@@ -22,6 +20,7 @@ use doc_server_input::fault::Fault;
 use doc_server_input::input::read_text;
 use doc_server_input::output::{flush, send};
 use doc_server_script::outcome::push_outcome;
+use doc_server_sites::site::site_hub;
 use doc_server_streams::input::Input;
 use doc_server_streams::output::Output;
 
