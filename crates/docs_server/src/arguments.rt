@@ -21,6 +21,7 @@ pub enum Command<'a> {
     /// The examples of the file of this name.
     Examples(&'a str),
     Check(Check<'a>),
+    Replay(Replay<'a>),
     Serve(Serve<'a>),
 }
 
@@ -30,6 +31,13 @@ pub struct Check<'a> {
     /// The file of the configuration.
     pub config: &'a str,
     pub token: &'a str,
+}
+
+/// Events on a configured site.
+#[derive(Drop)]
+pub struct Replay<'a> {
+    /// The file of the configuration.
+    pub config: &'a str,
 }
 
 /// A configured site that is served.
@@ -84,6 +92,9 @@ pub fn command_of(words: &[String]) -> Result<Command<'_>, Fault> {
         ("check", [config, token]) => Ok(Command::Check(Check {
             config: config.as_str(),
             token: token.as_str(),
+        })),
+        ("replay", [config]) => Ok(Command::Replay(Replay {
+            config: config.as_str(),
         })),
         ("serve", [config, address, count, turns]) => {
             serve_of(

@@ -11,7 +11,7 @@ mod status;
 use crate::arguments::{Command, command_of, words_of};
 use crate::commands::{run_demo, run_examples, run_render};
 use crate::serving::run_serve;
-use crate::sites::run_check;
+use crate::sites::{run_check, run_replay};
 use crate::status::status_of;
 use doc_heap::heap;
 use doc_server_input::fault::Fault;
@@ -42,6 +42,7 @@ where
         Command::Render => run_render(rt),
         Command::Examples(file) => run_examples(rt, file),
         Command::Check(check) => run_check::<Brand, R>(rt, Blank::new(1), &check),
+        Command::Replay(replay) => run_replay::<Brand, R>(rt, Blank::new(1), &replay),
         Command::Serve(serve) => run_serve::<Brand, R>(rt, Blank::new(1), &serve),
     }
 }

@@ -2,14 +2,16 @@
 
 ghost use Rattle.std.specs.Prelude.{◌≡◌, ◌<◌};
 
-use crate::arguments::Check;
+use crate::arguments::{Check, Replay};
 use crate::files::{Pages, Site, read_site};
 use crate::status::status_of;
 use doc_heap::heap;
 use doc_html::CommonMark;
 use doc_page::renderer::Renderer;
 use doc_server_input::fault::Fault;
+use doc_server_replay::replay::replay;
 use doc_server_sites::check::check;
+use doc_server_streams::read_from::ReadFrom;
 use doc_server_streams::write_to::WriteTo;
 use std::io;
 use std::rt::Files;
@@ -54,6 +56,49 @@ fn check_with<R: Renderer + Drop, P: AllocGlobal + Print>(
         pages.config,
         pages.texts.get(),
         token,
+        &mut output,
+    )
+}
+
+/// Runs `replay` over pages of CommonMark, and answers the status to end with.
+pub fn run_replay<L: Ledger, P: AllocGlobal + Eprint + Files + Input + Print>(
+    rt: &P,
+    blank: Blank,
+    command: &Replay<'_>,
+) -> Result<u8, Fault>
+    requires name { blank.name ≡ L.name }
+    requires parts { blank.parts ≡ L.parts }
+    requires some { 0 < L.parts }
+{
+    let Site { pages, entities } = read_site(rt, command.config)?;
+    let renderer: CommonMark<L> = CommonMark::new(entities, blank);
+    Ok(run_replay_with(rt, renderer, pages))
+}
+
+/// The same with any renderer: as `run_check_with`.
+fn run_replay_with<R: Renderer + Drop, S: Into<Pages>, P: AllocGlobal + Eprint + Input + Print>(
+    rt: &P,
+    renderer: R,
+    pages: S,
+) -> u8 {
+    status_of(rt, replay_with(rt, renderer, pages.into()))
+}
+
+/// The same, as a result.
+fn replay_with<R: Renderer + Drop, P: AllocGlobal + Input + Print>(
+    rt: &P,
+    renderer: R,
+    pages: Pages,
+) -> Result<u8, Fault> {
+    let heap = heap(rt.alloc(), u64::MAX)?;
+    let mut input = ReadFrom::new(rt.reader());
+    let mut output = WriteTo::new(io::writer(rt));
+    replay(
+        heap,
+        renderer,
+        pages.config,
+        pages.texts.get(),
+        &mut input,
         &mut output,
     )
 }

@@ -6,5 +6,8 @@ ghosts-run_demo g a = record { name = a.blank.name; parts = a.blank.parts }
 abbrev pub ghosts-run_check : goal.ghosts-run_check
 ghosts-run_check g a = record { name = a.blank.name; parts = a.blank.parts }
 
+abbrev pub ghosts-run_replay : goal.ghosts-run_replay
+ghosts-run_replay g a = record { name = a.blank.name; parts = a.blank.parts }
+
 abbrev pub ghosts-run_serve : goal.ghosts-run_serve
 ghosts-run_serve g a = record { name = a.blank.name; parts = a.blank.parts }
