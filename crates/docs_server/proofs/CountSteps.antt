@@ -1,5 +1,5 @@
 -- The digits of an argument.
-use Rattle.std.proofs.Common.{subst, ◌≡◌, ◌≢◌, ◌≤◌, ℕ, ◌<◌, ◌^◌, List, [], ◌∷◌, ◌==◌, not, length, get_or, true, refl, ap, sym, arith, inl, inr}
+use Rattle.std.proofs.Common.{subst, ◌≡◌, ◌≢◌, ◌≤◌, ℕ, ◌<◌, ◌^◌, List, [], ◌∷◌, ◌==◌, not, length, get_or, true, refl, sym, arith, inl, inr}
 use Rattle.std.specs.Prelude.{None, Err, nat_lt}
 use Rattle.std.specs.Char.{is_ascii_digit, digit_value}
 use Rattle.std.specs.List.{list_all}

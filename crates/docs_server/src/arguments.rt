@@ -21,8 +21,7 @@ pub enum Command<'a> {
     /// The examples of the file of this name.
     Examples(&'a str),
     Check(Check<'a>),
-    /// Events on the site of the configuration of this name.
-    Replay(&'a str),
+    Replay(Replay<'a>),
     Serve(Serve<'a>),
 }
 
@@ -32,6 +31,13 @@ pub struct Check<'a> {
     /// The file of the configuration.
     pub config: &'a str,
     pub token: &'a str,
+}
+
+/// Events on a configured site.
+#[derive(Drop)]
+pub struct Replay<'a> {
+    /// The file of the configuration.
+    pub config: &'a str,
 }
 
 /// A configured site that is served.
@@ -87,7 +93,9 @@ pub fn command_of(words: &[String]) -> Result<Command<'_>, Fault> {
             config: config.as_str(),
             token: token.as_str(),
         })),
-        ("replay", [config]) => Ok(Command::Replay(config.as_str())),
+        ("replay", [config]) => Ok(Command::Replay(Replay {
+            config: config.as_str(),
+        })),
         ("serve", [config, address, count, turns]) => {
             serve_of(
                 config.as_str(),

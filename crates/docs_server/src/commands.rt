@@ -3,14 +3,15 @@
 ghost use Rattle.std.specs.Prelude.{◌≡◌, ◌<◌};
 
 use crate::files::open_file;
+use crate::status::status_of;
 use doc_heap::heap;
 use doc_html::CommonMark;
 use doc_lines::entities::Entities;
 use doc_page::renderer::Renderer;
 use doc_server::demo::demo;
 use doc_server::examples::examples;
-use doc_server_input::fault::Fault;
 use doc_server::rendering::render;
+use doc_server_input::fault::Fault;
 use doc_server_streams::read_from::ReadFrom;
 use doc_server_streams::write_to::WriteTo;
 use std::io;
@@ -18,19 +19,24 @@ use std::rt::Files;
 use std::sync::ledger::{Blank, Ledger};
 
 /// Runs `demo` over pages of CommonMark, and answers the status to end with.
-pub fn run_demo<L: Ledger, P: AllocGlobal + Input + Print>(
-    rt: &P,
-    blank: Blank,
-) -> Result<u8, Fault>
+pub fn run_demo<L: Ledger, P: AllocGlobal + Eprint + Input + Print>(rt: &P, blank: Blank) -> u8
     requires name { blank.name ≡ L.name }
     requires parts { blank.parts ≡ L.parts }
     requires some { 0 < L.parts }
 {
     let renderer: CommonMark<L> = CommonMark::new(Entities::built_in(), blank);
-    demo_with(rt, renderer)
+    run_demo_with(rt, renderer)
 }
 
-/// The same with any renderer, on a heap of its own: a call that names both a renderer which holds texts and the heap can't be proved.
+/// The same with any renderer: a call that names both a renderer which holds texts and the heap, as a fault does, can't be proved.
+fn run_demo_with<R: Renderer + Drop, P: AllocGlobal + Eprint + Input + Print>(
+    rt: &P,
+    renderer: R,
+) -> u8 {
+    status_of(rt, demo_with(rt, renderer))
+}
+
+/// The same, as a result, on a heap of its own.
 fn demo_with<R: Renderer + Drop, P: AllocGlobal + Input + Print>(
     rt: &P,
     renderer: R,

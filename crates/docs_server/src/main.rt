@@ -6,11 +6,13 @@ mod commands;
 mod files;
 mod serving;
 mod sites;
+mod status;
 
 use crate::arguments::{Command, command_of, words_of};
 use crate::commands::{run_demo, run_examples, run_render};
 use crate::serving::run_serve;
 use crate::sites::{run_check, run_replay};
+use crate::status::status_of;
 use doc_heap::heap;
 use doc_server_input::fault::Fault;
 use std::marker::Brand;
@@ -20,27 +22,27 @@ use std::rt::{Env, Files};
 use std::sync::ledger::Blank;
 
 fn main(rt: HostRuntime) -> ExitCode {
-    match run(&rt) {
-        Ok(status) => ExitCode::from(status),
-        Err(fault) => {
-            let _ = eprintln!(rt; "docs_server: {fault}");
-            ExitCode::from(2)
-        }
-    }
+    ExitCode::from(status_of(&rt, run(&rt)))
 }
 
 /// Runs the command that the arguments name, and answers the status to end with.
 fn run<R>(rt: &R) -> Result<u8, Fault>
 where
-    R: AllocGlobal + Env + Files + Input + Net<Listener = TcpListener, Stream = TcpStream> + Print,
+    R: AllocGlobal
+        + Env
+        + Eprint
+        + Files
+        + Input
+        + Net<Listener = TcpListener, Stream = TcpStream>
+        + Print,
 {
     let words = words_of(rt, heap(rt.alloc(), u64::MAX)?)?;
     match command_of(&words)? {
-        Command::Demo => run_demo::<Brand, R>(rt, Blank::new(1)),
+        Command::Demo => Ok(run_demo::<Brand, R>(rt, Blank::new(1))),
         Command::Render => run_render(rt),
         Command::Examples(file) => run_examples(rt, file),
         Command::Check(check) => run_check::<Brand, R>(rt, Blank::new(1), &check),
-        Command::Replay(config) => run_replay::<Brand, R>(rt, Blank::new(1), config),
+        Command::Replay(replay) => run_replay::<Brand, R>(rt, Blank::new(1), &replay),
         Command::Serve(serve) => run_serve::<Brand, R>(rt, Blank::new(1), &serve),
     }
 }

@@ -2,14 +2,15 @@
 
 ghost use Rattle.std.specs.Prelude.{◌≡◌, ◌<◌};
 
-use crate::arguments::Check;
+use crate::arguments::{Check, Replay};
 use crate::files::{Pages, Site, read_site};
+use crate::status::status_of;
 use doc_heap::heap;
 use doc_html::CommonMark;
 use doc_page::renderer::Renderer;
 use doc_server_input::fault::Fault;
-use doc_server_sites::check::check;
 use doc_server_replay::replay::replay;
+use doc_server_sites::check::check;
 use doc_server_streams::read_from::ReadFrom;
 use doc_server_streams::write_to::WriteTo;
 use std::io;
@@ -17,7 +18,7 @@ use std::rt::Files;
 use std::sync::ledger::{Blank, Ledger};
 
 /// Runs `check` over pages of CommonMark, and answers the status to end with.
-pub fn run_check<L: Ledger, P: AllocGlobal + Files + Print>(
+pub fn run_check<L: Ledger, P: AllocGlobal + Eprint + Files + Print>(
     rt: &P,
     blank: Blank,
     command: &Check<'_>,
@@ -28,7 +29,17 @@ pub fn run_check<L: Ledger, P: AllocGlobal + Files + Print>(
 {
     let Site { pages, entities } = read_site(rt, command.config)?;
     let renderer: CommonMark<L> = CommonMark::new(entities, blank);
-    check_with(rt, renderer, pages, command.token)
+    Ok(run_check_with(rt, renderer, pages, command.token))
+}
+
+/// The same with any renderer: a call that names both a renderer which holds texts and the heap, as the pages do, can't be proved.
+fn run_check_with<R: Renderer + Drop, S: Into<Pages>, P: AllocGlobal + Eprint + Print>(
+    rt: &P,
+    renderer: R,
+    pages: S,
+    token: &str,
+) -> u8 {
+    status_of(rt, check_with(rt, renderer, pages.into(), token))
 }
 
 fn check_with<R: Renderer + Drop, P: AllocGlobal + Print>(
@@ -50,20 +61,30 @@ fn check_with<R: Renderer + Drop, P: AllocGlobal + Print>(
 }
 
 /// Runs `replay` over pages of CommonMark, and answers the status to end with.
-pub fn run_replay<L: Ledger, P: AllocGlobal + Files + Input + Print>(
+pub fn run_replay<L: Ledger, P: AllocGlobal + Eprint + Files + Input + Print>(
     rt: &P,
     blank: Blank,
-    config: &str,
+    command: &Replay<'_>,
 ) -> Result<u8, Fault>
     requires name { blank.name ≡ L.name }
     requires parts { blank.parts ≡ L.parts }
     requires some { 0 < L.parts }
 {
-    let Site { pages, entities } = read_site(rt, config)?;
+    let Site { pages, entities } = read_site(rt, command.config)?;
     let renderer: CommonMark<L> = CommonMark::new(entities, blank);
-    replay_with(rt, renderer, pages)
+    Ok(run_replay_with(rt, renderer, pages))
 }
 
+/// The same with any renderer: as `run_check_with`.
+fn run_replay_with<R: Renderer + Drop, S: Into<Pages>, P: AllocGlobal + Eprint + Input + Print>(
+    rt: &P,
+    renderer: R,
+    pages: S,
+) -> u8 {
+    status_of(rt, replay_with(rt, renderer, pages.into()))
+}
+
+/// The same, as a result.
 fn replay_with<R: Renderer + Drop, P: AllocGlobal + Input + Print>(
     rt: &P,
     renderer: R,
