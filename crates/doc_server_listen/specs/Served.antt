@@ -22,10 +22,6 @@ HandsOver old new before left = (gone : List ℕ) × Appends old new gone × (be
 abbrev pub GivesOut : Peer → Peer → List ℕ → Type 0
 GivesOut p q sent = HandsOver p.written q.written (p.pending ++ sent) q.pending
 
--- Nothing was handed over but what was pending before.
-abbrev pub HandsOld : Peer → Peer → Type 0
-HandsOld p q = (left : List ℕ) × HandsOver p.written q.written p.pending left
-
 -- What was read was pushed. What a refused push left is lost, and the client is closed.
 abbrev pub TakesIn : Peer → Peer → List ℕ → Type 0
 TakesIn p q pushed = (lost : List ℕ) × Consumes p.unread q.unread (pushed ++ lost) × ((lost ≡ []) ⊎ (q.is_open ≡ false))

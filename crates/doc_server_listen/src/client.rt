@@ -5,7 +5,7 @@ ghost use Rattle.doc_hub.specs.Runs.{Happens};
 ghost use Rattle.doc_hub.specs.declared.event.Event.TheVariants as events;
 ghost use Rattle.doc_hub.specs.Worlds.{disconnected};
 ghost use Rattle.doc_server_listen.specs.Peers.{most_pending};
-ghost use Rattle.doc_server_listen.specs.Served.{HandsOver, HandsOld, Serves};
+ghost use Rattle.doc_server_listen.specs.Served.{HandsOver, Serves};
 
 use crate::channel::{Came, Channel};
 use crate::sending::send_replies;
@@ -109,14 +109,13 @@ impl<S: Channel + Drop> Client<S> {
         !self.replies.is_empty()
     }
 
-    /// One pass: hands over what is pending, and where all is, reads once, pushes and steps. The replies of these steps wait.
-    pub fn pass<R: Renderer + Drop>(&mut self, hub: &mut Hub<R>, piece: &mut [u8])
+    /// Where nothing is pending, reads once, pushes and steps. The replies of these steps wait: nothing is handed over.
+    pub fn take_in<R: Renderer + Drop>(&mut self, hub: &mut Hub<R>, piece: &mut [u8])
         ensures serves { Serves (R.page hub.old.0) hub.old.1 self.old hub.new.1 self.new }
-        ensures waits { HandsOld self.old self.new }
+        ensures written { self.new.written ≡ self.old.written }
         ensures same { R.page hub.new.0 ≡ R.page hub.old.0 }
         ensures room { length piece.new ≡ length piece.old }
     {
-        self.send(hub);
         if !self.is_open() || self.has_pending() {
             return;
         }

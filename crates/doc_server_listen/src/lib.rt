@@ -6,3 +6,4 @@ pub mod channel;
 pub mod client;
 mod sending;
 mod stage;
+pub mod turn;
