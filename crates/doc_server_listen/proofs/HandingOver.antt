@@ -38,7 +38,7 @@ one_write a b xs rest at n is gives =
 drop_all : (n : ℕ) (xs : List ℕ) → length xs ≤ n → drop n xs ≡ []
 drop_all n [] fits = drop_nil n
   where
-    drop_nil : (m : ℕ) → drop m [] ≡ []
+    drop_nil : (m : ℕ) → drop {A = ℕ} m [] ≡ []
     drop_nil zero = refl
     drop_nil (suc m) = refl
 drop_all zero (x ∷ xs) fits = absurd (omega (arith, fits))

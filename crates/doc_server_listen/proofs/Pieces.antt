@@ -1,7 +1,7 @@
 -- What the parts of a pass do to a client: a call of its stream, an event of its connection, and its close.
 use Rattle.std.proofs.Common.{arith, ◌≤◌, ◌+◌, take, length-append}
 use Rattle.std.proofs.Common.{◌≡◌, ◌<◌, ℕ, List, [], ◌∷◌, ◌++◌, Bool, true, false, cond, refl, sym, ap, ◌∙◌, subst, inl, inr, append-nil, length}
-use Rattle.std.specs.Prelude.{Contains, Option, Some, None, Ok, Err, ◌⊎◌}
+use Rattle.std.specs.Prelude.{Contains, Option, Some, None, Ok, Err, ◌⊎◌, min, ◌^◌, ◌-◌}
 use Rattle.std.specs.FinMap as map
 use Rattle.std.specs.Cmp.{unsigned_tied}
 use Rattle.std.proofs.lemmas.Cmp.{nat_cmp_total}
@@ -42,9 +42,8 @@ pub out_waits : (p q : Peer) (sent : List ℕ) → q.written ≡ p.written → q
 out_waits p q sent same all = subst (λ l. HandsOver p.written q.written (p.pending ++ sent) l) (sym all)
     (hands_none p.written q.written (p.pending ++ sent) same)
 
-pub kept : (p q : Peer) → q.written ≡ p.written → q.pending ≡ p.pending → HandsOver p.written q.written p.pending q.pending
-kept p q same pending = subst (λ l. HandsOver p.written q.written p.pending l) (sym pending)
-    (hands_none p.written q.written p.pending same)
+pub kept : (a b : Option (List ℕ)) (xs ys : List ℕ) → b ≡ a → ys ≡ xs → HandsOver a b xs ys
+kept a b xs ys same pending = subst (λ l. HandsOver a b xs l) (sym pending) (hands_none a b xs same)
 
 waits_few : (p q : Peer) (sent : List ℕ) → q.pending ≡ p.pending ++ sent → length p.pending < most_pending
     → length q.pending < most_pending + length sent
@@ -242,3 +241,19 @@ module _ (render : Renders) where
       one_event w v p q event outcome of leaves opened stays same takes
       (out_waits p q (sent_by outcome) written (waits ∙ sym (ap (λ l. p.pending ++ l) none ∙ append-nil p.pending)))
       (inl (waits_same p q waits)) fails
+
+-- ---- how many bytes are pending in a pass
+
+pub none_held : (xs : List ℕ) → xs ≡ [] → length xs ≤ 0
+none_held xs none = omega (arith, ap length none)
+
+unfolding most_pending
+
+pub still_room : (pending held : ℕ) → (held < most_pending → pending ≤ held) → held < 262144 → pending < most_pending
+still_room pending held known few = omega (arith, known few, few)
+
+unfolding most_pending
+
+pub held_more : (old new n held sum : ℕ) → (held < most_pending → old ≤ held) → held < 262144 → new ≤ n + old
+    → sum ≡ min (n + held) (2 ^ 64 - 1) → sum < most_pending → new ≤ sum
+held_more old new n held sum known few more is less = omega (arith, known few, few, more, is, less)

@@ -3,7 +3,8 @@
 ghost use Rattle.std.specs.Prelude.{◌≡◌, ◌≤◌, ◌<◌, ◌+◌, [], true, false, length, IfErr, IfOk, IfSome, Ok, Err};
 ghost use Rattle.doc_hub.specs.Runs.{Happens};
 ghost use Rattle.doc_hub.specs.declared.event.Event.TheVariants as events;
-ghost use Rattle.doc_hub.specs.Worlds.{disconnected};
+ghost use Rattle.doc_hub.specs.Replies.{Renders};
+ghost use Rattle.doc_hub.specs.Worlds.{World, disconnected};
 ghost use Rattle.doc_server_listen.specs.Peers.{most_pending};
 ghost use Rattle.doc_server_listen.specs.Served.{HandsOver, Serves};
 
@@ -116,7 +117,10 @@ impl<S: Channel + Drop> Client<S> {
         ensures same { R.page hub.new.0 ≡ R.page hub.old.0 }
         ensures room { length piece.new ≡ length piece.old }
     {
-        if !self.is_open() || self.has_pending() {
+        if !self.is_open() {
+            return;
+        }
+        if self.has_pending() {
             return;
         }
         self.read(hub, piece);
@@ -133,16 +137,43 @@ impl<S: Channel + Drop> Client<S> {
             self.old.pending self.new.pending }
         ensures same { R.page hub.new.0 ≡ R.page hub.old.0 }
     {
-        if self.stage == Stage::Broken {
+        if !self.is_open() {
+            self.send_last();
             return;
         }
+        self.send_open(hub);
+    }
+
+    /// The same for a client that is closed.
+    fn send_last(&mut self)
+        requires { self.old.is_open ≡ false }
+        ensures serves { (render : Renders) (w : World) → Serves render w self.old w self.new }
+        ensures gives { HandsOver self.old.written self.new.written
+            self.old.pending self.new.pending }
+    {
+        match self.stage {
+            Stage::Ends => {
+                if send_replies(&mut self.stream, &mut self.replies, &mut self.sent).is_ok() {
+                    return;
+                }
+                self.stage = Stage::Broken;
+            }
+            _ => {}
+        }
+    }
+
+    /// The same for a client that is open.
+    fn send_open<R: Renderer + Drop>(&mut self, hub: &mut Hub<R>)
+        requires { self.old.is_open ≡ true }
+        ensures serves { Serves (R.page hub.old.0) hub.old.1 self.old hub.new.1 self.new }
+        ensures gives { HandsOver self.old.written self.new.written
+            self.old.pending self.new.pending }
+        ensures same { R.page hub.new.0 ≡ R.page hub.old.0 }
+    {
         if send_replies(&mut self.stream, &mut self.replies, &mut self.sent).is_ok() {
             return;
         }
-        if self.stage != Stage::Ends {
-            hub.disconnect(self.id);
-        }
-        self.stage = Stage::Broken;
+        self.stage = dropped(hub, self.id, Stage::Broken);
     }
 
     /// Reads once, where a step has said that what was read holds no further request, and pushes what came.

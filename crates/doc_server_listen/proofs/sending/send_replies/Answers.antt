@@ -9,7 +9,7 @@ returns-in_err-send_reply-clause-gives g c =
     hands_join _ _ _ (left_of c.args.sent.now c.args.replies.now.items) (left_of c.replies.sent c.replies.replies.items)
     (left_of c.send_reply.new.sent c.replies.replies.items) c.replies.invariant.gives
     (part_gone (g.S.Channel.written c.replies.stream) (g.S.Channel.written c.send_reply.new.stream) c.replies.replies.items
-    c.in-Some.reply.now c.replies.sent c.send_reply.new.sent c.in-Some.ensures.item.1.1.1.0.0 c.in-Some.ensures.lookup
+    c.in-Some.reply.now c.replies.sent c.send_reply.new.sent c.in-Some.ensures.item.3.0 c.in-Some.ensures.lookup
     (subst (λ l. HandsOver (g.S.Channel.written c.replies.stream) (g.S.Channel.written c.send_reply.new.stream) (drop c.replies.sent l)
     (drop c.send_reply.new.sent l)) c.get.ensures c.in_err-send_reply.ensures.gives))
 
@@ -18,7 +18,7 @@ returns-then-not-branch-clause-gives g c =
     hands_join _ _ _ (left_of c.args.sent.now c.args.replies.now.items) (left_of c.replies.sent c.replies.replies.items)
     (left_of c.send_reply.new.sent c.replies.replies.items) c.replies.invariant.gives
     (part_gone (g.S.Channel.written c.replies.stream) (g.S.Channel.written c.send_reply.new.stream) c.replies.replies.items
-    c.in-Some.reply.now c.replies.sent c.send_reply.new.sent c.in-Some.ensures.item.1.1.1.0.0 c.in-Some.ensures.lookup
+    c.in-Some.reply.now c.replies.sent c.send_reply.new.sent c.in-Some.ensures.item.3.0 c.in-Some.ensures.lookup
     (subst (λ l. HandsOver (g.S.Channel.written c.replies.stream) (g.S.Channel.written c.send_reply.new.stream) (drop c.replies.sent l)
     (drop c.send_reply.new.sent l)) c.get.ensures c.in_ok-send_reply.ensures.gives))
 
@@ -27,7 +27,7 @@ replies-preserved g c = record {
   gives = hands_join _ _ _ (left_of c.args.sent.now c.args.replies.now.items) (left_of c.replies.sent c.replies.replies.items)
       (left_of 0 c.pop_front.new.self.items) c.replies.invariant.gives
       (first_gone (g.S.Channel.written c.replies.stream) (g.S.Channel.written c.send_reply.new.stream) c.replies.replies.items
-      c.pop_front.new.self.items c.in-Some.reply.now c.replies.sent c.send_reply.new.sent c.in-Some.ensures.item.1.1.1.0.0
+      c.pop_front.new.self.items c.in-Some.reply.now c.replies.sent c.send_reply.new.sent c.in-Some.ensures.item.3.0
       c.in-Some.ensures.lookup c.pop_front.ensures.rest
       (subst (λ l. length l ≤ c.send_reply.new.sent) c.get.ensures (c.in_ok-send_reply.ensures.whole c.if-not-branch.false))
       (subst (λ l. HandsOver (g.S.Channel.written c.replies.stream) (g.S.Channel.written c.send_reply.new.stream) (drop c.replies.sent l)

@@ -42,7 +42,7 @@ returns-in-Ok-Nothing-clause-serves g c =
     let came = subst (λ x. Consumes (g.S.Channel.unread c.self.inside.stream) (g.S.Channel.unread c.read.new.self)
     (take (came_len (Ok x)) c.read.new.buf)) c.in-Ok-Nothing.field-0-is c.in-Ok-Nothing.ensures.bytes in
     rw (← c.self.view_is) (quiet (g.R.Renderer.page c.args.hub.now.0) c.args.hub.now.1 _ _ refl refl came
-    (λ shut. absurd (not_both _ opened shut)) (kept _ _ c.in-Ok-Nothing.ensures.written refl)
+    (λ shut. absurd (not_both _ opened shut)) (kept _ _ _ _ c.in-Ok-Nothing.ensures.written refl)
     (fine_first c.self.inside.stage (g.S.Channel.failed c.self.inside.stream) (g.S.Channel.failed c.read.new.self) c.self.invariant.1
     opened))
 
@@ -53,7 +53,7 @@ returns-in-Ok-End-clause-serves g c =
     (take (came_len (Ok x)) c.read.new.buf)) c.in-Ok-End.field-0-is c.in-Ok-End.ensures.bytes in
     rw (c.dropped-self-inside-in-Ok-End.ensures.stage, ← c.self.view_is) (drops_only (g.R.Renderer.page c.args.hub.now.0)
     c.args.hub.now.1 c.dropped-self-inside-in-Ok-End.new.hub.1 _ _ c.self.inside.id _ refl c.dropped-self-inside-in-Ok-End.ensures.world
-    opened refl refl came (kept _ _ c.in-Ok-End.ensures.written refl)
+    opened refl refl came (kept _ _ _ _ c.in-Ok-End.ensures.written refl)
     (fine_first c.self.inside.stage (g.S.Channel.failed c.self.inside.stream) (g.S.Channel.failed c.read.new.self) c.self.invariant.1 opened)
     (inr (c.in-Ok-End.ensures.end c.in-Ok-End.field-0-is)))
 
@@ -62,4 +62,4 @@ returns-in-Err-clause-serves g c =
     let opened = ap (λ (p : Peer). p.is_open) c.self.view_is ∙ c.requires in
     rw (c.dropped-self-inside-in-Err.ensures.stage, ← c.self.view_is) (drops_only (g.R.Renderer.page c.args.hub.now.0) c.args.hub.now.1
     c.dropped-self-inside-in-Err.new.hub.1 _ _ c.self.inside.id _ refl c.dropped-self-inside-in-Err.ensures.world opened refl refl
-    c.in-Err.ensures.bytes (kept _ _ c.in-Err.ensures.written refl) (λ _. c.in-Err.ensures.cause) (inl c.in-Err.ensures.cause))
+    c.in-Err.ensures.bytes (kept _ _ _ _ c.in-Err.ensures.written refl) (λ _. c.in-Err.ensures.cause) (inl c.in-Err.ensures.cause))

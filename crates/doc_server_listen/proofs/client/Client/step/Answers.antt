@@ -16,7 +16,7 @@ pub returns-then-is_err-clause-serves : goal.returns-then-is_err-clause-serves
 returns-then-is_err-clause-serves g c =
     let pend = ap (left_of c.self.inside.sent) c.reserve.ensures.items in
     rw (← c.self.view_is) (quiet (g.R.Renderer.page c.args.hub.now.0) c.args.hub.now.1 _ _ refl refl
-    (Consumes-nil (g.S.Channel.unread c.self.inside.stream)) (λ _. refl) (kept _ _ refl pend) (λ f. f))
+    (Consumes-nil (g.S.Channel.unread c.self.inside.stream)) (λ _. refl) (kept _ _ _ _ refl pend) (λ f. f))
 
 pub returns-in-Ok-Sent-clause-serves : goal.returns-in-Ok-Sent-clause-serves
 returns-in-Ok-Sent-clause-serves g c =
