@@ -1,6 +1,6 @@
 -- Bytes that are handed over, piece by piece.
 use Rattle.std.proofs.Common.{◌≡◌, ◌≤◌, ◌<◌, ◌+◌, ◌-◌, ◌++◌, ℕ, zero, suc, List, [], ◌∷◌, length, take, drop, refl, sym, ap, subst, ◌∙◌, arith}
-use Rattle.std.proofs.Common.{append_assoc, length-append, length-drop, flat_map}
+use Rattle.std.proofs.Common.{append_assoc, length-append, flat_map}
 use Rattle.std.proofs.lemmas.List.{take-append-drop, drop-drop, take_rest}
 use Rattle.std.specs.Prelude.{Option, slice_index_or}
 use Rattle.std.specs.Io.KnownBytes.{Appends}

@@ -1,33 +1,31 @@
 -- What the parts of a pass do to a client: a call of its stream, an event of its connection, and its close.
-use Rattle.std.proofs.Common.{arith, ◌≤◌, ◌+◌, take, length-append}
+use Rattle.std.proofs.Common.{arith, ◌≤◌, ◌+◌, length-append}
 use Rattle.std.proofs.Common.{◌≡◌, ◌<◌, ℕ, List, [], ◌∷◌, ◌++◌, Bool, true, false, cond, refl, sym, ap, ◌∙◌, subst, inl, inr, append-nil, length}
-use Rattle.std.specs.Prelude.{Contains, Option, Some, None, Ok, Err, ◌⊎◌, min, ◌^◌, ◌-◌}
+use Rattle.std.specs.Prelude.{Contains, Option, Some, None, Ok, ◌⊎◌, min, ◌^◌, ◌-◌}
 use Rattle.std.specs.FinMap as map
 use Rattle.std.specs.Cmp.{unsigned_tied}
 use Rattle.std.proofs.lemmas.Cmp.{nat_cmp_total}
 use Rattle.std.proofs.Common.{◌==◌}
-use Rattle.std.specs.Io.KnownBytes.{Appends, Consumes, IsAtEnd}
-use Rattle.std.proofs.KnownBytes.{Appends-nil, Consumes-nil}
+use Rattle.std.specs.Io.KnownBytes.{Consumes, IsAtEnd}
+use Rattle.std.proofs.KnownBytes.{Consumes-nil}
 use Rattle.std.proofs.lemmas.List.Elements.{All-nil, All-cons, All-append, Contains-push}
-use Rattle.doc_hub.specs.Events.{pushing, stepping}
 use Rattle.doc_hub.specs.Replies.{Renders}
 use Rattle.doc_hub.specs.Runs.{Happens, Happened, Leaves, Runs, nothing, first, events_on, sent_by, sent_on}
 use Rattle.doc_hub.specs.StepLaws.{connection}
-use Rattle.doc_hub.specs.Worlds.{World, disconnected}
+use Rattle.doc_hub.specs.Worlds.{World}
 use Rattle.doc_hub.specs.declared.event.ConnId.{ConnId}
 use Rattle.doc_hub.specs.declared.event.Event.{Event}
 use Rattle.doc_hub.specs.declared.event.Event.TheVariants as events
 use Rattle.doc_hub.specs.declared.event.Step.TheVariants as steps
 use Rattle.doc_hub.specs.declared.outcome.Outcome.{Outcome}
 use Rattle.doc_hub.specs.declared.outcome.Outcome.TheVariants as outcomes
-use Rattle.doc_hub.specs.declared.refusal.PushError.{PushError}
 use Rattle.doc_hub.specs.declared.refusal.StepError.TheVariants as step_errors
 use Rattle.doc_server_rounds.specs.Served.{served_by, AreOf, Gave, pushed_by, pushed_on}
 use Rattle.doc_server_rounds.proofs.Serving.{runs_join, pushed_join, sent_join, one_on, one_pushes, one_sends}
 use Rattle.doc_server_listen.specs.Peers.{Peer, Suits, is_open_in, most_pending}
 use Rattle.doc_server_listen.specs.declared.stage.Stage.{Stage}
 use Rattle.doc_server_listen.specs.declared.stage.Stage.TheVariants as stages
-use Rattle.doc_server_listen.specs.Served.{HandsOver, GivesOut, TakesIn, KeepsBound, IsEnding, Closes, StaysClosed, Served, Serves}
+use Rattle.doc_server_listen.specs.Served.{HandsOver, GivesOut, KeepsBound, IsEnding, Closes, Serves}
 use Rattle.doc_server_listen.proofs.HandingOver.{hands_none, no_longer}
 use Rattle.doc_server_listen.proofs.Serving.{not_both, gave_before}
 
@@ -247,13 +245,11 @@ module _ (render : Renders) where
 pub none_held : (xs : List ℕ) → xs ≡ [] → length xs ≤ 0
 none_held xs none = omega (arith, ap length none)
 
-unfolding most_pending
-
 pub still_room : (pending held : ℕ) → (held < most_pending → pending ≤ held) → held < 262144 → pending < most_pending
-still_room pending held known few = omega (arith, known few, few)
-
 unfolding most_pending
+still_room pending held known few = omega (arith, known few, few)
 
 pub held_more : (old new n held sum : ℕ) → (held < most_pending → old ≤ held) → held < 262144 → new ≤ n + old
     → sum ≡ min (n + held) (2 ^ 64 - 1) → sum < most_pending → new ≤ sum
+unfolding most_pending
 held_more old new n held sum known few more is less = omega (arith, known few, few, more, is, less)

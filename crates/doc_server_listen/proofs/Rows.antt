@@ -4,8 +4,7 @@ use Rattle.doc_server_listen.specs.Channels.{came_len, took_len}
 use Rattle.doc_server_listen.specs.Peers.{left_of, is_open_in}
 use Rattle.doc_server_listen.specs.declared.channel.Came.TheVariants as cames
 use Rattle.doc_server_listen.specs.declared.stage.Stage.TheVariants as stages
-use Rattle.doc_server_streams.specs.declared.fault.StreamFault.{StreamFault}
-use Rattle.std.specs.Prelude.{Ok, Err, true, false, codes}
+use Rattle.std.specs.Prelude.{Ok, true, false, codes}
 
 -- two of the bytes of the first reply are gone
 two_gone : left_of 2 (codes "abc" ∷ codes "de" ∷ []) ≡ codes "cde"

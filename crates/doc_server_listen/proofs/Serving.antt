@@ -1,8 +1,8 @@
 -- Serving a client, run after run.
 use Rattle.std.proofs.Common.{◌≡◌, ◌≤◌, ◌<◌, ◌+◌, ℕ, List, [], ◌∷◌, ◌++◌, Bool, true, false, cond, T, length, refl, sym, ap, ◌∙◌, subst}
 use Rattle.std.proofs.Common.{◌==◌, inl, inr, arith, append-nil, append_assoc, flat_map}
-use Rattle.std.specs.Prelude.{Contains, Option, Some, None, ◌⊎◌}
-use Rattle.std.specs.Io.KnownBytes.{Appends, Consumes, IsAtEnd}
+use Rattle.std.specs.Prelude.{Contains, Option, Some, None}
+use Rattle.std.specs.Io.KnownBytes.{Consumes, IsAtEnd}
 use Rattle.std.proofs.KnownBytes.{Appends-nil, Consumes-nil, Consumes-trans}
 use Rattle.std.proofs.lemmas.List.Elements.{filter-append, All-append, All-head, All-tail, Contains-append_left, Contains-append_right}
 use Rattle.doc_hub.specs.Replies.{Renders}
@@ -16,7 +16,7 @@ use Rattle.doc_server_rounds.specs.Served.{served_by, AreOf, Gave, pushed_by, pu
 use Rattle.doc_server_rounds.proofs.Elsewhere.{AreElsewhere, kept_elsewhere}
 use Rattle.doc_server_rounds.proofs.Serving.{runs_join, pushed_join, sent_join}
 use Rattle.doc_server_listen.specs.Peers.{Peer, most_pending}
-use Rattle.doc_server_listen.specs.Served.{HandsOver, GivesOut, TakesIn, KeepsBound, IsEnding, Closes, StaysClosed, Served, Serves}
+use Rattle.doc_server_listen.specs.Served.{HandsOver, GivesOut, TakesIn, KeepsBound, IsEnding, Closes, Served, Serves}
 use Rattle.doc_server_listen.proofs.HandingOver.{hands_join, hands_before}
 
 -- ---- events of two runs

@@ -1,5 +1,5 @@
 -- Turns, client after client.
-use Rattle.std.proofs.Common.{◌≡◌, ◌≤◌, ◌<◌, ℕ, zero, suc, List, [], ◌∷◌, ◌++◌, Bool, true, false, T, refl, sym, ap, ◌∙◌, subst, ◌==◌, arith, length, set}
+use Rattle.std.proofs.Common.{◌≡◌, ◌<◌, ℕ, zero, suc, List, [], ◌∷◌, ◌++◌, Bool, true, false, T, refl, sym, ap, ◌∙◌, subst, ◌==◌, arith, length, set}
 use Rattle.std.proofs.Math.Facts.{eqb_yes}
 use Rattle.std.specs.Prelude.{Contains, Option, Some, None, option_map, slice_get, slice_index_or, slice_set}
 use Rattle.std.proofs.lemmas.List.Elements.{All-nil, All-append, All-head, All-tail, All-cons}

@@ -1,4 +1,4 @@
-use Rattle.std.proofs.Common.{◌∙◌, ap, subst, sym, drop, length, ◌≤◌, refl}
+use Rattle.std.proofs.Common.{◌∙◌, subst, drop, length, ◌≤◌}
 use Rattle.doc_server_listen.specs.Peers.{left_of}
 use Rattle.doc_server_listen.specs.Served.{HandsOver}
 use Rattle.doc_server_listen.proofs.HandingOver.{hands_join, part_gone, first_gone, starts_none}

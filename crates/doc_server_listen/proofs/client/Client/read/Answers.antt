@@ -1,4 +1,4 @@
-use Rattle.std.proofs.Common.{true, refl, ap, ◌∙◌, sym, subst, take, append-nil, inl, inr}
+use Rattle.std.proofs.Common.{refl, ap, ◌∙◌, sym, subst, take, append-nil, inl, inr}
 use Rattle.std.specs.Prelude.{Ok, Err}
 use Rattle.std.specs.Io.KnownBytes.{Consumes}
 use Rattle.doc_hub.specs.Events.{pushing}

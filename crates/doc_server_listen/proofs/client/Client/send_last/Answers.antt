@@ -14,8 +14,8 @@ returns-then-is_ok-clause-serves g c =
     rw (← c.self.view_is) (λ render w. quiet render w _ _ refl refl takes (λ _. c.send_replies.ensures.unread) c.send_replies.ensures.gives
     (λ bad. absurd (not_both (g.S.Channel.failed c.self.inside.stream) bad fine)))
 
-pub returns-in-Ends-clause-serves : goal.returns-in-Ends-clause-serves
-returns-in-Ends-clause-serves g c =
+pub returns-else-is_ok-clause-serves : goal.returns-else-is_ok-clause-serves
+returns-else-is_ok-clause-serves g c =
     let takes = subst (λ l. Consumes (g.S.Channel.unread c.self.inside.stream) l []) (sym c.send_replies.ensures.unread)
     (Consumes-nil (g.S.Channel.unread c.self.inside.stream)) in
     let failed = c.send_replies.ensures.cause ∙ c.is_ok.ensures.negation ∙ ap not c.if-is_ok.false in

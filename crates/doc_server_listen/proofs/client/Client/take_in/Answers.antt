@@ -1,4 +1,3 @@
-use Rattle.std.proofs.Common.{◌∙◌}
 use Rattle.doc_server_listen.proofs.Pieces.{nothing_done}
 use Rattle.doc_server_listen.proofs.Serving.{serves_join}
 use Rattle.doc_server_listen.proofs.client.Client.take_in.Goals as goal
