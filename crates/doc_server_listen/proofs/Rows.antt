@@ -1,5 +1,5 @@
 -- Worked examples of the definitions.
-use Rattle.std.proofs.Common.{◌≡◌, ℕ, List, [], ◌∷◌, refl}
+use Rattle.std.proofs.Common.{◌≡◌, [], ◌∷◌, refl}
 use Rattle.doc_server_listen.specs.Channels.{came_len, took_len}
 use Rattle.doc_server_listen.specs.Peers.{left_of, is_open_in}
 use Rattle.doc_server_listen.specs.declared.channel.Came.TheVariants as cames
