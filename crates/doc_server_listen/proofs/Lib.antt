@@ -1,0 +1,5 @@
+mod HandingOver
+mod Pieces
+mod Rows
+mod Serving
+mod TurnSteps

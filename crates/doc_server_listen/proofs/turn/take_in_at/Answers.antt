@@ -1,0 +1,15 @@
+use Rattle.doc_server_listen.proofs.TurnSteps.{all_start, served_at, waits_at}
+use Rattle.doc_server_listen.proofs.turn.take_in_at.Goals as goal
+
+pub returns-then-place-clients-clause-serves : goal.returns-then-place-clients-clause-serves
+returns-then-place-clients-clause-serves g c =
+    all_start (g.R.Renderer.page c.args.hub.now.0) c.args.hub.now.1 c.args.clients.now
+
+pub returns-clause-serves : goal.returns-clause-serves
+returns-clause-serves g c =
+    served_at (g.R.Renderer.page c.args.hub.now.0) c.args.hub.now.1 c.take_in.new.hub.1 c.args.clients.now c.args.place
+    c.index-clients-place.result c.take_in.new.self c.if-place-clients.false c.take_in.ensures.serves
+
+pub returns-clause-waits : goal.returns-clause-waits
+returns-clause-waits g c =
+    waits_at c.args.clients.now c.args.place c.index-clients-place.result c.take_in.new.self c.take_in.ensures.written

@@ -1,0 +1,4 @@
+pub mod Channels
+pub mod Peers
+pub mod Served
+pub mod Turns
