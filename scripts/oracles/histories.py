@@ -33,7 +33,8 @@ def random_text(dice, path):
         if dice.chance(30):
             blocks.append("#" * dice.between(1, 6) + " " + dice.pick(WORDS + ["kiwi plum"]))
         else:
-            spans = [dice.pick(WORDS) if dice.chance(60) else f"[{dice.pick(WORDS)}]({random_dest(dice, path)})" for _ in range(dice.between(1, 5))]
+            spans = [dice.pick(WORDS) if dice.chance(60) else f"[{dice.pick(WORDS)}]({random_dest(dice, path)})"
+                     for _ in range(dice.between(1, 5))]
             blocks.append(" ".join(spans))
     return "\n\n".join(blocks)
 

@@ -289,6 +289,7 @@ EDITS = [
     ("m/n.md", "kiwi", ("move", "old/n.md", "m/n.md"), "and one back, to its alias"),
     ("b.md", "plum", ("o", "DELETE", "/page/b.md"), "A DELETE"),
 ]
+# A query is written with `,`: of the growths that a `+` asks for one may be refused alone and the answer is right all the same.
 STEPS = [("a", method, target) for target in
          ("/page/a.md", "/page/old/n.md", "/page/c.md", "/contents", "/backlinks/a.md", "/backlinks/old/n.md", "/search?q=kiwi,fig",
           "/search", "/broken") for method in ("GET", "HEAD")] + [("o", "PATCH", "/contents"), ("x", "GET", "/broken")]
