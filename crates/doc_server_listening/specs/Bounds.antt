@@ -1,5 +1,5 @@
 -- The table `listen` of a configuration, a TOML 1.1 document. Its keys and bounds are this project's choice.
-use Rattle.std.specs.Prelude.{ℕ, ℤ, pos, negsuc, List, [], ◌∷◌, ◌&&◌, nat_le, codes, Option, Some, None, option_and_then, Result, Ok, Err}
+use Rattle.std.specs.Prelude.{ℕ, ℤ, pos, negsuc, [], ◌∷◌, ◌&&◌, nat_le, codes, Option, Some, None, option_and_then, Result, Ok, Err}
 use Rattle.std.specs.Prelude.{if◌then◌else◌}
 use Rattle.toml.specs.Data.{Data, Members, get_member, as_integer, as_table}
 use Rattle.doc_server_listening.specs.declared.bounds.Bounds.{Bounds}

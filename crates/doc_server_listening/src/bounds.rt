@@ -1,9 +1,9 @@
 //! The bounds of a server that runs.
 
-ghost use Rattle.std.specs.Prelude.{◌≡◌, ℕ, Ok, Err, codes, option_map};
+ghost use Rattle.std.specs.Prelude.{◌≡◌, Ok, Err, codes};
 ghost use Rattle.toml.specs.Data.{as_integer, get_member};
-ghost use Rattle.toml.specs.View.{table_view, view};
-ghost use Rattle.doc_server_listening.specs.Bounds.{bounds_at, bounds_of, bounds_in, connections_at, idle_seconds_at, within};
+ghost use Rattle.toml.specs.View.{table_view};
+ghost use Rattle.doc_server_listening.specs.Bounds.{bounds_of, bounds_in, connections_at, idle_seconds_at, within};
 
 use crate::listening::ListeningError;
 use crate::table::{has_only, value_at};
