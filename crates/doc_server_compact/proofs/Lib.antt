@@ -1,0 +1,4 @@
+pub mod CompactionLaw
+pub mod MadeSteps
+pub mod ReplayLaw
+pub mod Without

@@ -1,0 +1,3 @@
+pub mod Compactions
+pub mod Laws
+pub mod Replays

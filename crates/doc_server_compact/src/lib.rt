@@ -1,0 +1,4 @@
+//! The edits that lead from one site to another.
+#![tactic(auto)]
+
+pub mod laws;
