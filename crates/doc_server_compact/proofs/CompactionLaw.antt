@@ -3,16 +3,16 @@ use Rattle.std.proofs.Common.{◌≡◌, ℕ, List, [], ◌∷◌, ◌++◌, Boo
 use Rattle.std.proofs.Common.{◌∙◌}
 use Rattle.std.specs.Prelude.{⊤, Option, Some, None}
 use Rattle.std.specs.FinMap as map
-use Rattle.std.specs.FinMap.Entries.{find}
+use Rattle.std.specs.FinMap.Entries.{find, find-where_key, is_some-find}
 use Rattle.std.specs.Cmp.Lexicographic.{slice_cmp}
-use Rattle.std.specs.List.{AllByRecursion, IsDistinct, flat_map}
+use Rattle.std.specs.List.{AllByRecursion, IsDistinct, filter, flat_map}
 use Rattle.std.specs.Map.{keys_of}
 use Rattle.std.specs.Ordering.{nat_cmp, eq_by_cmp}
 use Rattle.std.proofs.lemmas.Map.Keys.{IsDistinct-from_sorted}
 use Rattle.std.proofs.lemmas.Map.Lookups.{exact_bytes}
 use Rattle.doc_page.proofs.Bools.{and_first, and_second, clash}
 use Rattle.doc_store.proofs.FilterSteps.{keys_in_order, some_in_order}
-use Rattle.doc_store.proofs.KeySteps.{same_key, same_from, same_itself, bytes_eq_is, not_none}
+use Rattle.doc_store.proofs.KeySteps.{same_key, same_from, same_itself, bytes_eq_is}
 use Rattle.doc_store.proofs.NamesLaw.{alias_leads, by_bytes}
 use Rattle.doc_store.specs.Maps.{TextMap}
 use Rattle.doc_store.specs.Names.{aliases_of}
@@ -91,15 +91,56 @@ all_found (entry ∷ entries) once = (
   found_more entry entries entries once.0 (all_found entries once.1),
 )
 
-entries_from : (pages others : TextMap Page) (entries : Entries) → AreFound (map.entries others) entries
-    → ((q : List ℕ) (page : Page) → map.get others q ≡ Some page → map.get pages q ≡ Some page) → AreEntries pages entries
+entries_from : (pages : TextMap Page) (entries : Entries) → AreFound (map.entries pages) entries → AreEntries pages entries
 unfolding AreFound
-entries_from pages others [] found within = tt
-entries_from pages others (entry ∷ entries) found within = (
-  within entry.0 entry.1 (map.get-entries others entry.0 ∙ found.0),
+entries_from pages [] found = tt
+entries_from pages (entry ∷ entries) found = (
+  map.get-entries pages entry.0 ∙ found.0,
   found.1,
-  entries_from pages others entries found.2 within,
+  entries_from pages entries found.2,
 )
+
+all_are : (pages : TextMap Page) → AreEntries pages (map.entries pages)
+all_are pages =
+    entries_from pages (map.entries pages) (all_found (map.entries pages) (once_from (paths (map.entries pages))
+    (IsDistinct-from_sorted (slice_cmp nat_cmp) (keys_of (map.entries pages))
+    (keys_in_order (slice_cmp nat_cmp) (map.entries pages) (map.entries_sorted pages)))))
+
+-- some of the entries of a map are entries of it
+abbrev some_of : (List ℕ → Bool) → Entries → Entries
+some_of test entries = filter (λ entry. test entry.0) entries
+
+not_in_some : (test : List ℕ → Bool) (name : List ℕ) (entries : Entries) → is_in name (paths entries) ≡ false
+    → is_in name (paths (some_of test entries)) ≡ false
+not_in_some test name [] apart = refl
+not_in_some test name (entry ∷ entries) apart =
+    by (test entry.0) (head (same_key name entry.0) (is_in name (paths entries)) apart)
+    (not_in_some test name entries (tail (same_key name entry.0) (is_in name (paths entries)) apart))
+  where
+    head : (a b : Bool) → (a || b) ≡ false → a ≡ false
+    head true b e = e
+    head false b e = refl
+
+    tail : (a b : Bool) → (a || b) ≡ false → b ≡ false
+    tail true b e = cc
+    tail false b e = e
+
+    by : (b : Bool) → same_key name entry.0 ≡ false → is_in name (paths (some_of test entries)) ≡ false
+        → is_in name (paths (cond b (entry ∷ some_of test entries) (some_of test entries))) ≡ false
+    by true first rest = ap (λ a. a || is_in name (paths (some_of test entries))) first ∙ rest
+    by false first rest = rest
+
+some_are : (pages : TextMap Page) (test : List ℕ → Bool) (entries : Entries) → AreEntries pages entries
+    → AreEntries pages (some_of test entries)
+some_are pages test [] are = tt
+some_are pages test (entry ∷ entries) are =
+    by (test entry.0) are.0 (not_in_some test entry.0 entries are.1) (some_are pages test entries are.2)
+  where
+    by : (b : Bool) → map.get pages entry.0 ≡ Some entry.1 → is_in entry.0 (paths (some_of test entries)) ≡ false
+        → AreEntries pages (some_of test entries)
+        → AreEntries pages (cond b (entry ∷ some_of test entries) (some_of test entries))
+    by true there apart rest = (there, apart, rest)
+    by false there apart rest = rest
 
 -- ---- the pages that two sites don't have alike
 
@@ -107,25 +148,15 @@ module _ (config site : Site) where
   abbrev other : List ℕ → Bool
   other path = not (same_at config site path)
 
-  get_other : (pages : TextMap Page) (q : List ℕ)
-      → map.get (map.retain_keys pages other) q ≡ cond (other q) (map.get pages q) None
-  get_other pages q = map.get-retain_keys pages other q (λ x tied. ap other (sym (exact_bytes q x tied)))
-
   pub others_stand : (pages : TextMap Page) → AreEntries pages (other_pages config site pages)
-  others_stand pages =
-      let some = map.retain_keys pages other in
-      entries_from pages some (map.entries some) (all_found (map.entries some) (once_from (paths (map.entries some))
-      (IsDistinct-from_sorted (slice_cmp nat_cmp) (keys_of (map.entries some))
-      (keys_in_order (slice_cmp nat_cmp) (map.entries some) (map.entries_sorted some)))))
-      (λ q page e. by (other q) (map.get pages q) page (sym (get_other pages q) ∙ e))
-    where
-      by : (b : Bool) (found : Option Page) (page : Page) → cond b found None ≡ Some page → found ≡ Some page
-      by true found page e = e
-      by false found page e = absurd (not_none page e)
+  others_stand pages = some_are pages other (map.entries pages) (all_are pages)
 
   is_other : (pages : TextMap Page) (q : List ℕ)
       → is_in q (paths (other_pages config site pages)) ≡ is_some (cond (other q) (map.get pages q) None)
-  is_other pages q = sym (map.contains_key-keys (map.retain_keys pages other) q) ∙ ap is_some (get_other pages q)
+  is_other pages q =
+      sym (is_some-find (slice_cmp nat_cmp) q (other_pages config site pages))
+      ∙ ap is_some (find-where_key (slice_cmp nat_cmp) other q (λ x tied. ap other (sym (exact_bytes q x tied))) (map.entries pages)
+      ∙ ap (λ page. cond (other q) page None) (sym (map.get-entries pages q)))
 
   -- ---- what is alike
 

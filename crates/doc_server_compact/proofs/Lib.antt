@@ -1,3 +1,4 @@
+mod Examples
 pub mod CompactionLaw
 pub mod MadeSteps
 pub mod ReplayLaw

@@ -2,7 +2,7 @@
 use Rattle.std.specs.Prelude.{ℕ, List, [], ◌∷◌, ◌++◌, Bool, true, false, not, ◌&&◌, bytes_eq, map as mapped, Option, Some, None}
 use Rattle.std.specs.Cmp.Lexicographic.{pointwise}
 use Rattle.std.specs.FinMap as map
-use Rattle.std.specs.List.{flat_map}
+use Rattle.std.specs.List.{filter, flat_map}
 use Rattle.doc_store.specs.Maps.{TextMap}
 use Rattle.doc_store.specs.Names.{aliases_of}
 use Rattle.doc_store.specs.Pages.{Page}
@@ -33,7 +33,7 @@ same_at config site path =
 
 -- those of some pages that the two sites don't have so, in the order of their paths
 abbrev pub other_pages : Site → Site → TextMap Page → List (List ℕ × Page)
-other_pages config site pages = map.entries (map.retain_keys pages (λ path. not (same_at config site path)))
+other_pages config site pages = filter (λ entry. not (same_at config site entry.0)) (map.entries pages)
 
 -- a move from each name to the next
 abbrev pub moves : List ℕ → List (List ℕ) → List Edit
