@@ -24,7 +24,8 @@ no_longer a b xs ys (g, one, is) = omega (arith, ap length is, length-append g y
 
 -- ---- one write
 
-pub one_write : (a b : Option (List ℕ)) (xs rest : List ℕ) (at n : ℕ) → rest ≡ take (length xs - at) (drop at xs) → Appends a b (take n rest)
+pub one_write : (a b : Option (List ℕ)) (xs rest : List ℕ) (at n : ℕ) → rest ≡ take (length xs - at) (drop at xs)
+    → Appends a b (take n rest)
     → HandsOver a b (drop at xs) (drop (at + n) xs)
 one_write a b xs rest at n is gives =
     let all : rest ≡ drop at xs = is ∙ take_rest xs at in (
@@ -80,7 +81,8 @@ append_flat (x ∷ xs) b = ap (λ l. x ++ l) (append_flat xs b) ∙ sym (append_
 pub left_behind : (sent : ℕ) (replies : List (List ℕ)) (b : List ℕ) → Starts sent replies
     → left_of sent (replies ++ b ∷ []) ≡ left_of sent replies ++ b
 left_behind sent [] b none = ap (λ n. drop n b ++ []) none ∙ append_flat [] b
-left_behind sent (x ∷ xs) b starts = ap (λ l. drop sent x ++ l) (append_flat xs b) ∙ sym (append_assoc (drop sent x) (flat_map (λ r. r) xs) b)
+left_behind sent (x ∷ xs) b starts = ap (λ l. drop sent x ++ l) (append_flat xs b)
+    ∙ sym (append_assoc (drop sent x) (flat_map (λ r. r) xs) b)
 
 pub starts_none : (xs : List (List ℕ)) → Starts 0 xs
 starts_none [] = refl

@@ -126,7 +126,8 @@ module _ (render : Renders) where
         id = id;
         input = (
           [],
-          subst (Consumes p.unread q.unread) (sym (append-nil (pushed_on p.id one_run) ∙ one_pushes p.id (happened w event outcome) of)) takes,
+          subst (Consumes p.unread q.unread) (sym (append-nil (pushed_on p.id one_run) ∙ one_pushes p.id (happened w event outcome) of))
+              takes,
           inl refl,
         );
         output = subst (GivesOut p q) (sym (one_sends p.id (happened w event outcome) of)) gives;
@@ -226,7 +227,8 @@ module _ (render : Renders) where
       → q.unread ≡ p.unread → q.written ≡ p.written → q.pending ≡ p.pending ++ bytes → length p.pending < most_pending
       → (p.failed ≡ true → q.failed ≡ true) → Serves render w p v q
   replied w v p q id bytes own h opened stays same unread written waits room fails =
-      one_event w v p q (events.Step id) (outcomes.Stepped (steps.Sent bytes)) (ap Some own) (Ok (steps.Sent bytes), h, refl) opened stays same
+      one_event w v p q (events.Step id) (outcomes.Stepped (steps.Sent bytes)) (ap Some own) (Ok (steps.Sent bytes), h, refl) opened stays
+          same
       (subst (λ l. Consumes p.unread l []) (sym unread) (Consumes-nil p.unread)) (out_waits p q bytes written waits)
       (inr (waits_few p q bytes waits room)) fails
 

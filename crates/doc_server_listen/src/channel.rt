@@ -39,8 +39,8 @@ pub trait Channel {
         ensures written { written self.new ≡ written self.old }
         ensures cause { failed self.new ≡ is_err result };
 
-    /// Hands over some of the bytes, from the front, and answers how many: none where the stream takes none yet. A write that fails
-    /// hands over nothing.
+    /// Hands over some of the bytes, from the front, and answers how many, none where the stream
+    /// takes none yet. A write that fails hands over nothing.
     fn write(&mut self, buf: &[u8]) -> Result<usize, StreamFault>
         requires { failed self.old ≡ false }
         ensures bound { took_len result ≤ length buf.now }

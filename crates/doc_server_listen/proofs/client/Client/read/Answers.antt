@@ -21,7 +21,8 @@ returns-in-Ok-clause-serves g c =
     rw (← c.self.view_is) (stepped_on (g.R.Renderer.page c.args.hub.now.0) c.args.hub.now.1 c.push.new.self.1 _ _
     (events.Push c.self.inside.id (take c.in-Ok-Bytes.count c.read.new.buf)) outcomes.Pushed refl (Ok tt, c.in-Ok.ensures.world, refl) refl
     opened refl refl came c.in-Ok-Bytes.ensures.written refl
-    (fine_first c.self.inside.stage (g.S.Channel.failed c.self.inside.stream) (g.S.Channel.failed c.read.new.self) c.self.invariant.1 opened))
+    (fine_first c.self.inside.stage (g.S.Channel.failed c.self.inside.stream) (g.S.Channel.failed c.read.new.self) c.self.invariant.1
+        opened))
 
 pub returns-in-Err-push-clause-serves : goal.returns-in-Err-push-clause-serves
 returns-in-Err-push-clause-serves g c =
@@ -33,7 +34,8 @@ returns-in-Err-push-clause-serves g c =
     (pushing (Err c.in-Err-push.field-0)) c.self.inside.id _ refl refl (Err c.in-Err-push.field-0, c.in-Err-push.ensures.world, refl)
     c.dropped-self-inside.ensures.world opened refl refl (take c.in-Ok-Bytes.count c.read.new.buf, came) c.in-Ok-Bytes.ensures.written
     (sym (append-nil (left_of c.self.inside.sent c.self.inside.replies.items))) (inr refl)
-    (fine_first c.self.inside.stage (g.S.Channel.failed c.self.inside.stream) (g.S.Channel.failed c.read.new.self) c.self.invariant.1 opened)
+    (fine_first c.self.inside.stage (g.S.Channel.failed c.self.inside.stream) (g.S.Channel.failed c.read.new.self) c.self.invariant.1
+        opened)
     tt)
 
 pub returns-in-Ok-Nothing-clause-serves : goal.returns-in-Ok-Nothing-clause-serves
@@ -54,7 +56,8 @@ returns-in-Ok-End-clause-serves g c =
     rw (c.dropped-self-inside-in-Ok-End.ensures.stage, ← c.self.view_is) (drops_only (g.R.Renderer.page c.args.hub.now.0)
     c.args.hub.now.1 c.dropped-self-inside-in-Ok-End.new.hub.1 _ _ c.self.inside.id _ refl c.dropped-self-inside-in-Ok-End.ensures.world
     opened refl refl came (kept _ _ _ _ c.in-Ok-End.ensures.written refl)
-    (fine_first c.self.inside.stage (g.S.Channel.failed c.self.inside.stream) (g.S.Channel.failed c.read.new.self) c.self.invariant.1 opened)
+    (fine_first c.self.inside.stage (g.S.Channel.failed c.self.inside.stream) (g.S.Channel.failed c.read.new.self) c.self.invariant.1
+        opened)
     (inr (c.in-Ok-End.ensures.end c.in-Ok-End.field-0-is)))
 
 pub returns-in-Err-clause-serves : goal.returns-in-Err-clause-serves

@@ -1,0 +1,5 @@
+mod Examples
+pub mod CompactionLaw
+pub mod MadeSteps
+pub mod ReplayLaw
+pub mod Without

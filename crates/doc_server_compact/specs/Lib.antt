@@ -1,0 +1,4 @@
+pub mod Compactions
+pub mod Laws
+pub mod Lines
+pub mod Replays

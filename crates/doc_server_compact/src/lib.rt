@@ -1,0 +1,5 @@
+//! The edits that lead from one site to another.
+#![tactic(auto)]
+
+pub mod laws;
+pub mod lines;

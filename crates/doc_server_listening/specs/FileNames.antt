@@ -1,0 +1,36 @@
+-- The paths of pages that stand in files of a folder. All of this is this project's choice.
+use Rattle.std.specs.Prelude.{ℕ, List, [], ◌∷◌, ◌++◌, length, Bool, true, not, ◌&&◌, ◌==◌, codes, Option, Some, None, Result, Ok, Err}
+use Rattle.std.specs.Prelude.{if◌then◌else◌}
+use Rattle.std.specs.List.{list_all, ends_with}
+use Rattle.doc_page.specs.declared.path.PathError.{PathError}
+use Rattle.doc_page.specs.Paths.{is_path, path_of, segments}
+
+-- a name behind a prefix and a slash, or alone where the prefix is empty
+abbrev pub joined : List ℕ → List ℕ → List ℕ
+joined prefix name = if length prefix == 0 then name else prefix ++ 47 ∷ name
+
+-- whether a text can stand before names of files: with the shortest name it makes a path of a page
+abbrev pub is_prefix : List ℕ → Bool
+is_prefix prefix = is_path (joined prefix (codes "a.md"))
+
+-- a part of a name that doesn't begin with `.`
+abbrev pub is_shown_part : List ℕ → Bool
+is_shown_part [] = true
+is_shown_part (b ∷ rest) = not (b == 46)
+
+-- whether neither a file nor a folder that it stands in is hidden
+abbrev pub is_shown : List ℕ → Bool
+is_shown name = list_all is_shown_part (segments name)
+
+-- whether a file of this name is a page: it isn't hidden, and its name ends in `.md`
+abbrev pub is_page_name : List ℕ → Bool
+is_page_name name = is_shown name && ends_with ◌==◌ name (codes ".md")
+
+-- a page that there is, where its path isn't refused
+abbrev pub page_that_is : Result (List ℕ) PathError → Result (Option (List ℕ)) PathError
+page_that_is (Err e) = Err e
+page_that_is (Ok path) = Ok (Some path)
+
+-- the path of the page in the file of this name in a folder; other files are passed over
+abbrev pub path_in_folder : List ℕ → List ℕ → Result (Option (List ℕ)) PathError
+path_in_folder prefix name = if is_page_name name then page_that_is (path_of (joined prefix name)) else Ok None
