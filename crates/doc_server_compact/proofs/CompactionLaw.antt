@@ -175,7 +175,7 @@ module _ (config site : Site) where
   same_pages_are (Some page) None e = cc
   same_pages_are (Some page) (Some other) e =
       let groups = same_texts_are page.groups other.groups (and_first (same_texts page.groups other.groups)
-          (bytes_eq page.text other.text) e) in
+      (bytes_eq page.text other.text) e) in
       let text = same_from page.text other.text (sym (bytes_eq_is page.text other.text)
       ∙ and_second (same_texts page.groups other.groups) (bytes_eq page.text other.text) e) in
       λ i. Some (record { groups = groups i; text = text i })
@@ -267,7 +267,7 @@ module _ (config site : Site) where
       let second = other_pages config site site.pages in
       site_is (effects config (removals first)) common
       (λ q. page_removed config first q ∙ (page_left config.pages q
-          ∙ (page_common q ∙ sym (page_without site second q ∙ page_left site.pages q))))
+      ∙ (page_common q ∙ sym (page_without site second q ∙ page_left site.pages q))))
       (λ q. alias_removed config first q ∙ (alias_left config.pages (map.get config.aliases q) (is_config.lead q)
       ∙ (alias_common (map.get config.aliases q) (map.get site.aliases q) (λ path. aliases_alike path q)
       ∙ sym (alias_without site second q ∙ alias_left site.pages (map.get site.aliases q) (is_site.lead q)))))

@@ -41,7 +41,7 @@ on_lists : (pages : Pages) (aliases : Aliases) (others : Pages) (names : Aliases
 unfolding compacted
 on_lists pages aliases others names p a o n =
     λ i. compacted_by (λ path. map.get-from_sorted (slice_cmp nat_cmp) pages path p i)
-        (λ path. map.get-from_sorted (slice_cmp nat_cmp) others path o i)
+    (λ path. map.get-from_sorted (slice_cmp nat_cmp) others path o i)
     (map.entries-from_sorted (slice_cmp nat_cmp) pages p i) (map.entries-from_sorted (slice_cmp nat_cmp) aliases a i)
     (map.entries-from_sorted (slice_cmp nat_cmp) others o i) (map.entries-from_sorted (slice_cmp nat_cmp) names n i)
 

@@ -387,5 +387,5 @@ compacted_fits config site is_config is_site few some short =
 pub replay_gives_the_site : ReplayGivesTheSite
 replay_gives_the_site store site is_config is_site room =
     all_accepted store (compacted store.site site) (compacted_fits store.site site is_config is_site room.pages room.aliases room.texts)
-        room.puts
+    room.puts
     ∙ ap Some (gives_the_site store.site site is_config is_site)

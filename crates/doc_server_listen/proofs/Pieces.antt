@@ -228,7 +228,7 @@ module _ (render : Renders) where
       → (p.failed ≡ true → q.failed ≡ true) → Serves render w p v q
   replied w v p q id bytes own h opened stays same unread written waits room fails =
       one_event w v p q (events.Step id) (outcomes.Stepped (steps.Sent bytes)) (ap Some own) (Ok (steps.Sent bytes), h, refl) opened stays
-          same
+      same
       (subst (λ l. Consumes p.unread l []) (sym unread) (Consumes-nil p.unread)) (out_waits p q bytes written waits)
       (inr (waits_few p q bytes waits room)) fails
 

@@ -56,7 +56,7 @@ all_join render page w v u ps qs ss same a b = record {
   ids = b.ids ∙ a.ids;
   each = λ i p s at be alone.
       let m = found p.id (slice_get qs i) (sym (id_at qs i) ∙ ap (λ l. slice_get l i) a.ids ∙ id_at ps i
-          ∙ ap (option_map (λ l. l.id)) at) in
+      ∙ ap (option_map (λ l. l.id)) at) in
       joined p.id w v u p m.0 s a.run b.run (a.each i p m.0 at m.1 alone)
       (subst (λ n. Served n v m.0 b.run u s) m.2 (b.each i m.0 s m.1 be (subst (λ l. IsAlone l i) (sym a.ids) alone)));
 }

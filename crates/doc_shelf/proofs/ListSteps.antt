@@ -46,7 +46,7 @@ found_in render path page (first ∷ pages) there = by (bytes_eq first.0 path) (
         → (if c then Some first.1 else page_at pages path) ≡ Some page
         → (page_at pages path ≡ Some page → is_some (page_with_links (linked render path page pages) path) ≡ true)
         → is_some (if b then Some (first.0, links_in first.0 (render first.1.text)) else page_with_links (linked render path page pages)
-            path)
+        path)
         ≡ true
     by true c same other e rest = refl
     by false false same other e rest = rest e

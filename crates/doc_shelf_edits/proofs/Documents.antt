@@ -47,7 +47,7 @@ module _ (store : StoreState) where
       by true same =
           absurd (not_next stamp given
           (sym (get_set store.stamps path store.puts other ∙ ap (λ b. cond b (Some store.puts) (map.get store.stamps other)) same)
-              ∙ here.stamped))
+          ∙ here.stamped))
       by false apart = record {
         stamped = sym (get_set store.stamps path store.puts other ∙ ap (λ b. cond b (Some store.puts) (map.get store.stamps other)) apart)
             ∙ here.stamped;
@@ -67,8 +67,12 @@ module _ (store : StoreState) where
   removal_stood path other stamp page given here = by (map.contains_key store.site.pages path) here
     where
       by : (b : Bool)
-          → Stands (if b then record { site = effect_of store.site (remove_page path); stamps = map.remove store.stamps path; puts =
-              store.puts } else store) other stamp page
+          → Stands (if b then record {
+            site = effect_of store.site (remove_page path);
+            stamps = map.remove store.stamps path;
+            puts =
+                store.puts;
+          } else store) other stamp page
           → Stands store other stamp page
       by true here = record {
         stamped = left store.stamps path other stamp here.stamped;
@@ -100,7 +104,7 @@ puts_left_alone store path = by (map.contains_key store.site.pages path)
   where
     by : (b : Bool)
         → (if b then record { site = effect_of store.site (remove_page path); stamps = map.remove store.stamps path; puts = store.puts }
-            else store).puts
+        else store).puts
         ≡ store.puts
     by true = refl
     by false = refl
@@ -119,7 +123,7 @@ edits_keep_documents render store cache is has = record {
       (λ n less. subst (λ puts. n < puts) (sym (puts_left_alone store path)) less) pair.0 pair.1 (has pair in_cache);
   moved = λ from to stamp page here pair in_cache.
       carried_on render store (with_move store from to) (move_stood store from to stamp page here) (λ n. one_more n store.puts) pair.0
-          pair.1
+      pair.1
       (has pair in_cache);
 }
 
@@ -162,7 +166,7 @@ made render store goals path stamp page key is here of = record {
       let same_page : page ≡ found = some_is page found (sym here.stands ∙ ap (map.get store.site.pages) same_path ∙ stands) in
       let decided_here : decisions other_goals path (render page.text) ≡ key.decisions
       = ap (λ q. decisions other_goals q (render page.text)) same_path ∙ ap (λ p. decisions other_goals other (render p.text)) same_page
-          ∙ decided in
+      ∙ decided in
       one_document render goals other_goals path page (sym of.1 ∙ sym decided_here)
       ∙ ap (λ q. document_of render other_goals q page) same_path ∙ ap (document_of render other_goals other) same_page;
 }

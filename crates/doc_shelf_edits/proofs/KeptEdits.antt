@@ -60,7 +60,7 @@ module _ (render : Renders) (store : StoreState) (is : IsStore store) where
       → IsKept render (with_page store path (record { groups = groups; text = text })) (let_go kept path (map.get store.stamps path))
   made kept path text groups put =
       subst (λ k. IsKept render (with_page store path (record { groups = groups; text = text }))
-          (let_go k path (map.get store.stamps path)))
+      (let_go k path (map.get store.stamps path)))
       (sym put.added) (made_before path (record { groups = groups; text = text }) put.before put.is_kept)
 
   refused : (kept : Kept) (path text : List ℕ) → IsBeingPut render store path text kept

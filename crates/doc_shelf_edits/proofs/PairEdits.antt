@@ -184,7 +184,7 @@ module _ {X : Type 0} (known : List ℕ → Rendered → X) (render : Renders) (
 
     put_apart : (other : List ℕ) (at : ℕ) → same_key other path ≡ false
         → map.get (gone added path (map.get store.stamps path)) (other, at) ≡ option_map (known other)
-            (page_under render after_put other at)
+        (page_under render after_put other at)
     put_apart other at apart =
         gone_apart added path other (map.get store.stamps path) at apart
         ∙ set_apart held path other store.puts at value apart
@@ -197,7 +197,7 @@ module _ {X : Type 0} (known : List ℕ → Rendered → X) (render : Renders) (
       where
         by : (b : Bool) → same_key other path ≡ b
             → map.get (gone added path (map.get store.stamps path)) (other, at) ≡ option_map (known other)
-                (page_under render after_put other at)
+            (page_under render after_put other at)
         by true same =
             subst (λ q. map.get (gone added path (map.get store.stamps path)) (q, at)
             ≡ option_map (known q) (page_under render after_put q at)) (sym (same_from other path same)) (put_here at)
@@ -327,7 +327,7 @@ module _ {X : Type 0} (known : List ℕ → Rendered → X) (render : Renders) (
             → map.get left (other, at) ≡ option_map (known other) (page_under render after_move other at)
         by true c same d =
             subst (λ q. map.get left (q, at) ≡ option_map (known q) (page_under render after_move q at)) (sym (same_from other to same))
-                (at_to at)
+            (at_to at)
         by false true apart same =
             subst (λ q. map.get left (q, at) ≡ option_map (known q) (page_under render after_move q at)) (sym (same_from other from same))
             (at_from at)

@@ -14,8 +14,8 @@ returns-then-not-stands-clause-answer g c reader owns =
     sent_alone c.args.exchange.now c.args.shelf.now.1 c.args.shelf.now.1 c.args.exchange.now.request.now.body (refused 404) _
     c.status-then-not-stands.result c.status-then-not-stands.ensures
     (deleted c.args.shelf.now.1 reader c.in-Some.path owns false
-        (sym c.if-not-stands.true ∙ c.stands.ensures ∙ ap (λ (s : StoreState). map.contains_key s.site.pages c.in-Some.path)
-            c.store.ensures)
+    (sym c.if-not-stands.true ∙ c.stands.ensures ∙ ap (λ (s : StoreState). map.contains_key s.site.pages c.in-Some.path)
+    c.store.ensures)
     ∙ ap (delete_at view) (sym c.in-Some.is ∙ c.in_ok-path.ensures)) refl refl
 
 pub returns-clause-answer : goal.returns-clause-answer
@@ -24,6 +24,6 @@ returns-clause-answer g c reader owns =
     sent_edited c.args.exchange.now c.args.shelf.now.1 c.remove.new.self.1 c.args.exchange.now.request.now.body c.in_ok-done.done
     c.after.result 204 (edits.Remove c.in-Some.path) _ c.in_ok-done.ensures c.after.ensures
     (deleted c.args.shelf.now.1 reader c.in-Some.path owns true
-        (sym c.if-not-stands.false ∙ c.stands.ensures ∙ ap (λ (s : StoreState). map.contains_key s.site.pages c.in-Some.path)
-            c.store.ensures)
+    (sym c.if-not-stands.false ∙ c.stands.ensures ∙ ap (λ (s : StoreState). map.contains_key s.site.pages c.in-Some.path)
+    c.store.ensures)
     ∙ ap (delete_at view) (sym c.in-Some.is ∙ c.in_ok-path.ensures)) c.remove.ensures.store

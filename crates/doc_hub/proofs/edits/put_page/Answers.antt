@@ -35,5 +35,5 @@ returns-clause-answer g c reader owns =
     (sym c.in_ok-path.ensures ∙ c.in-Some.is) (ok_from named c.in-Some-2.groups (sym c.in-Some-2.is ∙ c.in_ok-groups.ensures))
     (subst IsUtf8 c.get.ensures c.in-Ok.ensures.cases.1))
     (subst (λ text. AnsweredSo text old (sent_in exchange (put_page view left c.in-Some.path c.in-Some-2.groups text))
-        c.put_text.new.shelf.1
+    c.put_text.new.shelf.1
     c.put_text.result) (c.in-Ok.ensures.cases.0 ∙ c.get.ensures) (c.put_text.ensures.answer reader owns))

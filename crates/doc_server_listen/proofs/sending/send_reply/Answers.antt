@@ -6,7 +6,7 @@ pub writes-preserved : goal.writes-preserved
 writes-preserved g c = record {
   gives = hands_join (g.S.Channel.written c.args.stream.now) (g.S.Channel.written c.writes.stream) (g.S.Channel.written c.write.new.self)
       (drop c.args.sent.now c.args.bytes.now) (drop c.writes.sent c.args.bytes.now)
-          (drop (c.writes.sent + c.in_ok-count.count) c.args.bytes.now)
+      (drop (c.writes.sent + c.in_ok-count.count) c.args.bytes.now)
       c.writes.invariant.gives
       (one_write (g.S.Channel.written c.writes.stream) (g.S.Channel.written c.write.new.self) c.args.bytes.now
       (take (length c.args.bytes.now - c.writes.sent) (drop c.writes.sent c.args.bytes.now)) c.writes.sent c.in_ok-count.count refl

@@ -13,7 +13,7 @@ returns-clause-reply g c render store page served =
     ∙ ap (document_reply c.args.writing.head_only c.args.writing.close)
     (c.as_bytes-content.ensures.value ∙ c.get-2.ensures ∙ c.in_ok-document.ensures
     ∙ (λ i. body_of c.args.path.now (λ dest. shown (g.S.Sight.goals (c.new.ensures.sight i)) (c.new.ensures.page i) dest)
-        c.in-Some.page.now)
+    c.in-Some.page.now)
     ∙ document_is render store c.args.kept.now c.args.cache.now c.args.path.now c.args.key.stamp page served goals c.in-Some.page.now
     c.in-Some.ensures))
 
@@ -24,7 +24,7 @@ returns-clause-cache g c render store page served of =
     c.keep.new.self c.keep.result c.in_ok-document.document
     (c.in_ok-document.ensures
     ∙ (λ i. body_of c.args.path.now (λ dest. shown (g.S.Sight.goals (c.new.ensures.sight i)) (c.new.ensures.page i) dest)
-        c.in-Some.page.now)
+    c.in-Some.page.now)
     ∙ document_is render store c.args.kept.now c.args.cache.now c.args.path.now c.args.key.stamp page served goals c.in-Some.page.now
     c.in-Some.ensures)
     c.keep.ensures.kept c.keep.ensures.dropped

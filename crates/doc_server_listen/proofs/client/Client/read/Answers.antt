@@ -22,7 +22,7 @@ returns-in-Ok-clause-serves g c =
     (events.Push c.self.inside.id (take c.in-Ok-Bytes.count c.read.new.buf)) outcomes.Pushed refl (Ok tt, c.in-Ok.ensures.world, refl) refl
     opened refl refl came c.in-Ok-Bytes.ensures.written refl
     (fine_first c.self.inside.stage (g.S.Channel.failed c.self.inside.stream) (g.S.Channel.failed c.read.new.self) c.self.invariant.1
-        opened))
+    opened))
 
 pub returns-in-Err-push-clause-serves : goal.returns-in-Err-push-clause-serves
 returns-in-Err-push-clause-serves g c =
@@ -35,7 +35,7 @@ returns-in-Err-push-clause-serves g c =
     c.dropped-self-inside.ensures.world opened refl refl (take c.in-Ok-Bytes.count c.read.new.buf, came) c.in-Ok-Bytes.ensures.written
     (sym (append-nil (left_of c.self.inside.sent c.self.inside.replies.items))) (inr refl)
     (fine_first c.self.inside.stage (g.S.Channel.failed c.self.inside.stream) (g.S.Channel.failed c.read.new.self) c.self.invariant.1
-        opened)
+    opened)
     tt)
 
 pub returns-in-Ok-Nothing-clause-serves : goal.returns-in-Ok-Nothing-clause-serves
@@ -57,7 +57,7 @@ returns-in-Ok-End-clause-serves g c =
     c.args.hub.now.1 c.dropped-self-inside-in-Ok-End.new.hub.1 _ _ c.self.inside.id _ refl c.dropped-self-inside-in-Ok-End.ensures.world
     opened refl refl came (kept _ _ _ _ c.in-Ok-End.ensures.written refl)
     (fine_first c.self.inside.stage (g.S.Channel.failed c.self.inside.stream) (g.S.Channel.failed c.read.new.self) c.self.invariant.1
-        opened)
+    opened)
     (inr (c.in-Ok-End.ensures.end c.in-Ok-End.field-0-is)))
 
 pub returns-in-Err-clause-serves : goal.returns-in-Err-clause-serves

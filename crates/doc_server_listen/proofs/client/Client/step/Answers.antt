@@ -22,7 +22,7 @@ pub returns-in-Ok-Sent-clause-serves : goal.returns-in-Ok-Sent-clause-serves
 returns-in-Ok-Sent-clause-serves g c =
     let opened = ap (λ (p : Peer). p.is_open) c.self.view_is ∙ c.requires.open in
     let h = subst (λ s. Happens (g.R.Renderer.page c.args.hub.now.0) c.args.hub.now.1 (events.Step c.self.inside.id) c.step.new.self.1
-        (Ok s))
+    (Ok s))
     c.in-Ok-Sent.field-0-is c.in-Ok-Sent.ensures.world in
     let waits = ap (left_of c.self.inside.sent)
     (c.push_back_reserved.ensures.items ∙ ap (λ l. l ++ c.in-Ok-Sent.reply ∷ []) c.reserve.ensures.items)
@@ -35,7 +35,7 @@ pub returns-in-Ok-Last-clause-serves : goal.returns-in-Ok-Last-clause-serves
 returns-in-Ok-Last-clause-serves g c =
     let opened = ap (λ (p : Peer). p.is_open) c.self.view_is ∙ c.requires.open in
     let h = subst (λ s. Happens (g.R.Renderer.page c.args.hub.now.0) c.args.hub.now.1 (events.Step c.self.inside.id) c.step.new.self.1
-        (Ok s))
+    (Ok s))
     c.in-Ok-Last.field-0-is c.in-Ok-Last.ensures.world in
     let waits = ap (left_of c.self.inside.sent)
     (c.push_back_reserved-in-Ok-Last.ensures.items ∙ ap (λ l. l ++ c.in-Ok-Last.reply ∷ []) c.reserve.ensures.items)
@@ -50,7 +50,7 @@ pub returns-in-Ok-More-clause-serves : goal.returns-in-Ok-More-clause-serves
 returns-in-Ok-More-clause-serves g c =
     let opened = ap (λ (p : Peer). p.is_open) c.self.view_is ∙ c.requires.open in
     let h = subst (λ s. Happens (g.R.Renderer.page c.args.hub.now.0) c.args.hub.now.1 (events.Step c.self.inside.id) c.step.new.self.1
-        (Ok s))
+    (Ok s))
     c.in-Ok-More.field-0-is c.in-Ok-More.ensures.world in
     rw (← c.self.view_is) (stepped_on (g.R.Renderer.page c.args.hub.now.0) c.args.hub.now.1 c.step.new.self.1 _ _
     (events.Step c.self.inside.id) (outcomes.Stepped steps.More) refl (Ok steps.More, h, refl) refl opened refl refl
@@ -60,7 +60,7 @@ pub returns-in-Ok-Closed-clause-serves : goal.returns-in-Ok-Closed-clause-serves
 returns-in-Ok-Closed-clause-serves g c =
     let opened = ap (λ (p : Peer). p.is_open) c.self.view_is ∙ c.requires.open in
     let h = subst (λ s. Happens (g.R.Renderer.page c.args.hub.now.0) c.args.hub.now.1 (events.Step c.self.inside.id) c.step.new.self.1
-        (Ok s))
+    (Ok s))
     c.in-Ok-Closed.field-0-is c.in-Ok-Closed.ensures.world in
     let waits = ap (left_of c.self.inside.sent) c.reserve.ensures.items
     ∙ sym (append-nil (left_of c.self.inside.sent c.self.inside.replies.items)) in
@@ -73,7 +73,7 @@ pub returns-in-Err-NoConnection-clause-serves : goal.returns-in-Err-NoConnection
 returns-in-Err-NoConnection-clause-serves g c =
     let opened = ap (λ (p : Peer). p.is_open) c.self.view_is ∙ c.requires.open in
     let h = subst (λ s. Happens (g.R.Renderer.page c.args.hub.now.0) c.args.hub.now.1 (events.Step c.self.inside.id) c.step.new.self.1
-        (Err s))
+    (Err s))
     c.in-Err-NoConnection.field-0-is c.in-Err-NoConnection.ensures.world in
     let waits = ap (left_of c.self.inside.sent) c.reserve.ensures.items
     ∙ sym (append-nil (left_of c.self.inside.sent c.self.inside.replies.items)) in
@@ -87,7 +87,7 @@ pub returns-in-Err-Memory-clause-serves : goal.returns-in-Err-Memory-clause-serv
 returns-in-Err-Memory-clause-serves g c =
     let opened = ap (λ (p : Peer). p.is_open) c.self.view_is ∙ c.requires.open in
     let h = subst (λ s. Happens (g.R.Renderer.page c.args.hub.now.0) c.args.hub.now.1 (events.Step c.self.inside.id) c.step.new.self.1
-        (Err s))
+    (Err s))
     c.in-Err-Memory.field-0-is c.in-Err-Memory.ensures.world in
     rw (← c.self.view_is) (stepped_on (g.R.Renderer.page c.args.hub.now.0) c.args.hub.now.1 c.step.new.self.1 _ _
     (events.Step c.self.inside.id) (stepping (Err step_errors.Memory)) refl (Err step_errors.Memory, h, refl) refl opened opened refl

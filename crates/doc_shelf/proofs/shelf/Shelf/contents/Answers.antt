@@ -8,5 +8,5 @@ pub returns : goal.returns
 returns g c =
     let render = g.R.Renderer.page c.self.inside.renderer in
     subst (λ s. IfOk c.contents.result (λ text. text ≡ contents_body (g.R.Renderer.page s.0) (seen_in s.1 c.args.reader.now)))
-        c.self.view_is
+    c.self.view_is
     (c.contents.ensures render c.self.invariant.is_store c.self.invariant.pages)

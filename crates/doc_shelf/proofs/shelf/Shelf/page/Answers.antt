@@ -15,7 +15,7 @@ invariant_of-self g c =
     looked_at render store c.self.inside.kept c.self.inside.cache c.reply_with_page.new.cache c.self.invariant
     (c.reply_with_page.ensures.cache render store page.page
     (is_served render store c.self.inside.kept c.self.inside.cache c.args.path.now page.stamp c.stamp-stamp.result page.page
-        c.self.invariant
+    c.self.invariant
     c.stamp-stamp.ensures c.in-Some.ensures.stands))
 
 pub returns-clause-reply : goal.returns-clause-reply

@@ -24,5 +24,5 @@ returns g c =
     ∙ ap (λ pages. search pages c.args.words.now)
     (ap (pages_at slots) (c.deref-2.ensures.value ∙ c.in_ok-seen.ensures) ∙ seen_pages slots goals c.deref.result.now
     ∙ ap (seen goals) (ap (pages_at slots) c.deref.ensures.value
-        ∙ sym (pages_in_order slots c.in_ok-slots.slots.items c.in_ok-slots.ensures)
+    ∙ sym (pages_in_order slots c.in_ok-slots.slots.items c.in_ok-slots.ensures)
     ∙ ap pages_of c.self.view_is))) c.search_among.ensures
