@@ -57,7 +57,7 @@ def wrk(port, target):
     if re.search(r"Non-2xx|Socket errors", said):
         sys.exit(f"wrk saw failures:\n{said}")
     return (float(re.search(r"Requests/sec:\s+([\d.]+)", said)[1]), int(re.search(r"(\d+) requests in", said)[1]),
-            re.search(r"99%\s+(\S+)", said)[1])
+            re.search(r"(?m)^\s+99%\s+(\S+)", said)[1])
 
 
 def used(pid):
