@@ -1,4 +1,5 @@
-//! The commands of the program, each a function over an input and an output.
+//! The program as a library: its commands, each a function over an input and an output, and under this one name what serves a site:
+//! streams, links and rounds, a configuration, and a script of events.
 #![tactic(auto)]
 
 pub mod count;
@@ -9,4 +10,10 @@ mod example_reader;
 pub mod examples;
 pub mod rendering;
 
+pub use doc_server_config::{config, page_row};
 pub use doc_server_input::{fault, input, output};
+pub use doc_server_links::{memory_stream, stream, tcp_link};
+pub use doc_server_replay::replay;
+pub use doc_server_rounds::{link, round};
+pub use doc_server_serving::serving;
+pub use doc_server_sites::{check, site};
