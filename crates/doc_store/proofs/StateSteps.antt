@@ -6,13 +6,14 @@ use Rattle.doc_store.specs.declared.moving.MoveError.{MoveError}
 use Rattle.doc_store.specs.declared.store.EditError.{EditError}
 use Rattle.doc_store.specs.declared.store.Put.{Put}
 use Rattle.doc_store.specs.declared.store.Put.TheVariants.{Created, Replaced}
-use Rattle.doc_store.proofs.MapValues.{contains-map_values, get-map_values, map_values-empty, map_values-insert, map_values-remove}
+use Rattle.doc_store.proofs.MapValues.{contains-map_values, entries-map_values, get-map_values}
+use Rattle.doc_store.proofs.MapValues.{map_values-empty, map_values-insert, map_values-remove}
 use Rattle.doc_store.proofs.PageSteps.{is_true}
 use Rattle.doc_store.proofs.StampLaw.{move_needs}
 use Rattle.doc_store.proofs.StoreSteps.{move_stays, put_stays, remove_stays, taken_out}
 use Rattle.doc_store.specs.Maps.{TextMap, map_values}
 use Rattle.doc_store.specs.MoveSteps.{restamped, with_stamped, with_stamped_at}
-use Rattle.doc_store.specs.Pages.{Page, StampedPage}
+use Rattle.doc_store.specs.Pages.{Page, StampedPage, without_stamps}
 use Rattle.doc_store.specs.Store.{StoreState, IsStore, empty_store, state_of, with_page, put_by, fits, fits_in, without_goal, without_page}
 use Rattle.doc_store.specs.Store.{aliases_after, may_move, move_fits, with_key_at, with_move, moved_by, moved_in}
 use Rattle.doc_page.proofs.Bools.{clash}
@@ -26,6 +27,14 @@ nothing_stored pages aliases p a = λ i. record {
   stamps = (ap (map_values (λ p. p.stamp)) p ∙ map_values-empty (λ p. p.stamp)) i;
   puts = 0;
 }
+
+-- ---- the pages in their order
+
+pub pages_listed : (pages : TextMap StampedPage) (aliases : TextMap (List ℕ)) (puts : ℕ) (now : StoreState)
+    (entries : List (List ℕ × StampedPage)) → state_of pages aliases puts ≡ now → entries ≡ map.entries pages
+    → without_stamps entries ≡ map.entries now.site.pages
+pages_listed pages aliases puts now entries view_is are =
+    ap without_stamps are ∙ sym (entries-map_values (λ p. p.page) pages) ∙ ap (λ s. map.entries s.site.pages) view_is
 
 -- ---- a page is set
 

@@ -12,6 +12,7 @@ use crate::store::Put;
 use doc_heap::{BTreeMap, Heap};
 use doc_page::failure::Memory;
 use doc_page::path::Path;
+use std::collections::btree_map::Iter;
 use std::marker::Model;
 
 /// The pages of a site by their paths. Contracts see the map.
@@ -61,6 +62,13 @@ impl Pages {
         ensures page { option_map (λ entry. entry.1.now) result ≡ map.get self.now path.now }
     {
         self.entries.get_key_value(path)
+    }
+
+    /// The pages with their paths, in the order of these.
+    pub fn iter(&self) -> Iter<'_, Path, Page>
+        ensures { result ≡ map.entries self.now }
+    {
+        self.entries.iter()
     }
 
     /// How many of the pages a reader may see.

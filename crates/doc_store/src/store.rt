@@ -5,6 +5,7 @@ ghost use Rattle.std.specs.FinMap as map;
 ghost use Rattle.doc_page.specs.Refusals.{Gives};
 ghost use Rattle.doc_store.specs.Groups.{texts_of};
 ghost use Rattle.doc_store.specs.Names.{names_of};
+ghost use Rattle.doc_store.specs.Pages.{without_stamps};
 ghost use Rattle.doc_store.specs.Sites.{view_of};
 ghost use Rattle.doc_store.specs.Store.{IsStore, StoreState, empty_store, fits, fits_in, may_move};
 ghost use Rattle.doc_store.specs.Store.{move_fits, moved_in, put_into, stamp_after, without_page};
@@ -19,6 +20,7 @@ use crate::site_sight::SiteSight;
 use doc_heap::{Heap, Vec};
 use doc_page::failure::Memory;
 use doc_page::path::Path;
+use std::collections::btree_map::Iter;
 use std::error::Error;
 use std::fmt;
 use std::marker::Model;
@@ -215,6 +217,13 @@ impl Store {
             return Ok(Vec::new(self.heap));
         };
         self.aliases.names(self.heap, path)
+    }
+
+    /// The pages with their paths, in the order of these, as a walk over the whole site wants them. It takes no memory.
+    pub fn pages(&self) -> Iter<'_, Path, Page>
+        ensures { without_stamps result ≡ map.entries self.now.site.pages }
+    {
+        self.pages.iter()
     }
 
     /// How many pages the reader sees. It takes no memory, and a step for each page of the store.
