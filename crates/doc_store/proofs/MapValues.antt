@@ -55,7 +55,7 @@ module _ {X Y : Type 0} (f : X → Y) where
       ∙ ap (option_map f) (map.get-empty (slice_cmp nat_cmp) q)
       ∙ sym (map.get-empty (slice_cmp nat_cmp) q))
 
-  is_some-option_map : (o : Option X) → is_some (option_map f o) ≡ is_some o
+  pub is_some-option_map : (o : Option X) → is_some (option_map f o) ≡ is_some o
   is_some-option_map None = refl
   is_some-option_map (Some x) = refl
 

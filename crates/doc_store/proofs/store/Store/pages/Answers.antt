@@ -1,4 +1,3 @@
-use Rattle.std.proofs.Common.{ap, ◌∙◌}
 use Rattle.doc_store.proofs.StateSteps.{pages_listed}
 use Rattle.doc_store.proofs.store.Store.pages.Goals as goal
 
