@@ -46,3 +46,8 @@ returns-clause-same c =
     ∙ ap (λ m. map.insert m c.args.id c.next_request.new.self) c.self.view_is
     ∙ ap (map.insert c.args.self.now c.args.id) c.next_request.ensures.same
     ∙ insert_same c.args.self.now c.args.id c.in-Some.connection.now found
+
+pub returns-clause-none : goal.returns-clause-none
+returns-clause-none c none =
+    let look = looked_up nat_cmp_total exact_unsigned c.self.inside.entries.entries c.args.id in
+    absurd (some_none c.in-Some.connection.now (c.in-Some.ensures.value ∙ look ∙ ap (λ m. map.get m c.args.id) c.self.view_is ∙ none))
