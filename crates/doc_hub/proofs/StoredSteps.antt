@@ -19,7 +19,7 @@ use Rattle.doc_store.specs.declared.store.EditError.{EditError}
 use Rattle.doc_store.specs.declared.store.EditError.TheVariants.{TooLong, StoreFull}
 use Rattle.doc_store.proofs.KeySteps.{same_key, not_none, some_is, get_set, get_taken, contains_taken}
 use Rattle.doc_store.proofs.StampLaw.{move_needs}
-use Rattle.doc_store.proofs.StoreSteps.{empty_is_store, get-without_goal, move_stays, put_stays, remove_stays}
+use Rattle.doc_store.proofs.StoreSteps.{empty_is_store, get-without_goal, move_stays, neither, put_stays, remove_stays}
 use Rattle.doc_store.proofs.ViewLaw.{get-visible_aliases, get-visible_pages}
 use Rattle.doc_hub.specs.MadeLaws.{IsWithin}
 use Rattle.doc_hub.proofs.MadeSites.{absent, len_added, len_taken, some_entry, standing}
@@ -192,10 +192,6 @@ move_stored site puts from to fine is =
           (nat_lt alias_limit (map.len aliases)) _ fine);
       texts = subst AreShort (sym moved) (set_short others to page (taken_short site.pages from is.texts) (is.texts from page found));
     }
-  where
-    neither : (b : Bool) → cond b false false ≡ false
-    neither true = refl
-    neither false = refl
 
 -- ---- the cut of a site
 

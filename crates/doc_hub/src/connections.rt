@@ -1,6 +1,6 @@
 //! The connections of a hub, by number.
 
-ghost use Rattle.std.specs.Prelude.{◌≡◌, ◌≤◌, Some, length, IfOk, OnOk, OnErr, option_copied};
+ghost use Rattle.std.specs.Prelude.{◌≡◌, ◌≤◌, Some, None, Ok, length, IfOk, OnOk, OnErr, option_copied};
 ghost use Rattle.std.specs.FinMap as map;
 ghost use Rattle.doc_page.specs.Refusals.{Gives};
 ghost use Rattle.doc_http.specs.Requests.{IsNext, BeginsWithRequest, UsesAtMost};
@@ -77,6 +77,7 @@ impl Connections {
             IfOk result (UsesAtMost (length c.unread)) }
         ensures memory { (c : Connection) → map.get self.old id ≡ Some c →
             OnErr result (BeginsWithRequest c.unread) }
+        ensures none { map.get self.old id ≡ None → result ≡ Ok Next.More }
         ensures same { self.new ≡ self.old }
     {
         let Some(connection) = self.entries.get_mut(&id) else {
@@ -97,8 +98,9 @@ impl Connections {
     /// no memory, and does nothing where there is no such connection.
     pub fn finish(&mut self, id: u64, used: usize, last: bool)
         requires { (c : Connection) → map.get self.old id ≡ Some c → used ≤ length c.unread }
-        ensures { (c : Connection) → map.get self.old id ≡ Some c →
+        ensures finished { (c : Connection) → map.get self.old id ≡ Some c →
             self.new ≡ map.insert self.old id (finished c used last) }
+        ensures none { map.get self.old id ≡ None → self.new ≡ self.old }
     {
         let Some(connection) = self.entries.get_mut(&id) else {
             return;

@@ -26,7 +26,7 @@ use doc_http_targets::written_path::written_path;
 use doc_page::failure::Memory;
 use doc_page::path::Path;
 use doc_page::renderer::Renderer;
-use doc_shelf::Shelf;
+use doc_shelf::{Saying, Shelf};
 use doc_store::groups::{Groups, GroupsError};
 use doc_store::store::Store;
 use std::str::from_utf8;
@@ -76,9 +76,14 @@ fn put_text<R: Renderer + Drop>(
     if shelf.store().fits(&path, text).is_err() {
         return exchange.status(Status::InsufficientStorage);
     }
-    let reply = ReplyForm::Status(put_status(shelf.store(), &path));
+    let form = ReplyForm::Status(put_status(shelf.store(), &path));
     let head_only = exchange.head_only();
-    let bytes = shelf.put_saying(&path, &groups, text, &reply, head_only, exchange.close)?;
+    let saying = Saying {
+        form: &form,
+        head_only,
+        close: exchange.close,
+    };
+    let bytes = shelf.put_saying(&path, &groups, text, saying)?;
     Ok(exchange.sent(bytes).after(Edit::Put(path, groups)))
 }
 

@@ -27,16 +27,17 @@ pub fn steps_are_noninterfering()
     ensures { StepsAlike }
 {}
 
-/// In any run, from any world, what a step answers is what the step of a fresh server answers, and
-/// nothing else but where memory runs out there: one that holds only what the request's reader may see
-/// at that step, and that reader's entry. The one premise is that a put is left at that step, where the
-/// request is a PUT of an owner. A step that answered that memory ran out sent nothing, and nothing is
-/// said of it.
+/// In any run, from any world, what a step of an open connection answers is what the step of a fresh
+/// server answers, and nothing else but where memory runs out there: one that holds only what the
+/// request's reader may see at that step, and that reader's entry. Two premises: the connection stands
+/// and is open, and a put is left at that step, where the request is a PUT of an owner. A step that
+/// answered that memory ran out sent nothing, and nothing is said of it.
 pub fn replies_are_a_fresh_servers()
     ensures { RepliesAsFresh }
 {}
 
-/// The same for a run from a new hub, whose one premise is that it has fewer than 2^64 - 1 events.
+/// The same of a step of an open connection in a run from a new hub, in place of the put that is left: the
+/// run has fewer than 2^64 - 1 events.
 pub fn replies_of_a_new_hub_are_a_fresh_servers()
     ensures { NewRepliesAsFresh }
 {}
@@ -51,10 +52,11 @@ pub fn a_hub_can_be_a_fresh_server()
     ensures { FreshIsMade }
 {}
 
-/// Noninterference by hubs alone. In a run of fewer than 2^64 - 1 events from a new hub, what a step
-/// answers to a request is what a hub answers that was new with that request's reader alone (or none),
-/// in which the pages of the view were put, its aliases made by moves, one connection made and its
-/// unread bytes pushed, and nothing else was done. The length of the run is the one premise.
+/// Noninterference by hubs alone. In a run of fewer than 2^64 - 1 events from a new hub, what a step of
+/// an open connection answers to a request is what a hub answers that was new with that request's reader
+/// alone (or none), in which the pages of the view were put, its aliases made by moves, one connection
+/// made and its unread bytes pushed, and nothing else was done. The length of the run is the one premise
+/// beside the open connection.
 pub fn replies_are_those_of_a_hub_of_the_view()
     ensures { MadeReplies }
 {}

@@ -1,6 +1,6 @@
 -- Edits of a store with what is kept of its pages.
 use Rattle.std.proofs.Common.{◌≡◌, ℕ, List, Bool, true, false, refl, ap, sym, subst, ◌∙◌}
-use Rattle.std.specs.Prelude.{Option, Some, None, Result, Ok, Err, is_some, if◌then◌else◌}
+use Rattle.std.specs.Prelude.{Option, Some, None, Result, Ok, Err, is_some, length, not, ◌&&◌, ◌||◌, nat_le, nat_lt, if◌then◌else◌}
 use Rattle.std.specs.FinMap as map
 use Rattle.std.specs.Result.{is_ok}
 use Rattle.std.proofs.lemmas.Bool.{both_ways}
@@ -15,31 +15,29 @@ use Rattle.doc_shelf_views.specs.Views.{Renders}
 use Rattle.doc_store.proofs.StampLaw.{move_needs}
 use Rattle.doc_store.proofs.StoreSteps.{move_stays, put_stays, remove_stays, taken_out}
 use Rattle.doc_store.specs.Pages.{Page}
-use Rattle.doc_store.specs.Store.{StoreState, IsStore, aliases_after, fits_in, may_move, moved_by, moved_in, put_by, put_into}
-use Rattle.doc_store.specs.Store.{with_move, with_page, without_page}
+use Rattle.doc_store.specs.Store.{StoreState, IsStore, aliases_after, fits, may_move, moved_by, moved_in, page_limit, put_limit}
+use Rattle.doc_store.specs.Store.{stamp_after, text_limit, with_move, with_page, without_page}
 use Rattle.doc_store.specs.declared.moving.MoveError.{MoveError}
 use Rattle.doc_store.specs.declared.moving.MoveError.TheVariants as move_errors
 use Rattle.doc_store.specs.declared.store.EditError.{EditError}
 use Rattle.doc_store.specs.declared.store.EditError.TheVariants as edit_errors
-use Rattle.doc_store.specs.declared.store.Put.{Put}
 
 err_ok : {X E : Type 0} (e : E) (x : X) → ◌≡◌ {A = Result X E} (Err e) (Ok x) → ⊥
 err_ok e x is = cc
 
--- a put that was accepted: it fits, and the page stands
-pub put_accepted : (store new : StoreState) (path : List ℕ) (groups : List (List ℕ)) (text : List ℕ) (put : Put)
-    → Gives edit_errors.Memory (put_into store path groups text) store new (Ok put)
-    → (fits_in store path text ≡ Ok tt) × (new ≡ with_page store path (record { groups = groups; text = text }))
-put_accepted store new path groups text put gives = by (map.contains_key store.site.pages path) (fits_in store path text) gives
+-- where a put fits, a stamp is left
+pub no_stamp : (pages : ℕ) (stands : Bool) (puts : ℕ) (text : List ℕ) → fits pages stands puts text ≡ Ok tt → None ≡ stamp_after puts → ⊥
+no_stamp pages stands puts text = by (nat_lt text_limit (length text)) (not stands && nat_le page_limit pages) (nat_le put_limit puts)
   where
-    page : Page
-    page = record { groups = groups; text = text }
+    none_some : None ≡ Some puts → ⊥
+    none_some is = cc
 
-    by : (stands : Bool) (fit : Result (Unit {0}) EditError)
-        → ◌≡◌ {A = StoreState × Result Put EditError} (put_by store path page stands fit) (new, Ok put)
-        → (fit ≡ Ok tt) × (new ≡ with_page store path page)
-    by stands (Ok done) is = (refl, sym (ap (λ (q : StoreState × Result Put EditError). q.0) is))
-    by stands (Err e) is = absurd (err_ok e put (ap (λ (q : StoreState × Result Put EditError). q.1) is))
+    by : (long full out : Bool) → ◌≡◌ {A = Result (Unit {0}) EditError} (if long then Err edit_errors.TooLong else (if full || out then Err
+        edit_errors.StoreFull else Ok tt)) (Ok tt) → None ≡ (if out then None else Some puts) → ⊥
+    by true full out is none = err_ok edit_errors.TooLong tt is
+    by false true out is none = err_ok edit_errors.StoreFull tt is
+    by false false true is none = err_ok edit_errors.StoreFull tt is
+    by false false false is none = none_some none
 
 -- an accepted move moves
 pub move_accepted : (store new : StoreState) (from to : List ℕ) (done : Unit {0})

@@ -4,14 +4,14 @@
 //! the stamp that the path had is let go. A move carries what is kept over instead, and renders nothing. Where memory is refused, what was
 //! added is let go, which takes none.
 
-ghost use Rattle.std.specs.Prelude.{◌≡◌, ◌+◌, Ok, Err, IfErr, IfOk, OnOk, OnErr};
+ghost use Rattle.std.specs.Prelude.{◌≡◌, ◌+◌, Ok, Err, IfErr, IfOk, IfSome, OnOk, OnErr, is_some, if◌then◌else◌};
 ghost use Rattle.std.specs.FinMap as map;
 ghost use Rattle.doc_page.specs.Refusals.{Gives};
 ghost use Rattle.doc_shelf.specs.Shelves.{IsEdited};
 ghost use Rattle.doc_shelf_edits.specs.Shelves.{IsBeingPut, IsKept, let_go};
 ghost use Rattle.doc_shelf_pages.specs.KeptPages.{IsFree, with_page as kept_with_page};
 ghost use Rattle.doc_shelf_views.specs.Views.{Renders};
-ghost use Rattle.doc_store.specs.Store.{IsStore, fits_in, may_move, moved_in, put_into, with_page, without_page};
+ghost use Rattle.doc_store.specs.Store.{IsStore, fits_in, may_move, moved_in, stamp_after, with_page, without_page};
 
 use doc_heap::Heap;
 use doc_page::bytes::Bytes;
@@ -34,6 +34,14 @@ pub fn stamp_of_put(store: &Store, path: &Path, text: &str) -> Result<u64, EditE
         return Err(EditError::StoreFull);
     };
     Ok(stamp)
+}
+
+/// The stamp that the next put takes, where one is left.
+pub fn next_stamp(store: &Store) -> Option<u64>
+    ensures next { IfSome result (λ stamp. stamp ≡ store.now.puts) }
+    ensures left { result ≡ stamp_after store.now.puts }
+{
+    store.next_stamp()
 }
 
 /// The stamp that a move takes for which memory alone may be refused.
@@ -69,59 +77,76 @@ pub fn begin_put<R: Renderer>(
     kept.add(path, stamp, page)
 }
 
-/// Puts a page of which is kept already what its text makes.
+/// A page to be put, under the stamp that it gets.
+#[derive(Clone, Copy)]
+pub struct NewPage<'a> {
+    pub groups: &'a Groups,
+    pub text: &'a str,
+    pub stamp: u64,
+}
+
+/// Puts a page that fits, of which is kept already what its text makes. It answers the stamp of the page that stood there.
 pub fn end_put(
     store: &mut Store,
     kept: &mut KeptPages,
     path: &Path,
-    groups: &Groups,
-    text: &str,
-    stamp: u64,
-) -> Result<Put, EditError>
-    requires next { stamp ≡ store.old.puts }
-    ensures store { Gives EditError.Memory
-        (put_into store.old path.now groups.now text.now) store.old store.new result }
+    page: NewPage,
+) -> Result<Option<u64>, Memory>
+    requires fits { fits_in store.old path.now page.text.now ≡ Ok tt }
+    requires next { page.stamp ≡ store.old.puts }
+    ensures put { OnOk result (store.new ≡ with_page store.old path.now
+        (record { groups = page.entry.groups.now; text = page.entry.text.now })) }
+    ensures stood { IfOk result (λ before. is_some before
+        ≡ map.contains_key store.old.site.pages path.now) }
+    ensures refused { OnErr result (store.new ≡ store.old) }
     ensures kept { (render : Renders) → IsStore store.old
-        → IsBeingPut render store.old path.now text.now kept.old
+        → IsBeingPut render store.old path.now page.entry.text.now kept.old
         → IsEdited render store.old store.new kept.new }
 {
-    let before = stamp_at(store, path);
-    let put = store.put(path, groups, text);
+    let put = store.put_fitting(path, page.groups, page.text);
     let over = match put {
-        Ok(_) => before,
-        Err(_) => Some(stamp),
+        Ok(before) => before,
+        Err(_) => Some(page.stamp),
     };
     let_go(kept, path, over);
     put
 }
 
-/// The same of a put that fits, after the bytes of a reply were written, or found no memory.
+/// The same after the bytes of a reply were written, or found no memory.
 pub fn end_put_saying(
     store: &mut Store,
     kept: &mut KeptPages,
     path: &Path,
-    groups: &Groups,
-    text: &str,
-    stamp: u64,
+    page: NewPage,
     said: Result<Bytes, Memory>,
 ) -> Result<Bytes, Memory>
-    requires fits { fits_in store.old path.now text.now ≡ Ok tt }
-    requires next { stamp ≡ store.old.puts }
+    requires fits { fits_in store.old path.now page.text.now ≡ Ok tt }
+    requires next { page.stamp ≡ store.old.puts }
     ensures reply { IfOk result (λ bytes. said ≡ Ok bytes) }
     ensures put { OnOk result (store.new ≡ with_page store.old path.now
-        (record { groups = groups.now; text = text.now })) }
+        (record { groups = page.entry.groups.now; text = page.entry.text.now })) }
     ensures refused { OnErr result (store.new ≡ store.old) }
     ensures kept { (render : Renders) → IsStore store.old
-        → IsBeingPut render store.old path.now text.now kept.old
+        → IsBeingPut render store.old path.now page.entry.text.now kept.old
         → IsEdited render store.old store.new kept.new }
 {
     if said.is_err() {
-        kept.drop_page(path, stamp);
+        kept.drop_page(path, page.stamp);
         return said;
     }
-    match end_put(store, kept, path, groups, text, stamp) {
+    match end_put(store, kept, path, page) {
         Ok(_) => said,
         Err(_) => Err(Memory),
+    }
+}
+
+/// What a put did, by the stamp of the page that stood there.
+pub fn put_over(before: Option<u64>) -> Put
+    ensures { result ≡ (if is_some before then Put.Replaced else Put.Created) }
+{
+    match before {
+        Some(_) => Put::Replaced,
+        None => Put::Created,
     }
 }
 

@@ -13,4 +13,4 @@ mod lists;
 mod shelf;
 mod visible;
 
-pub use shelf::Shelf;
+pub use shelf::{Saying, Shelf};

@@ -14,7 +14,8 @@ ghost use Rattle.doc_store.specs.Store.{fits_in, moved_in, put_into, with_page, 
 
 use crate::documents::{Writing, reply_with_page};
 use crate::edits::{
-    begin_put, end_put, end_put_saying, move_page, remove, stamp_of_move, stamp_of_put,
+    NewPage, begin_put, end_put, end_put_saying, move_page, next_stamp, put_over, remove,
+    stamp_of_move, stamp_of_put,
 };
 use crate::lists::{backlinks, contents, report, search};
 use crate::visible::visible_page;
@@ -34,6 +35,16 @@ use doc_store::reader::Reader;
 use doc_store::store::{EditError, Put, Store};
 use doc_words::word::Word;
 use std::marker::Model;
+
+/// The form of a reply, and how it is written.
+#[derive(Clone, Copy)]
+pub struct Saying<'a> {
+    pub form: &'a ReplyForm,
+    /// The head alone, as for HEAD.
+    pub head_only: bool,
+    /// Whether the connection closes after the reply.
+    pub close: bool,
+}
 
 /// The pages of a server, ready to be served. Contracts see the renderer and the store.
 ///
@@ -100,7 +111,12 @@ impl<R: Renderer + Drop> Shelf<R> {
             stamp,
             text,
         )?;
-        end_put(&mut self.store, &mut self.kept, path, groups, text, stamp)
+        let page = NewPage {
+            groups,
+            text,
+            stamp,
+        };
+        Ok(put_over(end_put(&mut self.store, &mut self.kept, path, page)?))
     }
 
     /// Puts a page that fits, and answers the bytes of a reply. These are written before the page is put, since a put could not be
@@ -110,20 +126,18 @@ impl<R: Renderer + Drop> Shelf<R> {
         path: &Path,
         groups: &Groups,
         text: &str,
-        reply: &ReplyForm,
-        head_only: bool,
-        close: bool,
+        saying: Saying,
     ) -> Result<Bytes, Memory>
         requires fits { fits_in self.old.1 path.now text.now ≡ Ok tt }
-        ensures reply { IfOk result (λ bytes. bytes
-            ≡ reply_bytes (reply_of reply.now) head_only close) }
+        ensures reply { IfOk result (λ bytes. bytes ≡ reply_bytes (reply_of saying.entry.form.now)
+            saying.entry.head_only saying.entry.close) }
         ensures put { OnOk result (self.new.1 ≡ with_page self.old.1 path.now
             (record { groups = groups.now; text = text.now })) }
         ensures refused { OnErr result (self.new.1 ≡ self.old.1) }
         ensures same { R.page self.new.0 ≡ R.page self.old.0 }
         ensures counted { R.count self.new.0 ≡ R.count self.old.0 + 1 }
     {
-        let Ok(stamp) = stamp_of_put(&self.store, path, text) else {
+        let Some(stamp) = next_stamp(&self.store) else {
             return Err(Memory);
         };
         begin_put(
@@ -134,16 +148,13 @@ impl<R: Renderer + Drop> Shelf<R> {
             stamp,
             text,
         )?;
-        let said = reply.write(self.heap, head_only, close);
-        end_put_saying(
-            &mut self.store,
-            &mut self.kept,
-            path,
+        let said = saying.form.write(self.heap, saying.head_only, saying.close);
+        let page = NewPage {
             groups,
             text,
             stamp,
-            said,
-        )
+        };
+        end_put_saying(&mut self.store, &mut self.kept, path, page, said)
     }
 
     /// Removes the page of a path, as `Store::remove`, with what is kept of it. It takes no memory.

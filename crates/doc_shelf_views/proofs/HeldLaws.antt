@@ -10,6 +10,7 @@ use Rattle.std.specs.List.Sorted.{IsStrictlySortedBy}
 use Rattle.std.specs.Map.{keys_of}
 use Rattle.std.specs.Ordering.{nat_cmp, ordering_then}
 use Rattle.std.proofs.lemmas.Bool.{both_ways}
+use Rattle.doc_page.proofs.Bools.{or_true}
 use Rattle.doc_index.specs.Maps.{pair_cmp}
 use Rattle.doc_index.specs.TableSteps.{same_number}
 use Rattle.doc_index.proofs.CountSteps.{number_is}
@@ -170,10 +171,6 @@ module _ (render : Renders) (store : StoreState) where
     all path (ap (λ b. b || list_any (same_key path) paths) (same_itself path)),
     keys_stamped paths (λ other there. all other (ap (λ b. same_key other path || b) there ∙ or_true (same_key other path))),
   )
-    where
-      or_true : (b : Bool) → (b || true) ≡ true
-      or_true true = refl
-      or_true false = refl
 
   pub all_stamped : IsStore store → AreStamped (map.entries store.site.pages)
   all_stamped is =

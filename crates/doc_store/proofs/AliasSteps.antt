@@ -10,6 +10,7 @@ use Rattle.std.specs.Ordering.{nat_cmp}
 use Rattle.std.proofs.lemmas.Cmp.{nat_list_cmp_total}
 use Rattle.std.proofs.lemmas.Map.Entries.{option_filter}
 use Rattle.std.proofs.lemmas.Map.Lookups.{exact_bytes}
+use Rattle.doc_page.proofs.Bools.{clash}
 use Rattle.doc_store.proofs.KeySteps.{same_key, get_taken}
 use Rattle.doc_store.proofs.MapSteps.{get_filtered}
 use Rattle.doc_store.proofs.StoreSteps.{get-without_goal}
@@ -38,12 +39,8 @@ goals_removed entries kept path sorted is = map.same_map nat_list_cmp_total exac
 -- ---- how many aliases stand
 
 one_back : (m : TextMap (List ℕ)) (k : List ℕ) (n : ℕ) → map.len m ≡ n → map.contains_key m k ≡ true → n ≡ n - 1 + 1
-one_back m k zero e stands = absurd (none_there (map.contains_key m k) stands (ap (λ x. map.contains_key x k) (map.empty_of_len m e)
+one_back m k zero e stands = absurd (clash (map.contains_key m k) stands (ap (λ x. map.contains_key x k) (map.empty_of_len m e)
     ∙ ap is_some (map.get-empty (slice_cmp nat_cmp) k)))
-  where
-    none_there : (b : Bool) → b ≡ true → b ≡ false → ⊥
-    none_there true e f = cc
-    none_there false e f = cc
 one_back m k (suc n) e stands = omega arith
 
 pub len_where_alias : (m : TextMap (List ℕ)) (k : List ℕ) → map.contains_key m k ≡ true → map.len m ≡ map.len (map.remove m k) + 1

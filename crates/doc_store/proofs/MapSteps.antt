@@ -1,12 +1,11 @@
 -- Maps as contracts see them: how many keys they have, and those by `String` keys.
-use Rattle.std.proofs.Common.{◌≡◌, ℕ, List, [], ◌∷◌, ◌+◌, Bool, false, cond, String, string_bytes, length, add-one, is_some, refl, ap, sym}
-use Rattle.std.proofs.Common.{◌∙◌, arith}
+use Rattle.std.proofs.Common.{◌≡◌, ℕ, List, [], ◌∷◌, Bool, cond, String, string_bytes, refl, ap, sym}
+use Rattle.std.proofs.Common.{◌∙◌}
 use Rattle.std.specs.Prelude.{Some, None}
 use Rattle.std.specs.declared.cmp.Ordering.{Ordering}
-use Rattle.std.specs.declared.cmp.Ordering.TheVariants.{Less}
 use Rattle.std.specs.BTreeMap.{BTreeMap, Updates, UpdatesBy, is_at}
 use Rattle.std.specs.Map.{lookup, keys_of}
-use Rattle.std.specs.List.{AllByRecursion, filter}
+use Rattle.std.specs.List.{filter}
 use Rattle.std.specs.List.Sorted.{IsStrictlySortedBy}
 use Rattle.std.specs.Ordering.{nat_cmp, is_eq}
 use Rattle.std.specs.String.{string_cmp}

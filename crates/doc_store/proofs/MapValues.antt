@@ -55,7 +55,7 @@ module _ {X Y : Type 0} (f : X → Y) where
       ∙ ap (option_map f) (map.get-empty (slice_cmp nat_cmp) q)
       ∙ sym (map.get-empty (slice_cmp nat_cmp) q))
 
-  is_some-option_map : (o : Option X) → is_some (option_map f o) ≡ is_some o
+  pub is_some-option_map : (o : Option X) → is_some (option_map f o) ≡ is_some o
   is_some-option_map None = refl
   is_some-option_map (Some x) = refl
 
@@ -76,14 +76,16 @@ module _ {X Y : Type 0} (f : X → Y) where
   length-changed [] = refl
   length-changed (e ∷ es) = ap (λ n. suc n) (length-changed es)
 
-  pub len-map_values : (m : TextMap X) → map.len (map_values f m) ≡ map.len m
-  len-map_values m =
+  -- the entries of a map whose values are changed are its entries, each with its value changed
+  pub entries-map_values : (m : TextMap X) → map.entries (map_values f m) ≡ mapped (λ entry. (entry.0, f entry.1)) (map.entries m)
+  entries-map_values m =
       let changed : List (List ℕ × Y) = mapped (λ entry. (entry.0, f entry.1)) (map.entries m) in
       let sorted : T (is_sorted (slice_cmp nat_cmp) changed) = subst T (sym (sorted-changed (map.entries m))) (map.entries_sorted m) in
-      ap map.len (map.same_map nat_list_cmp_total exact_bytes (map_values f m) (map.from_sorted changed) (λ q.
+      ap map.entries (map.same_map nat_list_cmp_total exact_bytes (map_values f m) (map.from_sorted changed) (λ q.
       get-map_values m q ∙ ap (option_map f) (map.get-entries m q) ∙ sym (find-changed q (map.entries m))
       ∙ sym (map.get-from_sorted (slice_cmp nat_cmp) changed q sorted)))
-      ∙ map.len-entries (map.from_sorted changed)
-      ∙ ap length (map.entries-from_sorted (slice_cmp nat_cmp) changed sorted)
-      ∙ length-changed (map.entries m)
-      ∙ sym (map.len-entries m)
+      ∙ map.entries-from_sorted (slice_cmp nat_cmp) changed sorted
+
+  pub len-map_values : (m : TextMap X) → map.len (map_values f m) ≡ map.len m
+  len-map_values m =
+      map.len-entries (map_values f m) ∙ ap length (entries-map_values m) ∙ length-changed (map.entries m) ∙ sym (map.len-entries m)

@@ -11,6 +11,7 @@ use Rattle.std.proofs.lemmas.Cmp.{nat_list_cmp_total}
 use Rattle.std.proofs.lemmas.Map.Entries.{option_filter}
 use Rattle.std.proofs.lemmas.Map.Keys.{IsDistinct-cons, IsDistinct-from_sorted}
 use Rattle.std.proofs.lemmas.Map.Lookups.{exact_bytes}
+use Rattle.doc_page.proofs.Bools.{clash}
 use Rattle.doc_store.proofs.FilterSteps.{keys_in_order, some_in_order}
 use Rattle.doc_store.proofs.KeySteps.{bytes_eq_is, same_from, some_is}
 use Rattle.doc_store.proofs.MapSteps.{get_filtered}
@@ -23,10 +24,6 @@ use Rattle.doc_store.specs.Names.{aliases_of, names_of}
 use Rattle.doc_store.specs.Pages.{Page, StampedPage}
 use Rattle.doc_store.specs.Sites.{Site, IsSite, goal_by, goal_in, goal_of, may_see_at, view_of}
 use Rattle.doc_store.specs.Store.{StoreState, is_goal, state_of}
-
-clash : {A : Type 0} (b : Bool) → b ≡ true → b ≡ false → A
-clash true e f = cc
-clash false e f = cc
 
 same_bytes : (x y : List ℕ) → bytes_eq x y ≡ true → x ≡ y
 same_bytes x y e = same_from x y (sym (bytes_eq_is x y) ∙ e)
@@ -97,14 +94,15 @@ module _ (site : Site) (is : IsSite site) (path : List ℕ) where
     where
       by : (o : Option (List ℕ)) → map.get site.aliases name ≡ o → o ≡ None
       by None e = refl
-      by (Some goal) e = clash (map.contains_key site.pages name) stands (is.apart name goal e)
+      by (Some goal) e = absurd (clash (map.contains_key site.pages name) stands (is.apart name goal e))
 
   abbrev stands : Bool
   stands = map.contains_key site.pages path
 
   -- a path without a page is not that of a page
   differs : (name : List ℕ) (b : Bool) → bytes_eq name path ≡ b → stands ≡ true → map.get site.pages name ≡ None → b ≡ false
-  differs name true e there none = clash stands there (ap (map.contains_key site.pages) (sym (same_bytes name path e)) ∙ ap is_some none)
+  differs name true e there none =
+      absurd (clash stands there (ap (map.contains_key site.pages) (sym (same_bytes name path e)) ∙ ap is_some none))
   differs name false e there none = refl
 
   lead_there : (name : List ℕ) (page : Option Page) → stands ≡ true → map.get site.pages name ≡ page
@@ -122,13 +120,13 @@ module _ (site : Site) (is : IsSite site) (path : List ℕ) where
   nothing_leads name (Some page) goal none e f = by (bytes_eq name path) refl
     where
       by : (b : Bool) → bytes_eq name path ≡ b → false ≡ b
-      by true same = clash stands (ap (map.contains_key site.pages) (sym (same_bytes name path same)) ∙ ap is_some e) none
+      by true same = absurd (clash stands (ap (map.contains_key site.pages) (sym (same_bytes name path same)) ∙ ap is_some e) none)
       by false same = refl
   nothing_leads name None None none e f = refl
   nothing_leads name None (Some goal) none e f = by (bytes_eq goal path) refl
     where
       by : (b : Bool) → bytes_eq goal path ≡ b → false ≡ b
-      by true same = clash stands (ap (map.contains_key site.pages) (sym (same_bytes goal path same)) ∙ is.lead name goal f) none
+      by true same = absurd (clash stands (ap (map.contains_key site.pages) (sym (same_bytes goal path same)) ∙ is.lead name goal f) none)
       by false same = refl
 
   all_in_site : (name : List ℕ) → list_any (bytes_eq name) (names_of site path) ≡ is_goal path (goal_of site name)
@@ -164,8 +162,8 @@ module _ (site : Site) (is : IsSite site) (path : List ℕ) where
         by_goal : (can same : Bool) → may_see_at reader (map.get site.pages goal) ≡ can → bytes_eq goal path ≡ same
             → same ≡ is_goal path (cond can (Some goal) None)
         by_goal true same c s = sym s
-        by_goal false true c s = clash (may_see_at reader (map.get site.pages path)) sees
-            (ap (λ p. may_see_at reader (map.get site.pages p)) (sym (same_bytes goal path s)) ∙ c)
+        by_goal false true c s = absurd (clash (may_see_at reader (map.get site.pages path)) sees
+            (ap (λ p. may_see_at reader (map.get site.pages p)) (sym (same_bytes goal path s)) ∙ c))
         by_goal false false c s = refl
     led name (Some page) goal e f = by (may_see_at reader (Some page)) (bytes_eq name path) refl refl
       where
@@ -177,8 +175,8 @@ module _ (site : Site) (is : IsSite site) (path : List ℕ) where
             → same ≡ is_goal path (goal_by name (cond can (Some page) None)
             (cond (may_see_at reader (option_and_then (map.get site.pages) goal)) goal None))
         by true same c s = sym s
-        by false true c s = clash (may_see_at reader (map.get site.pages path)) sees
-            (ap (λ p. may_see_at reader (map.get site.pages p)) (sym (same_bytes name path s)) ∙ ap (may_see_at reader) e ∙ c)
+        by false true c s = absurd (clash (may_see_at reader (map.get site.pages path)) sees
+            (ap (λ p. may_see_at reader (map.get site.pages p)) (sym (same_bytes name path s)) ∙ ap (may_see_at reader) e ∙ c))
         by false false c s = sym (hidden (may_see_at reader (option_and_then (map.get site.pages) goal)))
 
     all_in_view : (name : List ℕ) → list_any (bytes_eq name) (names_of site path) ≡ is_goal path (goal_in (view_of site reader) name)

@@ -4,6 +4,7 @@ use Rattle.std.specs.Prelude.{Option, Some, None}
 use Rattle.std.specs.FinMap as map
 use Rattle.std.proofs.lemmas.Cmp.{nat_list_cmp_total}
 use Rattle.std.proofs.lemmas.Map.Lookups.{exact_bytes}
+use Rattle.doc_page.proofs.Bools.{clash}
 use Rattle.doc_store.proofs.KeySteps.{same_key, same_from, same_itself, get_set, get_taken, contains_set, contains_taken}
 use Rattle.doc_store.specs.Maps.{TextMap}
 use Rattle.doc_store.specs.MoveSteps.{restamped, with_stamped, with_stamped_at}
@@ -27,11 +28,7 @@ module _ {X : Type 0} (pages : TextMap X) (from to : List ℕ) (stands : IsTrue 
       by false e = refl
 
   pub paths_differ : from ≡ to → ⊥
-  paths_differ e = two (same_key from to) (ap (same_key from) (sym e) ∙ same_itself from) paths_apart
-    where
-      two : (b : Bool) → b ≡ true → b ≡ false → ⊥
-      two true e f = cc
-      two false e f = cc
+  paths_differ e = clash (same_key from to) (ap (same_key from) (sym e) ∙ same_itself from) paths_apart
 
 module _ (pages : TextMap StampedPage) (from to : List ℕ) (stamp : ℕ) (stands : IsTrue (map.contains_key pages from))
     (free : map.get pages to ≡ None)

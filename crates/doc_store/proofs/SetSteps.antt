@@ -10,6 +10,7 @@ use Rattle.std.specs.Cmp.Lexicographic.{slice_cmp}
 use Rattle.std.specs.Ordering.{nat_cmp, eq_by_cmp}
 use Rattle.std.proofs.lemmas.Cmp.{nat_list_cmp_total}
 use Rattle.std.proofs.lemmas.Map.Lookups.{exact_bytes}
+use Rattle.doc_page.proofs.Bools.{clash}
 use Rattle.doc_page.proofs.Maps.{entries_in_order}
 use Rattle.doc_store.proofs.FilterSteps.{keys_in_order, some_in_order}
 use Rattle.doc_store.proofs.KeySteps.{same_key, same_from, same_itself, bytes_eq_is, some_is, get_set, get_taken, contains_set, contains_taken}
@@ -20,10 +21,6 @@ use Rattle.doc_store.specs.AliasSteps.{TextSet, set_at, has_alias, AreSets, with
 use Rattle.doc_store.specs.Maps.{TextMap, map_values}
 use Rattle.doc_store.specs.Names.{aliases_of}
 use Rattle.doc_store.specs.Store.{is_goal, without_goal, goal_after, aliases_after}
-
-clash : {A : Type 0} (b : Bool) → b ≡ true → b ≡ false → A
-clash true e f = cc
-clash false e f = cc
 
 turned : (q k : List ℕ) → same_key q k ≡ same_key k q
 turned q k = (eq_by_cmp_equiv nat_list_cmp_total).symm q k
@@ -307,8 +304,8 @@ module _ (goals : TextMap (List ℕ)) (sets : TextMap TextSet) (are : AreSets go
       kept : (g : List ℕ) (b same : Bool) (goal : List ℕ) → bytes_eq goal path ≡ b → bytes_eq goal g ≡ same → same_key g path ≡ false
           → same ≡ is_goal g (cond (not b) (Some goal) None)
       kept g true true goal e f apart =
-          clash (same_key g path) (ap (λ x. same_key x path) (sym (same_from goal g (sym (bytes_eq_is goal g) ∙ f)))
-          ∙ sym (bytes_eq_is goal path) ∙ e) apart
+          absurd (clash (same_key g path) (ap (λ x. same_key x path) (sym (same_from goal g (sym (bytes_eq_is goal g) ∙ f)))
+          ∙ sym (bytes_eq_is goal path) ∙ e) apart)
       kept g true false goal e f apart = refl
       kept g false same goal e f apart = sym f
 

@@ -1,20 +1,23 @@
 -- What a store holds, and the state that contracts see, step by step.
-use Rattle.std.proofs.Common.{◌≡◌, ℕ, ◌+◌, List, Bool, true, false, IsTrue, is_some, refl, ap, sym, ◌∙◌, subst}
-use Rattle.std.specs.Prelude.{Option, Some, None, option_map, Result, Ok, if◌then◌else◌}
+use Rattle.std.proofs.Common.{◌≡◌, ℕ, ◌+◌, ◌-◌, ◌^◌, ◌<◌, List, Bool, true, false, IsTrue, length, is_some, refl, ap, sym, ◌∙◌, subst, arith}
+use Rattle.std.specs.Prelude.{Option, Some, None, option_map, Result, Ok, Err, not, ◌&&◌, ◌||◌, nat_le, nat_lt, if◌then◌else◌}
+use Rattle.std.proofs.lemmas.Bool.Decides.{nat_tests}
 use Rattle.std.specs.FinMap as map
 use Rattle.doc_store.specs.declared.moving.MoveError.{MoveError}
 use Rattle.doc_store.specs.declared.store.EditError.{EditError}
+use Rattle.doc_store.specs.declared.store.EditError.TheVariants.{TooLong, StoreFull}
 use Rattle.doc_store.specs.declared.store.Put.{Put}
 use Rattle.doc_store.specs.declared.store.Put.TheVariants.{Created, Replaced}
-use Rattle.doc_store.proofs.MapValues.{contains-map_values, get-map_values, map_values-empty, map_values-insert, map_values-remove}
+use Rattle.doc_store.proofs.MapValues.{contains-map_values, entries-map_values, get-map_values, is_some-option_map}
+use Rattle.doc_store.proofs.MapValues.{map_values-empty, map_values-insert, map_values-remove}
 use Rattle.doc_store.proofs.PageSteps.{is_true}
 use Rattle.doc_store.proofs.StampLaw.{move_needs}
 use Rattle.doc_store.proofs.StoreSteps.{move_stays, put_stays, remove_stays, taken_out}
 use Rattle.doc_store.specs.Maps.{TextMap, map_values}
 use Rattle.doc_store.specs.MoveSteps.{restamped, with_stamped, with_stamped_at}
-use Rattle.doc_store.specs.Pages.{Page, StampedPage}
+use Rattle.doc_store.specs.Pages.{Page, StampedPage, without_stamps}
 use Rattle.doc_store.specs.Store.{StoreState, IsStore, empty_store, state_of, with_page, put_by, fits, fits_in, without_goal, without_page}
-use Rattle.doc_store.specs.Store.{aliases_after, may_move, move_fits, with_key_at, with_move, moved_by, moved_in}
+use Rattle.doc_store.specs.Store.{text_limit, page_limit, put_limit, aliases_after, may_move, move_fits, with_key_at, with_move, moved_by, moved_in}
 use Rattle.doc_page.proofs.Bools.{clash}
 
 -- ---- a new store
@@ -27,13 +30,21 @@ nothing_stored pages aliases p a = λ i. record {
   puts = 0;
 }
 
+-- ---- the pages in their order
+
+pub pages_listed : (pages : TextMap StampedPage) (aliases : TextMap (List ℕ)) (puts : ℕ) (now : StoreState)
+    (entries : List (List ℕ × StampedPage)) → state_of pages aliases puts ≡ now → entries ≡ map.entries pages
+    → without_stamps entries ≡ map.entries now.site.pages
+pages_listed pages aliases puts now entries view_is are =
+    ap without_stamps are ∙ sym (entries-map_values (λ p. p.page) pages) ∙ ap (λ s. map.entries s.site.pages) view_is
+
 -- ---- a page is set
 
 module _ (pages pages' : TextMap StampedPage) (aliases aliases' : TextMap (List ℕ)) (puts : ℕ) (old : StoreState) (path : List ℕ)
     (page : Page) (one : StampedPage)
     (view_is : state_of pages aliases puts ≡ old) (one_is : one ≡ record { page = page; stamp = puts })
     (pages_are : pages' ≡ map.insert pages path one) (aliases_are : aliases' ≡ map.remove aliases path) where
-  state_put : state_of pages' aliases' (puts + 1) ≡ with_page old path page
+  pub state_put : state_of pages' aliases' (puts + 1) ≡ with_page old path page
   state_put =
       let set : pages' ≡ map.insert pages path (record { page = page; stamp = puts }) = pages_are ∙ ap (map.insert pages path) one_is in
       let new_pages = ap (map_values (λ p. p.page)) set ∙ map_values-insert (λ p. p.page) pages path (record { page = page; stamp = puts })
@@ -47,15 +58,44 @@ module _ (pages pages' : TextMap StampedPage) (aliases aliases' : TextMap (List 
   pub store_put : IsStore (state_of pages aliases puts) → IsStore (state_of pages' aliases' (puts + 1))
   store_put is = subst IsStore (sym state_put) (put_stays old path page (subst IsStore view_is is))
 
-  pub put_gives : (text : List ℕ) (said : Result (Unit {0}) EditError) (put : Put) → said ≡ fits_in old path text → said ≡ Ok tt
-      → put ≡ (if map.contains_key pages path then Replaced else Created)
-      → ◌≡◌ {A = StoreState × Result Put EditError} (put_by old path page (map.contains_key old.site.pages path) (fits_in old path text))
-      (state_of pages' aliases' (puts + 1), Ok put)
-  put_gives text said put answer ok done =
-      let stands : map.contains_key pages path ≡ map.contains_key old.site.pages path = sym (contains-map_values (λ p. p.page) pages path)
-      ∙ ap (λ s. map.contains_key s.site.pages path) view_is in
-      ap (put_by old path page (map.contains_key old.site.pages path)) (sym answer ∙ ok)
-      ∙ (λ i. (sym state_put i, Ok (sym (done ∙ ap (λ b. if b then Replaced else Created) stands) i)))
+  -- the stamp of the page that stood there, and whether one did
+  pub stamp_before : (before : Option ℕ) → before ≡ option_map (λ p. p.stamp) (map.get pages path) → before ≡ map.get old.stamps path
+  stamp_before before is = is ∙ sym (get-map_values (λ p. p.stamp) pages path) ∙ ap (λ s. map.get s.stamps path) view_is
+
+  pub stood_before : (before : Option ℕ) → before ≡ option_map (λ p. p.stamp) (map.get pages path)
+      → is_some before ≡ map.contains_key old.site.pages path
+  stood_before before is =
+      ap is_some is ∙ is_some-option_map (λ p. p.stamp) (map.get pages path) ∙ sym (contains-map_values (λ p. p.page) pages path)
+      ∙ ap (λ s. map.contains_key s.site.pages path) view_is
+
+-- where a put fits, a stamp is left
+pub stamp_left : (pages : ℕ) (stands : Bool) (puts : ℕ) (text : List ℕ) → fits pages stands puts text ≡ Ok tt → puts + 1 < 2 ^ 64
+unfolding put_limit
+stamp_left pages stands puts text fine =
+    below puts (by (nat_lt text_limit (length text)) (not stands && nat_le page_limit pages) (nat_le put_limit puts) fine)
+  where
+    not_fine : {A : Type 0} (e : EditError) → ◌≡◌ {A = Result (Unit {0}) EditError} (Err e) (Ok tt) → A
+    not_fine e is = cc
+
+    by : (long full out : Bool)
+        → ◌≡◌ {A = Result (Unit {0}) EditError} (if long then Err TooLong else (if full || out then Err StoreFull else Ok tt)) (Ok tt)
+        → out ≡ false
+    by true full out is = not_fine TooLong is
+    by false true out is = not_fine StoreFull is
+    by false false true is = not_fine StoreFull is
+    by false false false is = refl
+
+    below : (puts : ℕ) → nat_le (2 ^ 64 - 1) puts ≡ false → puts + 1 < 2 ^ 64
+    below puts is = grind (arith, nat_tests)
+
+-- what a put that fits is, of the page that stood there or of none
+pub put_gives : (old new : StoreState) (path text : List ℕ) (page : Page) (said : Result (Unit {0}) EditError) (stood : Bool)
+    → said ≡ fits_in old path text → said ≡ Ok tt → stood ≡ map.contains_key old.site.pages path → new ≡ with_page old path page
+    → ◌≡◌ {A = StoreState × Result Put EditError} (put_by old path page (map.contains_key old.site.pages path) (fits_in old path text))
+    (new, Ok (if stood then Replaced else Created))
+put_gives old new path text page said stood answer ok is made =
+    ap (put_by old path page (map.contains_key old.site.pages path)) (sym answer ∙ ok)
+    ∙ (λ i. (sym made i, Ok (if sym is i then Replaced else Created)))
 
 pub fits_is : (pages : TextMap StampedPage) (aliases : TextMap (List ℕ)) (puts : ℕ) (old : StoreState) (path text : List ℕ) (n : ℕ)
     (stands : Bool) (result : Result (Unit {0}) EditError)

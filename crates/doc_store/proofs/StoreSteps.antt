@@ -115,12 +115,12 @@ still_there : (X : Type 0) (m : TextMap X) (k q : List ℕ) → same_key q k ≡
     → map.contains_key (map.remove m k) q ≡ true
 still_there X m k q e f = contains_taken m k q ∙ ap (λ b. cond b false (map.contains_key m q)) e ∙ f
 
+pub neither : (b : Bool) → cond b false false ≡ false
+neither true = refl
+neither false = refl
+
 still_not : (X : Type 0) (m : TextMap X) (k q : List ℕ) → map.contains_key m q ≡ false → map.contains_key (map.remove m k) q ≡ false
-still_not X m k q f = contains_taken m k q ∙ ap (cond (same_key q k) false) f ∙ either (same_key q k)
-  where
-    either : (b : Bool) → cond b false false ≡ false
-    either true = refl
-    either false = refl
+still_not X m k q f = contains_taken m k q ∙ ap (cond (same_key q k) false) f ∙ neither (same_key q k)
 
 abbrev pub taken_out : StoreState → List ℕ → StoreState
 taken_out store path = record {

@@ -1,5 +1,5 @@
 -- Pages as contracts see them. All of this is this project's choice.
-use Rattle.std.specs.Prelude.{ℕ, List, refl}
+use Rattle.std.specs.Prelude.{ℕ, List, map as mapped, refl}
 use Rattle.std.specs.Coded.{Coded, code_by, coded×, coded_list, coded_ℕ}
 
 -- who may see a page, by the names of the groups, and its text
@@ -21,3 +21,7 @@ abbrev pub stamped_code : Coded StampedPage
 stamped_code =
     code_by (Page × ℕ) (coded× page_code coded_ℕ)
     (λ p. (p.page, p.stamp)) (λ p. record { page = p.0; stamp = p.1 }) (λ _. refl)
+
+-- pages by their paths, without their stamps
+abbrev pub without_stamps : List (List ℕ × StampedPage) → List (List ℕ × Page)
+without_stamps entries = mapped (λ entry. (entry.0, entry.1.page)) entries

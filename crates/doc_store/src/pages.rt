@@ -1,6 +1,6 @@
 //! The pages of a site by their paths.
 
-ghost use Rattle.std.specs.Prelude.{◌≡◌, ◌<◌, ◌^◌, Some, IsTrue, IfOk, OnOk, OnErr, length, option_copied, option_map, if◌then◌else◌};
+ghost use Rattle.std.specs.Prelude.{◌≡◌, ◌<◌, ◌^◌, Some, IsTrue, IfOk, OnOk, OnErr, length, option_copied, option_map};
 ghost use Rattle.std.specs.FinMap as map;
 ghost use Rattle.std.specs.List.{filter};
 ghost use Rattle.doc_store.specs.MoveSteps.{empty_page, with_stamped};
@@ -8,10 +8,10 @@ ghost use Rattle.doc_store.specs.Sites.{may_see};
 
 use crate::page::Page;
 use crate::reader::Reader;
-use crate::store::Put;
 use doc_heap::{BTreeMap, Heap};
 use doc_page::failure::Memory;
 use doc_page::path::Path;
+use std::collections::btree_map::Iter;
 use std::marker::Model;
 
 /// The pages of a site by their paths. Contracts see the map.
@@ -63,6 +63,13 @@ impl Pages {
         self.entries.get_key_value(path)
     }
 
+    /// The pages with their paths, in the order of these.
+    pub fn iter(&self) -> Iter<'_, Path, Page>
+        ensures { result ≡ map.entries self.now }
+    {
+        self.entries.iter()
+    }
+
     /// How many of the pages a reader may see.
     pub fn count_seen(&self, reader: &Reader) -> usize
         ensures { result
@@ -80,20 +87,29 @@ impl Pages {
         self.entries.contains_key(path)
     }
 
-    /// Sets the page of a path. It takes memory only for a new path.
-    pub fn set(&mut self, heap: Heap, path: &Path, page: Page) -> Result<Put, Memory>
+    /// Sets the page of a path, and answers the stamp of the page that stood there. It takes memory only for a new path.
+    pub fn set(&mut self, heap: Heap, path: &Path, page: Page) -> Result<Option<u64>, Memory>
         ensures ok { OnOk result (self.new ≡ map.insert self.old path.now page) }
-        ensures put { IfOk result
-            (λ put. put
-            ≡ (if map.contains_key self.old path.now then Put.Replaced else Put.Created)) }
+        ensures before { IfOk result (λ stamp. stamp
+            ≡ option_map (λ page. page.stamp) (map.get self.old path.now)) }
         ensures err { OnErr result (self.new ≡ self.old) }
     {
-        if self.contains(path) {
-            self.replace(path, page);
-            return Ok(Put::Replaced);
-        }
-        self.insert(path.copy(heap)?, page)?;
-        Ok(Put::Created)
+        let Some(before) = self.stamp(path) else {
+            self.insert(path.copy(heap)?, page)?;
+            return Ok(None);
+        };
+        self.replace(path, page);
+        Ok(Some(before))
+    }
+
+    /// The stamp of the page of a path.
+    fn stamp(&self, path: &Path) -> Option<u64>
+        ensures { result ≡ option_map (λ page. page.stamp) (map.get self.now path.now) }
+    {
+        let Some(page) = self.get(path) else {
+            return None;
+        };
+        Some(page.stamp())
     }
 
     fn insert(&mut self, path: Path, page: Page) -> Result<(), Memory>

@@ -1,13 +1,14 @@
 //! The store: the pages of a site with their aliases, and edits of them.
 
-ghost use Rattle.std.specs.Prelude.{◌≡◌, ◌+◌, ◌<◌, ◌^◌, Some, IfOk, OnOk, length, option_map};
+ghost use Rattle.std.specs.Prelude.{◌≡◌, ◌+◌, ◌<◌, ◌^◌, Some, Ok, IfOk, OnOk, OnErr, is_some, length, option_map};
 ghost use Rattle.std.specs.FinMap as map;
 ghost use Rattle.doc_page.specs.Refusals.{Gives};
 ghost use Rattle.doc_store.specs.Groups.{texts_of};
 ghost use Rattle.doc_store.specs.Names.{names_of};
+ghost use Rattle.doc_store.specs.Pages.{without_stamps};
 ghost use Rattle.doc_store.specs.Sites.{view_of};
 ghost use Rattle.doc_store.specs.Store.{IsStore, StoreState, empty_store, fits, fits_in, may_move};
-ghost use Rattle.doc_store.specs.Store.{move_fits, moved_in, put_into, stamp_after, without_page};
+ghost use Rattle.doc_store.specs.Store.{move_fits, moved_in, put_into, stamp_after, with_page, without_page};
 
 use crate::aliases::Aliases;
 use crate::groups::Groups;
@@ -19,6 +20,7 @@ use crate::site_sight::SiteSight;
 use doc_heap::{Heap, Vec};
 use doc_page::failure::Memory;
 use doc_page::path::Path;
+use std::collections::btree_map::Iter;
 use std::error::Error;
 use std::fmt;
 use std::marker::Model;
@@ -127,11 +129,33 @@ impl Store {
             (put_into self.old path.now groups.now text.now) self.old self.new result }
     {
         self.fits(path, text)?;
+        match self.put_fitting(path, groups, text)? {
+            Some(_) => Ok(Put::Replaced),
+            None => Ok(Put::Created),
+        }
+    }
+
+    /// The same put of a text that `fits` takes, which isn't asked again. It answers the stamp of the page that stood
+    /// there, if one did.
+    pub fn put_fitting(
+        &mut self,
+        path: &Path,
+        groups: &Groups,
+        text: &str,
+    ) -> Result<Option<u64>, Memory>
+        requires fits { fits_in self.old path.now text.now ≡ Ok tt }
+        ensures put { OnOk result (self.new
+            ≡ with_page self.old path.now (record { groups = groups.now; text = text.now })) }
+        ensures stamp { IfOk result (λ stamp. stamp ≡ map.get self.old.stamps path.now) }
+        ensures stood { IfOk result (λ stamp. is_some stamp
+            ≡ map.contains_key self.old.site.pages path.now) }
+        ensures refused { OnErr result (self.new ≡ self.old) }
+    {
         let page = Page::copy_of(self.heap, groups, text, self.puts)?;
-        let put = self.pages.set(self.heap, path, page)?;
+        let before = self.pages.set(self.heap, path, page)?;
         self.aliases.remove(path);
         self.puts += 1;
-        Ok(put)
+        Ok(before)
     }
 
     /// Removes the page of a path with its aliases. `false` says that no page stands there, also
@@ -215,6 +239,13 @@ impl Store {
             return Ok(Vec::new(self.heap));
         };
         self.aliases.names(self.heap, path)
+    }
+
+    /// The pages with their paths, in the order of these, as a walk over the whole site wants them. It takes no memory.
+    pub fn pages(&self) -> Iter<'_, Path, Page>
+        ensures { without_stamps result ≡ map.entries self.now.site.pages }
+    {
+        self.pages.iter()
     }
 
     /// How many pages the reader sees. It takes no memory, and a step for each page of the store.

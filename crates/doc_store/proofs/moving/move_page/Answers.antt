@@ -1,8 +1,12 @@
 use Rattle.std.proofs.Common.{refl, ap, ◌∙◌}
 use Rattle.std.specs.FinMap as map
-use Rattle.doc_store.proofs.PageSteps.{renamed_in_room, room_is_there, room_undone, stands_beside}
+use Rattle.doc_store.proofs.PageSteps.{paths_differ, renamed_in_room, room_is_there, room_undone, stands_beside}
 use Rattle.doc_store.specs.MoveSteps.{empty_page}
 use Rattle.doc_store.proofs.moving.move_page.Goals as goal
+
+pub follow-requires-clause-apart : goal.follow-requires-clause-apart
+follow-requires-clause-apart c =
+    paths_differ c.args.pages.now c.args.from.now c.args.to.now c.requires.stands c.requires.free
 
 pub returns-in-Err-clause-same_pages : goal.returns-in-Err-clause-same_pages
 returns-in-Err-clause-same_pages c =

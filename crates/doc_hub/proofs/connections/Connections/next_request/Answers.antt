@@ -1,6 +1,8 @@
-use Rattle.std.proofs.Common.{◌∙◌, ap, sym, refl, length}
+use Rattle.std.proofs.Common.{◌∙◌, ℕ, ap, sym, refl, length}
 use Rattle.std.specs.Prelude.{IfOk, OnErr}
+use Rattle.std.specs.BTreeMap.{BTreeMap}
 use Rattle.std.specs.FinMap as map
+use Rattle.std.specs.Ordering.{nat_cmp}
 use Rattle.std.proofs.lemmas.Cmp.{nat_cmp_total}
 use Rattle.std.proofs.lemmas.Map.Lookups.{exact_unsigned}
 use Rattle.doc_page.proofs.Maps.{looked_up, inserted}
@@ -46,3 +48,15 @@ returns-clause-same c =
     ∙ ap (λ m. map.insert m c.args.id c.next_request.new.self) c.self.view_is
     ∙ ap (map.insert c.args.self.now c.args.id) c.next_request.ensures.same
     ∙ insert_same c.args.self.now c.args.id c.in-Some.connection.now found
+
+pub returns-clause-none : goal.returns-clause-none
+returns-clause-none c none =
+    let look = looked_up nat_cmp_total exact_unsigned c.self.inside.entries.entries c.args.id in
+    absurd (some_none c.in-Some.connection.now (c.in-Some.ensures.value ∙ look ∙ ap (λ m. map.get m c.args.id) c.self.view_is ∙ none))
+
+pub returns-in_default-clause-none : goal.returns-in_default-clause-none
+returns-in_default-clause-none c none = refl
+
+pub returns-in_default-clause-same : goal.returns-in_default-clause-same
+returns-in_default-clause-same c =
+    ap (λ (t : BTreeMap ℕ Connection). map.from_entries {R = nat_cmp} t.entries) c.get_mut.follows.holds-at-none ∙ c.self.view_is

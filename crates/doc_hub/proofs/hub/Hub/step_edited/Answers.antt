@@ -18,7 +18,7 @@ invariant_of-self-in-Fault g c =
     let same = c.in_ok-next_request.ensures.same in
     finished_have c.self.inside.given c.next_request.new.self c.finish.new.self c.args.id.0 0 true c.in-Some.connection.now
     (same_have c.self.inside.given c.self.inside.connections c.next_request.new.self same c.self.invariant)
-    (c.in-Some.ensures ∙ ap (λ m. map.get m c.args.id.0) (sym same)) c.finish.ensures
+    (c.in-Some.ensures ∙ ap (λ m. map.get m c.args.id.0) (sym same)) c.finish.ensures.finished
 
 pub invariant_of-self-in-Request : goal.invariant_of-self-in-Request
 invariant_of-self-in-Request g c =
@@ -26,7 +26,7 @@ invariant_of-self-in-Request g c =
     finished_have c.self.inside.given c.next_request.new.self c.finish-in-Request.new.self c.args.id.0 c.in-Request.used
     c.in_ok-answer-in-Request.answer.closes c.in-Some.connection.now
     (same_have c.self.inside.given c.self.inside.connections c.next_request.new.self same c.self.invariant)
-    (c.in-Some.ensures ∙ ap (λ m. map.get m c.args.id.0) (sym same)) c.finish-in-Request.ensures
+    (c.in-Some.ensures ∙ ap (λ m. map.get m c.args.id.0) (sym same)) c.finish-in-Request.ensures.finished
 
 pub returns-in_ok-answer-in-Request-clause-world : goal.returns-in_ok-answer-in-Request-clause-world
 returns-in_ok-answer-in-Request-clause-world g c =
@@ -35,7 +35,7 @@ returns-in_ok-answer-in-Request-clause-world g c =
     let answer = c.in_ok-answer-in-Request.answer in
     let same = c.in_ok-next_request.ensures.same in
     let begins = subst (IsNext connection.unread) c.in-Request.is (c.in_ok-next_request.ensures.found connection (sym c.in-Some.ensures)) in
-    let set = c.finish-in-Request.ensures connection (sym (c.in-Some.ensures ∙ ap (λ m. map.get m c.args.id.0) (sym same)))
+    let set = c.finish-in-Request.ensures.finished connection (sym (c.in-Some.ensures ∙ ap (λ m. map.get m c.args.id.0) (sym same)))
     ∙ ap (λ m. map.insert m c.args.id.0 (finished connection c.in-Request.used answer.closes)) same in
     request_answered (g.R.Renderer.page hub.shelf.0) hub.readers hub.keep_alive hub.given hub.connections c.finish-in-Request.new.self
     hub.shelf.1 c.answer.new.shelf.1 c.args.self.now.1 (λ i. (c.self.view_is i).1) c.args.id.0 connection c.in-Some.ensures

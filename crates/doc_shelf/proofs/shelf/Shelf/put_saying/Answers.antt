@@ -1,3 +1,6 @@
+use Rattle.std.proofs.Common.{ap, ◌∙◌}
+use Rattle.doc_shelf.proofs.EditSteps.{no_stamp}
+use Rattle.doc_store.specs.Store.{fits_in}
 use Rattle.doc_shelf.proofs.ShelfSteps.{edited_by, is_being_put}
 use Rattle.doc_shelf.proofs.shelf.Shelf.put_saying.Goals as goal
 
@@ -9,4 +12,9 @@ invariant_of-self-2 g c =
     c.end_put_saying.new.kept c.self.inside.cache c.in_ok-begin_put.ensures.same c.self.invariant
     (c.end_put_saying.ensures.kept render c.self.invariant.is_store
     (is_being_put render store c.self.inside.kept c.begin_put.new.kept c.self.inside.cache c.args.path.now c.args.text.now
-    c.in-Ok.stamp c.self.invariant c.in-Ok.ensures.next c.in_ok-begin_put.ensures.ok))
+    c.in-Some.stamp c.self.invariant c.in-Some.ensures.next c.in_ok-begin_put.ensures.ok))
+
+pub returns-in_default-clause-counted : goal.returns-in_default-clause-counted
+returns-in_default-clause-counted g c =
+    absurd (no_stamp _ _ c.self.inside.store.puts c.args.text.now
+    (ap (λ s. fits_in s.1 c.args.path.now c.args.text.now) c.self.view_is ∙ c.requires.fits) c.in_default.ensures.left)

@@ -1,15 +1,15 @@
-use Rattle.doc_store.proofs.StateSteps.{put_gives, store_put}
+use Rattle.std.proofs.Common.{true, false, is_some, ap, sym, ◌∙◌}
+use Rattle.doc_store.proofs.StateSteps.{put_gives}
 use Rattle.doc_store.proofs.store.Store.put.Goals as goal
 
-pub invariant_of-self-2 : goal.invariant_of-self-2
-invariant_of-self-2 c =
-    store_put c.self.inside.pages c.set.new.self c.self.inside.aliases c.remove.new.self c.self.inside.puts c.args.self.now c.args.path.now
-    (record { groups = c.args.groups.now; text = c.args.text.now }) c.in_ok-page.page c.self.view_is c.in_ok-page.ensures
-    c.in_ok-put.ensures.ok c.remove.ensures c.self.invariant
+pub returns-in-Some : goal.returns-in-Some
+returns-in-Some c =
+    put_gives c.args.self.now c.put_fitting.new.self c.args.path.now c.args.text.now
+    (record { groups = c.args.groups.now; text = c.args.text.now }) c.fits.result true c.fits.ensures.answer c.in_ok-fits.was
+    (ap is_some (sym c.in-Some.is) ∙ c.in_ok-put_fitting.ensures.stood) c.in_ok-put_fitting.ensures.put
 
-pub returns : goal.returns
-returns c =
-    put_gives c.self.inside.pages c.set.new.self c.self.inside.aliases c.remove.new.self c.self.inside.puts c.args.self.now c.args.path.now
-    (record { groups = c.args.groups.now; text = c.args.text.now }) c.in_ok-page.page c.self.view_is c.in_ok-page.ensures
-    c.in_ok-put.ensures.ok c.remove.ensures
-    c.args.text.now c.fits.result c.in_ok-put.put c.fits.ensures.answer c.in_ok-fits.was c.in_ok-put.ensures.put
+pub returns-in-None : goal.returns-in-None
+returns-in-None c =
+    put_gives c.args.self.now c.put_fitting.new.self c.args.path.now c.args.text.now
+    (record { groups = c.args.groups.now; text = c.args.text.now }) c.fits.result false c.fits.ensures.answer c.in_ok-fits.was
+    (ap is_some (sym c.in-None.is) ∙ c.in_ok-put_fitting.ensures.stood) c.in_ok-put_fitting.ensures.put
