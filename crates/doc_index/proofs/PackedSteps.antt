@@ -23,10 +23,12 @@ boundary_stays old more n u b = elim (cases_lt n (length old)) [
       (IsCharBoundary-at_seam (old ++ more) old more refl u)
 ]
 
-between_stays : (old more : List ℕ) (start end : ℕ) → start ≤ end → end ≤ length old → between (old ++ more) start end ≡ between old start end
+between_stays : (old more : List ℕ) (start end : ℕ) → start ≤ end → end ≤ length old
+    → between (old ++ more) start end ≡ between old start end
 between_stays old more start end h within =
     ap (take (end - start)) (drop-append-le start old more (omega arith))
-    ∙ take-append-le (end - start) (drop start old) more (let left : length (drop start old) ≡ length old - start = length-drop start old in omega arith)
+    ∙ take-append-le (end - start) (drop start old) more
+    (let left : length (drop start old) ≡ length old - start = length-drop start old in omega arith)
 
 -- the text behind all others
 between_last : (old more : List ℕ) → between (old ++ more) (length old) (length (old ++ more)) ≡ more
@@ -59,7 +61,8 @@ pub pushed : (old more new : List ℕ) (ends after : List (ℕ × ℕ)) (end n :
     → IsPacked new 0 after × (unpacked new 0 after ≡ unpacked old 0 ends ++ (more, n) ∷ [])
 pushed old more new ends after end n u grown last added is =
     subst (λ es. IsPacked new 0 es × (unpacked new 0 es ≡ unpacked old 0 ends ++ (more, n) ∷ [])) (sym added)
-    (subst (λ k. IsPacked new 0 (ends ++ (k, n) ∷ []) × (unpacked new 0 (ends ++ (k, n) ∷ []) ≡ unpacked old 0 ends ++ (more, n) ∷ [])) (sym last)
+    (subst (λ k. IsPacked new 0 (ends ++ (k, n) ∷ [])
+    × (unpacked new 0 (ends ++ (k, n) ∷ []) ≡ unpacked old 0 ends ++ (more, n) ∷ [])) (sym last)
     (subst (λ bytes. IsPacked bytes 0 (ends ++ (length bytes, n) ∷ [])
     × (unpacked bytes 0 (ends ++ (length bytes, n) ∷ []) ≡ unpacked old 0 ends ++ (more, n) ∷ [])) (sym grown)
     (packed_more old more 0 ends n u is, unpacked_more old more 0 ends n is)))

@@ -15,7 +15,8 @@ pub loop-left-preserved : goal.loop-left-preserved
 loop-left-preserved c = record {
   within = omega (arith, c.loop-left.invariant.within);
   done = set_next c.self.inside.entries c.args.slot c.args.table.now c.loop-left.table c.set.new.self c.loop-left.left
-      (c.get-count.result.0.now, c.get-count.result.1) c.get-count.result.0.now (omega (arith, c.loop-left-test.true)) c.loop-left.invariant.within
+      (c.get-count.result.0.now, c.get-count.result.1) c.get-count.result.0.now (omega (arith, c.loop-left-test.true))
+      c.loop-left.invariant.within
       c.get-count.ensures refl (ok_then c.set.result (sym c.is_err.ensures.value ∙ c.if-is_err.false) c.set.ensures.ok)
       c.loop-left.invariant.done;
 }
