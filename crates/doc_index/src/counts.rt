@@ -5,16 +5,16 @@ ghost use Rattle.std.specs.FinMap as map;
 ghost use Rattle.doc_index.specs.Maps.{text_map};
 ghost use Rattle.doc_index.specs.TableSteps.{HasCounts, HasSame, LacksCounts, number_at};
 
+use crate::packed::Packed;
 use crate::table::Table;
-use doc_heap::{BTreeMap, Heap, String, Vec};
+use doc_heap::{BTreeMap, Heap, String};
 use doc_page::failure::Memory;
-use doc_page::text::Text;
 use std::marker::Model;
 
 /// The keys of a page, each with its count. Contracts see the map.
 #[derive(Drop)]
 pub struct Counts {
-    entries: Vec<(Text, u64)>,
+    entries: Packed,
 }
 
 impl Model for Counts {
@@ -27,7 +27,7 @@ impl Model for Counts {
 
     ghost coded = { map.code (coded_list coded_ℕ) coded_ℕ };
 
-    ghost view = { λ c. map.from_entries c.entries.items };
+    ghost view = { λ c. map.from_entries c.entries };
 }
 
 impl Counts {
@@ -35,7 +35,7 @@ impl Counts {
         ensures { result ≡ map.empty }
     {
         Counts {
-            entries: Vec::new(heap),
+            entries: Packed::new(heap),
         }
     }
 
@@ -43,21 +43,17 @@ impl Counts {
     pub(crate) fn copy_of(heap: Heap, keys: &BTreeMap<String, u64>) -> Result<Counts, Memory>
         ensures { IfOk result (λ counts. counts ≡ text_map keys.now) }
     {
-        let mut entries = Vec::with_capacity(heap, keys.len())?;
-        for (key, count) in keys.iter() {
-            entries.push((Text::copy_of(heap, key.as_str())?, *count))?;
-        }
-        Ok(Counts { entries })
+        Ok(Counts {
+            entries: Packed::copy_of(heap, keys)?,
+        })
     }
 
     pub(crate) fn copy(&self, heap: Heap) -> Result<Counts, Memory>
         ensures { IfOk result (λ counts. counts ≡ self.now) }
     {
-        let mut entries = Vec::with_capacity(heap, self.entries.len())?;
-        for (key, count) in self.entries.iter() {
-            entries.push((key.copy(heap)?, *count))?;
-        }
-        Ok(Counts { entries })
+        Ok(Counts {
+            entries: self.entries.copy(heap)?,
+        })
     }
 
     /// Sets in a table the count of each key under a slot. A refusal leaves the table as it was.
@@ -69,8 +65,8 @@ impl Counts {
         let mut left = self.entries.len();
         while left > 0 {
             left -= 1;
-            let (key, count) = &self.entries[left];
-            if table.set(heap, key.get(), slot, *count).is_err() {
+            let (key, count) = self.entries.get(left);
+            if table.set(heap, key, slot, count).is_err() {
                 self.take_from(table, slot);
                 return Err(Memory);
             }
@@ -85,7 +81,8 @@ impl Counts {
         let mut left = self.entries.len();
         while left > 0 {
             left -= 1;
-            table.take(self.entries[left].0.get(), slot);
+            let (key, _) = self.entries.get(left);
+            table.take(key, slot);
         }
     }
 }

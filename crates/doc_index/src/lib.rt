@@ -9,5 +9,6 @@
 pub mod counts;
 pub mod held;
 pub mod index;
+mod packed;
 pub mod row;
 mod table;

@@ -1,6 +1,6 @@
 //! Rows of numbers by text.
 
-ghost use Rattle.std.specs.Prelude.{◌≡◌, ◌≢◌, ◌++◌, IfOk, OnOk, OnErr, IsTrue, option_copied, string_bytes};
+ghost use Rattle.std.specs.Prelude.{◌≡◌, ◌≢◌, ◌++◌, None, IfOk, OnOk, OnErr, option_copied, string_bytes};
 ghost use Rattle.std.specs.BTreeMap.{IsOrdered, values};
 ghost use Rattle.std.specs.FinMap as map;
 ghost use Rattle.std.specs.String.{string_cmp};
@@ -47,12 +47,6 @@ impl Table {
         self.rows.get(text)
     }
 
-    fn has_row(&self, text: &str) -> bool
-        ensures { result ≡ map.contains_key self.now text.now }
-    {
-        self.row(text).is_some()
-    }
-
     pub fn get(&self, text: &str, number: u64) -> Option<u64>
         ensures { result ≡ number_at self.now text.now number }
     {
@@ -71,9 +65,18 @@ impl Table {
         ensures ok { OnOk result (self.new ≡ with_number self.old text.now number value) }
         ensures err { OnErr result (self.new ≡ self.old) }
     {
-        if self.has_row(text) {
-            return self.set_in_row(text, number, value);
-        }
+        let Some(row) = self.rows.get_mut(text) else {
+            return self.set_first(heap, text, number, value);
+        };
+        row.set(number, value)
+    }
+
+    /// Sets a number of a text that has no row.
+    fn set_first(&mut self, heap: Heap, text: &str, number: u64, value: u64) -> Result<(), Memory>
+        requires { map.get self.old text.now ≡ None }
+        ensures ok { OnOk result (self.new ≡ with_number self.old text.now number value) }
+        ensures err { OnErr result (self.new ≡ self.old) }
+    {
         let mut row = Row::new(heap);
         row.set(number, value)?;
         self.insert(String::from_str(heap, text)?, row)
@@ -85,18 +88,6 @@ impl Table {
     {
         self.rows.insert(text, row)?;
         Ok(())
-    }
-
-    /// Sets a number in the row of a text, which has one.
-    fn set_in_row(&mut self, text: &str, number: u64, value: u64) -> Result<(), Memory>
-        requires { IsTrue (map.contains_key self.old text.now) }
-        ensures ok { OnOk result (self.new ≡ with_number self.old text.now number value) }
-        ensures err { OnErr result (self.new ≡ self.old) }
-    {
-        let Some(row) = self.rows.get_mut(text) else {
-            return Ok(());
-        };
-        row.set(number, value)
     }
 
     /// Takes the number of a text and a number away, if there is one, and the row once it is empty.

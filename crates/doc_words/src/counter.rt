@@ -1,6 +1,6 @@
 //! Words that are counted.
 
-ghost use Rattle.std.specs.Prelude.{◌≡◌, ◌∷◌, [], ℕ, List as Seq, chars, string_bytes, string_cmp, IfOk, OnOk, map as mapped, unwrap_or};
+ghost use Rattle.std.specs.Prelude.{◌≡◌, ◌∷◌, [], ℕ, List as Seq, chars, string_bytes, string_cmp, None, IfOk, OnOk, map as mapped};
 ghost use Rattle.std.specs.BTreeMap.{IsOrdered};
 ghost use Rattle.std.specs.FinMap as map;
 ghost use Rattle.doc_index.specs.Maps.{by_bytes, text_map};
@@ -67,18 +67,20 @@ impl Counter {
     fn add(&mut self, word: String) -> Result<(), Memory>
         ensures { OnOk result (self.new ≡ one_more self.old (string_bytes word.entry)) }
     {
-        let count = self.count(word.as_str());
-        self.counts.insert(word, count.saturating_add(1))?;
+        let Some(count) = self.counts.get_mut(word.as_str()) else {
+            return self.add_first(word);
+        };
+        *count = count.saturating_add(1);
         Ok(())
     }
 
-    fn count(&self, word: &str) -> u64
-        ensures { result ≡ unwrap_or (map.get self.now word.now) 0 }
+    /// Counts a word that has no count.
+    fn add_first(&mut self, word: String) -> Result<(), Memory>
+        requires { map.get self.old (string_bytes word) ≡ None }
+        ensures { OnOk result (self.new ≡ map.insert self.old (string_bytes word.entry) 1) }
     {
-        let Some(count) = self.counts.get(word) else {
-            return 0;
-        };
-        *count
+        self.counts.insert(word, 1)?;
+        Ok(())
     }
 }
 

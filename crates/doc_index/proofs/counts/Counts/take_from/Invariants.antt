@@ -5,8 +5,8 @@ use Rattle.doc_index.proofs.counts.Counts.take_from.Given as goal
 -- the keys from here on are done
 abbrev pub invariant-loop-left : goal.invariant-loop-left
 invariant-loop-left l = record {
-  within : l.left ≤ length l.self-inside.entries.items;
-  done : LacksEntries (drop l.left l.self-inside.entries.items) l.slot l.fn.table l.table;
+  within : l.left ≤ length l.self-inside.entries;
+  done : LacksEntries (drop l.left l.self-inside.entries) l.slot l.fn.table l.table;
 }
 
 abbrev pub decreases-loop-left : goal.decreases-loop-left

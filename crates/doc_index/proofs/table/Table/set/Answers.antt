@@ -1,13 +1,9 @@
 use Rattle.std.proofs.Common.{◌≡◌, ◌∙◌, ap, sym, refl}
 use Rattle.std.specs.Prelude.{Some}
 use Rattle.std.specs.FinMap as map
-use Rattle.doc_index.proofs.TableSteps.{inserted_text, looked_up_text, not_none, number_set, on_err, on_ok, set_again}
-use Rattle.doc_index.proofs.table.Table.set_in_row.Goals as goal
-
-pub returns-in_default-clause-ok : goal.returns-in_default-clause-ok
-returns-in_default-clause-ok c =
-    absurd (not_none _ (sym (c.in_default.ensures.value ∙ looked_up_text c.self.inside.rows.entries c.args.text.now
-    ∙ ap (λ m. map.get m c.args.text.now) c.self.view_is)) c.requires)
+use Rattle.doc_index.specs.Maps.{text_map}
+use Rattle.doc_index.proofs.TableSteps.{inserted_text, looked_up_text, number_set, on_err, on_ok, set_again}
+use Rattle.doc_index.proofs.table.Table.set.Goals as goal
 
 pub returns-clause-ok : goal.returns-clause-ok
 returns-clause-ok c =
@@ -32,3 +28,9 @@ returns-clause-err c =
     ∙ ap (λ m. map.insert m c.args.text.now c.set.new.self) c.self.view_is
     ∙ ap (map.insert c.args.self.now c.args.text.now) same
     ∙ set_again c.args.self.now c.args.text.now c.in-Some.row.now stands) c.set.ensures.err
+
+pub set_first-requires : goal.set_first-requires
+set_first-requires c =
+    let same = c.get_mut.follows.holds-at-none in
+    ap (λ m. map.get (text_map m) c.args.text.now) same
+    ∙ sym (c.in_default.ensures.value ∙ looked_up_text c.self.inside.rows.entries c.args.text.now)
