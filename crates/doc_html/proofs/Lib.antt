@@ -1,4 +1,5 @@
 pub mod CodeSteps
+pub mod EscapeLaws
 pub mod CutSteps
 pub mod InlineLaws
 pub mod PlainTextSteps

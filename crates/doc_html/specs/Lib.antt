@@ -1,3 +1,4 @@
+pub mod EscapeSteps
 pub mod InlineSteps
 pub mod ProgressSteps
 pub mod TellingSteps

@@ -1,6 +1,8 @@
 //! Destinations in HTML.
 ghost use Rattle.std.specs.Prelude.{◌≡◌, chars, encode_utf8_all, flat_map, IfOk};
+ghost use Rattle.std.specs.List.{list_all};
 ghost use Rattle.doc_rules.specs.Escaping.{url_escape};
+ghost use Rattle.doc_html.specs.EscapeSteps.{stays};
 ghost use Rattle.doc_html.specs.PlainLinks.{url_byte};
 
 use doc_heap::{Heap, String};
@@ -13,7 +15,35 @@ pub(crate) fn url(heap: Heap, dest: &str) -> Result<Text, Memory>
     ensures characters { IfOk result (λ url. chars url ≡ url_escape (chars dest.now)) }
     ensures bytes { IfOk result (λ url. url ≡ encode_utf8_all (flat_map url_byte dest.now)) }
 {
+    if stays(dest) {
+        let copy = Text::copy_of(heap, dest)?;
+        return Ok(copy);
+    }
     let mut out = String::with_capacity(heap, dest.len())?;
     push_destination(heap, &mut out, dest)?;
     Ok(Text::new(out))
+}
+
+/// Whether each byte of a destination is written as it is.
+fn stays(dest: &str) -> bool
+    ensures { result ≡ list_all stays dest.now }
+{
+    dest.as_bytes().iter().all(|byte| byte_stays(*byte))
+}
+
+// Each byte that is written as it is stands at its own place, and a bar at every other place.
+static STAYING: [u8; 256] = *b"\
+    ||||||||||||||||||||||||||||||||\
+    |!|#$%|'()*+,-./0123456789:;|=|?\
+    @ABCDEFGHIJKLMNOPQRSTUVWXYZ||||_\
+    |abcdefghijklmnopqrstuvwxyz|||~|\
+    ||||||||||||||||||||||||||||||||\
+    ||||||||||||||||||||||||||||||||\
+    ||||||||||||||||||||||||||||||||\
+    ||||||||||||||||||||||||||||||||";
+
+fn byte_stays(byte: u8) -> bool
+    ensures { result ≡ stays byte }
+{
+    STAYING[byte as usize] != b'|'
 }

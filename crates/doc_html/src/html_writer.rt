@@ -3,11 +3,11 @@ ghost use Rattle.std.specs.Prelude.{◌≡◌, string_bytes, IfOk};
 ghost use Rattle.doc_html.specs.ProgressSteps.{begun};
 ghost use Rattle.doc_html.specs.WrittenSteps.{HoldsHtml, read_again};
 
+use crate::escaping::push_escaped;
 use crate::fresh::fresh_behind;
 use crate::writer::Writer;
 use doc_heap::{Heap, String};
 use doc_inlines_marks::mark::Mark;
-use doc_page::escaping::push_escaped;
 use doc_page::failure::Memory;
 use doc_page::filling::push_opening_tag;
 use doc_page::linker::Linker;

@@ -77,7 +77,15 @@ pub(crate) fn push_heading<'d, W: Writer>(
 fn push_level<W: Writer>(writer: &mut W, heap: Heap, level: u8) -> Result<(), Memory>
     ensures { OnOk result (Writes W.holds writer.old writer.new (characters (decimal level))) }
 {
-    push_decimal(writer, heap, u32::from(level))
+    match level {
+        1 => markup(writer, "1"),
+        2 => markup(writer, "2"),
+        3 => markup(writer, "3"),
+        4 => markup(writer, "4"),
+        5 => markup(writer, "5"),
+        6 => markup(writer, "6"),
+        _ => push_decimal(writer, heap, u32::from(level)),
+    }
 }
 
 /// Writes a number.

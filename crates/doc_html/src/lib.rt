@@ -6,6 +6,7 @@ mod code;
 mod common_mark;
 mod destinations;
 mod document;
+mod escaping;
 mod fresh;
 mod html_writer;
 mod inlines;

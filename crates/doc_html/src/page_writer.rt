@@ -11,13 +11,13 @@ ghost use Rattle.doc_html.specs.ProgressSteps.{Progress, begun};
 ghost use Rattle.doc_html.specs.WrittenSteps.{read_again};
 ghost use Rattle.doc_html.specs.WrittenPageSteps.{HoldsPage, page_told};
 
+use crate::escaping::push_escaped;
 use crate::fresh::fresh_behind;
 use crate::plain_text::plain_text;
 use crate::writer::Writer;
 use doc_heap::{Heap, String, Vec};
 use doc_html_anchors::Anchors;
 use doc_inlines_marks::mark::Mark;
-use doc_page::escaping::push_escaped;
 use doc_page::failure::Memory;
 use doc_page::list::List;
 use doc_page::rendered::{Heading, LinkSpot, Piece, Rendered};

@@ -2,6 +2,7 @@ pub mod Ends
 mod Examples
 pub mod EntryLaws
 pub mod Escapes
+pub mod FoldSteps
 pub mod MapLaws
 pub mod ParenthesisSteps
 pub mod Rests

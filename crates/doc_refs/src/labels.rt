@@ -1,5 +1,5 @@
 //! Labels in the form in which they match.
-ghost use Rattle.std.specs.Prelude.{◌≡◌, ◌++◌, ◌<◌, not, length, chars, string_bytes, IfOk};
+ghost use Rattle.std.specs.Prelude.{◌≡◌, ◌++◌, ◌<◌, not, length, chars, string_bytes, IfOk, IsAscii};
 ghost use Rattle.caseless.specs.Caseless.{default_case_fold};
 ghost use Rattle.doc_rules.specs.Characters.{strip, strip_end, is_space_tab_or_ending};
 ghost use Rattle.doc_rules.specs.Labels.{collapse, normal_label};
@@ -28,7 +28,20 @@ pub fn normalize_label(heap: Heap, label: &str) -> Result<Text, Memory>
 fn folded(heap: Heap, text: &str) -> Result<String, Memory>
     ensures { IfOk result (λ out. chars (string_bytes out) ≡ default_case_fold (chars text.now)) }
 {
+    if text.is_ascii() {
+        return lower(heap, text);
+    }
     Ok(text.chars().default_case_fold().collect(heap)?)
+}
+
+/// The same of a text in ASCII.
+fn lower(heap: Heap, text: &str) -> Result<String, Memory>
+    requires { IsAscii text.now }
+    ensures { IfOk result (λ out. chars (string_bytes out) ≡ default_case_fold (chars text.now)) }
+{
+    let mut out = String::from_str(heap, text)?;
+    out.make_ascii_lowercase();
+    Ok(out)
 }
 
 /// The words of a text with one space between two.

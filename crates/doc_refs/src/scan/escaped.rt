@@ -1,5 +1,5 @@
 //! Runs of characters that may be escaped.
-ghost use Rattle.std.specs.Prelude.{◌≡◌, ◌<◌, ℕ, Bool, Some, IfSome, length, chars};
+ghost use Rattle.std.specs.Prelude.{◌≡◌, ◌<◌, ◌∷◌, ℕ, Bool, Some, IfSome, length, chars};
 ghost use Rattle.doc_rules.specs.Parsers.{one, ◌or◌};
 ghost use Rattle.doc_rules.specs.Destinations.{escaped, many_or_escaped};
 ghost use Rattle.doc_rules.specs.Rests.{IsRest};
@@ -37,9 +37,19 @@ pub fn escaped_or_one<F: Fn(char) -> bool>(text: &str, test: F) -> Option<&str>
     ensures end { IfSome result (λ rest. IsRest (chars rest.now) (chars text.now)) }
     ensures shorter { IfSome result (λ rest. length (chars rest.now) < length (chars text.now)) }
 {
-    if let Some(rest) = escaped(text) {
-        return Some(rest);
-    }
     let (c, rest) = next_char(text)?;
+    if let Some(behind) = behind_escaped(c, rest) {
+        return Some(behind);
+    }
     if test(c) { Some(rest) } else { None }
+}
+
+/// The text behind an escaped character, where its backslash is this character.
+fn behind_escaped(c: char, rest: &str) -> Option<&str>
+    ensures { rest_of result ≡ escaped (c ∷ chars rest.now) }
+{
+    if c != '\\' {
+        return None;
+    }
+    one(rest, |d| d.is_ascii_punctuation())
 }

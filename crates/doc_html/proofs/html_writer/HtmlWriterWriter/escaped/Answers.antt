@@ -9,6 +9,6 @@ pub returns : goal.returns
 returns g c = λ p h.
     holds_more (g.L.Linker.shown c.args.self.now.linker.now) _ _ (escaped c.args.text.now) c.args.self.now.fresh c.fresh_behind-self.result
     p (characters (html_escape (chars c.args.text.now))) h
-    c.in_ok-push_escaped.ensures.ok (escape_begins c.fresh_behind-self.result c.args.self.now.fresh p.output (chars c.args.text.now)
+    c.in_ok-push_escaped.ensures (escape_begins c.fresh_behind-self.result c.args.self.now.fresh p.output (chars c.args.text.now)
     c.fresh_behind-self.ensures h.begins)
     (spells_escape (g.L.Linker.shown c.args.self.now.linker.now) c.args.text.now c.utf8.text)
