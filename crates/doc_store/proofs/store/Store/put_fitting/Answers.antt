@@ -25,12 +25,14 @@ returns-clause-put c =
 
 pub returns-clause-stamp : goal.returns-clause-stamp
 returns-clause-stamp c =
-    stamp_before c.self.inside.pages c.set.new.self c.self.inside.aliases c.remove.new.self c.self.inside.puts c.args.self.now c.args.path.now
+    stamp_before c.self.inside.pages c.set.new.self c.self.inside.aliases c.remove.new.self c.self.inside.puts c.args.self.now
+    c.args.path.now
     (record { groups = c.args.groups.now; text = c.args.text.now }) c.in_ok-page.page c.self.view_is c.in_ok-page.ensures
     c.in_ok-before.ensures.ok c.remove.ensures c.in_ok-before.before c.in_ok-before.ensures.before
 
 pub returns-clause-stood : goal.returns-clause-stood
 returns-clause-stood c =
-    stood_before c.self.inside.pages c.set.new.self c.self.inside.aliases c.remove.new.self c.self.inside.puts c.args.self.now c.args.path.now
+    stood_before c.self.inside.pages c.set.new.self c.self.inside.aliases c.remove.new.self c.self.inside.puts c.args.self.now
+    c.args.path.now
     (record { groups = c.args.groups.now; text = c.args.text.now }) c.in_ok-page.page c.self.view_is c.in_ok-page.ensures
     c.in_ok-before.ensures.ok c.remove.ensures c.in_ok-before.before c.in_ok-before.ensures.before
