@@ -9,11 +9,10 @@ use doc_page::failure::Memory;
 use std::marker::Model;
 
 /// Texts, each with a number, one after another in one text with their ends. Contracts see the list.
-/// Ends and numbers stand in 32 bits: where one would be past that, memory counts as run out.
 #[derive(Drop)]
 pub struct Packed {
     texts: String,
-    ends: Vec<(u32, u32)>,
+    ends: Vec<(usize, u64)>,
 }
 
 impl Model for Packed {
@@ -72,19 +71,19 @@ impl Packed {
     {
         let start = start_of(&self.ends, at);
         let (end, number) = self.ends[at];
-        (&self.texts.as_str()[start..end as usize], number as u64)
+        (&self.texts.as_str()[start..end], number)
     }
 }
 
 /// Where the text of a place begins: where the one before it ends.
-fn start_of(ends: &[(u32, u32)], at: usize) -> usize
+fn start_of(ends: &[(usize, u64)], at: usize) -> usize
     requires { at < length ends.now }
     ensures { result ≡ start_of 0 ends.now at }
 {
     if at == 0 {
         return 0;
     }
-    ends[at - 1].0 as usize
+    ends[at - 1].0
 }
 
 /// How many bytes the texts take.
@@ -99,7 +98,7 @@ fn room_of(keys: &BTreeMap<String, u64>) -> usize {
 /// Adds a text with its number.
 fn push(
     texts: &mut String,
-    ends: &mut Vec<(u32, u32)>,
+    ends: &mut Vec<(usize, u64)>,
     text: &str,
     number: u64,
 ) -> Result<(), Memory>
@@ -109,16 +108,10 @@ fn push(
         ≡ unpacked (string_bytes texts.old) 0 ends.old.items ++ (text.now, number) ∷ []) }
 {
     texts.push_str(text)?;
-    let Ok(end) = u32::try_from(texts.as_str().len()) else {
-        return Err(Memory);
-    };
-    let Ok(number) = u32::try_from(number) else {
-        return Err(Memory);
-    };
-    Ok(ends.push((end, number))?)
+    Ok(ends.push((texts.as_str().len(), number))?)
 }
 
-fn copy_of_ends(heap: Heap, ends: &[(u32, u32)]) -> Result<Vec<(u32, u32)>, Memory>
+fn copy_of_ends(heap: Heap, ends: &[(usize, u64)]) -> Result<Vec<(usize, u64)>, Memory>
     ensures { IfOk result (λ copy. copy.items ≡ ends.now) }
 {
     let mut copy = Vec::with_capacity(heap, ends.len())?;
