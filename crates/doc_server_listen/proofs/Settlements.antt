@@ -1,11 +1,14 @@
 -- What a turn hands over, and what it writes down.
 use Rattle.std.proofs.Common.{◌≡◌, ◌≤◌, ◌⊎◌, inl, inr, ℕ, zero, suc, List, [], ◌∷◌, ◌++◌, length, Bool, true, refl, sym, ap, ◌∙◌, subst, arith, length-append}
-use Rattle.std.specs.Prelude.{Option, Some, None, IfSome, slice_index_or, slice_set}
+use Rattle.std.specs.Prelude.{Option, Some, None, option_map, IfSome, slice_index_or, slice_set}
+use Rattle.doc_store.specs.Store.{Edit as SiteEdit}
+use Rattle.doc_server_compact.specs.Lines.{lines_of}
 use Rattle.doc_server_journal.specs.Devices.{LeavesFile, LeavesOnly}
 use Rattle.doc_server_journal.specs.Journals.{IsOpen, IsBeforeOrAfter}
 use Rattle.doc_server_journal.specs.Records.{seed, last_digest, length_bytes, record_bytes, journal_bytes, AreWithin}
 use Rattle.doc_server_journal.specs.Readings.{HasNoRecord, IsEnd, ReadsAs, tail_limit}
 use Rattle.doc_server_journal.specs.declared.journal.Journal.{Journal}
+use Rattle.doc_server_listen.specs.Edits.{Kept, Adds}
 use Rattle.doc_server_listen.specs.Peers.{Peer}
 use Rattle.doc_server_listen.specs.Served.{HandsOver}
 use Rattle.doc_server_listen.specs.Settling.{HandOverAll, GiveFronts, IsKept, IsSafe}
@@ -93,3 +96,9 @@ module _ {D : Type 0} (seen : D → Option (List ℕ)) (may_leave : D → List �
       → (texts : List (List ℕ)) × IsOpen seen may_leave failed old texts → (texts : List (List ℕ)) × IsOpen seen may_leave failed new texts
   still_open old new text (inl (none, same)) (texts, open) = (texts, subst (λ j. IsOpen seen may_leave failed j texts) (sym same) open)
   still_open old new text (inr more) (texts, open) = (texts ++ text ∷ [], more texts open)
+
+-- ---- the lines of a turn
+
+pub lines_told : (a b : Kept) (edits : List SiteEdit) → a ≡ record { lines = Some []; is_whole = true } → Adds a b edits
+    → b.is_whole ≡ true → b.lines ≡ Some (lines_of edits)
+lines_told a b edits new adds whole = (adds whole).1 ∙ ap (λ (k : Kept). option_map (λ l. l ++ lines_of edits) k.lines) new

@@ -48,6 +48,7 @@ pub fn settled_turn<D: Device, R: Renderer + Drop, S: Channel + Drop>(
 }
 
 /// Adds the lines of edits to the journal, where there are some.
+#[tactic(auto, unfolding(doc_server_journal::specs::Records::text_limit))]
 fn write_down<D: Device>(
     heap: Heap,
     journal: &mut Journal<D>,
