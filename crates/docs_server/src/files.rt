@@ -10,9 +10,38 @@ use doc_server_config::config::{ConfigError, SiteConfig};
 use doc_server_config::page_row::{PageRow, Source};
 use doc_server_input::fault::Fault;
 use doc_server_input::input::{cannot_read, read_text};
+use doc_server_listening::bounds::Bounds;
+use doc_server_listening::listening::{Listening, ListeningError};
 use doc_server_streams::read_from::ReadFrom;
 use std::fs::File;
 use std::rt::Files;
+
+/// A configured site with the bounds of a server that runs.
+pub struct Bounded {
+    pub site: Site,
+    pub bounds: Bounds,
+}
+
+/// The site of the configuration of this name, and its bounds, which are looked at before any other file is read.
+pub fn read_bounded<R: AllocGlobal + Files>(rt: &R, name: &str) -> Result<Bounded, Fault> {
+    let heap = heap(rt.alloc(), u64::MAX)?;
+    let text = read_file(rt, heap, name)?;
+    let bounds = bounds_of(heap, &text)?;
+    let site = site_of(rt, heap, &text)?;
+    Ok(Bounded { site, bounds })
+}
+
+/// The bounds of a configuration.
+fn bounds_of(heap: Heap, text: &str) -> Result<Bounds, Fault> {
+    match Listening::from_toml(heap, text) {
+        Ok(listening) => Ok(Bounds {
+            connections: listening.connections,
+            idle_seconds: listening.idle_seconds,
+        }),
+        Err(ListeningError::Memory) => Err(Fault::Memory),
+        Err(_) => Err(Fault::Config),
+    }
+}
 
 /// A configured site, with what stands in the files that its configuration names.
 pub struct Site {
@@ -33,7 +62,12 @@ pub struct Pages {
 pub fn read_site<R: AllocGlobal + Files>(rt: &R, name: &str) -> Result<Site, Fault> {
     let heap = heap(rt.alloc(), u64::MAX)?;
     let text = read_file(rt, heap, name)?;
-    let config = config_of(heap, &text)?;
+    site_of(rt, heap, &text)
+}
+
+/// The site of a configuration with this text.
+fn site_of<R: Files>(rt: &R, heap: Heap, text: &str) -> Result<Site, Fault> {
+    let config = config_of(heap, text)?;
     let table = read_table(rt, heap, &config)?;
     let texts = read_pages(rt, heap, config.pages.get())?;
     let entities = match table {

@@ -4,12 +4,14 @@
 mod arguments;
 mod commands;
 mod files;
+mod listening;
 mod serving;
 mod sites;
 mod status;
 
 use crate::arguments::{Command, command_of, words_of};
 use crate::commands::{run_demo, run_examples, run_render};
+use crate::listening::run_listen;
 use crate::serving::run_serve;
 use crate::sites::{run_check, run_replay};
 use crate::status::status_of;
@@ -18,7 +20,7 @@ use doc_server_input::fault::Fault;
 use std::marker::Brand;
 use std::net::{Net, TcpListener, TcpStream};
 use std::process::ExitCode;
-use std::rt::{Env, Files};
+use std::rt::{Clock, Env, Files};
 use std::sync::ledger::Blank;
 
 fn main(rt: HostRuntime) -> ExitCode {
@@ -29,6 +31,7 @@ fn main(rt: HostRuntime) -> ExitCode {
 fn run<R>(rt: &R) -> Result<u8, Fault>
 where
     R: AllocGlobal
+        + Clock
         + Env
         + Eprint
         + Files
@@ -44,5 +47,6 @@ where
         Command::Check(check) => run_check::<Brand, R>(rt, Blank::new(1), &check),
         Command::Replay(replay) => run_replay::<Brand, R>(rt, Blank::new(1), &replay),
         Command::Serve(serve) => run_serve::<Brand, R>(rt, Blank::new(1), &serve),
+        Command::Listen(listen) => run_listen::<Brand, R>(rt, Blank::new(1), &listen),
     }
 }

@@ -1,0 +1,10 @@
+//! A server that accepts while it serves: turns over the streams that a poll tells of.
+#![tactic(auto)]
+
+mod channel;
+mod door;
+pub mod fault;
+mod peers;
+pub mod server;
+mod slot;
+mod wire;
