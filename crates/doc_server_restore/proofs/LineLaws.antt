@@ -115,7 +115,8 @@ all_read (edit ∷ edits) found n are =
 
 are_those : (edits : List Edit) → edits_in (all_with edits) ≡ Some edits
 are_those [] = refl
-are_those (edit ∷ edits) = ap (λ o. in_front o (edits_in (all_with edits))) (is_edit_with edit) ∙ ap (in_front (Some edit)) (are_those edits)
+are_those (edit ∷ edits) = ap (λ o. in_front o (edits_in (all_with edits))) (is_edit_with edit) ∙ ap
+    (in_front (Some edit)) (are_those edits)
 
 -- ---- printable bytes are UTF-8
 
