@@ -60,6 +60,7 @@ impl<'t> Draft<'t> {
     }
 
     /// A mark behind all.
+    #[inline(always)]
     pub(crate) fn put(&mut self, mark: Mark<'t>) -> Result<(), Memory>
         requires { IsDraft self.old }
         ensures items { OnOk result (items_of self.new.marks ≡ items_of self.old.marks

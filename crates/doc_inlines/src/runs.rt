@@ -9,6 +9,7 @@ ghost use Rattle.doc_rules.specs.Inlines.{Delimiters};
 ghost use Rattle.doc_rules.specs.Rests.{IsRest};
 ghost use Rattle.doc_refs.specs.Targets.{Targets};
 ghost use Rattle.doc_inlines_emphasis.specs.Texts.{IsRunText};
+ghost use Rattle.doc_inlines.specs.ClassSteps.{IsNeighbour};
 ghost use Rattle.doc_inlines.specs.DraftSteps.{IsRunOf};
 ghost use Rattle.doc_inlines.specs.ReaderSteps.{IsReader, GoesOn, state_made};
 
@@ -30,8 +31,8 @@ impl<'t> Reader<'t> {
     {
         let next = behind_run(behind, c);
         let run = front(self.rest, next);
-        let last = last_or_line(front(self.text, self.rest));
-        let first = first_or_line(next);
+        let last = beside(last_or_line(front(self.text, self.rest)));
+        let first = beside(first_or_line(next));
         let opens = opens(c, last, first);
         let closes = closes(c, last, first);
         self.put_run(run, opens, closes, next)?;
@@ -94,25 +95,41 @@ fn last_or_line(text: &str) -> char
     }
 }
 
+/// What the rules ask of a character beside a run.
+#[derive(Clone, Copy)]
+struct Neighbour {
+    white: bool,
+    punctuation: bool,
+}
+
+fn beside(c: char) -> Neighbour
+    ensures { IsNeighbour c result }
+{
+    Neighbour {
+        white: is_white(c),
+        punctuation: is_punctuation(c),
+    }
+}
+
 /// Whether a run is flanking at the side of the first character.
-fn is_flanking(near: char, far: char) -> bool
-    ensures { result ≡ rules.is_flanking near far }
+fn is_flanking(near: Neighbour, far: Neighbour) -> bool
+    ensures { (a b : ℕ) → IsNeighbour a near → IsNeighbour b far → result ≡ rules.is_flanking a b }
 {
-    !is_white(near) && (!is_punctuation(near) || (is_white(far) || is_punctuation(far)))
+    !near.white && (!near.punctuation || (far.white || far.punctuation))
 }
 
-/// Whether a run of this character may open emphasis, between these two characters.
-#[tactic(auto, unfolding(doc_rules::specs::Emphasis::run_between))]
-fn opens(c: char, last: char, next: char) -> bool
-    ensures { (n : ℕ) → result ≡ (run_between c n last next).opens }
+/// Whether a run of this character may open emphasis, between these two neighbours.
+fn opens(c: char, last: Neighbour, next: Neighbour) -> bool
+    ensures { (n a b : ℕ) → IsNeighbour a last → IsNeighbour b next
+        → result ≡ (run_between c n a b).opens }
 {
-    is_flanking(next, last) && (c == '*' || !is_flanking(last, next) || is_punctuation(last))
+    is_flanking(next, last) && (c == '*' || !is_flanking(last, next) || last.punctuation)
 }
 
-/// Whether a run of this character may close emphasis, between these two characters.
-#[tactic(auto, unfolding(doc_rules::specs::Emphasis::run_between))]
-fn closes(c: char, last: char, next: char) -> bool
-    ensures { (n : ℕ) → result ≡ (run_between c n last next).closes }
+/// Whether a run of this character may close emphasis, between these two neighbours.
+fn closes(c: char, last: Neighbour, next: Neighbour) -> bool
+    ensures { (n a b : ℕ) → IsNeighbour a last → IsNeighbour b next
+        → result ≡ (run_between c n a b).closes }
 {
-    is_flanking(last, next) && (c == '*' || !is_flanking(next, last) || is_punctuation(next))
+    is_flanking(last, next) && (c == '*' || !is_flanking(next, last) || next.punctuation)
 }

@@ -58,6 +58,7 @@ impl<'t> Marks<'t> {
     }
 
     /// A mark that is no delimiter's comes behind all.
+    #[inline(always)]
     pub fn push(&mut self, mark: Mark<'t>) -> Result<(), Memory>
         requires { IsSound self.old }
         ensures items { OnOk result (items_of self.new ≡ items_of self.old ++ (mark.entry ∷ [])) }
@@ -66,7 +67,8 @@ impl<'t> Marks<'t> {
         ensures places { OnOk result ((place : Spot) → IsPlace self.old place
             → IsPlace self.new place) }
     {
-        self.marks.push(mark)?;
+        self.marks.reserve(1)?;
+        self.marks.push_reserved(mark);
         Ok(())
     }
 
@@ -177,7 +179,8 @@ fn push_delimiters<'t>(marks: &mut Vec<Mark<'t>>, star: bool, length: usize) -> 
 {
     let text = delimiter(star);
     for _ in 0..length {
-        marks.push(Mark::Text(text))?;
+        marks.reserve(1)?;
+        marks.push_reserved(Mark::Text(text));
     }
     Ok(())
 }

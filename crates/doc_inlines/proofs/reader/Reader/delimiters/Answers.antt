@@ -28,6 +28,8 @@ returns c = λ table targets.
     state_made c.args.self.now) c.requires.sound p.sound p.text
     (ap (λ t. chars t.now) p.rest) c.requires.first c.behind_run-next.ensures.end
     (λ definitions e.
-    run_reads table definitions c.args.c _ _ _ _ _ _ _ _ c.requires.delimiter found (c.last_or_line-last.ensures
-    ∙ ap (last_or 10) c.front.ensures.value) c.first_or_line-first.ensures c.opens-opens.ensures c.closes-closes.ensures)
+    run_reads table definitions c.args.c _ _ _ _ _ _ _ _ c.requires.delimiter found (c.last_or_line.ensures
+    ∙ ap (last_or 10) c.front.ensures.value) c.first_or_line.ensures
+    (λ n. c.opens-opens.ensures n _ _ c.beside-last.ensures c.beside-first.ensures)
+    (λ n. c.closes-closes.ensures n _ _ c.beside-last.ensures c.beside-first.ensures))
     (p.made n c.args.c (run_taken _ _ _ _ _ c.requires.first found c.front-run.ensures.value))
