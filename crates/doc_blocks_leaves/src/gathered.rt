@@ -96,7 +96,7 @@ impl Gathered {
         ensures all { OnOk result (self.new.all ≡ self.old.all ++ 10 ∷ []) }
         ensures kept { self.new.kept ≡ self.old.kept }
     {
-        self.add("\n")
+        Ok(self.text.push('\n')?)
     }
 
     /// Adds so many spaces.

@@ -4,6 +4,7 @@ ghost use Rattle.std.specs.Char.{to_ascii_lowercase};
 ghost use Rattle.doc_rules.specs.HtmlStarts.{is_among};
 ghost use Rattle.doc_blocks_starts.specs.HtmlKinds.{names_of};
 
+use doc_lines::scan::character::next_char;
 use doc_lines::scan::word::word_in_any_case;
 
 /// The names of kind 1.
@@ -80,12 +81,23 @@ pub const ELEMENT_NAMES: &[&str] = &[
 pub fn is_among(names: &[&str], name: &str) -> bool
     ensures { result ≡ is_among (names_of names.now) (map to_ascii_lowercase (chars name.now)) }
 {
+    let Some((first, _)) = next_char(name) else {
+        return false;
+    };
+    let letter = first.to_ascii_lowercase();
     for known in names {
-        if is_in_any_case(name, known) {
+        if begins_with(known, letter) && is_in_any_case(name, known) {
             return true;
         }
     }
     false
+}
+
+fn begins_with(name: &str, letter: char) -> bool {
+    match name.as_bytes() {
+        [first, ..] => *first as char == letter,
+        [] => false,
+    }
 }
 
 /// Whether the text, in any case, is this name in lower case.
