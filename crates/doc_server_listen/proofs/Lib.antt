@@ -1,5 +1,7 @@
+pub mod EditSteps
 mod HandingOver
 mod Pieces
 mod Rows
 mod Serving
+mod Settlements
 mod TurnSteps

@@ -66,7 +66,7 @@ itself n = grind (arith)
 module _ (render : Renders) where
   -- ---- no event: the stream alone
 
-  pub quiet : (w : World) (p q : Peer) → q.is_open ≡ p.is_open → q.id ≡ p.id → Consumes p.unread q.unread []
+  abbrev pub quiet : (w : World) (p q : Peer) → q.is_open ≡ p.is_open → q.id ≡ p.id → Consumes p.unread q.unread []
       → (p.is_open ≡ false → q.unread ≡ p.unread) → HandsOver p.written q.written p.pending q.pending
       → (p.failed ≡ true → q.failed ≡ true) → Serves render w p w q
   quiet w p q stays id takes still gives fails = record {
@@ -84,7 +84,7 @@ module _ (render : Renders) where
     };
   }
 
-  pub nothing_done : (w : World) (p : Peer) → Serves render w p w p
+  abbrev pub nothing_done : (w : World) (p : Peer) → Serves render w p w p
   nothing_done w p =
       quiet w p p refl refl (Consumes-nil p.unread) (λ _. refl) (hands_none p.written p.written p.pending refl) (λ f. f)
 
@@ -100,13 +100,13 @@ module _ (render : Renders) where
         subst (λ l. Contains l (happened w event outcome)) (sym (one_on p.id (happened w event outcome) of))
         (Contains-push [] (happened w event outcome))
 
-    pub gave_one : (Is : Outcome → Type 0) → Is outcome → Gave Is p.id one_run
+    abbrev pub gave_one : (Is : Outcome → Type 0) → Is outcome → Gave Is p.id one_run
     gave_one Is is = (happened w event outcome, first_of, is)
 
-    pub own_one : AreOf p.id one_run
+    abbrev pub own_one : AreOf p.id one_run
     own_one = All-cons (λ h. served_by h.event ≡ Some p.id) (happened w event outcome) [] of (All-nil (λ h. served_by h.event ≡ Some p.id))
 
-    pub runs_one : Runs render w one_run v
+    abbrev pub runs_one : Runs render w one_run v
     runs_one = first w v v event outcome [] leaves (nothing v)
 
     bound_one : (length q.pending ≤ length p.pending) ⊎ (length q.pending < most_pending + length (sent_by outcome))
@@ -114,7 +114,7 @@ module _ (render : Renders) where
     bound_one (inl less) = inl less
     bound_one (inr few) = inr (gave_one (λ o. length q.pending < most_pending + length (sent_by o)) few)
 
-    pub one_event : p.is_open ≡ true → q.is_open ≡ true → q.id ≡ p.id → Consumes p.unread q.unread (pushed_by event outcome)
+    abbrev pub one_event : p.is_open ≡ true → q.is_open ≡ true → q.id ≡ p.id → Consumes p.unread q.unread (pushed_by event outcome)
         → GivesOut p q (sent_by outcome)
         → (length q.pending ≤ length p.pending) ⊎ (length q.pending < most_pending + length (sent_by outcome))
         → (p.failed ≡ true → q.failed ≡ true) → Serves render w p v q
@@ -173,7 +173,7 @@ module _ (render : Renders) where
     why_kept (inl gave) = inl (gave_before IsEnding p.id xs ys gave)
     why_kept (inr other) = inr other
 
-    pub drops_client : p.is_open ≡ true → q.is_open ≡ false → q.id ≡ p.id
+    abbrev pub drops_client : p.is_open ≡ true → q.is_open ≡ false → q.id ≡ p.id
         → (lost : List ℕ) × Consumes p.unread q.unread (pushed_on p.id xs ++ lost) → GivesOut p q (sent_on p.id xs)
         → KeepsBound p.id xs p q → (p.failed ≡ true → q.failed ≡ true) → Closes p.id xs q → Serves render w p u q
     drops_client opened shut id_same (lost, takes) gives few fails why = record {
@@ -194,7 +194,7 @@ module _ (render : Renders) where
     }
 
   -- a client closes behind no event
-  pub drops_only : (w u : World) (p q : Peer) (id : ConnId) (said : Bool) → id.0 ≡ p.id → Happens render w (events.Disconnect id) u said
+  abbrev pub drops_only : (w u : World) (p q : Peer) (id : ConnId) (said : Bool) → id.0 ≡ p.id → Happens render w (events.Disconnect id) u said
       → p.is_open ≡ true → q.is_open ≡ false → q.id ≡ p.id → Consumes p.unread q.unread []
       → HandsOver p.written q.written p.pending q.pending → (p.failed ≡ true → q.failed ≡ true) → (q.failed ≡ true) ⊎ IsAtEnd q.unread
       → Serves render w p u q
@@ -203,7 +203,7 @@ module _ (render : Renders) where
       (out_none p q gives) (inl (no_longer p.written q.written p.pending q.pending gives)) fails (inr why)
 
   -- a client closes behind one event
-  pub drops_after : (w v u : World) (p q : Peer) (event : Event) (outcome : Outcome) (id : ConnId) (said : Bool) → id.0 ≡ p.id
+  abbrev pub drops_after : (w v u : World) (p q : Peer) (event : Event) (outcome : Outcome) (id : ConnId) (said : Bool) → id.0 ≡ p.id
       → served_by event ≡ Some p.id → Leaves render w event v outcome → Happens render v (events.Disconnect id) u said
       → p.is_open ≡ true → q.is_open ≡ false → q.id ≡ p.id
       → (lost : List ℕ) × Consumes p.unread q.unread (pushed_by event outcome ++ lost) → q.written ≡ p.written
@@ -222,7 +222,7 @@ module _ (render : Renders) where
       within (inr none) = inl (waits_same p q (waits ∙ ap (λ l. p.pending ++ l) none ∙ append-nil p.pending))
 
   -- a step sends a reply that waits
-  pub replied : (w v : World) (p q : Peer) (id : ConnId) (bytes : List ℕ) → id.0 ≡ p.id
+  abbrev pub replied : (w v : World) (p q : Peer) (id : ConnId) (bytes : List ℕ) → id.0 ≡ p.id
       → Happens render w (events.Step id) v (Ok (steps.Sent bytes)) → p.is_open ≡ true → q.is_open ≡ true → q.id ≡ p.id
       → q.unread ≡ p.unread → q.written ≡ p.written → q.pending ≡ p.pending ++ bytes → length p.pending < most_pending
       → (p.failed ≡ true → q.failed ≡ true) → Serves render w p v q
@@ -233,7 +233,7 @@ module _ (render : Renders) where
       (inr (waits_few p q bytes waits room)) fails
 
   -- a step sends nothing, and the client stays open
-  pub stepped_on : (w v : World) (p q : Peer) (event : Event) (outcome : Outcome) → served_by event ≡ Some p.id
+  abbrev pub stepped_on : (w v : World) (p q : Peer) (event : Event) (outcome : Outcome) → served_by event ≡ Some p.id
       → Leaves render w event v outcome → sent_by outcome ≡ [] → p.is_open ≡ true → q.is_open ≡ true → q.id ≡ p.id
       → Consumes p.unread q.unread (pushed_by event outcome) → q.written ≡ p.written → q.pending ≡ p.pending
       → (p.failed ≡ true → q.failed ≡ true) → Serves render w p v q

@@ -37,7 +37,7 @@ IsOfAny ids h = (c : ℕ) × (served_by h.event ≡ Some c) × Contains ids c
 abbrev IsApart : ℕ → Happened → Type 0
 IsApart c h = (n : ℕ) × (served_by h.event ≡ Some n) × ((c == n) ≡ false)
 
-pub all_start : (render : Renders) (w : World) (ps : List Peer) → ServesAll render w ps w ps
+abbrev pub all_start : (render : Renders) (w : World) (ps : List Peer) → ServesAll render w ps w ps
 all_start render w ps = record {
   run = [];
   runs = nothing w;
@@ -47,7 +47,7 @@ all_start render w ps = record {
       (idle render p.id w w p [] (nothing w) (All-nil (IsApart p.id)));
 }
 
-pub all_join : (render page : Renders) (w v u : World) (ps qs ss : List Peer) → page ≡ render → ServesAll render w ps v qs
+abbrev pub all_join : (render page : Renders) (w v u : World) (ps qs ss : List Peer) → page ≡ render → ServesAll render w ps v qs
     → ServesAll page v qs u ss → ServesAll render w ps u ss
 all_join render page w v u ps qs ss same a b = record {
   run = a.run ++ b.run;
@@ -106,7 +106,7 @@ apart_from j i off e =
     let itself : (i == i) ≡ true = grind (arith) in
     subst T (sym itself ∙ ap (λ k. k == i) (sym e) ∙ off) tt
 
-pub one_at : (render : Renders) (w v : World) (ps : List Peer) (i : ℕ) (p q : Peer) → slice_get ps i ≡ Some p → Serves render w p v q
+abbrev pub one_at : (render : Renders) (w v : World) (ps : List Peer) (i : ℕ) (p q : Peer) → slice_get ps i ≡ Some p → Serves render w p v q
     → ServesAll render w ps v (set ps i q)
 one_at render w v ps i p q here s = record {
   run = s.run;
@@ -138,7 +138,7 @@ get_some [] i d within = absurd (omega (arith, within))
 get_some (p ∷ ps) zero d within = refl
 get_some (p ∷ ps) (suc i) d within = get_some ps i d (omega (arith, within))
 
-pub served_at : (render : Renders) (w v : World) (ps : List Peer) (i : ℕ) (d q : Peer) → i < length ps
+abbrev pub served_at : (render : Renders) (w v : World) (ps : List Peer) (i : ℕ) (d q : Peer) → i < length ps
     → Serves render w (slice_index_or ps i d) v q → ServesAll render w ps v (slice_set ps i q)
 served_at render w v ps i d q within s = one_at render w v ps i (slice_index_or ps i d) q (get_some ps i d within) s
 

@@ -1,4 +1,8 @@
 pub mod Channels
+pub mod Closing
+pub mod Edits
+pub mod MemoryChannels
 pub mod Peers
 pub mod Served
+pub mod Settling
 pub mod Turns

@@ -32,9 +32,9 @@ is_open_in stages.Reads = true
 is_open_in stages.Steps = true
 is_open_in other = false
 
--- only where it is broken a call of its stream has failed
+-- where it is broken a call of its stream has failed, and only there
 abbrev pub Suits : Stage → Bool → Type 0
-Suits stages.Broken failed = ⊤
+Suits stages.Broken failed = failed ≡ true
 Suits other failed = failed ≡ false
 
 -- from how many pending bytes on a client takes no further step; this project's choice

@@ -5,10 +5,13 @@ ghost use Rattle.doc_hub.specs.Runs.{Happens};
 ghost use Rattle.doc_hub.specs.declared.event.Event.TheVariants as events;
 ghost use Rattle.doc_hub.specs.Replies.{Renders};
 ghost use Rattle.doc_hub.specs.Worlds.{World, disconnected};
+ghost use Rattle.doc_server_listen.specs.Closing.{Cuts, IsDone};
+ghost use Rattle.doc_server_listen.specs.Edits.{AreQuiet, Records};
 ghost use Rattle.doc_server_listen.specs.Peers.{most_pending};
 ghost use Rattle.doc_server_listen.specs.Served.{HandsOver, Serves};
 
 use crate::channel::{Came, Channel};
+use crate::edit_lines::{EditLines, step_and_keep};
 use crate::sending::send_replies;
 use crate::stage::Stage;
 use doc_heap::Heap;
@@ -110,9 +113,39 @@ impl<S: Channel + Drop> Client<S> {
         !self.replies.is_empty()
     }
 
-    /// Where nothing is pending, reads once, pushes and steps. The replies of these steps wait: nothing is handed over.
-    pub fn take_in<R: Renderer + Drop>(&mut self, hub: &mut Hub<R>, piece: &mut [u8])
-        ensures serves { Serves (R.page hub.old.0) hub.old.1 self.old hub.new.1 self.new }
+    /// Whether it is closed and all that can be is handed over, so that nothing is left to do for it.
+    pub fn is_done(&self) -> bool
+        ensures done { result ≡ true → IsDone self.now }
+        ensures failed { self.now.failed ≡ true → result ≡ true }
+    {
+        match self.stage {
+            Stage::Reads | Stage::Steps => false,
+            Stage::Ends => self.replies.is_empty(),
+            Stage::Broken => true,
+        }
+    }
+
+    /// Closes a client, whatever it was about to do. What is pending may still be handed over.
+    pub fn close<R: Renderer + Drop>(&mut self, hub: &mut Hub<R>)
+        ensures cuts { Cuts (R.page hub.old.0) hub.old.1 self.old hub.new.1 self.new }
+        ensures same { R.page hub.new.0 ≡ R.page hub.old.0 }
+    {
+        if !self.is_open() {
+            return;
+        }
+        self.stage = dropped(hub, self.id, Stage::Ends);
+    }
+
+    /// Where nothing is pending, reads once, pushes and steps. The line of each step's edit is kept right behind it. The replies of
+    /// these steps wait: nothing is handed over.
+    pub fn take_in<R: Renderer + Drop>(
+        &mut self,
+        hub: &mut Hub<R>,
+        piece: &mut [u8],
+        edits: &mut EditLines,
+    )
+        ensures serves { (s : Serves (R.page hub.old.0) hub.old.1 self.old hub.new.1 self.new)
+            × Records (R.page hub.old.0) s.run hub.new.1 edits.old edits.new }
         ensures written { self.new.written ≡ self.old.written }
         ensures same { R.page hub.new.0 ≡ R.page hub.old.0 }
         ensures room { length piece.new ≡ length piece.old }
@@ -127,12 +160,13 @@ impl<S: Channel + Drop> Client<S> {
         if !self.is_open() {
             return;
         }
-        self.answer(hub);
+        self.answer(hub, edits);
     }
 
     /// Hands over what is pending, as far as the stream takes it. Where the stream fails the client is closed.
     pub fn send<R: Renderer + Drop>(&mut self, hub: &mut Hub<R>)
-        ensures serves { Serves (R.page hub.old.0) hub.old.1 self.old hub.new.1 self.new }
+        ensures serves { (s : Serves (R.page hub.old.0) hub.old.1 self.old hub.new.1 self.new)
+            × AreQuiet s.run }
         ensures gives { HandsOver self.old.written self.new.written
             self.old.pending self.new.pending }
         ensures same { R.page hub.new.0 ≡ R.page hub.old.0 }
@@ -147,7 +181,8 @@ impl<S: Channel + Drop> Client<S> {
     /// The same for a client that is closed.
     fn send_last(&mut self)
         requires { self.old.is_open ≡ false }
-        ensures serves { (render : Renders) (w : World) → Serves render w self.old w self.new }
+        ensures serves { (render : Renders) (w : World)
+            → (s : Serves render w self.old w self.new) × AreQuiet s.run }
         ensures gives { HandsOver self.old.written self.new.written
             self.old.pending self.new.pending }
     {
@@ -165,7 +200,8 @@ impl<S: Channel + Drop> Client<S> {
     /// The same for a client that is open.
     fn send_open<R: Renderer + Drop>(&mut self, hub: &mut Hub<R>)
         requires { self.old.is_open ≡ true }
-        ensures serves { Serves (R.page hub.old.0) hub.old.1 self.old hub.new.1 self.new }
+        ensures serves { (s : Serves (R.page hub.old.0) hub.old.1 self.old hub.new.1 self.new)
+            × AreQuiet s.run }
         ensures gives { HandsOver self.old.written self.new.written
             self.old.pending self.new.pending }
         ensures same { R.page hub.new.0 ≡ R.page hub.old.0 }
@@ -179,7 +215,8 @@ impl<S: Channel + Drop> Client<S> {
     /// Reads once, where a step has said that what was read holds no further request, and pushes what came.
     fn read<R: Renderer + Drop>(&mut self, hub: &mut Hub<R>, piece: &mut [u8])
         requires { self.old.is_open ≡ true }
-        ensures serves { Serves (R.page hub.old.0) hub.old.1 self.old hub.new.1 self.new }
+        ensures serves { (s : Serves (R.page hub.old.0) hub.old.1 self.old hub.new.1 self.new)
+            × AreQuiet s.run }
         ensures written { self.new.written ≡ self.old.written }
         ensures pending { self.new.pending ≡ self.old.pending }
         ensures same { R.page hub.new.0 ≡ R.page hub.old.0 }
@@ -199,20 +236,21 @@ impl<S: Channel + Drop> Client<S> {
         }
     }
 
-    /// Answers the requests that have come, at most so many, and none once so many bytes are pending.
-    fn answer<R: Renderer + Drop>(&mut self, hub: &mut Hub<R>)
+    /// Answers the requests that have come, at most so many, and none once so many bytes are pending, or no edit has room.
+    fn answer<R: Renderer + Drop>(&mut self, hub: &mut Hub<R>, edits: &mut EditLines)
         requires open { self.old.is_open ≡ true }
         requires none { self.old.pending ≡ [] }
-        ensures serves { Serves (R.page hub.old.0) hub.old.1 self.old hub.new.1 self.new }
+        ensures serves { (s : Serves (R.page hub.old.0) hub.old.1 self.old hub.new.1 self.new)
+            × Records (R.page hub.old.0) s.run hub.new.1 edits.old edits.new }
         ensures written { self.new.written ≡ self.old.written }
         ensures same { R.page hub.new.0 ≡ R.page hub.old.0 }
     {
         let mut held = 0;
         'steps: for _ in 0..MOST_STEPS {
-            if held >= MOST_PENDING || self.stage == Stage::Reads {
+            if held >= MOST_PENDING || self.stage == Stage::Reads || !edits.has_room() {
                 return;
             }
-            let Some(count) = self.step(hub) else {
+            let Some(count) = self.step(hub, edits) else {
                 return;
             };
             held = count.saturating_add(held);
@@ -220,10 +258,15 @@ impl<S: Channel + Drop> Client<S> {
     }
 
     /// One step, and its reply waits. Where another step may follow, it answers how many bytes the reply has.
-    fn step<R: Renderer + Drop>(&mut self, hub: &mut Hub<R>) -> Option<usize>
+    fn step<R: Renderer + Drop>(
+        &mut self,
+        hub: &mut Hub<R>,
+        edits: &mut EditLines,
+    ) -> Option<usize>
         requires open { self.old.is_open ≡ true }
         requires room { length self.old.pending < most_pending }
-        ensures serves { Serves (R.page hub.old.0) hub.old.1 self.old hub.new.1 self.new }
+        ensures serves { (s : Serves (R.page hub.old.0) hub.old.1 self.old hub.new.1 self.new)
+            × Records (R.page hub.old.0) s.run hub.new.1 edits.old edits.new }
         ensures written { self.new.written ≡ self.old.written }
         ensures open { IfSome result (λ _. self.new.is_open ≡ true) }
         ensures more { IfSome result
@@ -233,7 +276,7 @@ impl<S: Channel + Drop> Client<S> {
         if self.replies.reserve(1).is_err() {
             return None;
         }
-        match hub.step(self.id) {
+        match step_and_keep(hub, self.id, edits) {
             Ok(Step::Sent(reply)) => {
                 let count = reply.get().len();
                 self.replies.push_back_reserved(reply);

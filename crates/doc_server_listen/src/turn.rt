@@ -1,14 +1,17 @@
 //! Turns over clients.
 
 ghost use Rattle.std.specs.Prelude.{◌≡◌, length};
+ghost use Rattle.doc_server_listen.specs.Edits.{AreQuiet, Records};
+ghost use Rattle.doc_server_listen.specs.Settling.{HandOverAll};
 ghost use Rattle.doc_server_listen.specs.Turns.{ServesAll, written_of};
 
 use crate::channel::Channel;
 use crate::client::Client;
+use crate::edit_lines::EditLines;
 use doc_hub::hub::Hub;
 use doc_page::renderer::Renderer;
 
-/// A turn of the clients at these places: what is pending is handed over, then they are read and stepped, and at last the replies
+/// A turn of a server without a journal, of the clients at these places: what is pending is handed over, then they are read and stepped, and at last the replies
 /// are handed over. A place that is none of a client's is passed over.
 pub fn turn<R: Renderer + Drop, S: Channel + Drop>(
     hub: &mut Hub<R>,
@@ -20,7 +23,8 @@ pub fn turn<R: Renderer + Drop, S: Channel + Drop>(
     ensures same { R.page hub.new.0 ≡ R.page hub.old.0 }
 {
     send_all(hub, clients, ready);
-    take_in_all(hub, clients, ready, piece);
+    let mut edits = EditLines::dropped();
+    take_in_all(hub, clients, ready, piece, &mut edits);
     send_all(hub, clients, ready);
 }
 
@@ -30,14 +34,16 @@ pub fn take_in_all<R: Renderer + Drop, S: Channel + Drop>(
     clients: &mut [Client<S>],
     ready: &[usize],
     piece: &mut [u8],
+    edits: &mut EditLines,
 )
-    ensures serves { ServesAll (R.page hub.old.0) hub.old.1 clients.old hub.new.1 clients.new }
+    ensures serves { (s : ServesAll (R.page hub.old.0) hub.old.1 clients.old
+        hub.new.1 clients.new) × Records (R.page hub.old.0) s.run hub.new.1 edits.old edits.new }
     ensures waits { written_of clients.new ≡ written_of clients.old }
     ensures same { R.page hub.new.0 ≡ R.page hub.old.0 }
     ensures length { length clients.new ≡ length clients.old }
 {
     'places: for place in ready {
-        take_in_at(hub, clients, *place, piece);
+        take_in_at(hub, clients, *place, piece, edits);
     }
 }
 
@@ -47,7 +53,9 @@ pub fn send_all<R: Renderer + Drop, S: Channel + Drop>(
     clients: &mut [Client<S>],
     ready: &[usize],
 )
-    ensures serves { ServesAll (R.page hub.old.0) hub.old.1 clients.old hub.new.1 clients.new }
+    ensures serves { (s : ServesAll (R.page hub.old.0) hub.old.1 clients.old
+        hub.new.1 clients.new) × AreQuiet s.run }
+    ensures gives { HandOverAll clients.old clients.new }
     ensures same { R.page hub.new.0 ≡ R.page hub.old.0 }
     ensures length { length clients.new ≡ length clients.old }
 {
@@ -62,8 +70,10 @@ fn take_in_at<R: Renderer + Drop, S: Channel + Drop>(
     clients: &mut [Client<S>],
     place: usize,
     piece: &mut [u8],
+    edits: &mut EditLines,
 )
-    ensures serves { ServesAll (R.page hub.old.0) hub.old.1 clients.old hub.new.1 clients.new }
+    ensures serves { (s : ServesAll (R.page hub.old.0) hub.old.1 clients.old
+        hub.new.1 clients.new) × Records (R.page hub.old.0) s.run hub.new.1 edits.old edits.new }
     ensures waits { written_of clients.new ≡ written_of clients.old }
     ensures same { R.page hub.new.0 ≡ R.page hub.old.0 }
     ensures length { length clients.new ≡ length clients.old }
@@ -72,7 +82,7 @@ fn take_in_at<R: Renderer + Drop, S: Channel + Drop>(
         return;
     }
     let client = &mut clients[place];
-    client.take_in(hub, piece);
+    client.take_in(hub, piece, edits);
 }
 
 /// Hands over what is pending for the client at this place, where there is one.
@@ -81,7 +91,9 @@ fn send_at<R: Renderer + Drop, S: Channel + Drop>(
     clients: &mut [Client<S>],
     place: usize,
 )
-    ensures serves { ServesAll (R.page hub.old.0) hub.old.1 clients.old hub.new.1 clients.new }
+    ensures serves { (s : ServesAll (R.page hub.old.0) hub.old.1 clients.old
+        hub.new.1 clients.new) × AreQuiet s.run }
+    ensures gives { HandOverAll clients.old clients.new }
     ensures same { R.page hub.new.0 ≡ R.page hub.old.0 }
     ensures length { length clients.new ≡ length clients.old }
 {

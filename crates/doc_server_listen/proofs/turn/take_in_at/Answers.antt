@@ -1,14 +1,14 @@
+use Rattle.std.proofs.Common.{[]}
+use Rattle.doc_server_listen.proofs.EditSteps.{quiet_records}
 use Rattle.doc_server_listen.proofs.TurnSteps.{all_start, served_at, waits_at}
 use Rattle.doc_server_listen.proofs.turn.take_in_at.Goals as goal
 
 pub returns-then-place-clients-clause-serves : goal.returns-then-place-clients-clause-serves
-returns-then-place-clients-clause-serves g c =
-    all_start (g.R.Renderer.page c.args.hub.now.0) c.args.hub.now.1 c.args.clients.now
+returns-then-place-clients-clause-serves g c = (all_start (g.R.Renderer.page c.args.hub.now.0) c.args.hub.now.1 c.args.clients.now, quiet_records (g.R.Renderer.page c.args.hub.now.0) [] c.args.hub.now.1 c.args.edits.now tt)
 
 pub returns-clause-serves : goal.returns-clause-serves
-returns-clause-serves g c =
-    served_at (g.R.Renderer.page c.args.hub.now.0) c.args.hub.now.1 c.take_in.new.hub.1 c.args.clients.now c.args.place
-    c.index-clients-place.result c.take_in.new.self c.if-place-clients.false c.take_in.ensures.serves
+returns-clause-serves g c = (served_at (g.R.Renderer.page c.args.hub.now.0) c.args.hub.now.1 c.take_in.new.hub.1 c.args.clients.now c.args.place
+    c.index-clients-place.result c.take_in.new.self c.if-place-clients.false c.take_in.ensures.serves.0, c.take_in.ensures.serves.1)
 
 pub returns-clause-waits : goal.returns-clause-waits
 returns-clause-waits g c =

@@ -9,5 +9,5 @@ returns-clause-serves g c =
     (c.take_in_all.ensures.same ∙ c.send_all.ensures.same)
     (all_join (g.R.Renderer.page c.args.hub.now.0) (g.R.Renderer.page c.send_all.new.hub.0) c.args.hub.now.1 c.send_all.new.hub.1
     c.take_in_all.new.hub.1 c.args.clients.now c.send_all.new.clients c.take_in_all.new.clients c.send_all.ensures.same
-    c.send_all.ensures.serves c.take_in_all.ensures.serves)
-    c.send_all-2.ensures.serves
+    c.send_all.ensures.serves.0 c.take_in_all.ensures.serves.0)
+    c.send_all-2.ensures.serves.0

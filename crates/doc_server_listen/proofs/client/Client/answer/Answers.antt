@@ -1,11 +1,14 @@
-use Rattle.std.proofs.Common.{refl, ◌∙◌, length}
+use Rattle.std.proofs.Common.{[], refl, ◌∙◌, length}
 use Rattle.doc_server_listen.proofs.Pieces.{nothing_done, none_held, still_room, held_more}
-use Rattle.doc_server_listen.proofs.Serving.{serves_join}
+use Rattle.doc_server_listen.proofs.EditSteps.{keeping_join, quiet_records}
 use Rattle.doc_server_listen.proofs.client.Client.answer.Goals as goal
 
 pub steps-init : goal.steps-init
 steps-init g c = record {
-  serves = nothing_done (g.R.Renderer.page c.args.hub.now.0) c.args.hub.now.1 c.args.self.now;
+  serves = (
+    nothing_done (g.R.Renderer.page c.args.hub.now.0) c.args.hub.now.1 c.args.self.now,
+    quiet_records (g.R.Renderer.page c.args.hub.now.0) [] c.args.hub.now.1 c.args.edits.now tt,
+  );
   written = refl;
   opened = c.requires.open;
   held = λ _. none_held c.args.self.now.pending c.requires.none;
@@ -18,13 +21,13 @@ step-requires-clause-room g c =
 
 pub returns-in_default-clause-serves : goal.returns-in_default-clause-serves
 returns-in_default-clause-serves g c =
-    serves_join (g.R.Renderer.page c.args.hub.now.0) (g.R.Renderer.page c.steps.hub.0) c.args.hub.now.1 c.steps.hub.1
-    c.step.new.hub.1 c.args.self.now c.steps.self c.step.new.self c.steps.invariant.same c.steps.invariant.serves c.step.ensures.serves
+    keeping_join (g.R.Renderer.page c.args.hub.now.0) (g.R.Renderer.page c.steps.hub.0) c.args.hub.now.1 c.steps.hub.1
+    c.step.new.hub.1 c.args.self.now c.steps.self c.step.new.self c.args.edits.now c.steps.edits c.step.new.edits c.steps.invariant.same c.steps.invariant.serves c.step.ensures.serves
 
 pub steps-preserved : goal.steps-preserved
 steps-preserved g c = record {
-  serves = serves_join (g.R.Renderer.page c.args.hub.now.0) (g.R.Renderer.page c.steps.hub.0) c.args.hub.now.1 c.steps.hub.1
-      c.step.new.hub.1 c.args.self.now c.steps.self c.step.new.self c.steps.invariant.same c.steps.invariant.serves c.step.ensures.serves;
+  serves = keeping_join (g.R.Renderer.page c.args.hub.now.0) (g.R.Renderer.page c.steps.hub.0) c.args.hub.now.1 c.steps.hub.1
+    c.step.new.hub.1 c.args.self.now c.steps.self c.step.new.self c.args.edits.now c.steps.edits c.step.new.edits c.steps.invariant.same c.steps.invariant.serves c.step.ensures.serves;
   written = c.step.ensures.written ∙ c.steps.invariant.written;
   opened = c.in-Some.ensures.open;
   held = held_more (length c.steps.self.pending) (length c.step.new.self.pending) c.in-Some.count c.steps.held

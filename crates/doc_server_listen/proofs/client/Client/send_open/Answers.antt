@@ -13,7 +13,7 @@ returns-then-is_ok-clause-serves g c =
     rw (← c.self.view_is) (quiet (g.R.Renderer.page c.args.hub.now.0) c.args.hub.now.1 _ _ refl refl takes
     (λ _. c.send_replies.ensures.unread) c.send_replies.ensures.gives
     (fine_first c.self.inside.stage (g.S.Channel.failed c.self.inside.stream) (g.S.Channel.failed c.send_replies.new.stream)
-    c.self.invariant.1 opened))
+    c.self.invariant.1 opened), tt)
 
 pub returns-clause-serves : goal.returns-clause-serves
 returns-clause-serves g c =
@@ -23,4 +23,4 @@ returns-clause-serves g c =
     let failed = c.send_replies.ensures.cause ∙ c.is_ok.ensures.negation ∙ ap not c.if-is_ok.false in
     rw (c.dropped-self-inside.ensures.stage, ← c.self.view_is) (drops_only (g.R.Renderer.page c.args.hub.now.0) c.args.hub.now.1
     c.dropped-self-inside.new.hub.1 _ _ c.self.inside.id _ refl c.dropped-self-inside.ensures.world opened refl refl takes
-    c.send_replies.ensures.gives (λ _. failed) (inl failed))
+    c.send_replies.ensures.gives (λ _. failed) (inl failed), (tt, tt))

@@ -1,0 +1,104 @@
+-- What a turn hands over, and what it writes down.
+use Rattle.std.proofs.Common.{◌≡◌, ◌≤◌, ◌⊎◌, inl, inr, ℕ, zero, suc, List, [], ◌∷◌, ◌++◌, length, Bool, true, refl, sym, ap, ◌∙◌, subst, arith, length-append}
+use Rattle.std.specs.Prelude.{Option, Some, None, option_map, IfSome, slice_index_or, slice_set}
+use Rattle.doc_store.specs.Store.{Edit as SiteEdit}
+use Rattle.doc_server_compact.specs.Lines.{lines_of}
+use Rattle.doc_server_journal.specs.Devices.{LeavesFile, LeavesOnly}
+use Rattle.doc_server_journal.specs.Journals.{IsOpen, IsBeforeOrAfter}
+use Rattle.doc_server_journal.specs.Records.{seed, last_digest, length_bytes, record_bytes, journal_bytes, AreWithin}
+use Rattle.doc_server_journal.specs.Readings.{HasNoRecord, IsEnd, ReadsAs, tail_limit}
+use Rattle.doc_server_journal.specs.declared.journal.Journal.{Journal}
+use Rattle.doc_server_listen.specs.Edits.{Kept, Adds}
+use Rattle.doc_server_listen.specs.Peers.{Peer}
+use Rattle.doc_server_listen.specs.Served.{HandsOver}
+use Rattle.doc_server_listen.specs.Settling.{HandOverAll, GiveFronts, IsKept, IsSafe}
+use Rattle.doc_server_listen.specs.Turns.{written_of}
+use Rattle.doc_server_listen.proofs.HandingOver.{hands_none, hands_join}
+
+-- ---- what is handed over
+
+pub hand_same : (ps : List Peer) → HandOverAll ps ps
+hand_same [] = tt
+hand_same (p ∷ ps) = (hands_none p.written p.written p.pending refl, hand_same ps)
+
+pub hand_join : (ps qs rs : List Peer) → HandOverAll ps qs → HandOverAll qs rs → HandOverAll ps rs
+hand_join [] [] [] a b = tt
+hand_join [] [] (r ∷ rs) a b = absurd b
+hand_join [] (q ∷ qs) rs a b = absurd a
+hand_join (p ∷ ps) [] rs a b = absurd a
+hand_join (p ∷ ps) (q ∷ qs) [] a b = absurd b
+hand_join (p ∷ ps) (q ∷ qs) (r ∷ rs) a b =
+    (hands_join p.written q.written r.written p.pending q.pending r.pending a.0 b.0, hand_join ps qs rs a.1 b.1)
+
+pub hand_at : (ps : List Peer) (i : ℕ) (d q : Peer)
+    → HandsOver (slice_index_or ps i d).written q.written (slice_index_or ps i d).pending q.pending → HandOverAll ps (slice_set ps i q)
+hand_at [] i d q gives = tt
+hand_at (p ∷ ps) zero d q gives = (gives, hand_same ps)
+hand_at (p ∷ ps) (suc i) d q gives = (hands_none p.written p.written p.pending refl, hand_at ps i d q gives)
+
+head_same : {X : Type 0} (x y : X) (xs ys : List X) → x ∷ xs ≡ y ∷ ys → x ≡ y
+head_same x y xs ys e = cc
+
+tail_same : {X : Type 0} (x y : X) (xs ys : List X) → x ∷ xs ≡ y ∷ ys → xs ≡ ys
+tail_same x y xs ys e = cc
+
+pub fronts : (ps qs rs : List Peer) → HandOverAll ps qs → written_of rs ≡ written_of qs → GiveFronts ps rs
+fronts [] [] [] h e = tt
+fronts [] [] (r ∷ rs) h e = absurd (omega (arith, ap length e))
+fronts [] (q ∷ qs) rs h e = absurd h
+fronts (p ∷ ps) [] rs h e = absurd h
+fronts (p ∷ ps) (q ∷ qs) [] h e = absurd (omega (arith, ap length e))
+fronts (p ∷ ps) (q ∷ qs) (r ∷ rs) h e = (
+  (
+    q.pending,
+    subst (λ x. HandsOver p.written x p.pending q.pending) (sym (head_same r.written q.written (written_of rs) (written_of qs) e)) h.0,
+  ),
+  fronts ps qs rs h.1 (tail_same r.written q.written (written_of rs) (written_of qs) e),
+)
+
+-- ---- a journal at rest
+
+none_in_none : (before : List ℕ) → HasNoRecord before []
+unfolding length_bytes
+none_in_none before t r is = grind arith
+
+rests : (before : List ℕ) → IsEnd before (0 ∷ [])
+unfolding tail_limit
+rests before = ([], refl, inr (omega arith, none_in_none before))
+
+reads : (texts : List (List ℕ)) → AreWithin texts → ReadsAs (journal_bytes texts) texts
+reads texts all = inl (0 ∷ [], record { within = all; split = refl }, rests (last_digest seed texts))
+
+pub same_some : {X : Type 0} (x y : X) → Some x ≡ Some y → x ≡ y
+same_some x y e = cc
+
+module _ {D : Type 0} (seen : D → Option (List ℕ)) (may_leave : D → List ℕ → Type 0) (failed : D → Bool) (moment : D → ℕ)
+    (left_since : D → ℕ → List ℕ → Type 0) where
+  by_file : (device : D) (texts : List (List ℕ)) (text : List ℕ) (file : Option (List ℕ))
+      → ((c : List ℕ) → left_since device (moment device) c → may_leave device c) → AreWithin texts
+      → IfSome file (λ f. f ≡ journal_bytes texts) → LeavesFile file (may_leave device)
+      → IfSome file (λ f. LeavesOnly moment left_since device device (IsBeforeOrAfter texts text))
+  by_file device texts text None only all is leaves = tt
+  by_file device texts text (Some f) only all is leaves = record {
+    later = omega arith;
+    each = λ c left. inl (subst (λ b. ReadsAs b texts) (sym (leaves c (only c left) ∙ is)) (reads texts all));
+    before = λ t c le left. inl left;
+  }
+
+  -- nothing was written
+  pub safe_at_rest : (j : Journal D) (text : List ℕ)
+      → ((c : List ℕ) → left_since j.device (moment j.device) c → may_leave j.device c)
+      → IsSafe seen may_leave failed moment left_since j j text
+  safe_at_rest j text only texts open =
+      by_file j.device texts text (seen j.device) only open.within open.file open.durable
+
+  pub still_open : (old new : Journal D) (text : List ℕ) → IsKept seen may_leave failed old new text
+      → (texts : List (List ℕ)) × IsOpen seen may_leave failed old texts → (texts : List (List ℕ)) × IsOpen seen may_leave failed new texts
+  still_open old new text (inl (none, same)) (texts, open) = (texts, subst (λ j. IsOpen seen may_leave failed j texts) (sym same) open)
+  still_open old new text (inr more) (texts, open) = (texts ++ text ∷ [], more texts open)
+
+-- ---- the lines of a turn
+
+pub lines_told : (a b : Kept) (edits : List SiteEdit) → a ≡ record { lines = Some []; is_whole = true } → Adds a b edits
+    → b.is_whole ≡ true → b.lines ≡ Some (lines_of edits)
+lines_told a b edits new adds whole = (adds whole).1 ∙ ap (λ (k : Kept). option_map (λ l. l ++ lines_of edits) k.lines) new

@@ -1,0 +1,70 @@
+-- The edits of a run, and their lines.
+use Rattle.std.specs.Prelude.{◌≡◌, ⊤, ℕ, List, [], ◌∷◌, ◌++◌, Bool, true, Option, Some, None, option_map, option_to_list}
+use Rattle.std.specs.FinMap as map
+use Rattle.std.specs.List.{flat_map}
+use Rattle.doc_store.specs.Store.{Edit as SiteEdit, set_page, remove_page}
+use Rattle.doc_hub.specs.EditLaws.{Makes}
+use Rattle.doc_hub.specs.Replies.{Renders}
+use Rattle.doc_hub.specs.Runs.{Happened}
+use Rattle.doc_hub.specs.StepEdits.{StepTells}
+use Rattle.doc_hub.specs.Worlds.{World}
+use Rattle.doc_hub.specs.declared.edited.Edited.{Edited}
+use Rattle.doc_hub.specs.declared.edited.Edited.TheVariants as edited
+use Rattle.doc_hub.specs.declared.event.Event.{Event}
+use Rattle.doc_hub.specs.declared.event.Event.TheVariants as events
+use Rattle.doc_hub.specs.declared.outcome.Outcome.{Outcome}
+use Rattle.doc_hub.specs.declared.outcome.Outcome.TheVariants as outcomes
+use Rattle.doc_server_compact.specs.Lines.{lines_of}
+
+-- the lines of edits, where they are kept, and whether none is missing
+pub record Kept : Type 0 where
+  pub lines : Option (List ℕ)
+  pub is_whole : Bool
+
+-- the edit that a step tells, with the page that stands under the path in the world behind it
+abbrev pub edit_at : World → Option Edited → Option SiteEdit
+edit_at v None = None
+edit_at v (Some (edited.Put path)) = option_map (set_page path) (map.get v.site.pages path)
+edit_at v (Some (edited.Removed path)) = Some (remove_page path)
+
+-- the edit that an event makes which leaves this world: a step that which it tells
+abbrev pub MakesIn : Renders → World → Event → Outcome → World → Option SiteEdit → Type 0
+MakesIn render w (events.Step id) (outcomes.Stepped said) v edit = (told : Option Edited) × StepTells render w id.0 told
+    × (edit ≡ edit_at v told)
+MakesIn render w event outcome v edit = Makes render w event outcome edit
+
+-- the world that an event left, by those that follow it, and the last
+abbrev pub left_by : List Happened → World → World
+left_by [] v = v
+left_by (h ∷ run) v = h.world
+
+-- the edits of a run that leaves this world, one or none for each of its events
+abbrev pub AreMade : Renders → List Happened → World → List (Option SiteEdit) → Type 0
+AreMade render [] v [] = ⊤
+AreMade render (h ∷ run) v (edit ∷ edits) = MakesIn render h.world h.event h.outcome (left_by run v) edit × AreMade render run v edits
+AreMade render run v edits = ⊥
+
+-- those that were made
+abbrev pub accepted : List (Option SiteEdit) → List SiteEdit
+accepted edits = flat_map option_to_list edits
+
+-- Where none is missing now, none was missing before, and the lines of these edits stand behind those before.
+abbrev pub Adds : Kept → Kept → List SiteEdit → Type 0
+Adds old new edits =
+    new.is_whole ≡ true → (old.is_whole ≡ true) × (new.lines ≡ option_map (λ lines. lines ++ lines_of edits) old.lines)
+
+-- a run's edits, and what they add
+pub record Records (render : Renders) (run : List Happened) (v : World) (old new : Kept) : Type 0 where
+  pub edits : List (Option SiteEdit)
+  pub made : AreMade render run v edits
+  pub adds : Adds old new (accepted edits)
+
+-- an event that makes no edit, whatever comes of it
+abbrev pub IsQuiet : Event → Type 0
+IsQuiet (events.Push id bytes) = ⊤
+IsQuiet (events.Disconnect id) = ⊤
+IsQuiet event = ⊥
+
+abbrev pub AreQuiet : List Happened → Type 0
+AreQuiet [] = ⊤
+AreQuiet (h ∷ run) = IsQuiet h.event × AreQuiet run

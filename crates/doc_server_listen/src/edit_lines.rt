@@ -1,0 +1,144 @@
+//! The edits of a turn as lines of a script.
+
+ghost use Rattle.std.specs.Prelude.{◌≡◌, ◌++◌, [], None, Some, true, option_to_list, string_bytes, IfSome, MatchOption, OnOk, OnErr};
+ghost use Rattle.std.specs.Io.{StartsWith};
+ghost use Rattle.doc_store.specs.Store.{set_page};
+ghost use Rattle.doc_hub.specs.Events.{stepping};
+ghost use Rattle.doc_hub.specs.Runs.{Happens};
+ghost use Rattle.doc_hub.specs.declared.event.Event.TheVariants as events;
+ghost use Rattle.doc_server_compact.specs.Lines.{line_of, lines_of};
+ghost use Rattle.doc_server_listen.specs.Edits.{Adds, MakesIn, edit_at};
+
+use doc_heap::{Heap, String};
+use doc_hub::edited::Edited;
+use doc_hub::event::{ConnId, Step};
+use doc_hub::hub::Hub;
+use doc_hub::refusal::StepError;
+use doc_page::failure::Memory;
+use doc_page::path::Path;
+use doc_page::renderer::Renderer;
+use doc_server_compact::lines::push_remove_line;
+use doc_server_journal::record::TEXT_LIMIT;
+use doc_server_script::edit::push_put;
+use doc_store::page::Page;
+use std::marker::Model;
+
+/// From how many bytes on no further step is taken: behind fewer the longest line of one more edit has its place.
+const MOST_BYTES: usize = TEXT_LIMIT - 4_200_000;
+
+/// The lines of the edits of a turn, where they are kept. Once memory ran out it isn't whole any more.
+#[derive(Drop)]
+pub struct EditLines {
+    lines: Option<String>,
+    whole: bool,
+}
+
+impl Model for EditLines {
+    ghost use Rattle.std.specs.Prelude.{option_map, string_bytes};
+    ghost use Rattle.doc_server_listen.specs.Edits.{Kept};
+
+    ghost Value = { Kept };
+
+    ghost view = { λ e. record { lines = option_map string_bytes e.lines; is_whole = e.whole } };
+}
+
+impl EditLines {
+    /// No lines yet.
+    pub fn kept(heap: Heap) -> EditLines
+        ensures { result ≡ record { lines = Some []; is_whole = true } }
+    {
+        EditLines {
+            lines: Some(String::new(heap)),
+            whole: true,
+        }
+    }
+
+    /// Lines that are never kept.
+    pub fn dropped() -> EditLines
+        ensures { result ≡ record { lines = None; is_whole = true } }
+    {
+        EditLines {
+            lines: None,
+            whole: true,
+        }
+    }
+
+    /// The lines, where they are kept and none is missing.
+    pub fn whole_lines(&self) -> Option<&str>
+        ensures { IfSome result (λ lines.
+            (self.now.is_whole ≡ true) × (self.now.lines ≡ Some lines.now)) }
+    {
+        if !self.whole {
+            return None;
+        }
+        match &self.lines {
+            Some(lines) => Some(lines.as_str()),
+            None => None,
+        }
+    }
+
+    /// Whether one more edit may be made.
+    pub fn has_room(&self) -> bool {
+        match &self.lines {
+            Some(lines) => self.whole && lines.len() <= MOST_BYTES,
+            None => true,
+        }
+    }
+
+    /// Adds the line of an edit that a step of the hub made, where it stands now.
+    fn push<R: Renderer + Drop>(&mut self, hub: &Hub<R>, edit: &Option<Edited>)
+        ensures { Adds self.old self.new (option_to_list (edit_at hub.now.1 edit.now)) }
+    {
+        let Some(lines) = &mut self.lines else {
+            return;
+        };
+        if push_edit(lines, hub, edit).is_err() {
+            self.whole = false;
+        }
+    }
+}
+
+/// One step of a connection, and the line of its edit right behind it.
+pub fn step_and_keep<R: Renderer + Drop>(
+    hub: &mut Hub<R>,
+    id: ConnId,
+    edits: &mut EditLines,
+) -> Result<Step, StepError>
+    ensures world { Happens (R.page hub.old.0) hub.old.1 (events.Step id) hub.new.1 result }
+    ensures edit { (edit : _) × MakesIn (R.page hub.old.0) hub.old.1 (events.Step id)
+        (stepping result) hub.new.1 edit × Adds edits.old edits.new (option_to_list edit) }
+    ensures same { R.page hub.new.0 ≡ R.page hub.old.0 }
+{
+    let (step, edit) = hub.step_edited(id)?;
+    edits.push(hub, &edit);
+    Ok(step)
+}
+
+/// Writes the line of an edit, none where there is none.
+fn push_edit<R: Renderer + Drop>(
+    out: &mut String,
+    hub: &Hub<R>,
+    edit: &Option<Edited>,
+) -> Result<(), Memory>
+    ensures { OnOk result (string_bytes out.new ≡ string_bytes out.old
+        ++ lines_of (option_to_list (edit_at hub.now.1 edit.now))) }
+{
+    match edit {
+        None => Ok(()),
+        Some(Edited::Put(path)) => match hub.page(path) {
+            Some(page) => push_put_line(out, path, page),
+            None => Ok(()),
+        },
+        Some(Edited::Removed(path)) => push_remove_line(out, path),
+    }
+}
+
+#[tactic(auto, using(doc_page::proofs::BufferSteps::front_same, doc_page::proofs::BufferSteps::front_more))]
+fn push_put_line(out: &mut String, path: &Path, page: &Page) -> Result<(), Memory>
+    ensures { OnOk result (string_bytes out.new
+        ≡ string_bytes out.old ++ line_of (set_page path.now page.now.page)) }
+{
+    push_put(out, path, page.groups(), page.text())?;
+    out.push_str("\n")?;
+    Ok(())
+}
