@@ -91,7 +91,7 @@ quiet_one render w v (events.MovePage from to) outcome q = absurd q
 quiet_one render w v (events.SetReader token reader) outcome q = absurd q
 quiet_one render w v (events.RemoveReader token) outcome q = absurd q
 
-nones : List Happened → List (Option SiteEdit)
+abbrev nones : List Happened → List (Option SiteEdit)
 nones [] = []
 nones (h ∷ run) = None ∷ nones run
 
@@ -133,7 +133,7 @@ pub last_records : (render : Renders) (w v u : World) (id other : ConnId) (said 
     ∷ record { world = v; event = events.Disconnect other; outcome = outcome } ∷ []) u a b
 last_records render w v u id other said outcome a b (edit, made, adds) = record {
   edits = edit ∷ None ∷ [];
-  made = (made, refl, tt);
+  made = (made, (refl, tt));
   adds = subst (Adds a b) (sym (append-nil (option_to_list edit))) adds;
 }
 
@@ -153,7 +153,7 @@ keeping_join render page w v u p q r a b c same one two =
 
 pub quiet_keeps : (render : Renders) (w v : World) (p q : Peer) (a : Kept) → (s : Serves render w p v q) × AreQuiet s.run
     → ServesKeeping render w p v q a a
-quiet_keeps render w v p q a (s, q) = (s, quiet_records render s.run v a q)
+quiet_keeps render w v p q a (s, quiets) = (s, quiet_records render s.run v a quiets)
 
 -- ---- turns
 
@@ -180,4 +180,4 @@ all_quiet_join render page w v u ps qs rs same one two =
 
 pub all_quiet_keeps : (render : Renders) (w v : World) (ps qs : List Peer) (a : Kept) → AllQuiet render w ps v qs
     → AllKeeping render w ps v qs a a
-all_quiet_keeps render w v ps qs a (s, q) = (s, quiet_records render s.run v a q)
+all_quiet_keeps render w v ps qs a (s, quiets) = (s, quiet_records render s.run v a quiets)

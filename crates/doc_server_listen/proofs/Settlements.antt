@@ -5,7 +5,7 @@ use Rattle.doc_store.specs.Store.{Edit as SiteEdit}
 use Rattle.doc_server_compact.specs.Lines.{lines_of}
 use Rattle.doc_server_journal.specs.Devices.{LeavesFile, LeavesOnly}
 use Rattle.doc_server_journal.specs.Journals.{IsOpen, IsBeforeOrAfter}
-use Rattle.doc_server_journal.specs.Records.{seed, last_digest, length_bytes, record_bytes, journal_bytes, AreWithin}
+use Rattle.doc_server_journal.specs.Records.{seed, last_digest, length_bytes, digest_behind, record_bytes, journal_bytes, AreWithin}
 use Rattle.doc_server_journal.specs.Readings.{HasNoRecord, IsEnd, ReadsAs, tail_limit}
 use Rattle.doc_server_journal.specs.declared.journal.Journal.{Journal}
 use Rattle.doc_server_listen.specs.Edits.{Kept, Adds}
@@ -58,9 +58,20 @@ fronts (p ∷ ps) (q ∷ qs) (r ∷ rs) h e = (
 
 -- ---- a journal at rest
 
-none_in_none : (before : List ℕ) → HasNoRecord before []
+length_length : (text : List ℕ) → length (length_bytes text) ≡ 4
 unfolding length_bytes
-none_in_none before t r is = grind arith
+length_length text = refl
+
+none_in_none : (before : List ℕ) → HasNoRecord before []
+none_in_none before t r is =
+    omega (
+      arith,
+      ap length is.split,
+      length-append (record_bytes before t) r,
+      length-append (length_bytes t ++ t) (digest_behind before t),
+      length-append (length_bytes t) t,
+      length_length t,
+    )
 
 rests : (before : List ℕ) → IsEnd before (0 ∷ [])
 unfolding tail_limit
@@ -89,13 +100,13 @@ module _ {D : Type 0} (seen : D → Option (List ℕ)) (may_leave : D → List �
   pub safe_at_rest : (j : Journal D) (text : List ℕ)
       → ((c : List ℕ) → left_since j.device (moment j.device) c → may_leave j.device c)
       → IsSafe seen may_leave failed moment left_since j j text
-  safe_at_rest j text only texts open =
-      by_file j.device texts text (seen j.device) only open.within open.file open.durable
+  safe_at_rest j text only texts ready =
+      by_file j.device texts text (seen j.device) only ready.within ready.file ready.durable
 
   pub still_open : (old new : Journal D) (text : List ℕ) → IsKept seen may_leave failed old new text
       → (texts : List (List ℕ)) × IsOpen seen may_leave failed old texts → (texts : List (List ℕ)) × IsOpen seen may_leave failed new texts
-  still_open old new text (inl (none, same)) (texts, open) = (texts, subst (λ j. IsOpen seen may_leave failed j texts) (sym same) open)
-  still_open old new text (inr more) (texts, open) = (texts ++ text ∷ [], more texts open)
+  still_open old new text (inl (none, same)) (texts, ready) = (texts, subst (λ j. IsOpen seen may_leave failed j texts) (sym same) ready)
+  still_open old new text (inr more) (texts, ready) = (texts ++ text ∷ [], more texts ready)
 
 -- ---- the lines of a turn
 

@@ -36,7 +36,7 @@ returns-in-Err-push-clause-serves g c =
     (sym (append-nil (left_of c.self.inside.sent c.self.inside.replies.items))) (inr refl)
     (fine_first c.self.inside.stage (g.S.Channel.failed c.self.inside.stream) (g.S.Channel.failed c.read.new.self) c.self.invariant.1
     opened)
-    tt, (tt, tt, tt))
+    tt, (tt, (tt, tt)))
 
 pub returns-in-Ok-Nothing-clause-serves : goal.returns-in-Ok-Nothing-clause-serves
 returns-in-Ok-Nothing-clause-serves g c =
