@@ -145,8 +145,7 @@ ServesKeeping render w p v q a b = (s : Serves render w p v q) × Records render
 pub keeping_join : (render page : Renders) (w v u : World) (p q r : Peer) (a b c : Kept) → page ≡ render
     → ServesKeeping render w p v q a b → ServesKeeping page v q u r b c → ServesKeeping render w p u r a c
 keeping_join render page w v u p q r a b c same one two =
-    let more : ServesKeeping render v q u r b c = subst (λ x. ServesKeeping x v q u r b c) same two in
-    (
+    let more : ServesKeeping render v q u r b c = subst (λ x. ServesKeeping x v q u r b c) same two in (
       serves_join render render w v u p q r refl one.0 more.0,
       records_join render v u one.0.run more.0.run a b c more.0.runs one.1 more.1,
     )
@@ -166,8 +165,7 @@ AllQuiet render w ps v qs = (s : ServesAll render w ps v qs) × AreQuiet s.run
 pub all_keeping_join : (render page : Renders) (w v u : World) (ps qs rs : List Peer) (a b c : Kept) → page ≡ render
     → AllKeeping render w ps v qs a b → AllKeeping page v qs u rs b c → AllKeeping render w ps u rs a c
 all_keeping_join render page w v u ps qs rs a b c same one two =
-    let more : AllKeeping render v qs u rs b c = subst (λ x. AllKeeping x v qs u rs b c) same two in
-    (
+    let more : AllKeeping render v qs u rs b c = subst (λ x. AllKeeping x v qs u rs b c) same two in (
       all_join render render w v u ps qs rs refl one.0 more.0,
       records_join render v u one.0.run more.0.run a b c more.0.runs one.1 more.1,
     )

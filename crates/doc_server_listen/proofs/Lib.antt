@@ -1,5 +1,6 @@
 pub mod EditSteps
 mod HandingOver
+mod MemoryPieces
 mod Pieces
 mod Rows
 mod Serving

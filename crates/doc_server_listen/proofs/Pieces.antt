@@ -22,6 +22,7 @@ use Rattle.doc_hub.specs.declared.outcome.Outcome.TheVariants as outcomes
 use Rattle.doc_hub.specs.declared.refusal.StepError.TheVariants as step_errors
 use Rattle.doc_server_rounds.specs.Served.{served_by, AreOf, Gave, pushed_by, pushed_on}
 use Rattle.doc_server_rounds.proofs.Serving.{runs_join, pushed_join, sent_join, one_on, one_pushes, one_sends}
+use Rattle.doc_server_listen.specs.Closing.{Cuts}
 use Rattle.doc_server_listen.specs.Peers.{Peer, Suits, is_open_in, most_pending}
 use Rattle.doc_server_listen.specs.declared.stage.Stage.{Stage}
 use Rattle.doc_server_listen.specs.declared.stage.Stage.TheVariants as stages
@@ -56,6 +57,9 @@ fine_first stages.Reads failed other suits opened bad = absurd (not_both failed 
 fine_first stages.Steps failed other suits opened bad = absurd (not_both failed bad suits)
 fine_first stages.Ends failed other suits opened bad = absurd (not_both true refl (sym opened))
 fine_first stages.Broken failed other suits opened bad = absurd (not_both true refl (sym opened))
+
+shut_already : (p : Peer) → p.is_open ≡ false → p ≡ record p { is_open = false }
+shut_already p shut = ap (λ t. record p { is_open = t }) shut
 
 abbrev pub happened : World → Event → Outcome → Happened
 happened w event outcome = record { world = w; event = event; outcome = outcome }
@@ -241,6 +245,33 @@ module _ (render : Renders) where
       one_event w v p q event outcome of leaves opened stays same takes
       (out_waits p q (sent_by outcome) written (waits ∙ sym (ap (λ l. p.pending ++ l) none ∙ append-nil p.pending)))
       (inl (waits_same p q waits)) fails
+
+  -- a client that was closed before
+  abbrev pub cut_none : (w : World) (p : Peer) → p.is_open ≡ false → Cuts render w p w p
+  cut_none w p shut = record {
+    run = [];
+    runs = nothing w;
+    own = All-nil (λ h. served_by h.event ≡ Some p.id);
+    quiet = tt;
+    pushes = refl;
+    sends = refl;
+    closed = shut_already p shut;
+    drops = λ opened. absurd (not_both p.is_open opened shut);
+  }
+
+  -- and one that is closed now
+  abbrev pub cut_now : (w v : World) (p q : Peer) (id : ConnId) (said : Bool) → id.0 ≡ p.id → Happens render w (events.Disconnect id) v said
+      → q ≡ record p { is_open = false } → Cuts render w p v q
+  cut_now w v p q id said own drops same = record {
+    run = happened w (events.Disconnect id) (outcomes.Disconnected said) ∷ [];
+    runs = runs_one w v p q (events.Disconnect id) (outcomes.Disconnected said) (ap Some own) (said, drops, refl);
+    own = own_one w v p q (events.Disconnect id) (outcomes.Disconnected said) (ap Some own) (said, drops, refl);
+    quiet = (tt, tt);
+    pushes = one_pushes p.id (happened w (events.Disconnect id) (outcomes.Disconnected said)) (ap Some own);
+    sends = one_sends p.id (happened w (events.Disconnect id) (outcomes.Disconnected said)) (ap Some own);
+    closed = same;
+    drops = λ opened. subst (λ c. connection c v ≡ None) own (disconnect_drops w v id said drops);
+  }
 
 -- ---- how many bytes are pending in a pass
 

@@ -258,11 +258,7 @@ impl<S: Channel + Drop> Client<S> {
     }
 
     /// One step, and its reply waits. Where another step may follow, it answers how many bytes the reply has.
-    fn step<R: Renderer + Drop>(
-        &mut self,
-        hub: &mut Hub<R>,
-        edits: &mut EditLines,
-    ) -> Option<usize>
+    fn step<R: Renderer + Drop>(&mut self, hub: &mut Hub<R>, edits: &mut EditLines) -> Option<usize>
         requires open { self.old.is_open ≡ true }
         requires room { length self.old.pending < most_pending }
         ensures serves { (s : Serves (R.page hub.old.0) hub.old.1 self.old hub.new.1 self.new)

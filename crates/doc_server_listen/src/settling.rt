@@ -33,7 +33,7 @@ pub fn settled_turn<D: Device, R: Renderer + Drop, S: Channel + Drop>(
     ensures serves { (s : ServesAll (R.page hub.old.0) hub.old.1 clients.old
         hub.new.1 clients.new)
         × Settles D.seen D.may_leave D.failed D.moment D.left_since journal.old journal.new
-            (R.page hub.old.0) s.run hub.new.1 result }
+        (R.page hub.old.0) s.run hub.new.1 result }
     ensures waits { OnErr result (GiveFronts clients.old clients.new) }
     ensures open { OnOk result ((texts : List (List ℕ))
         × IsOpen D.seen D.may_leave D.failed journal.new texts) }
@@ -62,7 +62,7 @@ fn write_down<D: Device>(
     ensures any_moment { (lines : List ℕ)
         → (edits.now.is_whole ≡ true → edits.now.lines ≡ Some lines)
         → IsSafe D.seen D.may_leave D.failed D.moment D.left_since
-            journal.old journal.new lines }
+        journal.old journal.new lines }
 {
     let Some(lines) = edits.whole_lines() else {
         return Err(TurnFault::Memory);

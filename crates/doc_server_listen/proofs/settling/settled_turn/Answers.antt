@@ -12,14 +12,16 @@ returns-in_err-write_down-clause-serves g c =
     c.send_all.new.hub.1 c.take_in_all.new.hub.1 c.args.clients.now c.send_all.new.clients c.take_in_all.new.clients c.kept.result
     c.kept.result c.take_in_all.new.edits c.send_all.ensures.same
     (all_quiet_keeps (g.R.Renderer.page c.args.hub.now.0) c.args.hub.now.1 c.send_all.new.hub.1 c.args.clients.now c.send_all.new.clients
-    c.kept.result c.send_all.ensures.serves) c.take_in_all.ensures.serves in
-    (r.0, record {
-      edits = r.1.edits;
-      made = r.1.made;
-      kept = tt;
-      any_moment = c.in_err-write_down.ensures.any_moment (lines_of (accepted r.1.edits))
-          (lines_told c.kept.result c.take_in_all.new.edits (accepted r.1.edits) c.kept.ensures r.1.adds);
-    })
+    c.kept.result c.send_all.ensures.serves) c.take_in_all.ensures.serves in (
+      r.0,
+      record {
+        edits = r.1.edits;
+        made = r.1.made;
+        kept = tt;
+        any_moment = c.in_err-write_down.ensures.any_moment (lines_of (accepted r.1.edits))
+            (lines_told c.kept.result c.take_in_all.new.edits (accepted r.1.edits) c.kept.ensures r.1.adds);
+      },
+    )
 
 pub returns-in_err-write_down-clause-waits : goal.returns-in_err-write_down-clause-waits
 returns-in_err-write_down-clause-waits g c =
@@ -38,14 +40,16 @@ returns-clause-serves g c =
     (all_quiet_keeps (g.R.Renderer.page c.take_in_all.new.hub.0) c.take_in_all.new.hub.1 c.send_all-2.new.hub.1 c.take_in_all.new.clients
     c.send_all-2.new.clients c.take_in_all.new.edits c.send_all-2.ensures.serves) in
     let down = c.in_ok-write_down.ensures.kept in
-    let told = lines_told c.kept.result c.take_in_all.new.edits (accepted r.1.edits) c.kept.ensures r.1.adds in
-    (r.0, record {
-      edits = r.1.edits;
-      made = r.1.made;
-      kept = subst (λ l. IsKept g.D.Device.seen g.D.Device.may_leave g.D.Device.failed c.args.journal.now c.write_down.new.journal l)
-          (same_some down.1.0 (lines_of (accepted r.1.edits)) (sym down.1.1.0 ∙ told down.0)) down.1.1.1;
-      any_moment = c.in_ok-write_down.ensures.any_moment (lines_of (accepted r.1.edits)) told;
-    })
+    let told = lines_told c.kept.result c.take_in_all.new.edits (accepted r.1.edits) c.kept.ensures r.1.adds in (
+      r.0,
+      record {
+        edits = r.1.edits;
+        made = r.1.made;
+        kept = subst (λ l. IsKept g.D.Device.seen g.D.Device.may_leave g.D.Device.failed c.args.journal.now c.write_down.new.journal l)
+            (same_some down.1.0 (lines_of (accepted r.1.edits)) (sym down.1.1.0 ∙ told down.0)) down.1.1.1;
+        any_moment = c.in_ok-write_down.ensures.any_moment (lines_of (accepted r.1.edits)) told;
+      },
+    )
 
 pub returns-clause-open : goal.returns-clause-open
 returns-clause-open g c =

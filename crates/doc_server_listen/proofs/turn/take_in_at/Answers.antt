@@ -7,8 +7,11 @@ pub returns-then-place-clients-clause-serves : goal.returns-then-place-clients-c
 returns-then-place-clients-clause-serves g c = (all_start (g.R.Renderer.page c.args.hub.now.0) c.args.hub.now.1 c.args.clients.now, quiet_records (g.R.Renderer.page c.args.hub.now.0) [] c.args.hub.now.1 c.args.edits.now tt)
 
 pub returns-clause-serves : goal.returns-clause-serves
-returns-clause-serves g c = (served_at (g.R.Renderer.page c.args.hub.now.0) c.args.hub.now.1 c.take_in.new.hub.1 c.args.clients.now c.args.place
-    c.index-clients-place.result c.take_in.new.self c.if-place-clients.false c.take_in.ensures.serves.0, c.take_in.ensures.serves.1)
+returns-clause-serves g c = (
+  served_at (g.R.Renderer.page c.args.hub.now.0) c.args.hub.now.1 c.take_in.new.hub.1 c.args.clients.now c.args.place
+      c.index-clients-place.result c.take_in.new.self c.if-place-clients.false c.take_in.ensures.serves.0,
+  c.take_in.ensures.serves.1,
+)
 
 pub returns-clause-waits : goal.returns-clause-waits
 returns-clause-waits g c =

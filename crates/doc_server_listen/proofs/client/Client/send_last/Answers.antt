@@ -11,8 +11,11 @@ returns-then-is_ok-clause-serves g c =
     let fine = subst (λ stage. Suits stage (g.S.Channel.failed c.self.inside.stream)) c.in-Ends.is c.self.invariant.1 in
     let takes = subst (λ l. Consumes (g.S.Channel.unread c.self.inside.stream) l []) (sym c.send_replies.ensures.unread)
     (Consumes-nil (g.S.Channel.unread c.self.inside.stream)) in
-    rw (← c.self.view_is) (λ render w. (quiet render w _ _ refl refl takes (λ _. c.send_replies.ensures.unread) c.send_replies.ensures.gives
-    (λ bad. absurd (not_both (g.S.Channel.failed c.self.inside.stream) bad fine)), tt))
+    rw (← c.self.view_is) (λ render w. (
+      quiet render w _ _ refl refl takes (λ _. c.send_replies.ensures.unread) c.send_replies.ensures.gives
+          (λ bad. absurd (not_both (g.S.Channel.failed c.self.inside.stream) bad fine)),
+      tt,
+    ))
 
 pub returns-else-is_ok-clause-serves : goal.returns-else-is_ok-clause-serves
 returns-else-is_ok-clause-serves g c =
@@ -20,8 +23,11 @@ returns-else-is_ok-clause-serves g c =
     (Consumes-nil (g.S.Channel.unread c.self.inside.stream)) in
     let failed = c.send_replies.ensures.cause ∙ c.is_ok.ensures.negation ∙ ap not c.if-is_ok.false in
     let shut = ap is_open_in (sym c.in-Ends.is) in
-    rw (← c.self.view_is) (λ render w. (quiet render w _ _ shut refl takes (λ _. c.send_replies.ensures.unread) c.send_replies.ensures.gives
-    (λ _. failed), tt))
+    rw (← c.self.view_is) (λ render w. (
+      quiet render w _ _ shut refl takes (λ _. c.send_replies.ensures.unread) c.send_replies.ensures.gives
+          (λ _. failed),
+      tt,
+    ))
 
 pub returns-in_default-clause-serves : goal.returns-in_default-clause-serves
 returns-in_default-clause-serves g c = λ render w. (nothing_done render w c.args.self.now, tt)
