@@ -23,7 +23,8 @@ use doc_server_script::edit::push_put;
 use doc_store::page::Page;
 use std::marker::Model;
 
-/// From how many bytes on no further step is taken: behind fewer the longest line of one more edit has its place.
+/// Up to how many bytes a further step is taken: behind so many the line of one more edit ends within a record. The longest has 4,196,166
+/// bytes: a text of 1 MiB and a path of 200 bytes, each byte of both written with 4, 32 names of groups with 32 bytes each, and 38 between.
 const MOST_BYTES: usize = TEXT_LIMIT - 4_200_000;
 
 /// The lines of the edits of a turn, where they are kept. Once memory ran out it isn't whole any more.
@@ -77,7 +78,7 @@ impl EditLines {
         }
     }
 
-    /// Whether one more edit may be made.
+    /// Whether one more edit may be made: none is missing, and its line has room in the record of the turn.
     pub fn has_room(&self) -> bool {
         match &self.lines {
             Some(lines) => self.whole && lines.len() <= MOST_BYTES,

@@ -47,7 +47,8 @@ pub fn settled_turn<D: Device, R: Renderer + Drop, S: Channel + Drop>(
     Ok(())
 }
 
-/// Adds the lines of edits to the journal, where there are some.
+/// Adds the lines of edits to the journal, where there are some. More bytes than a record takes never come here, since `EditLines` says in
+/// time that it has no room; the comparison is for the proof.
 #[tactic(auto, unfolding(doc_server_journal::specs::Records::text_limit))]
 fn write_down<D: Device>(
     heap: Heap,

@@ -11,8 +11,8 @@ use crate::edit_lines::EditLines;
 use doc_hub::hub::Hub;
 use doc_page::renderer::Renderer;
 
-/// A turn of a server without a journal, of the clients at these places: what is pending is handed over, then they are read and stepped, and at last the replies
-/// are handed over. A place that is none of a client's is passed over.
+/// A turn of a server without a journal, of the clients at these places: what is pending is handed over, then they are read and stepped,
+/// and at last the replies are handed over. A place that is none of a client's is passed over.
 pub fn turn<R: Renderer + Drop, S: Channel + Drop>(
     hub: &mut Hub<R>,
     clients: &mut [Client<S>],
