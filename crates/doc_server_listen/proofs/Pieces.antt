@@ -44,11 +44,11 @@ out_waits p q sent same all = subst (λ l. HandsOver p.written q.written (p.pend
 pub kept : (a b : Option (List ℕ)) (xs ys : List ℕ) → b ≡ a → ys ≡ xs → HandsOver a b xs ys
 kept a b xs ys same pending = subst (λ l. HandsOver a b xs l) (sym pending) (hands_none a b xs same)
 
-waits_few : (p q : Peer) (sent : List ℕ) → q.pending ≡ p.pending ++ sent → length p.pending < most_pending
+pub waits_few : (p q : Peer) (sent : List ℕ) → q.pending ≡ p.pending ++ sent → length p.pending < most_pending
     → length q.pending < most_pending + length sent
 waits_few p q sent waits room = omega (arith, room, ap length waits, length-append p.pending sent)
 
-waits_same : (p q : Peer) → q.pending ≡ p.pending → length q.pending ≤ length p.pending
+pub waits_same : (p q : Peer) → q.pending ≡ p.pending → length q.pending ≤ length p.pending
 waits_same p q waits = omega (arith, ap length waits)
 
 -- a client that is open has a stream that didn't fail
@@ -58,7 +58,7 @@ fine_first stages.Steps failed other suits opened bad = absurd (not_both failed 
 fine_first stages.Ends failed other suits opened bad = absurd (not_both true refl (sym opened))
 fine_first stages.Broken failed other suits opened bad = absurd (not_both true refl (sym opened))
 
-shut_already : (p : Peer) → p.is_open ≡ false → p ≡ record p { is_open = false }
+pub shut_already : (p : Peer) → p.is_open ≡ false → p ≡ record p { is_open = false }
 shut_already p shut = ap (λ t. record p { is_open = t }) shut
 
 abbrev pub happened : World → Event → Outcome → Happened
@@ -99,7 +99,7 @@ module _ (render : Renders) where
     abbrev one_run : List Happened
     one_run = happened w event outcome ∷ []
 
-    first_of : Contains (events_on p.id one_run) (happened w event outcome)
+    pub first_of : Contains (events_on p.id one_run) (happened w event outcome)
     first_of =
         subst (λ l. Contains l (happened w event outcome)) (sym (one_on p.id (happened w event outcome) of))
         (Contains-push [] (happened w event outcome))
@@ -113,7 +113,7 @@ module _ (render : Renders) where
     abbrev pub runs_one : Runs render w one_run v
     runs_one = first w v v event outcome [] leaves (nothing v)
 
-    bound_one : (length q.pending ≤ length p.pending) ⊎ (length q.pending < most_pending + length (sent_by outcome))
+    pub bound_one : (length q.pending ≤ length p.pending) ⊎ (length q.pending < most_pending + length (sent_by outcome))
         → KeepsBound p.id one_run p q
     bound_one (inl less) = inl less
     bound_one (inr few) = inr (gave_one (λ o. length q.pending < most_pending + length (sent_by o)) few)
@@ -144,7 +144,7 @@ module _ (render : Renders) where
 
   -- ---- the disconnect, behind a run on the connection
 
-  disconnect_drops : (w v : World) (id : ConnId) (said : Bool) → Happens render w (events.Disconnect id) v said → connection id.0 v ≡ None
+  pub disconnect_drops : (w v : World) (id : ConnId) (said : Bool) → Happens render w (events.Disconnect id) v said → connection id.0 v ≡ None
   disconnect_drops w v id said h =
       subst (λ (r : World × Bool). connection id.0 r.0 ≡ None) h
       (map.get-remove nat_cmp_total w.connections id.0 id.0
@@ -155,25 +155,25 @@ module _ (render : Renders) where
     abbrev drop_one : Happened
     drop_one = happened v (events.Disconnect id) (outcomes.Disconnected said)
 
-    on_own : served_by (events.Disconnect id) ≡ Some p.id
+    pub on_own : served_by (events.Disconnect id) ≡ Some p.id
     on_own = ap Some own
 
     abbrev ys : List Happened
     ys = drop_one ∷ []
 
-    same_pushed : pushed_on p.id xs ≡ pushed_on p.id (xs ++ ys)
+    pub same_pushed : pushed_on p.id xs ≡ pushed_on p.id (xs ++ ys)
     same_pushed = sym (pushed_join p.id xs ys ∙ ap (λ l. pushed_on p.id xs ++ l) (one_pushes p.id drop_one on_own)
         ∙ append-nil (pushed_on p.id xs))
 
-    same_sent : sent_on p.id xs ≡ sent_on p.id (xs ++ ys)
+    pub same_sent : sent_on p.id xs ≡ sent_on p.id (xs ++ ys)
     same_sent = sym (sent_join p.id xs ys ∙ ap (λ l. sent_on p.id xs ++ l) (one_sends p.id drop_one on_own)
         ∙ append-nil (sent_on p.id xs))
 
-    bound_kept : KeepsBound p.id xs p q → KeepsBound p.id (xs ++ ys) p q
+    pub bound_kept : KeepsBound p.id xs p q → KeepsBound p.id (xs ++ ys) p q
     bound_kept (inl less) = inl less
     bound_kept (inr gave) = inr (gave_before (λ o. length q.pending < most_pending + length (sent_by o)) p.id xs ys gave)
 
-    why_kept : Closes p.id xs q → Closes p.id (xs ++ ys) q
+    pub why_kept : Closes p.id xs q → Closes p.id (xs ++ ys) q
     why_kept (inl gave) = inl (gave_before IsEnding p.id xs ys gave)
     why_kept (inr other) = inr other
 

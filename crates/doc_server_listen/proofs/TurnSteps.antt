@@ -15,19 +15,19 @@ use Rattle.doc_server_listen.specs.Served.{Served, Serves}
 use Rattle.doc_server_listen.specs.Turns.{ids_of, written_of, ServesAll}
 use Rattle.doc_server_listen.proofs.Serving.{idle, joined}
 
-same_some : {X : Type 0} (x y : X) → Some x ≡ Some y → x ≡ y
+pub same_some : {X : Type 0} (x y : X) → Some x ≡ Some y → x ≡ y
 same_some x y e = cc
 
 none_some : {X : Type 0} (x : X) → None ≡ Some x → ⊥
 none_some x e = cc
 
 -- what stands at a place
-id_at : (ps : List Peer) (i : ℕ) → slice_get (ids_of ps) i ≡ option_map (λ p. p.id) (slice_get ps i)
+pub id_at : (ps : List Peer) (i : ℕ) → slice_get (ids_of ps) i ≡ option_map (λ p. p.id) (slice_get ps i)
 id_at [] i = refl
 id_at (p ∷ ps) zero = refl
 id_at (p ∷ ps) (suc i) = id_at ps i
 
-found : (n : ℕ) (o : Option Peer) → option_map (λ p. p.id) o ≡ Some n → (q : Peer) × (o ≡ Some q) × (q.id ≡ n)
+pub found : (n : ℕ) (o : Option Peer) → option_map (λ p. p.id) o ≡ Some n → (q : Peer) × (o ≡ Some q) × (q.id ≡ n)
 found n None is = absurd (none_some n is)
 found n (Some q) is = (q, refl, same_some q.id n is)
 
@@ -63,45 +63,45 @@ all_join render page w v u ps qs ss same a b = record {
 
 -- ---- one client of all
 
-set_here : (ps : List Peer) (i : ℕ) (p q : Peer) → slice_get ps i ≡ Some p → slice_get (set ps i q) i ≡ Some q
+pub set_here : (ps : List Peer) (i : ℕ) (p q : Peer) → slice_get ps i ≡ Some p → slice_get (set ps i q) i ≡ Some q
 set_here [] i p q at = absurd (none_some p at)
 set_here (x ∷ ps) zero p q at = refl
 set_here (x ∷ ps) (suc i) p q at = set_here ps i p q at
 
-set_there : (ps : List Peer) (i j : ℕ) (q : Peer) → (j ≡ i → ⊥) → slice_get (set ps i q) j ≡ slice_get ps j
+pub set_there : (ps : List Peer) (i j : ℕ) (q : Peer) → (j ≡ i → ⊥) → slice_get (set ps i q) j ≡ slice_get ps j
 set_there [] i j q off = refl
 set_there (x ∷ ps) zero zero q off = absurd (off refl)
 set_there (x ∷ ps) zero (suc j) q off = refl
 set_there (x ∷ ps) (suc i) zero q off = refl
 set_there (x ∷ ps) (suc i) (suc j) q off = set_there ps i j q (λ e. off (ap suc e))
 
-set_ids : (ps : List Peer) (i : ℕ) (p q : Peer) → slice_get ps i ≡ Some p → q.id ≡ p.id → ids_of (set ps i q) ≡ ids_of ps
+pub set_ids : (ps : List Peer) (i : ℕ) (p q : Peer) → slice_get ps i ≡ Some p → q.id ≡ p.id → ids_of (set ps i q) ≡ ids_of ps
 set_ids [] i p q at same = refl
 set_ids (x ∷ ps) zero p q at same = ap (λ n. n ∷ ids_of ps) (same ∙ sym (ap (λ l. l.id) (same_some x p at)))
 set_ids (x ∷ ps) (suc i) p q at same = ap (λ l. x.id ∷ l) (set_ids ps i p q at same)
 
-contains_id : (ps : List Peer) (i : ℕ) (p : Peer) → slice_get ps i ≡ Some p → Contains (ids_of ps) p.id
+pub contains_id : (ps : List Peer) (i : ℕ) (p : Peer) → slice_get ps i ≡ Some p → Contains (ids_of ps) p.id
 contains_id [] i p at = absurd (none_some p at)
 contains_id (x ∷ ps) zero p at = (0, omega arith, ap (λ l. l.id) (same_some x p at))
 contains_id (x ∷ ps) (suc i) p at = let e = contains_id ps i p at in (suc e.0, omega (arith, e.1), e.2)
 
-all_of : (ids : List ℕ) (c : ℕ) (run : List Happened) → Contains ids c → AreOf c run → AreOfAny ids run
+pub all_of : (ids : List ℕ) (c : ℕ) (run : List Happened) → Contains ids c → AreOf c run → AreOfAny ids run
 all_of ids c [] among all = All-nil (IsOfAny ids)
 all_of ids c (h ∷ run) among all =
     All-cons (IsOfAny ids) h run (c, All-head (λ x. served_by x.event ≡ Some c) h run all, among)
     (all_of ids c run among (All-tail (λ x. served_by x.event ≡ Some c) h run all))
 
-all_off : (c n : ℕ) (run : List Happened) → (c == n) ≡ false → AreOf n run → AreElsewhere c run
+pub all_off : (c n : ℕ) (run : List Happened) → (c == n) ≡ false → AreOf n run → AreElsewhere c run
 all_off c n [] off all = All-nil (IsApart c)
 all_off c n (h ∷ run) off all =
     All-cons (IsApart c) h run (n, All-head (λ x. served_by x.event ≡ Some n) h run all, off)
     (all_off c n run off (All-tail (λ x. served_by x.event ≡ Some n) h run all))
 
-differ : (a b : ℕ) (t : Bool) → (a == b) ≡ t → (a ≡ b → ⊥) → (a == b) ≡ false
+pub differ : (a b : ℕ) (t : Bool) → (a == b) ≡ t → (a ≡ b → ⊥) → (a == b) ≡ false
 differ a b true is off = absurd (off (eqb_yes (subst T (sym is) tt)))
 differ a b false is off = is
 
-apart_from : (j i : ℕ) → (j == i) ≡ false → j ≡ i → ⊥
+pub apart_from : (j i : ℕ) → (j == i) ≡ false → j ≡ i → ⊥
 apart_from j i off e =
     let itself : (i == i) ≡ true = grind (arith) in
     subst T (sym itself ∙ ap (λ k. k == i) (sym e) ∙ off) tt
@@ -133,7 +133,7 @@ one_at render w v ps i p q here s = record {
 
 -- ---- the client at a place
 
-get_some : (ps : List Peer) (i : ℕ) (d : Peer) → i < length ps → slice_get ps i ≡ Some (slice_index_or ps i d)
+pub get_some : (ps : List Peer) (i : ℕ) (d : Peer) → i < length ps → slice_get ps i ≡ Some (slice_index_or ps i d)
 get_some [] i d within = absurd (omega (arith, within))
 get_some (p ∷ ps) zero d within = refl
 get_some (p ∷ ps) (suc i) d within = get_some ps i d (omega (arith, within))
