@@ -1,6 +1,6 @@
 -- What a turn hands over, and what it writes down.
-use Rattle.std.proofs.Common.{◌≡◌, ◌≤◌, ◌⊎◌, inl, inr, ℕ, zero, suc, List, [], ◌∷◌, ◌++◌, length, Bool, true, refl, sym, ap, ◌∙◌, subst, arith, length-append}
-use Rattle.std.specs.Prelude.{Option, Some, None, option_map, IfSome, slice_index_or, slice_set}
+use Rattle.std.proofs.Common.{◌≡◌, ◌≤◌, ◌⊎◌, inl, inr, ℕ, zero, suc, List, [], ◌∷◌, ◌++◌, length, Bool, true, T, refl, sym, ap, ◌∙◌, subst, arith, length-append}
+use Rattle.std.specs.Prelude.{Option, Some, None, option_map, IfSome, slice_index_or, slice_set, Result, Ok, Err, IsErr, OnErr, OnOk}
 use Rattle.doc_store.specs.Store.{Edit as SiteEdit}
 use Rattle.doc_server_compact.specs.Lines.{lines_of}
 use Rattle.doc_server_journal.specs.Devices.{LeavesFile, LeavesOnly}
@@ -79,6 +79,16 @@ rests before = ([], refl, inr (omega arith, none_in_none before))
 
 reads : (texts : List (List ℕ)) → AreWithin texts → ReadsAs (journal_bytes texts) texts
 reads texts all = inl (0 ∷ [], record { within = all; split = refl }, rests (last_digest seed texts))
+
+-- ---- what is owed of an answer
+
+pub no_ok : {X E : Type 0} (r : Result X E) (P : Type 0) → IsErr r → OnOk r P
+no_ok (Ok x) P is = absurd (subst T (sym is) tt)
+no_ok (Err e) P is = tt
+
+pub at_err : {X E : Type 0} (r : Result X E) (P : Type 0) → P → OnErr r P
+at_err (Ok x) P p = tt
+at_err (Err e) P p = p
 
 pub same_some : {X : Type 0} (x y : X) → Some x ≡ Some y → x ≡ y
 same_some x y e = cc

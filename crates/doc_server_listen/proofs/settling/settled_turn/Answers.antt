@@ -1,10 +1,9 @@
 use Rattle.std.proofs.Common.{◌∙◌, sym, subst}
-use Rattle.std.specs.Prelude.{OnErr, OnOk}
 use Rattle.doc_server_compact.specs.Lines.{lines_of}
 use Rattle.doc_server_listen.specs.Edits.{accepted}
 use Rattle.doc_server_listen.specs.Settling.{GiveFronts, IsKept}
 use Rattle.doc_server_listen.proofs.EditSteps.{AllKeeping, all_keeping_join, all_quiet_keeps}
-use Rattle.doc_server_listen.proofs.Settlements.{fronts, lines_told, same_some, still_open}
+use Rattle.doc_server_listen.proofs.Settlements.{at_err, fronts, lines_told, no_ok, same_some, still_open}
 use Rattle.doc_server_listen.proofs.settling.settled_turn.Goals as goal
 
 pub returns-in_err-write_down-clause-serves : goal.returns-in_err-write_down-clause-serves
@@ -18,8 +17,8 @@ returns-in_err-write_down-clause-serves g c =
       record {
         edits = r.1.edits;
         made = r.1.made;
-        kept = subst (λ x. OnOk x (IsKept g.D.Device.seen g.D.Device.may_leave g.D.Device.failed c.args.journal.now
-            c.write_down.new.journal (lines_of (accepted r.1.edits)))) (sym c.from_residual.ensures) tt;
+        kept = no_ok c.from_residual.result (IsKept g.D.Device.seen g.D.Device.may_leave g.D.Device.failed c.args.journal.now
+            c.write_down.new.journal (lines_of (accepted r.1.edits))) c.from_residual.ensures.0;
         any_moment = c.in_err-write_down.ensures.any_moment (lines_of (accepted r.1.edits))
             (lines_told c.kept-edits.result c.take_in_all.new.edits (accepted r.1.edits) c.kept-edits.ensures r.1.adds);
       },
@@ -27,7 +26,7 @@ returns-in_err-write_down-clause-serves g c =
 
 pub returns-in_err-write_down-clause-waits : goal.returns-in_err-write_down-clause-waits
 returns-in_err-write_down-clause-waits g c =
-    subst (λ x. OnErr x (GiveFronts c.args.clients.now c.take_in_all.new.clients)) (sym c.from_residual.ensures)
+    at_err c.from_residual.result (GiveFronts c.args.clients.now c.take_in_all.new.clients)
     (fronts c.args.clients.now c.send_all.new.clients c.take_in_all.new.clients c.send_all.ensures.gives c.take_in_all.ensures.waits)
 
 pub returns-clause-serves : goal.returns-clause-serves
@@ -58,4 +57,4 @@ pub returns-clause-open : goal.returns-clause-open
 returns-clause-open g c =
     let down = c.in_ok-write_down.ensures.kept in
     still_open g.D.Device.seen g.D.Device.may_leave g.D.Device.failed g.D.Device.moment g.D.Device.left_since c.args.journal.now
-    c.write_down.new.journal down.1.0 down.1.2 c.requires
+    c.write_down.new.journal down.1.0 down.1.2 c.requires.«open»
