@@ -1,5 +1,5 @@
 -- The edits of runs, run after run.
-use Rattle.std.proofs.Common.{◌≡◌, ℕ, List, [], ◌∷◌, ◌++◌, true, refl, sym, ap, ◌∙◌, subst, append-nil, append_assoc}
+use Rattle.std.proofs.Common.{◌≡◌, ℕ, List, [], ◌∷◌, ◌++◌, refl, sym, ap, ◌∙◌, subst, append-nil, append_assoc}
 use Rattle.std.proofs.lemmas.Grind.{flat_map-append}
 use Rattle.std.specs.Prelude.{Option, Some, None, Result, option_map, option_to_list}
 use Rattle.doc_store.specs.Store.{Edit as SiteEdit}
@@ -12,7 +12,6 @@ use Rattle.doc_hub.specs.declared.event.Event.{Event}
 use Rattle.doc_hub.specs.declared.event.Event.TheVariants as events
 use Rattle.doc_hub.specs.declared.event.Step.{Step}
 use Rattle.doc_hub.specs.declared.outcome.Outcome.{Outcome}
-use Rattle.doc_hub.specs.declared.outcome.Outcome.TheVariants as outcomes
 use Rattle.doc_hub.specs.declared.refusal.StepError.{StepError}
 use Rattle.doc_server_compact.specs.Lines.{line_of, lines_of}
 use Rattle.doc_server_listen.specs.Edits.{Kept, MakesIn, left_by, AreMade, accepted, Adds, Records, IsQuiet, AreQuiet}

@@ -19,7 +19,6 @@ use Rattle.doc_hub.specs.declared.event.Event.TheVariants as events
 use Rattle.doc_hub.specs.declared.event.Step.TheVariants as steps
 use Rattle.doc_hub.specs.declared.outcome.Outcome.{Outcome}
 use Rattle.doc_hub.specs.declared.outcome.Outcome.TheVariants as outcomes
-use Rattle.doc_hub.specs.declared.refusal.StepError.TheVariants as step_errors
 use Rattle.doc_server_rounds.specs.Served.{served_by, AreOf, Gave, pushed_by, pushed_on}
 use Rattle.doc_server_rounds.proofs.Serving.{runs_join, pushed_join, sent_join, one_on, one_pushes, one_sends}
 use Rattle.doc_server_listen.specs.Closing.{Cuts}

@@ -1,5 +1,5 @@
 -- What a turn hands over, and what it writes down.
-use Rattle.std.proofs.Common.{◌≡◌, ◌≤◌, ◌⊎◌, inl, inr, ℕ, zero, suc, List, [], ◌∷◌, ◌++◌, length, Bool, true, T, refl, sym, ap, ◌∙◌, subst, arith, length-append}
+use Rattle.std.proofs.Common.{◌≡◌, inl, inr, ℕ, zero, suc, List, [], ◌∷◌, ◌++◌, length, Bool, true, T, refl, sym, ap, ◌∙◌, subst, arith, length-append}
 use Rattle.std.specs.Prelude.{Option, Some, None, option_map, IfSome, slice_index_or, slice_set, Result, Ok, Err, IsErr, OnErr, OnOk}
 use Rattle.doc_store.specs.Store.{Edit as SiteEdit}
 use Rattle.doc_server_compact.specs.Lines.{lines_of}

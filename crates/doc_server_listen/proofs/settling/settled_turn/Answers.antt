@@ -2,7 +2,7 @@ use Rattle.std.proofs.Common.{◌∙◌, sym, subst}
 use Rattle.doc_server_compact.specs.Lines.{lines_of}
 use Rattle.doc_server_listen.specs.Edits.{accepted}
 use Rattle.doc_server_listen.specs.Settling.{GiveFronts, IsKept}
-use Rattle.doc_server_listen.proofs.EditSteps.{AllKeeping, all_keeping_join, all_quiet_keeps}
+use Rattle.doc_server_listen.proofs.EditSteps.{all_keeping_join, all_quiet_keeps}
 use Rattle.doc_server_listen.proofs.Settlements.{at_err, fronts, lines_told, no_ok, same_some, still_open}
 use Rattle.doc_server_listen.proofs.settling.settled_turn.Goals as goal
 
