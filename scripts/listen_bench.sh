@@ -21,8 +21,8 @@ ulimit -n 4000
 scratch=$(mktemp -d)
 trap 'rm -rf "$scratch"' EXIT
 chmod 755 "$scratch"
-PATH=$PATH:/usr/sbin PYTHONPATH=scripts/programs PYTHONDONTWRITEBYTECODE=1 timeout -k 10 600 python3 - "$program" "$scratch" "${2:-3}" "${3:-3}" \
-    <<'PYTHON'
+export PATH=$PATH:/usr/sbin PYTHONPATH=scripts/programs PYTHONDONTWRITEBYTECODE=1
+timeout -k 10 600 python3 - "$program" "$scratch" "${2:-3}" "${3:-3}" <<'PYTHON'
 import os, re, signal, socket, subprocess, sys
 from listening import HOST, Client, Server, Tally, free_port, until, used
 
@@ -139,7 +139,8 @@ finally:
     nginx.send_signal(signal.SIGTERM)
     nginx.wait(timeout=10)
 for path, name, most in KINDS:
-    print(f"{CONNECTIONS} connections, a page {name} of {os.path.getsize('files/' + path):,} bytes, the least of {runs} runs of {seconds} s")
+    size = os.path.getsize("files/" + path)
+    print(f"{CONNECTIONS} connections, a page {name} of {size:,} bytes, the least of {runs} runs of {seconds} s")
     time_here, slow_here = tell("  docs_server listen", found[path, "listen"])
     time_there, slow_there = tell("  nginx             ", found[path, "nginx"])
     print(f"  {time_here / time_there:.2f} times nginx's processor time (goal {most})")

@@ -15,8 +15,8 @@ program=$(realpath "${1:?the program}")
 cd "$(dirname "$0")/.."
 scratch=$(mktemp -d)
 trap 'rm -rf "$scratch"' EXIT
-PYTHONPATH=scripts/programs PYTHONDONTWRITEBYTECODE=1 timeout -k 10 $((60 + ${2:-100} * 6)) python3 - "$program" "$scratch" "${2:-100}" "${3:-1}" \
-    <<'PYTHON'
+PYTHONPATH=scripts/programs PYTHONDONTWRITEBYTECODE=1 timeout -k 10 $((60 + ${2:-100} * 6)) \
+    python3 - "$program" "$scratch" "${2:-100}" "${3:-1}" <<'PYTHON'
 import os, random, subprocess, sys, threading, time
 from listening import Client, Refused, Server, Tally, free_port, page_of
 
@@ -48,7 +48,8 @@ class Writer:
             edit = "DELETE", path, "", code
         else:
             length = self.chance.choice((1, 30, 300, 4_000, 60_000, 200_000))
-            text = (f"edit {self.edits} of {self.number} " + self.chance.choice("abcdefgh") * length)[-length:].strip() or "x"
+            text = f"edit {self.edits} of {self.number}, \\x\u00f6\\ " + self.chance.choice("abcdefgh") * length + "\n" + "i" * 9
+            text = text[-length:].strip()
             code = 204 if path in now else 201
             now[path] = text
             edit = "PUT", path, text, code
@@ -80,13 +81,13 @@ class Writer:
             code, _, body = client.ask("/page/" + path)
             if code != 404:
                 found[path] = code, body
-        for at in range(len(self.states) - 1, -1, -1):
-            state = {path: (200, page_of(path, text)) for path, text in self.states[at].items()}
-            if state == found:
+        lasting, sent = self.answered, len(self.states) - 1
+        # the first one that fits behind the answered edits, or else one that has lost some
+        for at in (*range(lasting, sent + 1), *range(lasting)):
+            if {path: (200, page_of(path, text)) for path, text in self.states[at].items()} == found:
                 break
         else:
             at = -1
-        lasting, sent = self.answered, len(self.states) - 1
         self.states, self.answered = [self.states[at]], 0
         return at, lasting, sent
 
@@ -118,19 +119,28 @@ with open("site.toml", "w") as out:
     out.write('[[reader]]\ntoken = "tok"\nowner = true\n[[page]]\npath = "a.md"\ntext = "Hello"\n')
 writers = [Writer(number) for number in range(WRITERS)]
 took = []
-for round_number in range(1, count + 1):
-    name = f"kill {round_number}"
-    while chance.random() < 0.2:
-        killed_early()
-        early += 1
+
+
+def begun(name):
+    """The program over the journal, with the pages that it is to have; none where it doesn't start."""
     then = time.monotonic()
     try:
         server = Server(program, "site.toml", journal="journal")
     except Refused as refused:
         tally.check(f"{name}: the start", False, refused)
-        break
+        return None
     took.append(time.monotonic() - then)
     ask_all(server.port, name)
+    return server
+
+
+for number in range(1, count + 1):
+    while chance.random() < 0.2:
+        killed_early()
+        early += 1
+    server = begun(f"start {number}")
+    if not server:
+        break
     threads = [threading.Thread(target=writer.run, args=(server.port,)) for writer in writers]
     for thread in threads:
         thread.start()
@@ -139,11 +149,11 @@ for round_number in range(1, count + 1):
     for thread in threads:
         thread.join()
 else:
-    server = Server(program, "site.toml", journal="journal")
-    ask_all(server.port, "the end")
-    status = server.end()
-    tally.check("the end", status == 0 and not server.said(), f"{status} {server.said()}")
-print(f"seed {seed}: {len(took)} kills under edits, {early} during a start; {answered} edits were answered, all of them there; of "
-      f"{sent - answered} others {beyond} were there; journal {os.path.getsize('journal') / 1e6:.1f} MB, slowest start {max(took):.2f} s")
+    if server := begun("the last start"):
+        status = server.end()
+        tally.check("the end", status == 0 and not server.said(), f"{status} {server.said()}")
+print(f"seed {seed}: {len(took)} starts, each but the last ended by a kill under edits, and {early} kills during a start; {answered} edits "
+      f"were answered, and of {sent - answered} others {beyond} were made; journal {os.path.getsize('journal') / 1e6:.1f} MB, "
+      f"slowest start {max(took, default=0):.2f} s")
 sys.exit(tally.end())
 PYTHON

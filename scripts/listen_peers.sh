@@ -4,7 +4,7 @@
 # PUTs of 2 MiB. Beside each of them the median and the 99th percentile of the good client's times are printed, and the server's resident
 # size. Then what becomes of such peers:
 #
-# - a pipeline is answered whole and in order, also to one that begins to read late;
+# - a pipeline is answered whole and in order, also to one that begins to read late, and to one that has ended its sending;
 # - a PUT of 2 MiB gets its 413 before the connection ends, and the connection does end;
 # - connection 1,001 of 1,000 waits, and is served when another one goes;
 # - idle connections end after `idle_seconds`, and not before.
@@ -20,8 +20,10 @@ ulimit -n 8000 2> /dev/null || { echo "fewer than 8,000 files may be open" >&2; 
 scratch=$(mktemp -d)
 trap 'rm -rf "$scratch"' EXIT
 PYTHONPATH=scripts/programs PYTHONDONTWRITEBYTECODE=1 timeout -k 10 300 python3 - "$program" "$scratch" <<'PYTHON'
-import multiprocessing, os, socket, struct, sys, time
-from listening import HOST, Client, Server, Tally, request, until
+import multiprocessing, os, sys, time
+import peers as hostile
+from listening import Client, Server, Tally, until
+from peers import connected, large_put, pipeline
 
 program, scratch = sys.argv[1:]
 os.chdir(scratch)
@@ -29,7 +31,6 @@ tally = Tally()
 ASKED = 2_000
 LINE = "Each page has sixty-four lines, and each of them has this text.\n"
 BODY = f"<!DOCTYPE html>\n<title>a.md</title>\n<p>{(LINE * 64).strip()}</p>\n".encode()
-GET = request("tok", "/page/a.md")
 
 
 def site(name, connections, idle):
@@ -37,97 +38,6 @@ def site(name, connections, idle):
         out.write(f'[listen]\nconnections = {connections}\nidle_seconds = {idle}\n[[reader]]\ntoken = "tok"\nowner = true\n'
                   f'[[page]]\npath = "a.md"\ntext = """\n{LINE * 64}"""\n')
     return name
-
-
-def connected(count=1):
-    return [socket.create_connection((HOST, server.port), timeout=20) for _ in range(count)]
-
-
-def reset(peer):
-    peer.setsockopt(socket.SOL_SOCKET, socket.SO_LINGER, struct.pack("ii", 1, 0))
-    peer.close()
-
-
-# ---- hostile peers, each for as long as it is let
-
-def one_that_never_reads():
-    peer = connected()[0]
-    peer.settimeout(None)
-    peer.sendall(GET * 1_000_000)
-
-
-def one_byte_a_second():
-    peer = connected()[0]
-    for byte in GET * 1_000:
-        peer.sendall(bytes([byte]))
-        time.sleep(1)
-
-
-def half_a_request():
-    peers = connected(100)
-    for peer in peers:
-        peer.sendall(request("tok", "/page/b.md", "PUT", b"b" * 1_000_000)[:500_000])
-    time.sleep(1_000)
-
-
-def pipelines_of_8000():
-    while True:
-        peer = connected()[0]
-        pipeline(peer, 8_000)
-        peer.close()
-
-
-def resets():
-    while True:
-        for peer in connected(20):
-            peer.sendall(GET[:-2] if peer.fileno() % 2 else GET * 3)
-            reset(peer)
-
-
-def a_flood_of_connects():
-    while True:
-        for peer in connected(200):
-            peer.close()
-
-
-def puts_of_2_mib():
-    while True:
-        large_put()
-
-
-# ---- calls that are checked
-
-def pipeline(peer, count, late=0.0):
-    """So many requests at once; whether as many whole replies come."""
-    child = os.fork()
-    if not child:
-        peer.sendall(GET * count)
-        os._exit(0)
-    time.sleep(late)
-    left, got = count * length, True
-    while left and got:
-        got = peer.recv(min(left, 1_048_576))
-        left -= len(got)
-    os.waitpid(child, 0)
-    return left == 0
-
-
-def large_put():
-    """A PUT of 2 MiB by a peer that writes it all before it reads; its reply, and whether the connection ended behind it."""
-    peer = connected()[0]
-    try:
-        peer.sendall(request("tok", "/page/b.md", "PUT", bytes(2_097_152)))
-    except OSError:
-        pass
-    got = b""
-    try:
-        while more := peer.recv(65_536):
-            got += more
-        return got, True
-    except OSError:
-        return got, False
-    finally:
-        peer.close()
 
 
 def good(name):
@@ -147,7 +57,7 @@ def good(name):
 
 
 def beside(attack):
-    process = multiprocessing.get_context("fork").Process(target=attack, daemon=True)
+    process = multiprocessing.get_context("fork").Process(target=attack, args=(server.port,), daemon=True)
     process.start()
     time.sleep(0.5)
     good(attack.__name__.replace("_", " "))
@@ -161,21 +71,24 @@ def beside(attack):
 server = Server(program, site("wide.toml", 4_000, 60))
 client = Client(server.port, "tok")
 code, head, body = client.ask("/page/a.md")
-length = len(head) + 4 + len(body)
+reply = head + b"\r\n\r\n" + body
 client.close()
 good("nobody")
-idle = connected(1_000)
+idle = connected(server.port, 1_000)
 good("1,000 idle ones")
-for attack in (one_that_never_reads, one_byte_a_second, half_a_request, pipelines_of_8000, resets, a_flood_of_connects, puts_of_2_mib):
+for attack in hostile.ALL:
     beside(attack)
 for peer in idle:
     peer.close()
 good("nobody again")
 
 for late in (0.0, 1.0):
-    tally.check(f"a pipeline of 8,000, read after {late} s", pipeline(connected()[0], 8_000, late))
+    came = pipeline(connected(server.port)[0], 8_000, len(reply), late)
+    tally.check(f"a pipeline of 8,000, read after {late} s", came == reply * 8_000, len(came))
+came = pipeline(connected(server.port)[0], 8_000, 0)
+tally.check("a pipeline of 8,000 by a peer that has ended what it sends", came == reply * 8_000, len(came))
 for _ in range(50):
-    got, ended = large_put()
+    got, ended = large_put(server.port)
     tally.check("413 for 2 MiB", got.startswith(b"HTTP/1.1 413 ") and ended, f"{got[:40]} {ended}")
 status = server.end()
 tally.check("the end", status == 0 and not server.said(), f"{status} {server.said()}")
@@ -185,7 +98,7 @@ tally.check("the end", status == 0 and not server.said(), f"{status} {server.sai
 IDLE = 4
 server = Server(program, site("narrow.toml", 1_000, IDLE))
 began = time.monotonic()
-peers = connected(1_000)
+peers = connected(server.port, 1_000)
 next_one = Client(server.port, "tok", timeout=1)
 next_one.send("/page/a.md")
 try:

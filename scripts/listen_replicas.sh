@@ -58,7 +58,7 @@ def edited(journal):
     tally.check("the first server's end", status == 0 and not server.said(), f"{status} {server.said()}")
 
 
-def some_request():
+def some_request(reader):
     path = chance.choice(PATHS)
     return chance.choice((
         [("GET", "/page/" + path)] * 8 + [("HEAD", "/page/" + path), ("GET", "/page/never.md"), ("GET", "/page/ops/"), ("GET", "/contents"),
@@ -111,13 +111,14 @@ try:
         client = Client(port, reader)
         codes, went = collections.Counter(), collections.Counter()
         for number in range(replies // 2):
-            method, target = some_request()
+            method, target = some_request(reader)
             pair = [split(client.ask(target, method, b"x" if method == "PUT" else b"")) for _ in range(2)]
             went.update(name for name, _ in pair)
             codes[pair[0][1][0]] += 1
             tally.check(f"{reader} {method} {target}", pair[0][1] == pair[1][1] and pair[0][0] != pair[1][0], pair)
         tally.check(f"{reader}: both servers replied", went == {b"one": replies // 2, b"two": replies // 2}, went)
-        print(f"{reader}: {sum(went.values())} replies, " + ", ".join(f"{2 * count} of {code}" for code, count in sorted(codes.items())), flush=True)
+        told = ", ".join(f"{2 * count} of {code}" for code, count in sorted(codes.items()))
+        print(f"{reader}: {sum(went.values())} replies, {told}", flush=True)
         client.close()
 finally:
     haproxy.send_signal(signal.SIGTERM)

@@ -40,9 +40,9 @@ def first(before, rest):
     length = int.from_bytes(rest[:4], "little")
     if len(rest) < 36 or length > LIMIT or len(rest) < 36 + length:
         return None
-    text = rest[4:4 + length]
+    text = bytes(rest[4:4 + length])
     bytes_of, _ = record(before, text)
-    return text if rest.startswith(bytes_of) else None
+    return text if rest[:len(bytes_of)] == bytes_of else None
 
 
 def read(journal):
@@ -50,11 +50,12 @@ def read(journal):
     texts, digest, at = [], SEED, 0
     if len(journal) <= 1:
         return texts, b"\x00"
-    while journal[at:at + 1] == b"\x01" and (text := first(digest, journal[at + 1:])) is not None:
+    view = memoryview(journal)
+    while journal[at:at + 1] == b"\x01" and (text := first(digest, view[at + 1:])) is not None:
         _, digest = record(digest, text)
         texts.append(text)
         at += 37 + len(text)
-    tail = journal[at + 1:]
+    tail = view[at + 1:]
     torn = first(digest, tail)
     is_end = journal[at:at + 1] == b"\x00" and (len(tail) <= LIMIT + 37 if torn is None else len(tail) <= 36 + len(torn) + 1)
     if not is_end:

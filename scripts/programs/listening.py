@@ -150,7 +150,7 @@ class Tally:
         else:
             self.wrong += 1
             if self.wrong <= 20:
-                print(f"wrong: {name}{': ' if detail else ''}{detail}", flush=True)
+                print(f"wrong: {name}" + (f": {detail}" if detail != "" else ""), flush=True)
         return holds
 
     def end(self):
