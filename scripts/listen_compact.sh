@@ -1,6 +1,6 @@
 #!/usr/bin/env bash
-# Compacts journals of the handbook in site/, and compares all replies before and after, byte for byte: each page and alias, the contents, the
-# broken links and some searches, for each reader. The journals hold PUTs, DELETEs and moves, also of the configuration's own pages.
+# Compacts journals of the handbook in site/, and compares all replies before and after, byte for byte: each page and alias, the contents,
+# the broken links and some searches, for each reader. The journals hold PUTs, DELETEs and moves, also of the configuration's own pages.
 #
 # Also: `compact` killed by SIGKILL at random moments, after each of which the site is the same; edits behind a compacted journal; a second
 # compaction, which changes no byte; and that a journal which a server has open is refused as in use.
@@ -107,11 +107,11 @@ def moved(name):
 
 
 compact("no journal yet")
-plain = replies("the configuration alone")
+plain = replies("the configuration alone") or []
 edit(300, "edits")
 moved("moves")
 wanted = replies("before")
-tally.check("edits and moves are seen", wanted and plain and wanted[:len(plain)] != plain)
+tally.check("edits are seen", sum(reply not in plain for reply in wanted or []) > 20)
 tally.check("aliases are seen", any(reply[2][0] == 301 for reply in wanted or []))
 large = got()
 
