@@ -12,8 +12,10 @@ cd "$(dirname "$0")/.."
 scripts/needs.sh strace python3
 scratch=$(mktemp -d)
 trap 'rm -rf "$scratch"' EXIT
-PYTHONPATH=scripts/programs PYTHONDONTWRITEBYTECODE=1 timeout -k 10 120 python3 - "$program" "$scratch" <<'PYTHON'
+export PYTHONPATH=scripts/programs:scripts/oracles PYTHONDONTWRITEBYTECODE=1
+timeout -k 10 120 python3 - "$program" "$scratch" <<'PYTHON'
 import os, re, sys
+from journals import read
 from listening import Client, Server, Tally
 
 program, scratch = sys.argv[1:]
@@ -36,7 +38,9 @@ for number in range(ROUNDS):
     sent += 3
 tally.check("the end", server.end() == 0)
 
-journal, steps, records, replies, at = None, [], 0, 0, None
+with open("journal", "rb") as file:
+    edits = [text.count(b"\n") for text in read(file.read())[0]]
+journal, steps, records, replies = None, [], 0, 0
 with open("calls") as lines:
     for line in lines:
         call = re.match(r"\d+ +(\w+)\((.*)", line)
@@ -46,23 +50,19 @@ with open("calls") as lines:
         if name == "openat" and '"journal"' in words and "O_RDWR" in words:
             journal = re.search(r"= (\d+)$", line)[1]
         elif name in ("pwrite64", "write", "writev") and words.startswith(f"{journal},"):
-            size = int(re.search(r"= (\d+)$", line)[1])
-            steps.append(("gate" if words.startswith(f'{journal}, "\\x01", 1,') else "record", size))
-            at = at or name
+            steps.append("gate" if words.startswith(f'{journal}, "\\x01", 1,') else "record")
         elif name in ("fsync", "fdatasync") and words.startswith(f"{journal})"):
-            steps.append(("sync", 0))
+            steps.append("sync")
         elif re.search(r'"\\x48\\x54\\x54\\x50\\x2f\\x31\\x2e\\x31\\x20\\x32\\x30[14]|"HTTP/1.1 20[14]', words):
             # a reply to an edit: what was done for the journal since the last one is whole records, each synced
-            order = [step for step, _ in steps]
-            tally.check("before a reply", order == ["record", "sync", "gate", "sync"] * (len(order) // 4), order)
-            tally.check("an edit is written before its reply", records + len(order) // 4 > 0)
-            records += len(order) // 4
-            replies, steps = replies + 1, []
+            tally.check("before a reply", steps == ["record", "sync", "gate", "sync"] * (len(steps) // 4), steps)
+            records, replies, steps = records + len(steps) // 4, replies + 1, []
+            tally.check("an edit is on the disk before its reply", replies <= sum(edits[:records]), f"{replies} {sum(edits[:records])}")
         elif name == "write" and "listening" in words:
             steps = []
 tally.check("the journal was opened", journal is not None)
 tally.check("each edit has a reply", replies == sent, f"{replies} of {sent}")
-tally.check("no more records than edits, no fewer than turns", ROUNDS * 2 <= records <= sent, records)
+tally.check("no record is left", records == len(edits) and sum(edits) == sent, f"{records} {len(edits)} {sum(edits)}")
 print(f"{replies} replies to edits, behind {records} records, each written, synced, opened and synced")
 sys.exit(tally.end())
 PYTHON
