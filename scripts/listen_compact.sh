@@ -115,23 +115,31 @@ tally.check("edits are seen", sum(reply not in plain for reply in wanted or []) 
 tally.check("aliases are seen", any(reply[2][0] == 301 for reply in wanted or []))
 large = got()
 
-alive = 0
+then = time.monotonic()
+compact("whole")
+took = time.monotonic() - then
+small = got()
+same("whole", wanted)
+outcomes = {"the old journal": 0, "the old journal, with a part of a new one": 0, "the new journal": 0, "another": 0}
 for number in range(kills):
     put(large)
     words = [program, "compact", CONFIG, "--journal", JOURNAL]
     process = subprocess.Popen(words, stdin=subprocess.DEVNULL, stdout=subprocess.DEVNULL, stderr=subprocess.DEVNULL)
-    time.sleep(chance.random() * 0.1)
+    time.sleep(chance.random() * took * 1.2)
     process.kill()
-    alive += process.wait() == -9
+    process.wait()
+    begun = len(os.listdir(scratch)) > 1
+    found = {large: "the old journal" + ", with a part of a new one" * begun, small: "the new journal"}.get(got(), "another")
+    outcomes[found] += 1
+    tally.check(f"kill {number}: one of the two journals", found != "another", f"{len(got())} bytes")
     same(f"kill {number}", wanted)
-
-put(large)
-compact("whole")
-small = got()
 print(f"a journal of {len(large):,} bytes and {len(read(large)[0])} records became one of {len(small):,} and {len(read(small)[0])}; "
-      f"{alive} of {kills} kills came before the end")
+      f"{kills} kills left " + ", ".join(f"{count} times {found}" for found, count in outcomes.items() if count))
 tally.check("it is shorter", len(small) < len(large))
-same("after", wanted)
+put(large)
+compact("behind the kills")
+tally.check("it gives the same journal", got() == small)
+tally.check("no other file is left", os.listdir(scratch) == ["journal"], os.listdir(scratch))
 compact("twice")
 tally.check("a second compaction changes no byte", got() == small)
 if server := started("in use"):
@@ -144,7 +152,5 @@ same("again", wanted)
 put(large[:-1])
 compact("a damaged journal", 2, f"docs_server: journal record {len(read(large)[0]) + 1}\n")
 tally.check("a damaged journal is as it was", got() == large[:-1])
-left = sorted(set(os.listdir(scratch)) - {"journal"})
-print(f"files left beside the journal: {left}")
 sys.exit(tally.end())
 PYTHON

@@ -47,7 +47,7 @@ class Writer:
             code = 204 if now.pop(path, None) is not None else 404
             edit = "DELETE", path, "", code
         else:
-            length = self.chance.choice((1, 30, 300, 4_000, 60_000, 200_000))
+            length = self.chance.choices((1, 30, 300, 4_000, 60_000, 200_000), (6, 6, 6, 6, 2, 1))[0]
             text = f"edit {self.edits} of {self.number}, \\x\u00f6\\ " + self.chance.choice("abcdefgh") * length + "\n" + "i" * 9
             text = text[-length:].strip()
             code = 204 if path in now else 201

@@ -121,9 +121,12 @@ config(FOLDER.format("absent"))
 refused("no such folder", "cannot read absent")
 config(FOLDER.format("docs/a.md"))
 refused("a folder that is a file", "cannot read docs/a.md")
-for name, text in (("an unknown key", '[[folder]]\npath = "docs"\nfile = "x"\n'), ("no path", "[[folder]]\n"),
+for name, text in (("an unknown key", '[[folder]]\npath = "docs"\nfile = "x"\n'),
+                   ("no path", "[[folder]]\n"),
                    ("a bad prefix", '[[folder]]\npath = "docs"\nprefix = "a//b"\n'),
-                   ("a bad group", '[[folder]]\npath = "docs"\ngroups = ["A"]\n'), ("no connections", "[listen]\nconnections = 0\n"), ("no seconds", "[listen]\nidle_seconds = 0\n"),
+                   ("a bad group", '[[folder]]\npath = "docs"\ngroups = ["A"]\n'),
+                   ("no connections", "[listen]\nconnections = 0\n"),
+                   ("no seconds", "[listen]\nidle_seconds = 0\n"),
                    ("an unknown bound", "[listen]\nseconds = 1\n")):
     config(text)
     refused(name, "config")
