@@ -118,18 +118,21 @@ large = got()
 then = time.monotonic()
 compact("whole")
 took = time.monotonic() - then
+print(f"a compaction takes {took * 1e3:.0f} ms")
 small = got()
 same("whole", wanted)
-outcomes = {"the old journal": 0, "the old journal, with a part of a new one": 0, "the new journal": 0, "another": 0}
+outcomes = {"the old journal": 0, "the old journal, with a new one begun": 0, "the new journal": 0, "another": 0}
 for number in range(kills):
     put(large)
+    if os.path.exists(JOURNAL + ".compacting") and chance.random() < 0.5:
+        os.remove(JOURNAL + ".compacting")
     words = [program, "compact", CONFIG, "--journal", JOURNAL]
     process = subprocess.Popen(words, stdin=subprocess.DEVNULL, stdout=subprocess.DEVNULL, stderr=subprocess.DEVNULL)
-    time.sleep(chance.random() * took * 1.2)
+    time.sleep(chance.random() * took * 1.5)
     process.kill()
     process.wait()
-    begun = len(os.listdir(scratch)) > 1
-    found = {large: "the old journal" + ", with a part of a new one" * begun, small: "the new journal"}.get(got(), "another")
+    begun = os.path.exists(JOURNAL + ".compacting")
+    found = {large: "the old journal" + ", with a new one begun" * begun, small: "the new journal"}.get(got(), "another")
     outcomes[found] += 1
     tally.check(f"kill {number}: one of the two journals", found != "another", f"{len(got())} bytes")
     same(f"kill {number}", wanted)
