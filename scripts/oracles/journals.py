@@ -28,11 +28,11 @@ def record(before, text):
 
 def written(texts):
     """The journal of these texts."""
-    journal, digest = b"", SEED
+    parts, digest = [], SEED
     for text in texts:
         bytes_of, digest = record(digest, text)
-        journal += b"\x01" + bytes_of
-    return journal + b"\x00"
+        parts += [b"\x01", bytes_of]
+    return b"".join(parts) + b"\x00"
 
 
 def first(before, rest):
