@@ -2,15 +2,18 @@
 # Compacts journals of the handbook in site/, and compares all replies before and after, byte for byte: each page and alias, the contents,
 # the broken links and some searches, for each reader. The journals hold PUTs, DELETEs and moves, also of the configuration's own pages.
 #
-# Also: `compact` killed by SIGKILL at random moments, after each of which the site is the same; edits behind a compacted journal; a second
-# compaction, which changes no byte; and that a journal which a server has open is refused as in use.
+# Also: `compact` killed by SIGKILL at random moments, and stopped at each call that it makes of the system for files (strace), by SIGKILL
+# or a failure, EIO: each time the old journal or the new one is there, whole, and the site is the same. Then edits behind a compacted
+# journal; a second compaction, which changes no byte; and that a journal which a server has open is refused as in use.
 #
 #     scripts/listen_compact.sh PROGRAM [KILLS]
 #
-# Builds nothing. Needs python3. 40 kills, which is what KILLS is if left out, take half a minute.
+# Builds nothing. Needs python3, and strace, which it has installed where it lacks. 40 kills, which is what KILLS is if left out, take a
+# minute.
 set -eu
 program=$(realpath "${1:?the program}")
 cd "$(dirname "$0")/.."
+scripts/needs.sh strace python3
 scratch=$(mktemp -d)
 trap 'rm -rf "$scratch"' EXIT
 export PYTHONPATH=scripts/programs:scripts/oracles PYTHONDONTWRITEBYTECODE=1
@@ -22,6 +25,7 @@ from listening import Client, Refused, Server, Tally
 program, scratch, kills = sys.argv[1], sys.argv[2], int(sys.argv[3])
 tally = Tally()
 chance = random.Random(1)
+CALLS = ("openat", "flock", "pread64", "pwrite64", "fsync", "ftruncate", "unlink", "rename", "fchown", "fchmod", "readlink", "write")
 CONFIG, JOURNAL = "site/config.toml", f"{scratch}/journal"
 with open(CONFIG, "rb") as file:
     OWN = [page["path"] for page in tomllib.load(file)["page"]]
@@ -76,6 +80,21 @@ def compact(name, status=0, said=""):
     done = subprocess.run([program, "compact", CONFIG, "--journal", JOURNAL], stdin=subprocess.DEVNULL, capture_output=True, text=True,
                           timeout=60)
     tally.check(f"{name}: compact", (done.returncode, done.stdout, done.stderr) == (status, "", said), done)
+
+
+def stopped(way, call, number):
+    """A compaction with the call of this name and number stopped. Whether there was such a call."""
+    put(large)
+    inject = "signal=SIGKILL" if way == "killed" else f"error={way}"
+    words = ["strace", "-f", "-o", f"{scratch}/calls", "-e", f"trace={call}", "-e", f"inject={call}:{inject}:when={number}+", program]
+    done = subprocess.run([*words, "compact", CONFIG, "--journal", JOURNAL], stdin=subprocess.DEVNULL, capture_output=True, timeout=60)
+    with open(f"{scratch}/calls") as calls:
+        hit = "(INJECTED)" in (text := calls.read()) or "killed by SIGKILL" in text
+    os.remove(f"{scratch}/calls")
+    name = f"{way} at {call} {number}"
+    tally.check(f"{name}: one of the two journals", got() in (large, small), f"{len(got())} bytes")
+    tally.check(f"{name}: done, or not said to be", (done.returncode == 0) <= (got() == small and (way == "killed") <= (not hit)), done)
+    return hit
 
 
 def edit(count, name):
@@ -139,6 +158,13 @@ for number in range(kills):
 print(f"a journal of {len(large):,} bytes and {len(read(large)[0])} records became one of {len(small):,} and {len(read(small)[0])}; "
       f"{kills} kills left " + ", ".join(f"{count} times {found}" for found, count in outcomes.items() if count))
 tally.check("it is shorter", len(small) < len(large))
+for way in ("killed", "EIO"):
+    counts = {}
+    for call in CALLS:
+        while counts.get(call, 0) < 60 and stopped(way, call, counts.get(call, 0) + 1):
+            counts[call] = counts.get(call, 0) + 1
+    print(f"{way} at each of " + ", ".join(f"{count} {call}" for call, count in counts.items()), flush=True)
+    same(f"{way} at last", wanted)
 put(large)
 compact("behind the kills")
 tally.check("it gives the same journal", got() == small)
