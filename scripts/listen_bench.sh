@@ -32,6 +32,7 @@ tally = Tally()
 CONNECTIONS = 64
 PLAIN = "Each page has sixty-four lines, and each of them has this text.\n" * 64
 LINKED = ("Each page has some lines and [links to other pages](a.md) of it.\n" + PLAIN[:130]) * 20
+WORDY = "\n".join(f"[A link](guide/{line:05}.md) " + " ".join(f"word{line * 13 + word}" for word in range(24)) for line in range(20))
 READER = '[[reader]]\ntoken = "tok"\ngroups = ["team"]\n'
 
 
@@ -46,7 +47,7 @@ def site(name, pages, bounds=""):
 
 
 def serve(name):
-    return Server(program, name, before=("taskset", "-c", "0"))
+    return Server(program, name, before=("taskset", "-c", "0"), wait=240)
 
 
 def end(server, name):
@@ -115,7 +116,7 @@ def listens(port):
 
 # ---- speed
 
-for name, text in (("plain.md", PLAIN), ("linked.md", LINKED)):
+for name, text in (("plain.md", PLAIN), ("linked.md", LINKED), ("wordy.md", WORDY)):
     with open(name, "w") as out:
         out.write(text)
 server = serve(site("site.toml", [("a.md", "plain.md"), ("plain.md", "plain.md"), ("linked.md", "linked.md")]))
@@ -151,11 +152,11 @@ end(server, "speed")
 # ---- memory
 
 for count in (3, 10_000):
-    paths = [(f"guide/{number:05}.md", "plain.md") for number in range(count)]
+    paths = [(f"guide/{number:05}.md", "wordy.md") for number in range(count)]
     server = serve(site("pages.toml", paths, "[listen]\nconnections = 2000\n"))
     served(server, paths[-1][0])
     before = server.resident()
-    print(f"resident with {count:,} pages: {before / 1000:.1f} MB", flush=True)
+    print(f"resident with {count:,} pages: {before / 1000:.1f} MB; {sum(server.used()) / 1e6:.1f} s to start", flush=True)
     if count == 3:
         idle = [Client(server.port, "tok") for _ in range(1_000)]
         for client in idle:

@@ -57,11 +57,15 @@ def good(name):
 
 
 def beside(attack):
+    before = server.resident()
     process = multiprocessing.get_context("fork").Process(target=attack, args=(server.port,), daemon=True)
     process.start()
     time.sleep(0.5)
     good(attack.__name__.replace("_", " "))
     tally.check(f"{attack.__name__} goes on", process.is_alive(), process.exitcode)
+    grown = server.resident() - before
+    # a request that isn't whole is kept, and else no more than what waits to be sent
+    tally.check(f"{attack.__name__}: memory", grown < (70_000 if attack is hostile.half_a_request else 5_000), f"{grown} kB more")
     process.kill()
     process.join()
 
