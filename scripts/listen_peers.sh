@@ -5,7 +5,7 @@
 # size. Then what becomes of such peers:
 #
 # - a pipeline is answered whole and in order, also to one that begins to read late, and to one that has ended its sending;
-# - a PUT of 2 MiB gets its 413 before the connection ends, and the connection does end;
+# - a PUT of 2 MiB gets its 413 before the connection ends, and the connection does end; so does that of a peer that goes on sending;
 # - connection 1,001 of 1,000 waits, and is served when another one goes;
 # - idle connections end after `idle_seconds`, and not before.
 #
@@ -94,6 +94,8 @@ tally.check("a pipeline of 8,000 by a peer that has ended what it sends", came =
 for _ in range(50):
     got, ended = large_put(server.port)
     tally.check("413 for 2 MiB", got.startswith(b"HTTP/1.1 413 ") and ended, f"{got[:40]} {ended}")
+took = hostile.endless_put(server.port)
+tally.check("who goes on sending behind a last reply is cut off after two seconds", took and 1.5 < took < 4, took)
 status = server.end()
 tally.check("the end", status == 0 and not server.said(), f"{status} {server.said()}")
 

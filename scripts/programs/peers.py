@@ -90,3 +90,18 @@ def large_put(port):
         return got, False
     finally:
         peer.close()
+
+
+def endless_put(port):
+    """A PUT of 1 GiB, of which no end is sent; after how many seconds the connection ended, or None after 10."""
+    peer, then = connected(port)[0], time.monotonic()
+    peer.sendall(request("tok", "/page/b.md", "PUT", fields="Content-Length: 1073741824\r\n").replace(b"Content-Length: 0\r\n", b""))
+    peer.settimeout(5)
+    try:
+        while time.monotonic() < then + 10:
+            peer.sendall(bytes(65_536))
+    except OSError:
+        return time.monotonic() - then
+    finally:
+        peer.close()
+    return None
