@@ -1,4 +1,4 @@
--- What the commands `listen` and `compact` are of, and what stops them.
+-- What the command `listen` is of, and what stops it.
 use Rattle.doc_server_config.specs.declared.page_row.PageRow.{PageRow}
 use Rattle.doc_server_config.specs.declared.page_row.Source.TheVariants as sources
 use Rattle.doc_server_folders.specs.declared.folder.FolderPage.{FolderPage}
