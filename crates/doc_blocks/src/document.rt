@@ -53,8 +53,8 @@ fn add_line(
     first: FirstLine,
 ) -> Result<(), Memory>
     requires sound { IsSound builder.old.levels }
-    requires plain { first.entry.holds_null ≡ false
-        → map secure_char (chars first.entry.line.now) ≡ chars first.entry.line.now }
+    requires plain { first.holds_null ≡ false
+        → map secure_char (chars first.line.now) ≡ chars first.line.now }
     ensures line { OnOk result (after_line entities.now (state_of builder.old)
         (cells_of (map secure_char (chars first.entry.line.now))) ≡ shown (state_of builder.new)) }
     ensures sound { OnOk result (IsSound builder.new.levels) }

@@ -1,4 +1,6 @@
 use Rattle.std.proofs.Common.{rules, ◌≡◌, ◌∙◌, List, [], ◌∷◌, map, chars, ap, sym}
+use Rattle.doc_lines.proofs.Ends.{empty_chars}
+use Rattle.doc_refs.proofs.SpaceLaws.{is_none, is_some}
 use Rattle.doc_rules.specs.Characters.{Text}
 use Rattle.doc_rules.specs.Columns.{cells_of}
 use Rattle.doc_rules.specs.Lines.{lines_of, secure_char}
@@ -32,3 +34,26 @@ lines-preserved c =
           ∙ one_line table s (state_of c.add_line.new.builder) f.whole (lines_of (chars c.first_line-first.result.rest.now))
           (ap (λ (t : Text). after_line table s (cells_of (map secure_char t))) (sym f.content) ∙ c.in_ok-add_line.ensures.line));
     }
+
+pub first_line-first-requires : goal.first_line-first-requires
+first_line-first-requires c = is_some _ _ c.is_empty.ensures c.lines-test.true
+
+pub returns-clause-blocks : goal.returns-clause-blocks
+unfolding lines_of
+returns-clause-blocks c =
+    let table = c.args.entities.now in
+    let s = state_of c.lines.builder in
+    let d = c.in_ok-document.document in
+    let none : chars c.lines.rest.now ≡ [] = empty_chars _ (is_none _ _ c.is_empty.ensures c.lines-test.false) in
+    (document_is table (chars c.args.text.now) (blocks_shown d.blocks.items, d.refs)
+    (c.in_ok-document.ensures ∙ (ap (λ (t : Text). document_left table (lines_of t) (shown s)) (sym none) ∙ sym c.lines.invariant.left))).0
+
+pub returns-clause-refs : goal.returns-clause-refs
+unfolding lines_of
+returns-clause-refs c =
+    let table = c.args.entities.now in
+    let s = state_of c.lines.builder in
+    let d = c.in_ok-document.document in
+    let none : chars c.lines.rest.now ≡ [] = empty_chars _ (is_none _ _ c.is_empty.ensures c.lines-test.false) in
+    (document_is table (chars c.args.text.now) (blocks_shown d.blocks.items, d.refs)
+    (c.in_ok-document.ensures ∙ (ap (λ (t : Text). document_left table (lines_of t) (shown s)) (sym none) ∙ sym c.lines.invariant.left))).1
