@@ -1,7 +1,24 @@
--- Where what is read of a line as it stands ends.
-use Rattle.std.specs.Prelude.{ℕ, Bool, ◌||◌, ◌==◌}
-use Rattle.doc_rules.specs.Characters.{is_ending}
+-- Where the first line of a text ends.
+use Rattle.std.specs.Prelude.{◌≡◌, ℕ, Bool, true, false, ◌||◌, ◌==◌, [], ◌∷◌}
+use Rattle.doc_rules.specs.Characters.{Text, is_ending}
+use Rattle.doc_rules.specs.Lines.{lines_of, without_ending}
 
 -- U+0000, or a character of a line ending
 unfoldable pub ends_plain : ℕ → Bool
 ends_plain c = (c == 0) || is_ending c
+
+-- the text behind the LF at its front, if one stands there
+unfoldable pub behind_lf : Text → Text
+behind_lf [] = []
+behind_lf (c ∷ rest) = elim (c == 10) [ true ↦ rest | false ↦ c ∷ rest ]
+
+-- the text behind the line ending at its front, if one stands there
+unfoldable pub behind_ending : Text → Text
+behind_ending [] = []
+behind_ending (c ∷ rest) = elim (c == 10) [ true ↦ rest | false ↦ elim (c == 13) [ true ↦ behind_lf rest | false ↦ c ∷ rest ] ]
+
+-- this is the first line of a text, without its ending, and this the text behind it
+pub record IsFirstLine (text line rest : Text) : Type 0 where
+  pub whole : Text
+  pub first : lines_of text ≡ whole ∷ lines_of rest
+  pub content : line ≡ without_ending whole

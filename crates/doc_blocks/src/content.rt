@@ -1,8 +1,9 @@
-//! What is read of a line: it is without its ending, and U+0000 reads as U+FFFD (CommonMark 0.31.2, sections 2.1 and 2.3).
-ghost use Rattle.std.specs.Prelude.{◌≡◌, chars, map, string_bytes, IfOk, IfSome};
+//! The lines of a text, cut off one by one, and what is read of a line: it is without its ending, and U+0000 reads as U+FFFD (CommonMark
+//! 0.31.2, sections 2.1 and 2.3).
+ghost use Rattle.std.specs.Prelude.{◌≡◌, ◌<◌, true, false, chars, length, map, string_bytes, IfOk};
 ghost use Rattle.doc_rules.specs.Characters.{is_ending};
-ghost use Rattle.doc_rules.specs.Lines.{without_ending, secure_char, line_content};
-ghost use Rattle.doc_blocks.specs.ContentSteps.{ends_plain};
+ghost use Rattle.doc_rules.specs.Lines.{secure_char};
+ghost use Rattle.doc_blocks.specs.ContentSteps.{ends_plain, behind_ending, IsFirstLine};
 
 use doc_heap::{Heap, String};
 use doc_lines::pushing::push_char;
@@ -11,14 +12,45 @@ use doc_lines::scan::front::front;
 use doc_lines::scan::until::until;
 use doc_page::failure::Memory;
 
-/// What is read of a line that holds no U+0000 before its ending: what stands there.
-pub(crate) fn plain_content(line: &str) -> Option<&str>
-    ensures { IfSome result (λ content. chars content.now ≡ line_content (chars line.now)) }
+/// The first line of a text, without its ending, and the text behind it.
+#[derive(Clone, Copy)]
+pub(crate) struct FirstLine<'a> {
+    pub(crate) line: &'a str,
+    pub(crate) holds_null: bool,
+    pub(crate) rest: &'a str,
+}
+
+/// The first line of a text that isn't empty. It is passed once, unless it holds U+0000.
+pub(crate) fn first_line(text: &str) -> FirstLine<'_>
+    requires { 0 < length text.now }
+    ensures line { IsFirstLine (chars text.now) (chars result.line.now) (chars result.rest.now) }
+    ensures plain { result.holds_null ≡ false
+        → map secure_char (chars result.line.now) ≡ chars result.line.now }
+    ensures shorter { length (chars result.rest.now) < length (chars text.now) }
 {
-    let rest = until(line, ends_plain);
-    match is(rest, '\0') {
-        Some(_) => None,
-        None => Some(front(line, rest)),
+    let stop = until(text, ends_plain);
+    if is(stop, '\0').is_some() {
+        return null_line(text);
+    }
+    FirstLine {
+        line: front(text, stop),
+        holds_null: false,
+        rest: behind_ending(stop),
+    }
+}
+
+/// The same for a line that holds U+0000.
+fn null_line(text: &str) -> FirstLine<'_>
+    requires { 0 < length text.now }
+    ensures line { IsFirstLine (chars text.now) (chars result.line.now) (chars result.rest.now) }
+    ensures null { result.holds_null ≡ true }
+    ensures shorter { length (chars result.rest.now) < length (chars text.now) }
+{
+    let stop = until(text, is_ending);
+    FirstLine {
+        line: front(text, stop),
+        holds_null: true,
+        rest: behind_ending(stop),
     }
 }
 
@@ -29,29 +61,30 @@ fn ends_plain(byte: u8) -> bool
     matches!(byte, b'\0' | b'\n' | b'\r')
 }
 
-/// What is read of a line.
-pub(crate) fn secure_content(heap: Heap, line: &str) -> Result<String, Memory>
-    ensures { IfOk result (λ content. chars (string_bytes content)
-        ≡ line_content (chars line.now)) }
-{
-    secure_text(heap, without_ending(line))
-}
-
-/// The line without its ending.
-fn without_ending(line: &str) -> &str
-    ensures { chars result.now ≡ without_ending (chars line.now) }
-{
-    front(line, until(line, is_ending))
-}
-
 fn is_ending(byte: u8) -> bool
     ensures { result ≡ is_ending byte }
 {
     matches!(byte, b'\n' | b'\r')
 }
 
+/// The text behind the line ending at its front, if one stands there.
+fn behind_ending(text: &str) -> &str
+    ensures { chars result.now ≡ behind_ending (chars text.now) }
+{
+    if let Some(rest) = is(text, '\n') {
+        return rest;
+    }
+    let Some(rest) = is(text, '\r') else {
+        return text;
+    };
+    match is(rest, '\n') {
+        Some(behind) => behind,
+        None => rest,
+    }
+}
+
 /// The text with U+FFFD for each U+0000.
-fn secure_text(heap: Heap, text: &str) -> Result<String, Memory>
+pub(crate) fn secure_text(heap: Heap, text: &str) -> Result<String, Memory>
     ensures { IfOk result (λ secure. chars (string_bytes secure)
         ≡ map secure_char (chars text.now)) }
 {

@@ -1,8 +1,8 @@
 //! The document of a text: each of its lines in turn is added to a builder, and at the end all that is still open closes.
-ghost use Rattle.std.specs.Prelude.{◌≡◌, [], chars, IfOk, OnOk};
+ghost use Rattle.std.specs.Prelude.{◌≡◌, [], false, chars, map, IfOk, OnOk};
 ghost use Rattle.doc_rules.specs.Blocks.{document_of};
 ghost use Rattle.doc_rules.specs.Columns.{cells_of};
-ghost use Rattle.doc_rules.specs.Lines.{line_content};
+ghost use Rattle.doc_rules.specs.Lines.{secure_char};
 ghost use Rattle.doc_refs.specs.Targets.{targets_of};
 ghost use Rattle.doc_blocks_leaves.specs.Views.{blocks_shown};
 ghost use Rattle.doc_blocks.specs.StateSteps.{shown, after_line, document_left};
@@ -10,12 +10,11 @@ ghost use Rattle.doc_blocks.specs.BuilderSteps.{state_of};
 ghost use Rattle.doc_blocks.specs.LevelSteps.{IsSound};
 
 use crate::builder::Builder;
-use crate::content::{plain_content, secure_content};
+use crate::content::{FirstLine, first_line, secure_text};
 use doc_blocks_leaves::block::Block;
 use doc_heap::{Heap, Vec};
 use doc_lines::cursor::Cursor;
 use doc_lines::entities::Entities;
-use doc_lines::lines::Lines;
 use doc_page::failure::Memory;
 use doc_refs::RefMap;
 
@@ -36,30 +35,35 @@ pub fn blocks(heap: Heap, text: &str, entities: &Entities) -> Result<Document, M
         ≡ targets_of (document_of entities.now (chars text.now)).refs) }
 {
     let mut builder = Builder::new(heap);
-    'lines: for line in Lines::new(text) {
-        add_line(&mut builder, heap, entities, line)?;
+    let mut rest = text;
+    'lines: while !rest.is_empty() {
+        let first = first_line(rest);
+        add_line(&mut builder, heap, entities, first)?;
+        rest = first.rest;
     }
     let document = finish(builder, heap, entities)?;
     Ok(document)
 }
 
-/// A line, with its ending.
+/// A line.
 fn add_line(
     builder: &mut Builder,
     heap: Heap,
     entities: &Entities,
-    line: &str,
+    first: FirstLine,
 ) -> Result<(), Memory>
-    requires { IsSound builder.old.levels }
+    requires sound { IsSound builder.old.levels }
+    requires plain { first.holds_null ≡ false
+        → map secure_char (chars first.line.now) ≡ chars first.line.now }
     ensures line { OnOk result (after_line entities.now (state_of builder.old)
-        (cells_of (line_content (chars line.now))) ≡ shown (state_of builder.new)) }
+        (cells_of (map secure_char (chars first.entry.line.now))) ≡ shown (state_of builder.new)) }
     ensures sound { OnOk result (IsSound builder.new.levels) }
 {
-    if let Some(content) = plain_content(line) {
-        builder.add(heap, entities, &mut Cursor::new(content))?;
+    if !first.holds_null {
+        builder.add(heap, entities, &mut Cursor::new(first.line))?;
         return Ok(());
     }
-    let content = secure_content(heap, line)?;
+    let content = secure_text(heap, first.line)?;
     builder.add(heap, entities, &mut Cursor::new(content.as_str()))?;
     Ok(())
 }

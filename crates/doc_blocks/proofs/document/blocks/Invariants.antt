@@ -1,4 +1,6 @@
-use Rattle.std.proofs.Common.{◌≡◌, [], map, chars}
+use Rattle.std.proofs.Common.{◌≡◌, [], chars, length}
+use denote.Text.{Utf8}
+use denote.Shadow.{shadow}
 use Rattle.doc_rules.specs.Lines.{lines_of}
 use Rattle.doc_refs.specs.Targets.{targets_of}
 use Rattle.doc_blocks_pass.specs.Paths.{empty_path}
@@ -9,7 +11,11 @@ use Rattle.doc_blocks.proofs.document.blocks.Given as goal
 
 abbrev pub invariant-lines : goal.invariant-lines
 invariant-lines l = record {
+  is_text : shadow (Utf8 l.rest);
   sound : IsSound l.builder.levels;
   left : document_left l.entities (lines_of (chars l.text)) (empty_path, targets_of [])
-      ≡ document_left l.entities (map chars l.line-iterator) (shown (state_of l.builder));
+      ≡ document_left l.entities (lines_of (chars l.rest)) (shown (state_of l.builder));
 }
+
+abbrev pub decreases-lines : goal.decreases-lines
+decreases-lines l = length (chars l.rest)
