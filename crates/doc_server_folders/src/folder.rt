@@ -34,8 +34,8 @@ pub struct FolderPage {
 }
 
 /// The pages of a folder, in the order of their paths: each regular file in it and below whose name ends in `.md`. Names that begin
-/// with `.`, and links, are passed over. `CannotRead` names a folder or a file that can't be read, whose text isn't UTF-8, or whose
-/// name makes no path of a page; `Refused` says that the text of one is too long.
+/// with `.`, and links, are passed over. `CannotRead` names a folder that can't be read, or a file that can't, whose text isn't UTF-8
+/// or too long for a page, or whose name makes no path of one.
 pub fn read_folder<R: AllocGlobal + Files + Clone + Drop>(
     rt: &R,
     heap: Heap,
@@ -95,7 +95,15 @@ fn path_of(heap: Heap, folder: &Folder, file: &str) -> Result<Option<Path>, Faul
     match path_in_folder(heap, folder.prefix.get(), file) {
         Ok(path) => Ok(path),
         Err(PathError::Memory) => Err(Fault::Memory),
-        Err(PathError::BadPath) => Err(cannot_read(heap, file)),
+        Err(PathError::BadPath) => Err(no_page(heap, folder, file)),
+    }
+}
+
+/// What stops the program where the name of a file makes no path of a page.
+fn no_page(heap: Heap, folder: &Folder, file: &str) -> Fault {
+    match joined(heap, folder.file.get(), file) {
+        Ok(name) => cannot_read(heap, name.as_str()),
+        Err(_) => Fault::Memory,
     }
 }
 
@@ -124,7 +132,11 @@ fn read_file<R: AllocGlobal + Files>(rt: &R, heap: Heap, name: &str) -> Result<T
     let Ok(file) = File::open(rt, name) else {
         return Err(cannot_read(heap, name));
     };
-    let bytes = read_whole(heap, name, &mut ReadFrom::new(file), TEXT_LIMIT)?;
+    let bytes = match read_whole(heap, name, &mut ReadFrom::new(file), TEXT_LIMIT) {
+        Ok(bytes) => bytes,
+        Err(Fault::Refused) => return Err(cannot_read(heap, name)),
+        Err(fault) => return Err(fault),
+    };
     match String::from_utf8(bytes) {
         Ok(text) => Ok(Text::new(text)),
         Err(_) => Err(cannot_read(heap, name)),
