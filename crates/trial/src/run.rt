@@ -5,7 +5,6 @@ use crate::line::{Line, read_line};
 use doc_heap::{Heap, String, heap};
 use doc_page::failure::Memory;
 use std::io;
-use std::io::{BufRead, BufReader};
 
 /// The calls of a trial program.
 pub trait Calls {
@@ -15,10 +14,16 @@ pub trait Calls {
 
 /// Prints for each line of standard input what it answers.
 pub fn run<R: AllocGlobal + Input + Print, C: Calls>(rt: &R, calls: &C) -> io::Result<()> {
+    let text = io::read_to_string(rt.alloc(), rt.reader())?;
+    let ran = run_lines(rt, &text, calls);
+    drop(text);
+    ran
+}
+
+fn run_lines<R: AllocGlobal + Print, C: Calls>(rt: &R, text: &str, calls: &C) -> io::Result<()> {
     let heap = heap(rt.alloc(), u64::MAX)?;
-    for line in BufReader::new(rt.alloc(), rt.reader())?.lines(rt.alloc()) {
-        let line = line?;
-        match answer_of(heap, line.as_str(), calls) {
+    for line in text.lines() {
+        match answer_of(heap, line, calls) {
             Ok(answer) => println!(rt; "{answer}")?,
             Err(Memory) => println!(rt; "no memory for the line")?,
         }
