@@ -22,42 +22,34 @@ mod streams;
 mod tried;
 
 use commands::Command;
-use doc_heap::{String, heap};
+use doc_heap::{Heap, String, heap};
 use doc_page::failure::Memory;
 use scene::Heaps;
 use std::io;
-use std::io::{BufRead, BufReader};
 use trial::answer::no_call;
-use trial::line::{Line, read_line};
+use trial::run::{Calls, run};
 use tried::{answer, grown};
 
 fn main(rt: HostRuntime) -> io::Result<()> {
     let desk = heap(rt.alloc(), u64::MAX)?;
     let tried = heap(rt.alloc(), u64::MAX)?;
-    let heaps = Heaps { tried, desk };
-    for line in BufReader::new(rt.alloc(), rt.reader())?.lines(rt.alloc()) {
-        let line = line?;
-        match answer_of(heaps, line.as_str()) {
-            Ok(answer) => println!(rt; "{answer}")?,
-            Err(Memory) => println!(rt; "no memory for the line")?,
+    run(&rt, &mut Heaps { tried, desk })
+}
+
+impl Calls for Heaps {
+    fn called(&mut self, heap: Heap, name: &str, given: &str) -> Result<String, Memory> {
+        let heaps = *self;
+        match name {
+            "rounds" => rounds::answer(heaps, given),
+            "grow_rounds" => in_turn::grown(heaps, given),
+            "faults" => in_turn::faults(heaps, given),
+            _ => commanded(heap, name, given),
         }
     }
-    Ok(())
 }
 
-/// What is printed for a line.
-fn answer_of(heaps: Heaps, line: &str) -> Result<String, Memory> {
-    let heap = heaps.desk;
-    match read_line(heap, line)? {
-        Line::Comment => Ok(String::from_str(heap, line)?),
-        Line::Call { name, given } => called(heaps, name, &given),
-        Line::Wrong => no_call(heap),
-    }
-}
-
-/// What a call answers.
-fn called(heaps: Heaps, name: &str, given: &str) -> Result<String, Memory> {
-    let heap = heaps.desk;
+/// What a call of a command or of a stream answers.
+fn commanded(heap: Heap, name: &str, given: &str) -> Result<String, Memory> {
     match name {
         "demo" => answer(heap, Command::Demo, given),
         "grow_demo" => grown(heap, Command::Demo, given),
@@ -66,9 +58,6 @@ fn called(heaps: Heaps, name: &str, given: &str) -> Result<String, Memory> {
         "examples" => answer(heap, Command::Examples, given),
         "grow_examples" => grown(heap, Command::Examples, given),
         "echo" => echo::answer(heap, given),
-        "rounds" => rounds::answer(heaps, given),
-        "grow_rounds" => in_turn::grown(heaps, given),
-        "faults" => in_turn::faults(heaps, given),
         _ => no_call(heap),
     }
 }

@@ -27,7 +27,7 @@ mod stop;
 mod world;
 mod written;
 
-use doc_heap::{String, heap};
+use doc_heap::{Heap, String, heap};
 use doc_html::CommonMark;
 use doc_lines::entities::Entities;
 use doc_page::failure::Memory;
@@ -38,8 +38,7 @@ use std::io;
 use std::marker::Brand;
 use std::sync::ledger::{Blank, Ledger};
 use stop::said;
-use trial::answer::no_call;
-use trial::line::{Line, read_line};
+use trial::run::{Calls, run_lines};
 use world::{Heaps, World, new_world};
 
 fn main(rt: HostRuntime) -> io::Result<()> {
@@ -104,27 +103,17 @@ fn run_world_with<R: Renderer + Drop, P: AllocGlobal + Print>(
 }
 
 /// Prints what a world's line and each of its calls answer.
-fn run_calls<R: Renderer + Drop, P: Print>(
+fn run_calls<R: Renderer + Drop, P: AllocGlobal + Print>(
     rt: &P,
     world: &mut World<R>,
     calls: &str,
 ) -> io::Result<()> {
     println!(rt; "()")?;
-    for line in calls.lines() {
-        match answer_of(world, line) {
-            Ok(answer) => println!(rt; "{answer}")?,
-            Err(Memory) => println!(rt; "no memory for the line")?,
-        }
-    }
-    Ok(())
+    run_lines(rt, calls, world)
 }
 
-/// What is printed for a line.
-fn answer_of<R: Renderer + Drop>(world: &mut World<R>, line: &str) -> Result<String, Memory> {
-    let desk = world.heaps.desk;
-    match read_line(desk, line)? {
-        Line::Comment => Ok(String::from_str(desk, line)?),
-        Line::Call { name, given } => said(desk, answer(world, name, &given)),
-        Line::Wrong => no_call(desk),
+impl<R: Renderer + Drop> Calls for World<R> {
+    fn called(&mut self, heap: Heap, name: &str, given: &str) -> Result<String, Memory> {
+        said(heap, answer(self, name, given))
     }
 }

@@ -1,0 +1,67 @@
+//! What the links of a page lead to.
+
+use crate::counting::Counting;
+use crate::given::Heaps;
+use crate::page::{Kind, page_of};
+use crate::stop::{Stop, written_made};
+use doc_heap::{Heap, String};
+use doc_page::failure::Memory;
+use doc_page::list::List;
+use doc_page::path::Path;
+use doc_page::rendered::{Piece, Rendered};
+use doc_resolve::{decisions, goals_of, kinds};
+use trial::answer::shown;
+
+/// `DESTINATION | ..`: what the links of a page to these destinations lead to.
+pub fn kinds_told(heaps: Heaps, page: &Path, dests: &str) -> Result<String, Stop> {
+    let rendered = page_of(heaps.desk, Kind::Links, dests)?;
+    let kinds = kinds(heaps.tried, page, rendered.pieces.get());
+    drop(rendered);
+    written_made(heaps.desk, kinds)
+}
+
+/// `DESTINATION | ..`: the pages that they lead to for a reader.
+pub fn links_told(
+    heaps: Heaps,
+    name: &str,
+    page: &Path,
+    sight: &Counting,
+    dests: &str,
+) -> Result<String, Stop> {
+    let rendered = page_of(heaps.desk, Kind::Links, dests)?;
+    let told = match name {
+        "goals" => goals_told(heaps, page, sight, rendered.pieces.get()),
+        "decisions" => decisions_told(heaps, page, sight, &rendered),
+        _ => Err(Stop::NoCall),
+    };
+    drop(rendered);
+    told
+}
+
+fn goals_told(
+    heaps: Heaps,
+    page: &Path,
+    sight: &Counting,
+    pieces: &[Piece],
+) -> Result<String, Stop> {
+    let links = kinds(heaps.desk, page, pieces)?;
+    let goals = goals_of(heaps.tried, &links, sight);
+    drop(links);
+    written_made(heaps.desk, goals)
+}
+
+fn decisions_told(
+    heaps: Heaps,
+    page: &Path,
+    sight: &Counting,
+    rendered: &Rendered,
+) -> Result<String, Stop> {
+    match decisions(heaps.tried, page, rendered, sight) {
+        Ok(all) => Ok(listed(heaps.desk, all)?),
+        Err(Memory) => Err(Stop::Memory),
+    }
+}
+
+fn listed(desk: Heap, all: List<Option<Path>>) -> Result<String, Memory> {
+    shown(desk, all.into_inner())
+}
