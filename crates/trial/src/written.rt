@@ -130,7 +130,7 @@ fn numbered_char(written: &str) -> Option<(char, &str)> {
 }
 
 /// The number that hexadecimal digits write. (To read them by the standard library is much dearer to prove.)
-fn hexadecimal(digits: &str) -> Option<u32> {
+pub fn hexadecimal(digits: &str) -> Option<u32> {
     if digits.is_empty() {
         return None;
     }

@@ -1,14 +1,13 @@
 //! The calls by their names.
 
 use crate::given::Trial;
-use crate::of_cache;
-use crate::of_keys;
 use crate::of_paths::at_path;
 use crate::of_readers::{asked_by, behind_token};
 use crate::of_references::resolved;
 use crate::of_site::Site;
 use crate::of_words::{query_told, words_told};
 use crate::stop::{Stop, told, told_whether, written};
+use crate::{of_cache, of_keys};
 use doc_heap::String;
 
 /// What a call answers.

@@ -72,13 +72,7 @@ fn stamp_and_text<'a>(page: Option<&'a Page>) -> Option<(u64, &'a str)> {
     }
 }
 
-fn to_path(
-    desk: Heap,
-    site: &mut Site,
-    name: &str,
-    from: &Path,
-    to: &str,
-) -> Result<String, Stop> {
+fn to_path(desk: Heap, site: &mut Site, name: &str, from: &Path, to: &str) -> Result<String, Stop> {
     let to = path_of(desk, to)?;
     let moved = match name {
         "may_move" => Ok(site.store.may_move(from, &to)),

@@ -24,7 +24,12 @@ use doc_words::index::WordIndex;
 use doc_words::word::Word;
 
 /// The text of the pages with links to a page that is held and seen.
-pub fn backlinks_to(heaps: Heaps, site: &Site, reader: &Reader, target: &Path) -> Result<String, Stop> {
+pub fn backlinks_to(
+    heaps: Heaps,
+    site: &Site,
+    reader: &Reader,
+    target: &Path,
+) -> Result<String, Stop> {
     let all = sources(&site.store, site.indexes.links(), reader, target)?;
     let told = sources_told(heaps, all.get());
     drop(all);
