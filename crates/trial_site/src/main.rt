@@ -1,4 +1,5 @@
-//! Tries the calls of `doc_http` and of `doc_hub`, as `trial` says, in worlds: a line `world` begins a new one.
+//! Tries the calls of `doc_http` and of `doc_hub`, and the commands `demo`, `render` and `examples`, as `trial` says. A line `world` begins
+//! a new world, of which the calls below it are; the lines in front of the first one are of commands and streams (`programs`).
 //!
 //! - `world keep CACHE READERS` makes a hub with the readers of a TOML text, and `world close CACHE READERS` one that keeps no connection
 //!   alive. It answers `()`, or what refuses it; then no calls follow.
@@ -17,13 +18,24 @@
 
 ghost use Rattle.std.specs.Prelude.{◌≡◌, ◌<◌};
 
+mod commands;
+mod echo;
 mod events;
+mod feed;
 mod given;
 mod hubs;
+mod in_turn;
 mod outcomes;
+mod programs;
 mod requests;
 mod rounds;
+mod scene;
+mod scripts;
+mod sink;
 mod stop;
+mod streams;
+mod tried;
+mod ways;
 mod world;
 mod written;
 
@@ -48,10 +60,11 @@ fn main(rt: HostRuntime) -> io::Result<()> {
     ran
 }
 
-/// Prints what the lines of each world answer, behind the comments in front of the first one.
+/// Prints what the lines in front of the first world answer, and then those of each world.
 fn run<P: AllocGlobal + Print>(rt: &P, text: &str) -> io::Result<()> {
-    let (comments, worlds) = text.split_once("\nworld ").unwrap_or((text, ""));
-    println!(rt; "{comments}")?;
+    let (lines, worlds) = text.split_once("\nworld ").unwrap_or((text, ""));
+    let mut heaps = new_heaps(rt)?;
+    run_lines(rt, lines, &mut heaps)?;
     for lines in worlds.split("\nworld ") {
         begin_world(rt, lines)?;
     }

@@ -8,7 +8,8 @@
 
 ghost use Rattle.std.specs.Prelude.{◌≡◌, ◌<◌};
 
-use crate::scene::{Heaps, Scene, act};
+use crate::scene::{Scene, act};
+use crate::world::Heaps;
 use doc_heap::String;
 use doc_hub::hub::Hub;
 use doc_page::failure::Memory;
