@@ -5,8 +5,8 @@
 //!
 //! The answer is the status that the command ends with or what stops it, whether it left bytes of the input, and what it wrote.
 //!
-//! `echo` is given `GROWTHS PIECE READ WRITE TEXT`: a stream over memory (`echo`). `rounds SCRIPT` serves rounds over links (`scripts`), and
-//! `faults PLACE REPLY | SCRIPT` and `grow_rounds TURNS SCRIPT` play a script with calls of a stream, or growths, failing in turn
+//! `echo` is given `GROWTHS PIECE READ WRITE TEXT`: a stream over memory (`echo`). `rounds SCRIPT` serves rounds over links (`scripts`),
+//! and `faults PLACE REPLY | SCRIPT` and `grow_rounds TURNS SCRIPT` play a script with calls of a stream, or growths, failing in turn
 //! (`in_turn`).
 
 use crate::commands::Command;
