@@ -1,6 +1,5 @@
 //! What the links of a page lead to.
 
-use crate::counting::Counting;
 use crate::given::Heaps;
 use crate::page::{Kind, page_of};
 use crate::stop::{Stop, written_made};
@@ -9,6 +8,7 @@ use doc_page::failure::Memory;
 use doc_page::list::List;
 use doc_page::path::Path;
 use doc_page::rendered::{Piece, Rendered};
+use doc_page::sight::Sight;
 use doc_resolve::{decisions, goals_of, kinds};
 use trial::answer::shown;
 
@@ -21,11 +21,11 @@ pub fn kinds_told(heaps: Heaps, page: &Path, dests: &str) -> Result<String, Stop
 }
 
 /// `DESTINATION | ..`: the pages that they lead to for a reader.
-pub fn links_told(
+pub fn links_told<S: Sight>(
     heaps: Heaps,
     name: &str,
     page: &Path,
-    sight: &Counting,
+    sight: &S,
     dests: &str,
 ) -> Result<String, Stop> {
     let rendered = page_of(heaps.desk, Kind::Links, dests)?;
@@ -38,10 +38,10 @@ pub fn links_told(
     told
 }
 
-fn goals_told(
+fn goals_told<S: Sight>(
     heaps: Heaps,
     page: &Path,
-    sight: &Counting,
+    sight: &S,
     pieces: &[Piece],
 ) -> Result<String, Stop> {
     let links = kinds(heaps.desk, page, pieces)?;
@@ -50,10 +50,10 @@ fn goals_told(
     written_made(heaps.desk, goals)
 }
 
-fn decisions_told(
+fn decisions_told<S: Sight>(
     heaps: Heaps,
     page: &Path,
-    sight: &Counting,
+    sight: &S,
     rendered: &Rendered,
 ) -> Result<String, Stop> {
     match decisions(heaps.tried, page, rendered, sight) {
