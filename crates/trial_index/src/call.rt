@@ -8,7 +8,8 @@ use crate::of_site::Site;
 use crate::of_words::{query_told, words_told};
 use crate::stop::{Stop, told, told_whether, written};
 use crate::{of_cache, of_keys};
-use doc_heap::String;
+use doc_heap::{Heap, String};
+use doc_store::reader::Reader;
 
 /// What a call answers.
 pub fn called(trial: &mut Trial, name: &str, given: &str) -> Result<String, Stop> {
@@ -49,11 +50,15 @@ fn asked(trial: &Trial) -> Result<String, Stop> {
 fn of_tokens(trial: &mut Trial, name: &str, given: &str) -> Result<String, Stop> {
     let desk = trial.heaps.desk;
     match name {
-        "reader" => written(desk, trial.readers.find(given)),
+        "reader" => reader_told(desk, trial.readers.find(given)),
         "remove_reader" => told_whether(desk, trial.readers.remove(given)),
         "set_reader" | "find_reader" => behind_token(desk, &mut trial.readers, name, given),
         _ => of_keys(trial, name, given),
     }
+}
+
+fn reader_told(desk: Heap, reader: Option<&Reader>) -> Result<String, Stop> {
+    Ok(format!(in desk; "{reader:?}")?)
 }
 
 /// A call of the index by key.

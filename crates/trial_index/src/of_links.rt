@@ -2,22 +2,21 @@
 
 use crate::given::Heaps;
 use crate::page::{Kind, page_of};
-use crate::stop::{Stop, written_made};
-use doc_heap::{Heap, String};
+use crate::stop::Stop;
+use doc_heap::{Heap, String, Vec};
 use doc_page::failure::Memory;
-use doc_page::list::List;
 use doc_page::path::Path;
 use doc_page::rendered::{Piece, Rendered};
 use doc_page::sight::Sight;
 use doc_resolve::{decisions, goals_of, kinds};
-use trial::answer::shown;
+use std::fmt::Debug;
 
 /// `DESTINATION | ..`: what the links of a page to these destinations lead to.
 pub fn kinds_told(heaps: Heaps, page: &Path, dests: &str) -> Result<String, Stop> {
     let rendered = page_of(heaps.desk, Kind::Links, dests)?;
     let kinds = kinds(heaps.tried, page, rendered.pieces.get());
     drop(rendered);
-    written_made(heaps.desk, kinds)
+    listed(heaps.desk, kinds)
 }
 
 /// `DESTINATION | ..`: the pages that they lead to for a reader.
@@ -47,7 +46,7 @@ fn goals_told<S: Sight>(
     let links = kinds(heaps.desk, page, pieces)?;
     let goals = goals_of(heaps.tried, &links, sight);
     drop(links);
-    written_made(heaps.desk, goals)
+    listed(heaps.desk, goals)
 }
 
 fn decisions_told<S: Sight>(
@@ -57,11 +56,19 @@ fn decisions_told<S: Sight>(
     rendered: &Rendered,
 ) -> Result<String, Stop> {
     match decisions(heaps.tried, page, rendered, sight) {
-        Ok(all) => Ok(listed(heaps.desk, all)?),
+        Ok(all) => listed(heaps.desk, Ok(all.into_inner())),
         Err(Memory) => Err(Stop::Memory),
     }
 }
 
-fn listed(desk: Heap, all: List<Option<Path>>) -> Result<String, Memory> {
-    shown(desk, all.into_inner())
+/// What is printed for values, where memory did not run out for them.
+fn listed<T: Debug + Drop>(desk: Heap, made: Result<Vec<T>, Memory>) -> Result<String, Stop> {
+    let all = made?;
+    let told = shown_each(desk, &all);
+    drop(all);
+    told
+}
+
+fn shown_each<T: Debug>(desk: Heap, all: &[T]) -> Result<String, Stop> {
+    Ok(format!(in desk; "{all:?}")?)
 }

@@ -55,7 +55,7 @@ fn of_store(
 ) -> Result<String, Stop> {
     match name {
         "get" => written(desk, stamp_and_text(site.store.get(path))),
-        "page" => written(desk, site.store.get(path)),
+        "page" => page_told(desk, site.store.get(path)),
         "fits" => answered(desk, site.store.fits(path, rest)),
         "store_remove" => told_whether(desk, site.store.remove(path)),
         "remove" => told_whether(desk, site.remove(path)),
@@ -63,6 +63,10 @@ fn of_store(
         "is_for" | "store" | "put" => for_groups(desk, site, name, path, rest),
         _ => Err(Stop::NoCall),
     }
+}
+
+fn page_told(desk: Heap, page: Option<&Page>) -> Result<String, Stop> {
+    Ok(format!(in desk; "{page:?}")?)
 }
 
 fn stamp_and_text<'a>(page: Option<&'a Page>) -> Option<(u64, &'a str)> {
