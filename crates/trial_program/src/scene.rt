@@ -1,8 +1,7 @@
 //! Links over streams in memory, and rounds over them.
 
 use crate::streams::Streamed;
-use crate::world::Heaps;
-use doc_heap::{String, Vec};
+use doc_heap::{Heap, String, Vec};
 use doc_hub::event::ConnId;
 use doc_hub::hub::Hub;
 use doc_hub::refusal::ConnectError;
@@ -12,6 +11,13 @@ use doc_server_links::memory_stream::MemoryStream;
 use doc_server_rounds::link::Link;
 use doc_server_rounds::round::{Round, serve_round};
 use std::str::from_utf8;
+
+/// The heap of hubs and rounds, whose growths may be refused, and the heap of streams and answers, whose growths never are.
+#[derive(Clone, Copy)]
+pub struct Heaps {
+    pub tried: Heap,
+    pub desk: Heap,
+}
 
 /// Links, and what came of the rounds over them.
 #[derive(Drop)]

@@ -1,6 +1,6 @@
 //! The writer that a command is tried with.
 
-use crate::ways::{Given, Way};
+use crate::given::{Given, Way};
 use doc_heap::{Heap, String, Vec};
 use doc_page::failure::Memory;
 use std::io;

@@ -1,8 +1,7 @@
 //! Scripts that are played again and again, with each call of a stream or each growth of a round failing in turn.
 
-use crate::scene::{Scene, push_links};
-use crate::scripts::played;
-use crate::world::Heaps;
+use crate::rounds::played;
+use crate::scene::{Heaps, Scene, push_links};
 use doc_heap::{Heap, String};
 use doc_page::failure::Memory;
 use doc_server_links::memory_stream::MemoryStream;

@@ -2,8 +2,8 @@
 
 use crate::commands::Command;
 use crate::feed::Feed;
+use crate::given::{Given, bytes_of, read_given};
 use crate::sink::Sink;
-use crate::ways::{Given, bytes_of, read_given};
 use doc_heap::{Heap, String};
 use doc_page::failure::Memory;
 use doc_server::fault::Fault;

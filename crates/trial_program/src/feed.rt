@@ -1,6 +1,6 @@
 //! The reader that a command is tried with.
 
-use crate::ways::Way;
+use crate::given::Way;
 use std::io;
 use std::io::{ErrorKind, Read};
 

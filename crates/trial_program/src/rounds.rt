@@ -8,8 +8,7 @@
 
 ghost use Rattle.std.specs.Prelude.{◌≡◌, ◌<◌};
 
-use crate::scene::{Scene, act};
-use crate::world::Heaps;
+use crate::scene::{Heaps, Scene, act};
 use doc_heap::String;
 use doc_hub::hub::Hub;
 use doc_page::failure::Memory;
