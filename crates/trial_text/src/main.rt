@@ -34,23 +34,23 @@ struct TextCalls {
 }
 
 impl Calls for TextCalls {
-    fn called(&mut self, heap: Heap, name: &str, given: &str) -> Result<String, Memory> {
+    fn called(&self, heap: Heap, name: &str, given: &str) -> Option<Result<String, Memory>> {
         let tools = Tools {
             tried: self.tried,
             desk: heap,
             entities: &self.entities,
         };
-        match name.strip_prefix("grow_") {
+        Some(match name.strip_prefix("grow_") {
             Some(name) => growing::called(tools, name, given),
             None => of_lines::called(tools, name, given),
-        }
+        })
     }
 }
 
 fn main(rt: HostRuntime) -> io::Result<()> {
-    let mut calls = TextCalls {
+    let calls = TextCalls {
         tried: heap(rt.alloc(), u64::MAX)?,
         entities: Entities::built_in(),
     };
-    run(&rt, &mut calls)
+    run(&rt, &calls)
 }
