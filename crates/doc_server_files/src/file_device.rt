@@ -7,49 +7,21 @@
 ghost use Rattle.std.specs.Prelude.{◌≡◌, ◌≤◌, false, true, length, IfOk};
 ghost use Rattle.doc_server_files.specs.FileDevices.{has_failed};
 
+use crate::fault::FileFault;
+use crate::names::sync_folder;
 use doc_heap::{Heap, Vec};
 use doc_page::bytes::Bytes;
 use doc_server_journal::device::Device;
 use doc_server_journal::fault::{DeviceFault, LoadError};
-use std::error::Error;
-use std::fs::{File, OpenOptions, TryLockError};
-use std::os::unix::fs::FileExt;
-use std::{fmt, io};
+use std::fs::{File, OpenOptions, metadata, remove_file};
+use std::os::fd::AsFd;
+use std::os::unix::fs::{FileExt, MetadataExt, OpenOptionsExt, fchown};
 
-/// Why a file isn't opened.
-#[derive(Clone, Copy, Debug, PartialEq, Eq)]
-pub enum FileFault {
-    /// Another process has it open as a device.
-    InUse,
-    /// It can't be opened or made, is no regular file, or can't be locked.
-    NotOpened,
-}
+/// How often a file is opened again whose name another got meanwhile.
+const TRIES: u32 = 8;
 
-impl fmt::Display for FileFault {
-    fn fmt<W: fmt::Write>(&self, f: &mut fmt::Formatter<W>) -> fmt::Result {
-        f.write_str(match self {
-            FileFault::InUse => "journal in use",
-            FileFault::NotOpened => "cannot open journal",
-        })
-    }
-}
-
-impl Error for FileFault {}
-
-impl From<io::Error> for FileFault {
-    fn from(_e: io::Error) -> FileFault {
-        FileFault::NotOpened
-    }
-}
-
-impl From<TryLockError> for FileFault {
-    fn from(e: TryLockError) -> FileFault {
-        match e {
-            TryLockError::WouldBlock => FileFault::InUse,
-            TryLockError::Error(_) => FileFault::NotOpened,
-        }
-    }
-}
+/// The rights of a file that is made: its pages are for those who may read its owner's files.
+const OWNER_ALONE: u32 = 0o600;
 
 /// An open file, locked while the device is there.
 #[derive(Drop)]
@@ -59,35 +31,71 @@ pub struct FileDevice {
 }
 
 impl FileDevice {
-    /// Opens the file of this name, made where there is none, and takes its lock. Its folder is synced, so that a crash leaves
-    /// the name.
+    /// Opens the file of this name, made for its owner alone where there is none, and takes its lock. Its folder is synced, so that
+    /// a crash leaves the name. The lock of a file that lost its name to another, as by a compaction, isn't kept: then that other
+    /// file is opened.
     pub fn open(rt: &HostRuntime, name: &str) -> Result<FileDevice, FileFault>
         ensures { IfOk result (λ device. has_failed device ≡ false) }
     {
+        for _ in 0..TRIES {
+            let device = open_and_lock(rt, name)?;
+            if device.has_name(rt, name)? {
+                sync_folder(rt, name)?;
+                return Ok(device);
+            }
+        }
+        Err(FileFault::InUse)
+    }
+
+    /// Makes a file of this name with the owner and the rights of this one, and takes its lock. A file that has the name goes.
+    pub fn make_like(&self, rt: &HostRuntime, name: &str) -> Result<FileDevice, FileFault>
+        ensures { IfOk result (λ device. has_failed device ≡ false) }
+    {
+        let _ = remove_file(rt, name);
         let file = OpenOptions::new()
             .read(true)
             .write(true)
-            .create(true)
+            .create_new(true)
+            .mode(OWNER_ALONE)
             .open(rt, name)?;
-        if !file.metadata()?.is_file() {
-            return Err(FileFault::NotOpened);
-        }
         file.try_lock()?;
-        File::open(rt, folder_of(name))?.sync_all()?;
+        let metadata = self.file.metadata()?;
+        fchown(file.as_fd(), Some(metadata.uid()), Some(metadata.gid()))?;
+        file.set_permissions(metadata.permissions())?;
         Ok(FileDevice {
             file,
             failed: false,
         })
     }
+
+    /// Whether the file of this name is this one.
+    fn has_name(&self, rt: &HostRuntime, name: &str) -> Result<bool, FileFault> {
+        let Ok(named) = metadata(rt, name) else {
+            return Ok(false);
+        };
+        let open = self.file.metadata()?;
+        Ok(open.dev() == named.dev() && open.ino() == named.ino())
+    }
 }
 
-/// The folder of a name.
-fn folder_of(name: &str) -> &str {
-    match name.rsplit_once('/') {
-        Some(("", _)) => "/",
-        Some((folder, _)) => folder,
-        None => ".",
+/// Opens the file of a name, made where there is none, and takes its lock.
+fn open_and_lock(rt: &HostRuntime, name: &str) -> Result<FileDevice, FileFault>
+    ensures { IfOk result (λ device. has_failed device ≡ false) }
+{
+    let file = OpenOptions::new()
+        .read(true)
+        .write(true)
+        .create(true)
+        .mode(OWNER_ALONE)
+        .open(rt, name)?;
+    if !file.metadata()?.is_file() {
+        return Err(FileFault::NotOpened);
     }
+    file.try_lock()?;
+    Ok(FileDevice {
+        file,
+        failed: false,
+    })
 }
 
 /// All bytes of a file, `most` at most.

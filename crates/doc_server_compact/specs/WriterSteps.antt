@@ -1,0 +1,20 @@
+-- Words in which the steps of a writer are stated.
+use Rattle.std.specs.Prelude.{◌≡◌, ◌++◌, ◌≤◌, ℕ, List, length, Bool, Option, string_bytes}
+use Rattle.doc_store.specs.Store.{Edit}
+use Rattle.doc_server_journal.specs.Journals.{IsOpen}
+use Rattle.doc_server_journal.specs.Records.{text_limit}
+use Rattle.doc_server_compact.specs.declared.writer.EditWriter.{EditWriter}
+use Rattle.doc_server_compact.specs.Lines.{lines_of}
+use Rattle.doc_server_compact.specs.Written.{AreLines}
+
+-- What was written so far: the first of the edits in records, and the lines of the others.
+pub record HasWritten {D : Type 0} (seen : D → Option (List ℕ)) (may_leave : D → List ℕ → Type 0) (failed : D → Bool)
+    (writer : EditWriter D) (edits : List Edit) : Type 0 where
+  pub records : List (List ℕ)
+  pub first : List Edit
+  pub others : List Edit
+  pub is_open : IsOpen seen may_leave failed writer.journal records
+  pub lines : AreLines records first
+  pub text : string_bytes writer.text ≡ lines_of others
+  pub within : length (string_bytes writer.text) ≤ text_limit
+  pub all : first ++ others ≡ edits

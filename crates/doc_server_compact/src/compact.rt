@@ -1,0 +1,153 @@
+//! A journal whose edits lead from one site to another.
+
+ghost use Rattle.std.specs.Prelude.{◌≡◌, ◌++◌, ◌∷◌, [], ◌||◌, List, false, true, OnOk, IfOk};
+ghost use Rattle.std.specs.FinMap as map;
+ghost use Rattle.std.specs.List.{flat_map};
+ghost use Rattle.doc_server_journal.specs.Journals.{IsOpen};
+ghost use Rattle.doc_store.specs.Groups.{texts_of};
+ghost use Rattle.doc_store.specs.Names.{aliases_of};
+ghost use Rattle.doc_store.specs.Store.{Edit};
+ghost use Rattle.doc_server_compact.specs.Compactions.{compacted, made, other_pages, removals, same_at};
+ghost use Rattle.doc_server_compact.specs.Written.{IsWritten};
+ghost use Rattle.doc_server_compact.specs.WriterSteps.{HasWritten};
+
+use crate::fault::CompactFault;
+use crate::writer::EditWriter;
+use doc_heap::{Heap, String, Vec};
+use doc_page::failure::Memory;
+use doc_page::path::Path;
+use doc_server_journal::device::Device;
+use doc_server_journal::journal::Journal;
+use doc_server_journal::opening::Opened;
+use doc_store::store::Store;
+
+/// Writes a journal to an empty device: records of whole lines, one line for each edit that leads from a configuration's site to
+/// another. At `Ok` all of it is on the device.
+pub fn compact<D: Device>(
+    heap: Heap,
+    config: &Store,
+    site: &Store,
+    device: D,
+) -> Result<Journal<D>, CompactFault>
+    requires usable { D.failed device ≡ false }
+    ensures { IfOk result (λ journal.
+        IsWritten D.seen D.may_leave D.failed journal
+        (compacted config.now.site site.now.site)) }
+{
+    let mut writer = begin(heap, device)?;
+    write_removals(heap, config, site, &mut writer)?;
+    write_pages(heap, config, site, &mut writer)?;
+    finish(heap, writer)
+}
+
+/// An empty journal on an empty device.
+fn begin<D: Device>(heap: Heap, device: D) -> Result<EditWriter<D>, CompactFault>
+    requires usable { D.failed device ≡ false }
+    ensures { IfOk result (λ writer. HasWritten D.seen D.may_leave D.failed writer []) }
+{
+    match Journal::open(heap, device, 1) {
+        Ok(opened) => begin_at(heap, opened),
+        Err(refused) => Err(CompactFault::from(refused.fault)),
+    }
+}
+
+/// The writer of a journal that was opened, where it has no records.
+fn begin_at<D: Device>(heap: Heap, opened: Opened<D>) -> Result<EditWriter<D>, CompactFault>
+    requires open { IsOpen D.seen D.may_leave D.failed opened.journal opened.texts }
+    ensures { IfOk result (λ writer. HasWritten D.seen D.may_leave D.failed writer []) }
+{
+    let Opened { journal, texts } = opened;
+    if !texts.get().is_empty() {
+        return Err(CompactFault::NotEmpty);
+    }
+    Ok(EditWriter {
+        journal,
+        text: String::new(heap),
+    })
+}
+
+/// Writes the removals of the pages that the configuration gives otherwise than the site has them.
+fn write_removals<D: Device>(
+    heap: Heap,
+    config: &Store,
+    site: &Store,
+    writer: &mut EditWriter<D>,
+) -> Result<(), CompactFault>
+    requires written { HasWritten D.seen D.may_leave D.failed writer.old [] }
+    ensures { OnOk result (HasWritten D.seen D.may_leave D.failed writer.new
+        (removals (other_pages config.now.site site.now.site config.now.site.pages))) }
+{
+    for (path, _page) in config.pages() {
+        if !same_at(config, site, path)? {
+            writer.remove(heap, path)?;
+        }
+    }
+    Ok(())
+}
+
+/// Writes the edits that make the pages that the site has otherwise than the configuration gives them.
+fn write_pages<D: Device>(
+    heap: Heap,
+    config: &Store,
+    site: &Store,
+    writer: &mut EditWriter<D>,
+) -> Result<(), CompactFault>
+    requires written { (edits : List Edit)
+        × HasWritten D.seen D.may_leave D.failed writer.old edits }
+    ensures { (edits : List Edit) → HasWritten D.seen D.may_leave D.failed writer.old edits
+        → OnOk result (HasWritten D.seen D.may_leave D.failed writer.new (edits
+        ++ flat_map (made site.now.site)
+        (other_pages config.now.site site.now.site site.now.site.pages))) }
+{
+    for (path, page) in site.pages() {
+        if !same_at(config, site, path)? {
+            let names = names_of(site, path)?;
+            writer.make_along(heap, page, names.as_slice())?;
+        }
+    }
+    Ok(())
+}
+
+/// Whether two sites have the same page under a path, with the same aliases. A page stands there in one of them.
+fn same_at(config: &Store, site: &Store, path: &Path) -> Result<bool, Memory>
+    requires stands { (map.contains_key config.now.site.pages path.now
+        || map.contains_key site.now.site.pages path.now) ≡ true }
+    ensures { IfOk result (λ same. same ≡ same_at config.now.site site.now.site path.now) }
+{
+    let (Some(page), Some(other)) = (config.get(path), site.get(path)) else {
+        return Ok(false);
+    };
+    if page.groups() != other.groups() || page.text() != other.text() {
+        return Ok(false);
+    }
+    let names = config.names_of(path)?;
+    let others = site.names_of(path)?;
+    Ok(names.as_slice() == others.as_slice())
+}
+
+/// The names of a page, its path behind its aliases.
+fn names_of<'a>(site: &'a Store, path: &Path) -> Result<Vec<&'a Path>, Memory>
+    requires stands { map.contains_key site.now.site.pages path.now ≡ true }
+    ensures { IfOk result (λ names. texts_of names.items
+        ≡ aliases_of site.now.site.aliases path.now ++ path.now ∷ []) }
+{
+    let mut names = site.names_of(path)?;
+    if !names.is_empty() {
+        names.rotate_left(1);
+    }
+    Ok(names)
+}
+
+/// The journal, with a record of the lines that are in none yet, where there are any.
+fn finish<D: Device>(heap: Heap, writer: EditWriter<D>) -> Result<Journal<D>, CompactFault>
+    requires written { (edits : List Edit) × HasWritten D.seen D.may_leave D.failed writer edits }
+    ensures { (edits : List Edit) → HasWritten D.seen D.may_leave D.failed writer edits
+        → IfOk result (λ journal. IsWritten D.seen D.may_leave D.failed journal edits) }
+{
+    let mut writer = writer;
+    if !writer.text.is_empty() {
+        writer.end_record(heap)?;
+    }
+    let EditWriter { journal, text: _ } = writer;
+    Ok(journal)
+}

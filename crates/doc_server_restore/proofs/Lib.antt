@@ -1,0 +1,4 @@
+mod Effects
+mod LineLaws
+mod MadeSteps
+mod RecordSteps

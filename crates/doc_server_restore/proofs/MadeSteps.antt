@@ -1,0 +1,91 @@
+-- What the calls of a hub and of a store answer to an edit.
+use Rattle.std.proofs.Common.{◌≡◌, ℕ, List, Bool, true, false, refl, ap, sym, subst, ◌∙◌}
+use Rattle.std.specs.Prelude.{Option, Some, None, option_map, Result, Ok, Err, if◌then◌else◌}
+use Rattle.std.specs.FinMap as map
+use Rattle.doc_page.specs.Refusals.{IsAnswer}
+use Rattle.doc_store.specs.Pages.{Page}
+use Rattle.doc_store.specs.Store.{StoreState, set_page, remove_page, move_page, put_into, put_by, fits_in, without_page}
+use Rattle.doc_store.specs.Store.{effect_of, moved_in, moved_by, may_move}
+use Rattle.doc_store.specs.declared.moving.MoveError.{MoveError}
+use Rattle.doc_store.specs.declared.store.EditError.{EditError}
+use Rattle.doc_hub.specs.Worlds.{World, store_of, with_store, world_removed}
+use Rattle.doc_server_compact.specs.Replays.{unless_refused}
+use Rattle.doc_server_restore.specs.Restores.{made, unstamped}
+use Rattle.doc_server_restore.specs.RestoreSteps.{Tells}
+
+-- ---- calls that answer by a store and a result
+
+abbrev After : {X E : Type 0} → StoreState → Result X E → Option StoreState
+After store said = option_map unstamped (unless_refused store said)
+
+-- a refusal but for want of memory
+pub refused : {X E : Type 0} (memory e : E) (store : StoreState) (said : Result X E) → IsAnswer memory said (Err e) → ¬ (e ≡ memory)
+    → option_map unstamped (unless_refused store said) ≡ None
+refused memory e store (Ok x) is other = absurd (other is)
+refused memory e store (Err f) is other = refl
+
+-- a hub's answer
+pub hub_accepted : {X E : Type 0} (w v : World) (r : StoreState × Result X E) (x : X)
+    → ◌≡◌ {A = World × Result X E} (with_store w r.0, r.1) (v, Ok x)
+    → option_map unstamped (unless_refused r.0 r.1) ≡ Some (store_of v)
+hub_accepted w v r x is =
+    ap (λ said. option_map unstamped (unless_refused r.0 said)) (ap (λ p. p.1) is) ∙ ap (λ p. Some (store_of p.0)) is
+
+removed_if : (b : Bool) (store : StoreState) → Tells b (option_map unstamped (if b then Some store else None)) (unstamped store)
+removed_if true store = refl
+removed_if false store = refl
+
+pub hub_removed : (w v : World) (path : List ℕ) (said : Bool) → ◌≡◌ {A = World × Bool} (world_removed w path) (v, said)
+    → Tells said (made (store_of w) (remove_page path)) (store_of v)
+hub_removed w v path said is =
+    subst (λ p. Tells p.1 (made (store_of w) (remove_page path)) (store_of p.0)) is
+    (removed_if (map.contains_key w.site.pages path) (without_page (store_of w) path))
+
+-- ---- stamps decide nothing
+
+put_alike : (store : StoreState) (path : List ℕ) (page : Page) (stands : Bool) (said : Result (Unit {0}) EditError)
+    → After (put_by (unstamped store) path page stands said).0 (put_by (unstamped store) path page stands said).1
+    ≡ After (put_by store path page stands said).0 (put_by store path page stands said).1
+put_alike store path page stands (Ok fine) = refl
+put_alike store path page stands (Err e) = refl
+
+moved_alike : (store : StoreState) (from to : List ℕ) (said : Result (Unit {0}) MoveError)
+    → After (moved_by (unstamped store) from to said).0 (moved_by (unstamped store) from to said).1
+    ≡ After (moved_by store from to said).0 (moved_by store from to said).1
+moved_alike store from to (Ok fine) = refl
+moved_alike store from to (Err e) = refl
+
+pub store_put : (store : StoreState) (path : List ℕ) (page : Page) → made (unstamped store) (set_page path page)
+    ≡ After (put_into store path page.groups page.text).0 (put_into store path page.groups page.text).1
+store_put store path page =
+    put_alike store path (record { groups = page.groups; text = page.text }) (map.contains_key store.site.pages path)
+    (fits_in store path page.text)
+
+pub store_moved : (store : StoreState) (from to : List ℕ) → made (unstamped store) (move_page from to)
+    ≡ After (moved_in store from to).0 (moved_in store from to).1
+store_moved store from to = moved_alike store from to (may_move store from to)
+
+-- ---- a store's answers
+
+pub store_accepted : {X E : Type 0} (new : StoreState) (r : StoreState × Result X E) (x : X) → r ≡ (new, Ok x)
+    → option_map unstamped (unless_refused r.0 r.1) ≡ Some (unstamped new)
+store_accepted new r x is = ap (λ p. option_map unstamped (unless_refused p.0 p.1)) is
+
+pub store_removed : (old new : StoreState) (path : List ℕ) (said : Bool) → said ≡ map.contains_key old.site.pages path
+    → new ≡ without_page old path → Tells said (made (unstamped old) (remove_page path)) (unstamped new)
+store_removed old new path said answer state =
+    subst (λ b. Tells b (made (unstamped old) (remove_page path)) (unstamped new)) (sym answer)
+    (subst (λ s. Tells (map.contains_key old.site.pages path) (made (unstamped old) (remove_page path)) (unstamped s)) (sym state)
+    (by (map.contains_key old.site.pages path)))
+  where
+    by : (b : Bool) → Tells b (option_map unstamped (if b then Some (if b then (record {
+      site = effect_of old.site (remove_page path);
+      stamps = map.remove (map.empty) path;
+      puts = old.puts;
+    }) else unstamped old) else None)) (unstamped (if b then (record {
+      site = effect_of old.site (remove_page path);
+      stamps = map.remove old.stamps path;
+      puts = old.puts;
+    }) else old))
+    by true = refl
+    by false = refl

@@ -1,0 +1,11 @@
+use Rattle.std.proofs.Common.{◌≡◌, ◌+◌, drop}
+use Rattle.doc_server_restore.specs.Restores.{restored_from}
+use Rattle.doc_server_restore.proofs.restore.restore_all.Given as goal
+
+abbrev pub invariant-loop-record : goal.invariant-loop-record
+invariant-loop-record g l = record {
+  restored : restored_from 1 (g.E.Edits.store l.fn.site) l.records
+      ≡ restored_from (l.number + 1) (g.E.Edits.store l.site) (drop l.record-index l.records);
+  number : l.number ≡ l.record-index;
+  alike : g.E.Edits.alike l.fn.site l.site;
+}

@@ -1,0 +1,21 @@
+-- Laws of a restoration; the proofs are in proofs/.
+use Rattle.std.specs.Prelude.{◌≡◌, List, [], ◌∷◌, ⊤, Some}
+use Rattle.doc_store.specs.Groups.{IsGroups}
+use Rattle.doc_store.specs.Store.{Edit, set_page, remove_page, move_page}
+use Rattle.doc_server_script.specs.Laws.{IsText, IsPathText}
+use Rattle.doc_server_compact.specs.Lines.{lines_of}
+use Rattle.doc_server_restore.specs.Restores.{edits_of}
+
+-- an edit of paths, groups and a text as every call takes them
+abbrev pub IsEdit : Edit → Type 0
+IsEdit (set_page path page) = IsPathText path × IsGroups page.groups × IsText page.text
+IsEdit (remove_page path) = IsPathText path
+IsEdit (move_page from to) = IsPathText from × IsPathText to
+
+abbrev pub AreEdits : List Edit → Type 0
+AreEdits [] = ⊤
+AreEdits (edit ∷ edits) = IsEdit edit × AreEdits edits
+
+-- what is written of edits, one line for each, reads as these edits
+abbrev pub LinesAreRead : Type 0
+LinesAreRead = (edits : List Edit) → AreEdits edits → edits_of (lines_of edits) ≡ Some edits

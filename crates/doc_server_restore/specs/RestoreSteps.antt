@@ -1,0 +1,36 @@
+-- Words in which the steps of a restoration are stated.
+use Rattle.std.specs.Prelude.{◌≡◌, List, [], ◌∷◌, Bool, true, false, Option, Some, None, is_some}
+use Rattle.doc_store.specs.Store.{Edit, StoreState}
+use Rattle.doc_hub.specs.declared.event.Event.{Event}
+use Rattle.doc_hub.specs.Replies.{Renders}
+use Rattle.doc_hub.specs.Worlds.{World, store_of, with_store}
+use Rattle.doc_server_restore.specs.Restores.{edit_in, edits_in, made}
+
+-- whether a call was accepted, by the store that should be there after it
+abbrev pub Tells : Bool → Option StoreState → StoreState → Type 0
+Tells true given new = given ≡ Some new
+Tells false given new = given ≡ None
+
+-- the store after an edit, where there is one and it is accepted
+abbrev pub made_by : StoreState → Option Edit → Option StoreState
+made_by store None = None
+made_by store (Some edit) = made store edit
+
+-- the store after some events that are edits and are accepted
+abbrev pub made_of : StoreState → List Event → Option StoreState
+made_of store [] = Some store
+made_of store (event ∷ events) = elim (made_by store (edit_in event)) [ None ↦ None | Some next ↦ made_of next events ]
+
+-- whether an event is an edit
+abbrev pub is_edit : Event → Bool
+is_edit event = is_some (edit_in event)
+
+-- events that are all edits of a record, or none where not each line of it is an edit
+abbrev pub Reads : Option (List Edit) → Option (List Event) → Type 0
+Reads given None = given ≡ None
+Reads given (Some events) = (edits : List Edit) × (edits_in events ≡ Some edits) × (given ≡ Some edits)
+
+-- two hubs with the same renderer's page and the same but for their pages
+pub record AreAlike (render drawn : Renders) (w v : World) : Type 0 where
+  pub page : drawn ≡ render
+  pub others : v ≡ with_store w (store_of v)

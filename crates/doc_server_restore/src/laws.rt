@@ -1,0 +1,9 @@
+//! Laws of a restoration. Each function does nothing: its contract is the law.
+
+ghost use Rattle.doc_server_restore.specs.Laws.{LinesAreRead};
+
+/// The lines of edits, read as a record, are these edits: for every path, set of groups and text.
+#[tactic(auto, using(crate::proofs::LineLaws::lines_are_read))]
+pub fn the_lines_of_edits_are_these_edits()
+    ensures { LinesAreRead }
+{}

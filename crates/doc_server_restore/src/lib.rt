@@ -1,0 +1,10 @@
+//! What a server that keeps its edits does at its start: the edits of its journal happen again.
+#![tactic(auto)]
+
+pub mod edits;
+pub mod fault;
+pub mod laws;
+pub mod record;
+pub mod restore;
+#[cfg(test)]
+mod tests;

@@ -1,0 +1,94 @@
+//! The edits of a journal happen again.
+
+ghost use Rattle.std.specs.Prelude.{◌≡◌, ◌≢◌, Ok, Err, IfOk, IfErr, OnOk};
+ghost use Rattle.doc_server_restore.specs.Restores.{HaveEffect, after_record, edit_in, edits_of, restored};
+ghost use Rattle.doc_server_restore.specs.RestoreSteps.{Tells, made_by, made_of};
+
+use crate::edits::Edits;
+use crate::fault::RestoreFault;
+use crate::record::edits_of;
+use doc_heap::Heap;
+use doc_hub::event::Event;
+use doc_page::bytes::Bytes;
+use doc_page::failure::Memory;
+
+/// Makes the edits of a journal's records, in their order. A record is a text of lines, each the edit that doc_server_script reads
+/// of it; none of a record's edits is made where one of its lines is none. The first record that is no such text, and the first of
+/// which an edit is refused or removes no page, ends it: then the edits before it stand.
+pub fn restore<E: Edits>(heap: Heap, site: &mut E, records: &[Bytes]) -> Result<(), RestoreFault>
+    ensures restored { OnOk result
+        (restored (E.store site.old) records.now ≡ Ok (E.store site.new)) }
+    ensures effect { OnOk result
+        (HaveEffect records.now (E.store site.old) (E.store site.new)) }
+    ensures fault { IfErr result (λ fault. fault ≢ RestoreFault.Memory
+        → restored (E.store site.old) records.now ≡ Err fault) }
+    ensures alike { E.alike site.old site.new }
+{
+    restore_all(heap, site, records)
+}
+
+/// Makes the edits of all records.
+fn restore_all<E: Edits>(heap: Heap, site: &mut E, records: &[Bytes]) -> Result<(), RestoreFault>
+    ensures restored { OnOk result
+        (restored (E.store site.old) records.now ≡ Ok (E.store site.new)) }
+    ensures fault { IfErr result (λ fault. fault ≢ RestoreFault.Memory
+        → restored (E.store site.old) records.now ≡ Err fault) }
+    ensures alike { E.alike site.old site.new }
+{
+    let mut number = 0;
+    for record in records {
+        number += 1;
+        restore_record(heap, site, record.get(), number)?;
+    }
+    Ok(())
+}
+
+/// Makes the edits of the record of this number.
+fn restore_record<E: Edits>(
+    heap: Heap,
+    site: &mut E,
+    text: &[u8],
+    number: usize,
+) -> Result<(), RestoreFault>
+    ensures restored { OnOk result
+        (after_record (E.store site.old) number (edits_of text.now) ≡ Ok (E.store site.new)) }
+    ensures fault { IfErr result (λ fault. fault ≢ RestoreFault.Memory
+        → after_record (E.store site.old) number (edits_of text.now) ≡ Err fault) }
+    ensures alike { E.alike site.old site.new }
+{
+    let Some(events) = edits_of(heap, text)? else {
+        return Err(RestoreFault::BadRecord(number));
+    };
+    if !make_all(site, events.get())? {
+        return Err(RestoreFault::Refused(number));
+    }
+    Ok(())
+}
+
+/// Makes the edits that these events are, up to the first that is refused, and answers whether none is.
+fn make_all<E: Edits>(site: &mut E, events: &[Event]) -> Result<bool, Memory>
+    ensures made { IfOk result (λ accepted. Tells accepted
+        (made_of (E.store site.old) events.now) (E.store site.new)) }
+    ensures alike { E.alike site.old site.new }
+{
+    for event in events {
+        if !make(site, event)? {
+            return Ok(false);
+        }
+    }
+    Ok(true)
+}
+
+/// Makes the edit that an event is, and answers whether it is accepted.
+fn make<E: Edits>(site: &mut E, event: &Event) -> Result<bool, Memory>
+    ensures made { IfOk result (λ accepted. Tells accepted
+        (made_by (E.store site.old) (edit_in event.now)) (E.store site.new)) }
+    ensures alike { E.alike site.old site.new }
+{
+    match event {
+        Event::Put(path, groups, text) => site.make_put(path, groups, text.get()),
+        Event::Remove(path) => Ok(site.make_remove(path)),
+        Event::MovePage(from, to) => site.make_move(from, to),
+        _ => Ok(false),
+    }
+}
