@@ -23,7 +23,7 @@ use doc_store::store::Store;
 
 /// Writes a journal to an empty device: records of whole lines, one line for each edit that leads from a configuration's site to
 /// another. At `Ok` all of it is on the device.
-pub fn compact<D: Device>(
+pub fn compact<D: Device + Drop>(
     heap: Heap,
     config: &Store,
     site: &Store,
@@ -41,7 +41,7 @@ pub fn compact<D: Device>(
 }
 
 /// An empty journal on an empty device.
-fn begin<D: Device>(heap: Heap, device: D) -> Result<EditWriter<D>, CompactFault>
+fn begin<D: Device + Drop>(heap: Heap, device: D) -> Result<EditWriter<D>, CompactFault>
     requires usable { D.failed device ≡ false }
     ensures { IfOk result (λ writer. HasWritten D.seen D.may_leave D.failed writer []) }
 {
@@ -52,7 +52,7 @@ fn begin<D: Device>(heap: Heap, device: D) -> Result<EditWriter<D>, CompactFault
 }
 
 /// The writer of a journal that was opened, where it has no records.
-fn begin_at<D: Device>(heap: Heap, opened: Opened<D>) -> Result<EditWriter<D>, CompactFault>
+fn begin_at<D: Device + Drop>(heap: Heap, opened: Opened<D>) -> Result<EditWriter<D>, CompactFault>
     requires open { IsOpen D.seen D.may_leave D.failed opened.journal opened.texts }
     ensures { IfOk result (λ writer. HasWritten D.seen D.may_leave D.failed writer []) }
 {
@@ -67,7 +67,7 @@ fn begin_at<D: Device>(heap: Heap, opened: Opened<D>) -> Result<EditWriter<D>, C
 }
 
 /// Writes the removals of the pages that the configuration gives otherwise than the site has them.
-fn write_removals<D: Device>(
+fn write_removals<D: Device + Drop>(
     heap: Heap,
     config: &Store,
     site: &Store,
@@ -86,7 +86,7 @@ fn write_removals<D: Device>(
 }
 
 /// Writes the edits that make the pages that the site has otherwise than the configuration gives them.
-fn write_pages<D: Device>(
+fn write_pages<D: Device + Drop>(
     heap: Heap,
     config: &Store,
     site: &Store,
@@ -139,7 +139,7 @@ fn names_of<'a>(site: &'a Store, path: &Path) -> Result<Vec<&'a Path>, Memory>
 }
 
 /// The journal, with a record of the lines that are in none yet, where there are any.
-fn finish<D: Device>(heap: Heap, writer: EditWriter<D>) -> Result<Journal<D>, CompactFault>
+fn finish<D: Device + Drop>(heap: Heap, writer: EditWriter<D>) -> Result<Journal<D>, CompactFault>
     requires written { (edits : List Edit) × HasWritten D.seen D.may_leave D.failed writer edits }
     ensures { (edits : List Edit) → HasWritten D.seen D.may_leave D.failed writer edits
         → IfOk result (λ journal. IsWritten D.seen D.may_leave D.failed journal edits) }

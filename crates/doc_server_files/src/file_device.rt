@@ -16,6 +16,7 @@ use doc_server_journal::fault::{DeviceFault, LoadError};
 use std::fs::{File, OpenOptions, metadata, remove_file};
 use std::os::fd::AsFd;
 use std::os::unix::fs::{FileExt, MetadataExt, OpenOptionsExt, fchown};
+use std::rt::Files;
 
 /// How often a file is opened again whose name another got meanwhile.
 const TRIES: u32 = 8;
@@ -34,7 +35,7 @@ impl FileDevice {
     /// Opens the file of this name, made for its owner alone where there is none, and takes its lock. Its folder is synced, so that
     /// a crash leaves the name. The lock of a file that lost its name to another, as by a compaction, isn't kept: then that other
     /// file is opened.
-    pub fn open(rt: &HostRuntime, name: &str) -> Result<FileDevice, FileFault>
+    pub fn open<R: Files<File = File>>(rt: &R, name: &str) -> Result<FileDevice, FileFault>
         ensures { IfOk result (λ device. has_failed device ≡ false) }
     {
         for _ in 0..TRIES {
@@ -48,7 +49,11 @@ impl FileDevice {
     }
 
     /// Makes a file of this name with the owner and the rights of this one, and takes its lock. A file that has the name goes.
-    pub fn make_like(&self, rt: &HostRuntime, name: &str) -> Result<FileDevice, FileFault>
+    pub fn make_like<R: Files<File = File>>(
+        &self,
+        rt: &R,
+        name: &str,
+    ) -> Result<FileDevice, FileFault>
         ensures { IfOk result (λ device. has_failed device ≡ false) }
     {
         let _ = remove_file(rt, name);
@@ -69,7 +74,7 @@ impl FileDevice {
     }
 
     /// Whether the file of this name is this one.
-    fn has_name(&self, rt: &HostRuntime, name: &str) -> Result<bool, FileFault> {
+    fn has_name<R: Files<File = File>>(&self, rt: &R, name: &str) -> Result<bool, FileFault> {
         let Ok(named) = metadata(rt, name) else {
             return Ok(false);
         };
@@ -79,7 +84,7 @@ impl FileDevice {
 }
 
 /// Opens the file of a name, made where there is none, and takes its lock.
-fn open_and_lock(rt: &HostRuntime, name: &str) -> Result<FileDevice, FileFault>
+fn open_and_lock<R: Files<File = File>>(rt: &R, name: &str) -> Result<FileDevice, FileFault>
     ensures { IfOk result (λ device. has_failed device ≡ false) }
 {
     let file = OpenOptions::new()

@@ -2,7 +2,9 @@
 
 use crate::fault::FileFault;
 use doc_heap::{Heap, String};
+use std::alloc::AllocGlobal;
 use std::fs::{File, canonicalize, rename};
+use std::rt::Files;
 
 /// What is put behind the name of a file for that of the new one beside it.
 const NEW: &str = ".compacting";
@@ -16,7 +18,11 @@ pub struct Replacement {
 
 impl Replacement {
     /// For the file of this name, or the one that it leads to where it is a link.
-    pub fn of(rt: &HostRuntime, heap: Heap, name: &str) -> Result<Replacement, FileFault> {
+    pub fn of<R: AllocGlobal + Files<File = File>>(
+        rt: &R,
+        heap: Heap,
+        name: &str,
+    ) -> Result<Replacement, FileFault> {
         let path = canonicalize(rt, name)?;
         let name = String::from_str(heap, path.as_str())?;
         let mut new_name = String::from_str(heap, path.as_str())?;
@@ -30,7 +36,7 @@ impl Replacement {
     }
 
     /// Gives the new file the name of the old one, and syncs their folder.
-    pub fn take_name(&self, rt: &HostRuntime) -> Result<(), FileFault> {
+    pub fn take_name<R: Files<File = File>>(&self, rt: &R) -> Result<(), FileFault> {
         let name = self.name.as_str();
         if rename(rt, self.new_name.as_str(), name).is_err() || sync_folder(rt, name).is_err() {
             return Err(FileFault::NotReplaced);
@@ -40,7 +46,7 @@ impl Replacement {
 }
 
 /// Syncs the folder of a file, so that a crash leaves the names in it.
-pub fn sync_folder(rt: &HostRuntime, name: &str) -> Result<(), FileFault> {
+pub fn sync_folder<R: Files<File = File>>(rt: &R, name: &str) -> Result<(), FileFault> {
     File::open(rt, folder_of(name))?.sync_all()?;
     Ok(())
 }
