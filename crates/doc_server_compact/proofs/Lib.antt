@@ -3,3 +3,4 @@ pub mod CompactionLaw
 pub mod MadeSteps
 pub mod ReplayLaw
 pub mod Without
+pub mod WriterLaws

@@ -1,11 +1,17 @@
 -- Words in which the steps of a writer are stated.
-use Rattle.std.specs.Prelude.{◌≡◌, ◌++◌, ◌≤◌, ℕ, List, length, Bool, Option, string_bytes}
+use Rattle.std.specs.Prelude.{◌≡◌, ◌++◌, ◌≤◌, ℕ, List, [], length, Bool, Option, string_bytes, if◌then◌else◌}
+use Rattle.doc_store.specs.Sites.{Site}
 use Rattle.doc_store.specs.Store.{Edit}
 use Rattle.doc_server_journal.specs.Journals.{IsOpen}
 use Rattle.doc_server_journal.specs.Records.{text_limit}
+use Rattle.doc_server_compact.specs.Compactions.{same_at}
 use Rattle.doc_server_compact.specs.declared.writer.EditWriter.{EditWriter}
 use Rattle.doc_server_compact.specs.Lines.{lines_of}
 use Rattle.doc_server_compact.specs.Written.{AreLines}
+
+-- some edits, unless two sites have the same page under a path, with the same aliases
+abbrev pub unless_same : Site → Site → List ℕ → List Edit → List Edit
+unless_same config site path edits = if same_at config site path then [] else edits
 
 -- What was written so far: the first of the edits in records, and the lines of the others.
 pub record HasWritten {D : Type 0} (seen : D → Option (List ℕ)) (may_leave : D → List ℕ → Type 0) (failed : D → Bool)
@@ -18,3 +24,13 @@ pub record HasWritten {D : Type 0} (seen : D → Option (List ℕ)) (may_leave :
   pub text : string_bytes writer.text ≡ lines_of others
   pub within : length (string_bytes writer.text) ≤ text_limit
   pub all : first ++ others ≡ edits
+
+-- a writer that has written some edits
+abbrev pub IsWriter : {D : Type 0} → (D → Option (List ℕ)) → (D → List ℕ → Type 0) → (D → Bool) → EditWriter D → Type 0
+IsWriter seen may_leave failed writer = (edits : List Edit) × HasWritten seen may_leave failed writer edits
+
+-- a writer, once it has written these edits more
+abbrev pub Wrote : {D : Type 0} → (D → Option (List ℕ)) → (D → List ℕ → Type 0) → (D → Bool) → EditWriter D → EditWriter D → List Edit
+    → Type 0
+Wrote seen may_leave failed old new more =
+    (edits : List Edit) → HasWritten seen may_leave failed old edits → HasWritten seen may_leave failed new (edits ++ more)

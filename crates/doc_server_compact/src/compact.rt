@@ -6,10 +6,10 @@ ghost use Rattle.std.specs.List.{flat_map};
 ghost use Rattle.doc_server_journal.specs.Journals.{IsOpen};
 ghost use Rattle.doc_store.specs.Groups.{texts_of};
 ghost use Rattle.doc_store.specs.Names.{aliases_of};
-ghost use Rattle.doc_store.specs.Store.{Edit};
+ghost use Rattle.doc_store.specs.Store.{Edit, remove_page};
 ghost use Rattle.doc_server_compact.specs.Compactions.{compacted, made, other_pages, removals, same_at};
 ghost use Rattle.doc_server_compact.specs.Written.{IsWritten};
-ghost use Rattle.doc_server_compact.specs.WriterSteps.{HasWritten};
+ghost use Rattle.doc_server_compact.specs.WriterSteps.{HasWritten, IsWriter, Wrote, unless_same};
 
 use crate::fault::CompactFault;
 use crate::writer::EditWriter;
@@ -19,6 +19,7 @@ use doc_page::path::Path;
 use doc_server_journal::device::Device;
 use doc_server_journal::journal::Journal;
 use doc_server_journal::opening::Opened;
+use doc_store::page::Page;
 use doc_store::store::Store;
 
 /// Writes a journal to an empty device: records of whole lines, one line for each edit that leads from a configuration's site to
@@ -73,16 +74,33 @@ fn write_removals<D: Device + Drop>(
     site: &Store,
     writer: &mut EditWriter<D>,
 ) -> Result<(), CompactFault>
-    requires written { HasWritten D.seen D.may_leave D.failed writer.old [] }
-    ensures { OnOk result (HasWritten D.seen D.may_leave D.failed writer.new
+    requires { IsWriter D.seen D.may_leave D.failed writer.old }
+    ensures { OnOk result (Wrote D.seen D.may_leave D.failed writer.old writer.new
         (removals (other_pages config.now.site site.now.site config.now.site.pages))) }
 {
     for (path, _page) in config.pages() {
-        if !same_at(config, site, path)? {
-            writer.remove(heap, path)?;
-        }
+        write_removal(heap, config, site, path, writer)?;
     }
     Ok(())
+}
+
+/// Writes the removal of a page, unless both sites have it so.
+fn write_removal<D: Device + Drop>(
+    heap: Heap,
+    config: &Store,
+    site: &Store,
+    path: &Path,
+    writer: &mut EditWriter<D>,
+) -> Result<(), CompactFault>
+    requires writer { IsWriter D.seen D.may_leave D.failed writer.old }
+    requires stands { map.contains_key config.now.site.pages path.now ≡ true }
+    ensures { OnOk result (Wrote D.seen D.may_leave D.failed writer.old writer.new
+        (unless_same config.now.site site.now.site path.now (remove_page path.now ∷ []))) }
+{
+    if same_at(config, site, path)? {
+        return Ok(());
+    }
+    writer.remove(heap, path)
 }
 
 /// Writes the edits that make the pages that the site has otherwise than the configuration gives them.
@@ -92,20 +110,37 @@ fn write_pages<D: Device + Drop>(
     site: &Store,
     writer: &mut EditWriter<D>,
 ) -> Result<(), CompactFault>
-    requires written { (edits : List Edit)
-        × HasWritten D.seen D.may_leave D.failed writer.old edits }
-    ensures { (edits : List Edit) → HasWritten D.seen D.may_leave D.failed writer.old edits
-        → OnOk result (HasWritten D.seen D.may_leave D.failed writer.new (edits
-        ++ flat_map (made site.now.site)
+    requires { IsWriter D.seen D.may_leave D.failed writer.old }
+    ensures { OnOk result (Wrote D.seen D.may_leave D.failed writer.old writer.new
+        (flat_map (made site.now.site)
         (other_pages config.now.site site.now.site site.now.site.pages))) }
 {
     for (path, page) in site.pages() {
-        if !same_at(config, site, path)? {
-            let names = names_of(site, path)?;
-            writer.make_along(heap, page, names.as_slice())?;
-        }
+        write_page(heap, config, site, path, page, writer)?;
     }
     Ok(())
+}
+
+/// Writes the edits that make a page, unless both sites have it so.
+fn write_page<D: Device + Drop>(
+    heap: Heap,
+    config: &Store,
+    site: &Store,
+    path: &Path,
+    page: &Page,
+    writer: &mut EditWriter<D>,
+) -> Result<(), CompactFault>
+    requires writer { IsWriter D.seen D.may_leave D.failed writer.old }
+    requires stands { map.contains_key site.now.site.pages path.now ≡ true }
+    ensures { OnOk result (Wrote D.seen D.may_leave D.failed writer.old writer.new
+        (unless_same config.now.site site.now.site path.now
+        (made site.now.site (path.now, page.now.page)))) }
+{
+    if same_at(config, site, path)? {
+        return Ok(());
+    }
+    let names = names_of(site, path)?;
+    writer.make_along(heap, page, names.as_slice())
 }
 
 /// Whether two sites have the same page under a path, with the same aliases. A page stands there in one of them.
@@ -140,14 +175,14 @@ fn names_of<'a>(site: &'a Store, path: &Path) -> Result<Vec<&'a Path>, Memory>
 
 /// The journal, with a record of the lines that are in none yet, where there are any.
 fn finish<D: Device + Drop>(heap: Heap, writer: EditWriter<D>) -> Result<Journal<D>, CompactFault>
-    requires written { (edits : List Edit) × HasWritten D.seen D.may_leave D.failed writer edits }
+    requires { IsWriter D.seen D.may_leave D.failed writer }
     ensures { (edits : List Edit) → HasWritten D.seen D.may_leave D.failed writer edits
         → IfOk result (λ journal. IsWritten D.seen D.may_leave D.failed journal edits) }
 {
     let mut writer = writer;
-    if !writer.text.is_empty() {
-        writer.end_record(heap)?;
+    if writer.text.is_empty() {
+        return Ok(writer.journal);
     }
-    let EditWriter { journal, text: _ } = writer;
-    Ok(journal)
+    writer.end_record(heap)?;
+    Ok(writer.journal)
 }

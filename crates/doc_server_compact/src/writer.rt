@@ -1,12 +1,12 @@
 //! Edits written to a journal, a line each, many lines in a record.
 
-ghost use Rattle.std.specs.Prelude.{◌≡◌, ◌≤◌, ◌+◌, [], ◌∷◌, ◌++◌, List, length, string_bytes, OnOk};
+ghost use Rattle.std.specs.Prelude.{◌≡◌, ◌≤◌, ◌+◌, [], ◌∷◌, length, string_bytes, OnOk};
 ghost use Rattle.doc_server_journal.specs.Records.{text_limit};
 ghost use Rattle.doc_store.specs.Groups.{texts_of};
 ghost use Rattle.doc_store.specs.Store.{Edit, set_page, remove_page, move_page};
 ghost use Rattle.doc_server_compact.specs.Compactions.{made_along, moves};
 ghost use Rattle.doc_server_compact.specs.Lines.{line_of};
-ghost use Rattle.doc_server_compact.specs.WriterSteps.{HasWritten};
+ghost use Rattle.doc_server_compact.specs.WriterSteps.{IsWriter, Wrote};
 
 use crate::fault::CompactFault;
 use crate::lines::{push_move_line, push_put_line, push_remove_line};
@@ -29,11 +29,9 @@ pub(crate) struct EditWriter<D: Device> {
 impl<D: Device> EditWriter<D> {
     /// Writes a put.
     pub(crate) fn put(&mut self, heap: Heap, path: &Path, page: &Page) -> Result<(), CompactFault>
-        requires written { (edits : List Edit)
-            × HasWritten D.seen D.may_leave D.failed self.old edits }
-        ensures { (edits : List Edit) → HasWritten D.seen D.may_leave D.failed self.old edits
-            → OnOk result (HasWritten D.seen D.may_leave D.failed self.new
-            (edits ++ set_page path.now page.now.page ∷ [])) }
+        requires { IsWriter D.seen D.may_leave D.failed self.old }
+        ensures { OnOk result (Wrote D.seen D.may_leave D.failed self.old self.new
+            (set_page path.now page.now.page ∷ [])) }
     {
         let mut line = String::new(heap);
         push_put_line(&mut line, path, page)?;
@@ -42,11 +40,9 @@ impl<D: Device> EditWriter<D> {
 
     /// Writes a removal.
     pub(crate) fn remove(&mut self, heap: Heap, path: &Path) -> Result<(), CompactFault>
-        requires written { (edits : List Edit)
-            × HasWritten D.seen D.may_leave D.failed self.old edits }
-        ensures { (edits : List Edit) → HasWritten D.seen D.may_leave D.failed self.old edits
-            → OnOk result (HasWritten D.seen D.may_leave D.failed self.new
-            (edits ++ remove_page path.now ∷ [])) }
+        requires { IsWriter D.seen D.may_leave D.failed self.old }
+        ensures { OnOk result (Wrote D.seen D.may_leave D.failed self.old self.new
+            (remove_page path.now ∷ [])) }
     {
         let mut line = String::new(heap);
         push_remove_line(&mut line, path)?;
@@ -55,11 +51,9 @@ impl<D: Device> EditWriter<D> {
 
     /// Writes a move.
     fn move_page(&mut self, heap: Heap, from: &Path, to: &Path) -> Result<(), CompactFault>
-        requires written { (edits : List Edit)
-            × HasWritten D.seen D.may_leave D.failed self.old edits }
-        ensures { (edits : List Edit) → HasWritten D.seen D.may_leave D.failed self.old edits
-            → OnOk result (HasWritten D.seen D.may_leave D.failed self.new
-            (edits ++ move_page from.now to.now ∷ [])) }
+        requires { IsWriter D.seen D.may_leave D.failed self.old }
+        ensures { OnOk result (Wrote D.seen D.may_leave D.failed self.old self.new
+            (move_page from.now to.now ∷ [])) }
     {
         let mut line = String::new(heap);
         push_move_line(&mut line, from, to)?;
@@ -73,11 +67,9 @@ impl<D: Device> EditWriter<D> {
         page: &Page,
         names: &[&Path],
     ) -> Result<(), CompactFault>
-        requires written { (edits : List Edit)
-            × HasWritten D.seen D.may_leave D.failed self.old edits }
-        ensures { (edits : List Edit) → HasWritten D.seen D.may_leave D.failed self.old edits
-            → OnOk result (HasWritten D.seen D.may_leave D.failed self.new
-            (edits ++ made_along page.now.page (texts_of names.now))) }
+        requires { IsWriter D.seen D.may_leave D.failed self.old }
+        ensures { OnOk result (Wrote D.seen D.may_leave D.failed self.old self.new
+            (made_along page.now.page (texts_of names.now))) }
     {
         match names {
             [] => Ok(()),
@@ -90,11 +82,9 @@ impl<D: Device> EditWriter<D> {
 
     /// Writes a move from each name to the next.
     fn move_along(&mut self, heap: Heap, from: &Path, names: &[&Path]) -> Result<(), CompactFault>
-        requires written { (edits : List Edit)
-            × HasWritten D.seen D.may_leave D.failed self.old edits }
-        ensures { (edits : List Edit) → HasWritten D.seen D.may_leave D.failed self.old edits
-            → OnOk result (HasWritten D.seen D.may_leave D.failed self.new
-            (edits ++ moves from.now (texts_of names.now))) }
+        requires { IsWriter D.seen D.may_leave D.failed self.old }
+        ensures { OnOk result (Wrote D.seen D.may_leave D.failed self.old self.new
+            (moves from.now (texts_of names.now))) }
     {
         let mut last = from;
         for name in names {
@@ -106,11 +96,9 @@ impl<D: Device> EditWriter<D> {
 
     /// Writes the line of an edit. Where no room is left for it in the record of those before it, it begins another.
     fn add(&mut self, heap: Heap, line: &str) -> Result<(), CompactFault>
-        requires written { (edits : List Edit)
-            × HasWritten D.seen D.may_leave D.failed self.old edits }
-        ensures { (edits : List Edit) (edit : Edit)
-            → HasWritten D.seen D.may_leave D.failed self.old edits → line.now ≡ line_of edit
-            → OnOk result (HasWritten D.seen D.may_leave D.failed self.new (edits ++ edit ∷ [])) }
+        requires { IsWriter D.seen D.may_leave D.failed self.old }
+        ensures { (edit : Edit) → line.now ≡ line_of edit
+            → OnOk result (Wrote D.seen D.may_leave D.failed self.old self.new (edit ∷ [])) }
     {
         if line.len() > TEXT_LIMIT {
             return Err(CompactFault::TooLong);
@@ -122,12 +110,9 @@ impl<D: Device> EditWriter<D> {
 
     /// Makes room for so many bytes more in a record.
     fn make_room(&mut self, heap: Heap, len: usize) -> Result<(), CompactFault>
-        requires written { (edits : List Edit)
-            × HasWritten D.seen D.may_leave D.failed self.old edits }
+        requires writer { IsWriter D.seen D.may_leave D.failed self.old }
         requires within { len ≤ text_limit }
-        ensures written { (edits : List Edit)
-            → HasWritten D.seen D.may_leave D.failed self.old edits
-            → OnOk result (HasWritten D.seen D.may_leave D.failed self.new edits) }
+        ensures wrote { OnOk result (Wrote D.seen D.may_leave D.failed self.old self.new []) }
         ensures room { OnOk result (length (string_bytes self.new.text) + len ≤ text_limit) }
     {
         if self.text.len() + len <= TEXT_LIMIT {
@@ -138,11 +123,8 @@ impl<D: Device> EditWriter<D> {
 
     /// Adds the record of the lines that are in none yet.
     pub(crate) fn end_record(&mut self, heap: Heap) -> Result<(), CompactFault>
-        requires written { (edits : List Edit)
-            × HasWritten D.seen D.may_leave D.failed self.old edits }
-        ensures written { (edits : List Edit)
-            → HasWritten D.seen D.may_leave D.failed self.old edits
-            → OnOk result (HasWritten D.seen D.may_leave D.failed self.new edits) }
+        requires { IsWriter D.seen D.may_leave D.failed self.old }
+        ensures wrote { OnOk result (Wrote D.seen D.may_leave D.failed self.old self.new []) }
         ensures none { OnOk result (string_bytes self.new.text ≡ []) }
     {
         self.journal.append(heap, self.text.as_bytes())?;

@@ -6,5 +6,3 @@ pub mod fault;
 pub mod laws;
 pub mod record;
 pub mod restore;
-#[cfg(test)]
-mod tests;

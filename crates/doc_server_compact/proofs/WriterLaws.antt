@@ -1,0 +1,116 @@
+-- What a writer has written, line by line and record by record.
+use Rattle.std.proofs.Common.{◌≡◌, ℕ, Bool, true, false, List, [], ◌∷◌, ◌++◌, length, cond, not, refl, ap, sym, ◌∙◌, subst, string_bytes}
+use Rattle.std.proofs.Common.{arith}
+use Rattle.std.specs.Prelude.{◌≤◌, Option, map as mapped}
+use Rattle.std.specs.List.{filter, flat_map}
+use Rattle.std.proofs.lemmas.List.{append_assoc, append-nil, map-append}
+use Rattle.std.proofs.lemmas.Grind.{flat_map-append}
+use Rattle.doc_store.specs.Pages.{Page}
+use Rattle.doc_store.specs.Sites.{Site}
+use Rattle.doc_store.specs.Store.{Edit, remove_page}
+use Rattle.doc_server_journal.specs.Journals.{IsOpen}
+use Rattle.doc_server_journal.specs.Records.{text_limit}
+use Rattle.doc_server_compact.specs.Compactions.{made, removals, same_at}
+use Rattle.doc_server_compact.specs.Lines.{line_of, lines_of}
+use Rattle.doc_server_compact.specs.Written.{AreLines}
+use Rattle.doc_server_compact.specs.WriterSteps.{HasWritten, IsWriter, Wrote, unless_same}
+use Rattle.doc_server_compact.specs.declared.writer.EditWriter.{EditWriter}
+
+more_lines : (records : List (List ℕ)) (first others : List Edit) (text : List ℕ) → AreLines records first → text ≡ lines_of others
+    → AreLines (records ++ text ∷ []) (first ++ others)
+more_lines records first others text are is = record {
+  parts = are.parts ++ others ∷ [];
+  records = ap (λ r. r ++ text ∷ []) are.records
+      ∙ (ap (λ t. mapped lines_of are.parts ++ t ∷ []) is ∙ sym (map-append lines_of are.parts (others ∷ [])));
+  edits = flat_map-append (λ part. part) are.parts (others ∷ [])
+      ∙ (ap (λ edits. edits ++ (others ++ [])) are.edits ∙ ap (λ edits. first ++ edits) (append-nil others));
+}
+
+none_within : (text : List ℕ) → text ≡ [] → length text ≤ text_limit
+unfolding text_limit
+none_within text none = subst (λ t. length t ≤ text_limit) (sym none) (omega arith)
+
+module _ {D : Type 0} (seen : D → Option (List ℕ)) (may_leave : D → List ℕ → Type 0) (failed : D → Bool) where
+  pub begun : (writer : EditWriter D) → IsOpen seen may_leave failed writer.journal [] → string_bytes writer.text ≡ []
+      → HasWritten seen may_leave failed writer []
+  begun writer is none = record {
+    records = [];
+    first = [];
+    others = [];
+    is_open = is;
+    lines = record { parts = []; records = refl; edits = refl };
+    text = none;
+    within = none_within (string_bytes writer.text) none;
+    all = refl;
+  }
+
+  pub added : (old new : EditWriter D) (line : List ℕ) (edit : Edit) → new.journal ≡ old.journal
+      → string_bytes new.text ≡ string_bytes old.text ++ line → length (string_bytes new.text) ≤ text_limit → line ≡ line_of edit
+      → Wrote seen may_leave failed old new (edit ∷ [])
+  added old new line edit journal text within is = λ edits h. record {
+    records = h.records;
+    first = h.first;
+    others = h.others ++ edit ∷ [];
+    is_open = subst (λ j. IsOpen seen may_leave failed j h.records) (sym journal) h.is_open;
+    lines = h.lines;
+    text = text
+        ∙ (ap (λ t. t ++ line) h.text
+        ∙ (ap (λ t. lines_of h.others ++ t) (is ∙ sym (append-nil (line_of edit)))
+        ∙ sym (flat_map-append line_of h.others (edit ∷ []))));
+    within = within;
+    all = sym (append_assoc h.first h.others (edit ∷ [])) ∙ ap (λ e. e ++ edit ∷ []) h.all;
+  }
+
+  pub ended : (old new : EditWriter D)
+      → ((texts : List (List ℕ)) → IsOpen seen may_leave failed old.journal texts
+      → IsOpen seen may_leave failed new.journal (texts ++ string_bytes old.text ∷ []))
+      → string_bytes new.text ≡ [] → Wrote seen may_leave failed old new []
+  ended old new appended none = λ edits h. record {
+    records = h.records ++ string_bytes old.text ∷ [];
+    first = h.first ++ h.others;
+    others = [];
+    is_open = appended h.records h.is_open;
+    lines = more_lines h.records h.first h.others (string_bytes old.text) h.lines h.text;
+    text = none;
+    within = none_within (string_bytes new.text) none;
+    all = append-nil (h.first ++ h.others) ∙ (h.all ∙ sym (append-nil edits));
+  }
+
+  pub none_wrote : (writer : EditWriter D) → Wrote seen may_leave failed writer writer []
+  none_wrote writer = λ edits h. subst (HasWritten seen may_leave failed writer) (sym (append-nil edits)) h
+
+  pub both_wrote : (a b c : EditWriter D) (x y : List Edit) → Wrote seen may_leave failed a b x → Wrote seen may_leave failed b c y
+      → Wrote seen may_leave failed a c (x ++ y)
+  both_wrote a b c x y first second = λ edits h.
+      subst (HasWritten seen may_leave failed c) (append_assoc edits x y) (second (edits ++ x) (first edits h))
+
+  pub still_writer : (a b : EditWriter D) (x : List Edit) → IsWriter seen may_leave failed a → Wrote seen may_leave failed a b x
+      → IsWriter seen may_leave failed b
+  still_writer a b x (edits, h) wrote = (edits ++ x, wrote edits h)
+
+-- ---- the pages that two sites have otherwise, one after the other
+
+pub removals_more : (config site : Site) (entry : List ℕ × Page) (entries : List (List ℕ × Page))
+    → removals (filter (λ e. not (same_at config site e.0)) (entry ∷ entries))
+    ≡ unless_same config site entry.0 (remove_page entry.0 ∷ []) ++ removals (filter (λ e. not (same_at config site e.0)) entries)
+removals_more config site entry entries = by (same_at config site entry.0)
+  where
+    rest : List (List ℕ × Page)
+    rest = filter (λ e. not (same_at config site e.0)) entries
+
+    by : (b : Bool) → removals (cond (not b) (entry ∷ rest) rest) ≡ cond b [] (remove_page entry.0 ∷ []) ++ removals rest
+    by true = refl
+    by false = refl
+
+pub made_more : (config site : Site) (entry : List ℕ × Page) (entries : List (List ℕ × Page))
+    → flat_map (made site) (filter (λ e. not (same_at config site e.0)) (entry ∷ entries))
+    ≡ unless_same config site entry.0 (made site entry) ++ flat_map (made site) (filter (λ e. not (same_at config site e.0)) entries)
+made_more config site entry entries = by (same_at config site entry.0)
+  where
+    rest : List (List ℕ × Page)
+    rest = filter (λ e. not (same_at config site e.0)) entries
+
+    by : (b : Bool) → flat_map (made site) (cond (not b) (entry ∷ rest) rest)
+        ≡ cond b [] (made site entry) ++ flat_map (made site) rest
+    by true = refl
+    by false = refl
