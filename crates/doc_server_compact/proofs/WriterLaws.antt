@@ -7,13 +7,14 @@ use Rattle.std.proofs.lemmas.List.{append_assoc, append-nil, map-append}
 use Rattle.std.proofs.lemmas.Grind.{flat_map-append}
 use Rattle.doc_store.specs.Pages.{Page}
 use Rattle.doc_store.specs.Sites.{Site}
-use Rattle.doc_store.specs.Store.{Edit, remove_page}
+use Rattle.doc_store.specs.Store.{Edit, set_page, remove_page, move_page}
 use Rattle.doc_server_journal.specs.Journals.{IsOpen}
 use Rattle.doc_server_journal.specs.Records.{text_limit}
 use Rattle.doc_server_compact.specs.Compactions.{made, removals, same_at}
 use Rattle.doc_server_compact.specs.Lines.{line_of, lines_of}
-use Rattle.doc_server_compact.specs.Written.{AreLines}
-use Rattle.doc_server_compact.specs.WriterSteps.{HasWritten, IsWriter, Wrote, unless_same}
+use Rattle.doc_server_compact.specs.Written.{AreLines, IsWritten}
+use Rattle.doc_server_script.specs.Edits.{put_line, remove_line, move_line}
+use Rattle.doc_server_compact.specs.WriterSteps.{HasWritten, IsWriter, Wrote, WroteUpTo, unless_same}
 use Rattle.doc_server_compact.specs.declared.writer.EditWriter.{EditWriter}
 
 more_lines : (records : List (List ℕ)) (first others : List Edit) (text : List ℕ) → AreLines records first → text ≡ lines_of others
@@ -87,6 +88,49 @@ module _ {D : Type 0} (seen : D → Option (List ℕ)) (may_leave : D → List �
   pub still_writer : (a b : EditWriter D) (x : List Edit) → IsWriter seen may_leave failed a → Wrote seen may_leave failed a b x
       → IsWriter seen may_leave failed b
   still_writer a b x (edits, h) wrote = (edits ++ x, wrote edits h)
+
+  -- ---- edits one after the other
+
+  pub begins : (writer : EditWriter D) (all : List Edit) → WroteUpTo seen may_leave failed writer writer all all
+  begins writer all = ([], none_wrote writer, refl)
+
+  pub goes_on : (a b c : EditWriter D) (all more left rest : List Edit) → WroteUpTo seen may_leave failed a b all left
+      → Wrote seen may_leave failed b c more → left ≡ more ++ rest → WroteUpTo seen may_leave failed a c all rest
+  goes_on a b c all more left rest (done, wrote, is) next split =
+      (done ++ more, both_wrote a b c done more wrote next, is ∙ (ap (λ l. done ++ l) split ∙ sym (append_assoc done more rest)))
+
+  pub has_all : (a b : EditWriter D) (all left : List Edit) → WroteUpTo seen may_leave failed a b all left → left ≡ []
+      → Wrote seen may_leave failed a b all
+  has_all a b all left (done, wrote, is) none =
+      subst (Wrote seen may_leave failed a b) (sym (is ∙ (ap (λ l. done ++ l) none ∙ append-nil done))) wrote
+
+-- ---- the end
+
+ends : (line more : List ℕ) → (line ++ 10 ∷ []) ++ more ≡ [] → ⊥
+ends [] more e = cc
+ends (b ∷ line) more e = cc
+
+no_lines : (edits : List Edit) → lines_of edits ≡ [] → edits ≡ []
+no_lines [] e = refl
+no_lines (set_page path page ∷ edits) e = absurd (ends (put_line path page.groups page.text) (lines_of edits) e)
+no_lines (remove_page path ∷ edits) e = absurd (ends (remove_line path) (lines_of edits) e)
+no_lines (move_page from to ∷ edits) e = absurd (ends (move_line from to) (lines_of edits) e)
+
+module _ {D : Type 0} (seen : D → Option (List ℕ)) (may_leave : D → List ℕ → Type 0) (failed : D → Bool) where
+  pub finished : (writer : EditWriter D) (edits : List Edit) → HasWritten seen may_leave failed writer edits
+      → string_bytes writer.text ≡ [] → IsWritten seen may_leave failed writer.journal edits
+  finished writer edits h none = record {
+    records = h.records;
+    is_open = h.is_open;
+    lines = subst (AreLines h.records)
+        (sym (append-nil h.first) ∙ (ap (λ o. h.first ++ o) (sym (no_lines h.others (sym h.text ∙ none))) ∙ h.all))
+        h.lines;
+  }
+
+  pub finished_now : (old new : EditWriter D) → Wrote seen may_leave failed old new [] → string_bytes new.text ≡ []
+      → (edits : List Edit) → HasWritten seen may_leave failed old edits → IsWritten seen may_leave failed new.journal edits
+  finished_now old new wrote none = λ edits h.
+      finished new edits (subst (HasWritten seen may_leave failed new) (append-nil edits) (wrote edits h)) none
 
 -- ---- the pages that two sites have otherwise, one after the other
 

@@ -34,3 +34,9 @@ abbrev pub Wrote : {D : Type 0} → (D → Option (List ℕ)) → (D → List �
     → Type 0
 Wrote seen may_leave failed old new more =
     (edits : List Edit) → HasWritten seen may_leave failed old edits → HasWritten seen may_leave failed new (edits ++ more)
+
+-- a writer, once it has written all of some edits but those that are left
+abbrev pub WroteUpTo : {D : Type 0} → (D → Option (List ℕ)) → (D → List ℕ → Type 0) → (D → Bool) → EditWriter D → EditWriter D
+    → List Edit → List Edit → Type 0
+WroteUpTo seen may_leave failed old new all left =
+    (done : List Edit) × Wrote seen may_leave failed old new done × (all ≡ done ++ left)

@@ -87,7 +87,7 @@ impl<D: Device> EditWriter<D> {
             (moves from.now (texts_of names.now))) }
     {
         let mut last = from;
-        for name in names {
+        'names: for name in names {
             self.move_page(heap, last, name)?;
             last = *name;
         }

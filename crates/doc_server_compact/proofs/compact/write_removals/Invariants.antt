@@ -1,0 +1,18 @@
+use Rattle.std.proofs.Common.{not}
+use Rattle.std.specs.List.{filter}
+use Rattle.std.specs.FinMap as map
+use Rattle.doc_store.specs.Pages.{without_stamps}
+use Rattle.doc_server_compact.specs.Compactions.{removals, other_pages, same_at}
+use Rattle.doc_server_compact.specs.WriterSteps.{IsWriter, WroteUpTo}
+use Rattle.doc_server_compact.proofs.Without.{AreEntries}
+use Rattle.doc_server_compact.proofs.compact.write_removals.Given as goal
+
+-- the removals so far are written, and those of the pages that are left are still to be
+abbrev pub invariant-pages : goal.invariant-pages
+invariant-pages g l = record {
+  writer : IsWriter g.D.Device.seen g.D.Device.may_leave g.D.Device.failed l.writer;
+  written : WroteUpTo g.D.Device.seen g.D.Device.may_leave g.D.Device.failed l.fn.writer l.writer
+      (removals (other_pages l.config.site l.site.site l.config.site.pages))
+      (removals (filter (λ e. not (same_at l.config.site l.site.site e.0)) (without_stamps l.path-iterator)));
+  left : AreEntries l.config.site.pages (without_stamps l.path-iterator);
+}
