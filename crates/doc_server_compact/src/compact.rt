@@ -1,13 +1,13 @@
 //! A journal whose edits lead from one site to another.
 
-ghost use Rattle.std.specs.Prelude.{◌≡◌, ◌++◌, ◌∷◌, [], ◌||◌, List, false, true, OnOk, IfOk};
+ghost use Rattle.std.specs.Prelude.{◌≡◌, ◌++◌, ◌∷◌, [], ◌||◌, List, Some, false, true, OnOk, IfOk};
 ghost use Rattle.std.specs.FinMap as map;
 ghost use Rattle.std.specs.List.{flat_map};
 ghost use Rattle.doc_server_journal.specs.Journals.{IsOpen};
 ghost use Rattle.doc_store.specs.Groups.{texts_of};
 ghost use Rattle.doc_store.specs.Names.{aliases_of};
 ghost use Rattle.doc_store.specs.Store.{Edit, remove_page};
-ghost use Rattle.doc_server_compact.specs.Compactions.{compacted, made, other_pages, removals, same_at};
+ghost use Rattle.doc_server_compact.specs.Compactions.{compacted, made, other_pages, removals, same_at, same_pages, same_texts};
 ghost use Rattle.doc_server_compact.specs.Written.{IsWritten};
 ghost use Rattle.doc_server_compact.specs.WriterSteps.{HasWritten, IsWriter, Wrote, unless_same};
 
@@ -149,15 +149,30 @@ fn same_at(config: &Store, site: &Store, path: &Path) -> Result<bool, Memory>
         || map.contains_key site.now.site.pages path.now) ≡ true }
     ensures { IfOk result (λ same. same ≡ same_at config.now.site site.now.site path.now) }
 {
-    let (Some(page), Some(other)) = (config.get(path), site.get(path)) else {
+    let Some(page) = config.get(path) else {
         return Ok(false);
     };
-    if page.groups() != other.groups() || page.text() != other.text() {
+    let Some(other) = site.get(path) else {
+        return Ok(false);
+    };
+    if !is_same_page(page, other) {
         return Ok(false);
     }
     let names = config.names_of(path)?;
     let others = site.names_of(path)?;
-    Ok(names.as_slice() == others.as_slice())
+    Ok(are_same_names(names.as_slice(), others.as_slice()))
+}
+
+fn is_same_page(page: &Page, other: &Page) -> bool
+    ensures { result ≡ same_pages (Some page.now.page) (Some other.now.page) }
+{
+    page.groups() == other.groups() && page.text() == other.text()
+}
+
+fn are_same_names(names: &[&Path], others: &[&Path]) -> bool
+    ensures { result ≡ same_texts (texts_of names.now) (texts_of others.now) }
+{
+    names == others
 }
 
 /// The names of a page, its path behind its aliases.
@@ -167,9 +182,7 @@ fn names_of<'a>(site: &'a Store, path: &Path) -> Result<Vec<&'a Path>, Memory>
         ≡ aliases_of site.now.site.aliases path.now ++ path.now ∷ []) }
 {
     let mut names = site.names_of(path)?;
-    if !names.is_empty() {
-        names.rotate_left(1);
-    }
+    names.rotate_left(1);
     Ok(names)
 }
 
