@@ -1,7 +1,9 @@
 -- Names of pages, and whether two sites have them so.
 use Rattle.std.proofs.Common.{◌≡◌, ℕ, Bool, true, false, ◌&&◌, ◌||◌, List, [], ◌∷◌, ◌++◌, length, take, drop, cond, is_some, refl, ap, sym, ◌∙◌}
 use Rattle.std.proofs.Common.{subst, arith, bytes_eq}
-use Rattle.std.specs.Prelude.{◌≤◌, Option, Some, None, map as mapped, Bor}
+use Rattle.std.specs.Prelude.{◌≤◌, Option, Some, None, map as mapped}
+use Rattle.std.specs.Borrow.{Bor}
+use Rattle.std.specs.Cmp.Lexicographic.{pointwise}
 use Rattle.std.specs.FinMap as map
 use Rattle.std.proofs.lemmas.List.{map-append}
 use Rattle.doc_store.specs.Groups.{texts_of}
@@ -86,3 +88,12 @@ names_tell config site path page other names others here there same are were =
     ∙ (ap (λ b. b && same_texts (aliases_of config.aliases path) (aliases_of site.aliases path)) (bytes_eq_is path path ∙ same_itself path)
     ∙ sym (both_stand config site path page (Some other) here there
     ∙ ap (λ b. b && same_texts (aliases_of config.aliases path) (aliases_of site.aliases path)) same)))
+
+-- ---- lists of names
+
+pub texts_alike : (names others : List (Bor (List ℕ)))
+    → pointwise (λ name other. bytes_eq name.now other.now) names others ≡ same_texts (texts_of names) (texts_of others)
+texts_alike [] [] = refl
+texts_alike [] (other ∷ others) = refl
+texts_alike (name ∷ names) [] = refl
+texts_alike (name ∷ names) (other ∷ others) = ap (λ rest. bytes_eq name.now other.now && rest) (texts_alike names others)

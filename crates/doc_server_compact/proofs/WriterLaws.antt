@@ -1,9 +1,9 @@
 -- What a writer has written, line by line and record by record.
 use Rattle.std.proofs.Common.{◌≡◌, ℕ, Bool, true, false, List, [], ◌∷◌, ◌++◌, length, cond, not, refl, ap, sym, ◌∙◌, subst, string_bytes}
 use Rattle.std.proofs.Common.{arith}
-use Rattle.std.specs.Prelude.{◌≤◌, Option, map as mapped}
+use Rattle.std.specs.Prelude.{◌≤◌, ◌+◌, Option, map as mapped}
 use Rattle.std.specs.List.{filter, flat_map}
-use Rattle.std.proofs.lemmas.List.{append_assoc, append-nil, map-append}
+use Rattle.std.proofs.lemmas.List.{append_assoc, append-nil, length-append, map-append}
 use Rattle.std.proofs.lemmas.Grind.{flat_map-append}
 use Rattle.doc_store.specs.Pages.{Page}
 use Rattle.doc_store.specs.Sites.{Site}
@@ -21,10 +21,10 @@ more_lines : (records : List (List ℕ)) (first others : List Edit) (text : List
     → AreLines (records ++ text ∷ []) (first ++ others)
 more_lines records first others text are is = record {
   parts = are.parts ++ others ∷ [];
-  records = ap (λ r. r ++ text ∷ []) are.records
+  are = ap (λ r. r ++ text ∷ []) are.are
       ∙ (ap (λ t. mapped lines_of are.parts ++ t ∷ []) is ∙ sym (map-append lines_of are.parts (others ∷ [])));
-  edits = flat_map-append (λ part. part) are.parts (others ∷ [])
-      ∙ (ap (λ edits. edits ++ (others ++ [])) are.edits ∙ ap (λ edits. first ++ edits) (append-nil others));
+  all = flat_map-append (λ part. part) are.parts (others ∷ [])
+      ∙ (ap (λ edits. edits ++ (others ++ [])) are.all ∙ ap (λ edits. first ++ edits) (append-nil others));
 }
 
 none_within : (text : List ℕ) → text ≡ [] → length text ≤ text_limit
@@ -39,16 +39,17 @@ module _ {D : Type 0} (seen : D → Option (List ℕ)) (may_leave : D → List �
     first = [];
     others = [];
     is_open = is;
-    lines = record { parts = []; records = refl; edits = refl };
+    lines = record { parts = []; are = refl; all = refl };
     text = none;
     within = none_within (string_bytes writer.text) none;
     all = refl;
   }
 
   pub added : (old new : EditWriter D) (line : List ℕ) (edit : Edit) → new.journal ≡ old.journal
-      → string_bytes new.text ≡ string_bytes old.text ++ line → length (string_bytes new.text) ≤ text_limit → line ≡ line_of edit
+      → string_bytes new.text ≡ string_bytes old.text ++ line → length (string_bytes old.text) + length line ≤ text_limit
+      → line ≡ line_of edit
       → Wrote seen may_leave failed old new (edit ∷ [])
-  added old new line edit journal text within is = λ edits h. record {
+  added old new line edit journal text room is = λ edits h. record {
     records = h.records;
     first = h.first;
     others = h.others ++ edit ∷ [];
@@ -58,7 +59,8 @@ module _ {D : Type 0} (seen : D → Option (List ℕ)) (may_leave : D → List �
         ∙ (ap (λ t. t ++ line) h.text
         ∙ (ap (λ t. lines_of h.others ++ t) (is ∙ sym (append-nil (line_of edit)))
         ∙ sym (flat_map-append line_of h.others (edit ∷ []))));
-    within = within;
+    within = subst (λ t. length t ≤ text_limit) (sym text)
+        (subst (λ n. n ≤ text_limit) (sym (length-append (string_bytes old.text) line)) room);
     all = sym (append_assoc h.first h.others (edit ∷ [])) ∙ ap (λ e. e ++ edit ∷ []) h.all;
   }
 

@@ -13,8 +13,8 @@ joined parts = flat_map (λ part. part) parts
 -- Each record is the lines of some edits, and these one behind the other are the edits.
 pub record AreLines (records : List (List ℕ)) (edits : List Edit) : Type 0 where
   pub parts : List (List Edit)
-  pub records : records ≡ mapped lines_of parts
-  pub edits : joined parts ≡ edits
+  pub are : records ≡ mapped lines_of parts
+  pub all : joined parts ≡ edits
 
 -- The journal is open, and has records of these edits.
 pub record IsWritten {D : Type 0} (seen : D → Option (List ℕ)) (may_leave : D → List ℕ → Type 0) (failed : D → Bool) (journal : Journal D)

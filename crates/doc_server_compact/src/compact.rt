@@ -78,7 +78,7 @@ fn write_removals<D: Device + Drop>(
     ensures { OnOk result (Wrote D.seen D.may_leave D.failed writer.old writer.new
         (removals (other_pages config.now.site site.now.site config.now.site.pages))) }
 {
-    'pages: for (path, _page) in config.pages() {
+    'entries: for (path, _page) in config.pages() {
         write_removal(heap, config, site, path, writer)?;
     }
     Ok(())
@@ -115,7 +115,7 @@ fn write_pages<D: Device + Drop>(
         (flat_map (made site.now.site)
         (other_pages config.now.site site.now.site site.now.site.pages))) }
 {
-    'pages: for (path, page) in site.pages() {
+    'entries: for (path, page) in site.pages() {
         write_page(heap, config, site, path, page, writer)?;
     }
     Ok(())

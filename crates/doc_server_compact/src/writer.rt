@@ -95,6 +95,7 @@ impl<D: Device> EditWriter<D> {
     }
 
     /// Writes the line of an edit. Where no room is left for it in the record of those before it, it begins another.
+    #[tactic(auto, unfolding(doc_server_journal::specs::Records::text_limit))]
     fn add(&mut self, heap: Heap, line: &str) -> Result<(), CompactFault>
         requires { IsWriter D.seen D.may_leave D.failed self.old }
         ensures { (edit : Edit) → line.now ≡ line_of edit
@@ -109,6 +110,7 @@ impl<D: Device> EditWriter<D> {
     }
 
     /// Makes room for so many bytes more in a record.
+    #[tactic(auto, unfolding(doc_server_journal::specs::Records::text_limit))]
     fn make_room(&mut self, heap: Heap, len: usize) -> Result<(), CompactFault>
         requires writer { IsWriter D.seen D.may_leave D.failed self.old }
         requires within { len ≤ text_limit }

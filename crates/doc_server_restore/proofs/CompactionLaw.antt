@@ -108,8 +108,8 @@ compaction_is_restored store site records is_config is_site room are lines =
     by None all is = absurd (no_some site is)
     by (Some after) all is = (
       unstamped after,
-      ap (restored (unstamped store)) lines.records
-          ∙ parts_restored lines.parts 1 (unstamped store) (unstamped after) (subst AreEdits (sym lines.edits) are)
-          (ap (all_made (unstamped store)) lines.edits ∙ (all_replayed edits store ∙ ap (option_map unstamped) all)),
+      ap (restored (unstamped store)) lines.are
+          ∙ parts_restored lines.parts 1 (unstamped store) (unstamped after) (subst AreEdits (sym lines.all) are)
+          (ap (all_made (unstamped store)) lines.all ∙ (all_replayed edits store ∙ ap (option_map unstamped) all)),
       same_some after.site site is,
     )

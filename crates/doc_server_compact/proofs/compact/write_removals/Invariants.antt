@@ -8,8 +8,8 @@ use Rattle.doc_server_compact.proofs.Without.{AreEntries}
 use Rattle.doc_server_compact.proofs.compact.write_removals.Given as goal
 
 -- the removals so far are written, and those of the pages that are left are still to be
-abbrev pub invariant-pages : goal.invariant-pages
-invariant-pages g l = record {
+abbrev pub invariant-entries : goal.invariant-entries
+invariant-entries g l = record {
   writer : IsWriter g.D.Device.seen g.D.Device.may_leave g.D.Device.failed l.writer;
   written : WroteUpTo g.D.Device.seen g.D.Device.may_leave g.D.Device.failed l.fn.writer l.writer
       (removals (other_pages l.config.site l.site.site l.config.site.pages))
