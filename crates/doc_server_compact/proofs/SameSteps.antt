@@ -29,7 +29,7 @@ pub has_a_name : (site : Site) (path : List ℕ) (names : List (Bor (List ℕ)))
 has_a_name site path names stands is =
     not_empty (λ text. text.now) names path (aliases_of site.aliases path) (is ∙ names_are site path stands)
 
-first_of : {X : Type 0} → X → List X → X
+abbrev first_of : {X : Type 0} → X → List X → X
 first_of other [] = other
 first_of other (x ∷ xs) = x
 

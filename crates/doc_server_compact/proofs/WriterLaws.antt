@@ -1,16 +1,18 @@
 -- What a writer has written, line by line and record by record.
 use Rattle.std.proofs.Common.{◌≡◌, ℕ, Bool, true, false, List, [], ◌∷◌, ◌++◌, length, cond, not, refl, ap, sym, ◌∙◌, subst, string_bytes}
-use Rattle.std.proofs.Common.{arith}
-use Rattle.std.specs.Prelude.{◌≤◌, ◌+◌, Option, map as mapped}
+use Rattle.std.proofs.Common.{arith, drop, get_or}
+use Rattle.std.specs.Borrow.{Bor}
+use Rattle.doc_store.specs.Groups.{texts_of}
+use Rattle.std.specs.Prelude.{◌≤◌, ◌<◌, ◌+◌, Option, map as mapped, OnOk, Result, Ok, Err}
 use Rattle.std.specs.List.{filter, flat_map}
-use Rattle.std.proofs.lemmas.List.{append_assoc, append-nil, length-append, map-append}
+use Rattle.std.proofs.lemmas.List.{append_assoc, append-nil, drop_more, length-append, map-append}
 use Rattle.std.proofs.lemmas.Grind.{flat_map-append}
 use Rattle.doc_store.specs.Pages.{Page}
 use Rattle.doc_store.specs.Sites.{Site}
 use Rattle.doc_store.specs.Store.{Edit, set_page, remove_page, move_page}
 use Rattle.doc_server_journal.specs.Journals.{IsOpen}
 use Rattle.doc_server_journal.specs.Records.{text_limit}
-use Rattle.doc_server_compact.specs.Compactions.{made, removals, same_at}
+use Rattle.doc_server_compact.specs.Compactions.{made, moves, removals, same_at}
 use Rattle.doc_server_compact.specs.Lines.{line_of, lines_of}
 use Rattle.doc_server_compact.specs.Written.{AreLines, IsWritten}
 use Rattle.doc_server_script.specs.Edits.{put_line, remove_line, move_line}
@@ -91,6 +93,12 @@ module _ {D : Type 0} (seen : D → Option (List ℕ)) (may_leave : D → List �
       → IsWriter seen may_leave failed b
   still_writer a b x (edits, h) wrote = (edits ++ x, wrote edits h)
 
+  pub then_wrote : {X E : Type 0} (result : Result X E) (a b c : EditWriter D) (x y all : List Edit)
+      → Wrote seen may_leave failed a b x → OnOk result (Wrote seen may_leave failed b c y) → x ++ y ≡ all
+      → OnOk result (Wrote seen may_leave failed a c all)
+  then_wrote (Ok done) a b c x y all first second is = subst (Wrote seen may_leave failed a c) is (both_wrote a b c x y first second)
+  then_wrote (Err e) a b c x y all first second is = tt
+
   -- ---- edits one after the other
 
   pub begins : (writer : EditWriter D) (all : List Edit) → WroteUpTo seen may_leave failed writer writer all all
@@ -133,6 +141,13 @@ module _ {D : Type 0} (seen : D → Option (List ℕ)) (may_leave : D → List �
       → (edits : List Edit) → HasWritten seen may_leave failed old edits → IsWritten seen may_leave failed new.journal edits
   finished_now old new wrote none = λ edits h.
       finished new edits (subst (HasWritten seen may_leave failed new) (append-nil edits) (wrote edits h)) none
+
+-- ---- names one after the other
+
+pub next_move : (last : List ℕ) (names : List (Bor (List ℕ))) (i : ℕ) (other : Bor (List ℕ)) → i < length names
+    → moves last (texts_of (drop i names))
+    ≡ (move_page last (get_or names i other).now ∷ []) ++ moves (get_or names i other).now (texts_of (drop (i + 1) names))
+next_move last names i other within = ap (λ left. moves last (texts_of left)) (drop_more names i other within)
 
 -- ---- the pages that two sites have otherwise, one after the other
 
