@@ -100,7 +100,7 @@ entries_from pages (entry ∷ entries) found = (
   entries_from pages entries found.2,
 )
 
-pub all_are : (pages : TextMap Page) → AreEntries pages (map.entries pages)
+all_are : (pages : TextMap Page) → AreEntries pages (map.entries pages)
 all_are pages =
     entries_from pages (map.entries pages) (all_found (map.entries pages) (once_from (paths (map.entries pages))
     (IsDistinct-from_sorted (slice_cmp nat_cmp) (keys_of (map.entries pages))

@@ -35,10 +35,6 @@ same_at config site path =
 abbrev pub other_pages : Site → Site → TextMap Page → List (List ℕ × Page)
 other_pages config site pages = filter (λ entry. not (same_at config site entry.0)) (map.entries pages)
 
--- the removals of some pages
-abbrev pub removals : List (List ℕ × Page) → List Edit
-removals entries = mapped (λ entry. remove_page entry.0) entries
-
 -- a move from each name to the next
 abbrev pub moves : List ℕ → List (List ℕ) → List Edit
 moves from [] = []
@@ -57,5 +53,5 @@ made site entry = made_along entry.1 (aliases_of site.aliases entry.0 ++ entry.0
 -- removed, then each page that the configuration doesn't give so is made.
 unfoldable pub compacted : Site → Site → List Edit
 compacted config site =
-    removals (other_pages config site config.pages)
+    mapped (λ entry. remove_page entry.0) (other_pages config site config.pages)
     ++ flat_map (made site) (other_pages config site site.pages)
