@@ -10,7 +10,7 @@ use Rattle.doc_server_compact.proofs.ReplayLaw.{replay_gives_the_site}
 use Rattle.doc_server_compact.specs.Compactions.{compacted}
 use Rattle.doc_server_compact.specs.Lines.{lines_of}
 use Rattle.doc_server_compact.specs.Replays.{HasRoom, edited, replayed}
-use Rattle.doc_server_compact.specs.Written.{AreLines, joined}
+use Rattle.doc_server_compacting.specs.Written.{AreLines, joined}
 use Rattle.doc_server_restore.specs.declared.fault.RestoreFault.{RestoreFault}
 use Rattle.doc_server_restore.specs.declared.fault.RestoreFault.TheVariants as faults
 use Rattle.doc_server_restore.specs.Laws.{AreEdits, CompactionIsRestored}
