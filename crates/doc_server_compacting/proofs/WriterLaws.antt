@@ -179,9 +179,13 @@ others_stand pages entry entries stand = λ q there. stand q (later_is_in q entr
 
 -- ---- the pages that two sites have otherwise, one after the other
 
-pub removals_more : (config site : Site) (entry : List ℕ × Page) (entries : List (List ℕ × Page))
-    → removals (filter (λ e. not (same_at config site e.0)) (entry ∷ entries))
-    ≡ unless_same config site entry.0 (remove_page entry.0 ∷ []) ++ removals (filter (λ e. not (same_at config site e.0)) entries)
+-- the removals of those of some pages that the two sites don't have so
+abbrev pub removals_left : Site → Site → Entries → List Edit
+removals_left config site entries = removals (filter (λ e. not (same_at config site e.0)) entries)
+
+pub removals_more : (config site : Site) (entry : List ℕ × Page) (entries : Entries)
+    → removals_left config site (entry ∷ entries)
+    ≡ unless_same config site entry.0 (remove_page entry.0 ∷ []) ++ removals_left config site entries
 removals_more config site entry entries = by (same_at config site entry.0)
   where
     rest : List (List ℕ × Page)
@@ -191,9 +195,12 @@ removals_more config site entry entries = by (same_at config site entry.0)
     by true = refl
     by false = refl
 
-pub made_more : (config site : Site) (entry : List ℕ × Page) (entries : List (List ℕ × Page))
-    → flat_map (made site) (filter (λ e. not (same_at config site e.0)) (entry ∷ entries))
-    ≡ unless_same config site entry.0 (made site entry) ++ flat_map (made site) (filter (λ e. not (same_at config site e.0)) entries)
+-- the edits that make those of some pages that the two sites don't have so
+abbrev pub made_left : Site → Site → Entries → List Edit
+made_left config site entries = flat_map (made site) (filter (λ e. not (same_at config site e.0)) entries)
+
+pub made_more : (config site : Site) (entry : List ℕ × Page) (entries : Entries)
+    → made_left config site (entry ∷ entries) ≡ unless_same config site entry.0 (made site entry) ++ made_left config site entries
 made_more config site entry entries = by (same_at config site entry.0)
   where
     rest : List (List ℕ × Page)

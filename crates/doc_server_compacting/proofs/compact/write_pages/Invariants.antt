@@ -1,9 +1,8 @@
-use Rattle.std.proofs.Common.{not}
-use Rattle.std.specs.List.{filter, flat_map}
+use Rattle.std.specs.List.{flat_map}
 use Rattle.doc_store.specs.Pages.{without_stamps}
-use Rattle.doc_server_compact.specs.Compactions.{made, other_pages, same_at}
+use Rattle.doc_server_compact.specs.Compactions.{made, other_pages}
 use Rattle.doc_server_compacting.specs.WriterSteps.{IsWriter, WroteUpTo}
-use Rattle.doc_server_compacting.proofs.WriterLaws.{Stand}
+use Rattle.doc_server_compacting.proofs.WriterLaws.{Stand, made_left}
 use Rattle.doc_server_compacting.proofs.compact.write_pages.Given as goal
 
 -- the pages so far are written, and those that are left are still to be
@@ -12,6 +11,6 @@ invariant-entries g l = record {
   writer : IsWriter g.D.Device.seen g.D.Device.may_leave g.D.Device.failed l.writer;
   written : WroteUpTo g.D.Device.seen g.D.Device.may_leave g.D.Device.failed l.fn.writer l.writer
       (flat_map (made l.site.site) (other_pages l.config.site l.site.site l.site.site.pages))
-      (flat_map (made l.site.site) (filter (λ e. not (same_at l.config.site l.site.site e.0)) (without_stamps l.path-iterator)));
+      (made_left l.config.site l.site.site (without_stamps l.path-iterator));
   left : Stand l.site.site.pages (without_stamps l.path-iterator);
 }
