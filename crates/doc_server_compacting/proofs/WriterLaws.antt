@@ -1,6 +1,6 @@
 -- What a writer has written, line by line and record by record.
 use Rattle.std.proofs.Common.{◌≡◌, ℕ, Bool, true, false, List, [], ◌∷◌, ◌++◌, length, cond, not, refl, ap, sym, ◌∙◌, subst, string_bytes}
-use Rattle.std.proofs.Common.{arith, drop, get_or, is_some}
+use Rattle.std.proofs.Common.{◌==◌, arith, drop, get_or, is_some}
 use Rattle.std.specs.Borrow.{Bor}
 use Rattle.doc_store.specs.Groups.{texts_of}
 use Rattle.std.specs.Prelude.{◌≤◌, ◌<◌, ◌+◌, Option, map as mapped, OnOk, Result, Ok, Err}
@@ -9,6 +9,7 @@ use Rattle.std.specs.FinMap as map
 use Rattle.std.specs.FinMap.Entries.{is_some-find}
 use Rattle.std.specs.Ordering.{nat_cmp}
 use Rattle.std.specs.List.{filter, flat_map}
+use Rattle.std.proofs.lemmas.Bool.{eqb-true}
 use Rattle.std.proofs.lemmas.List.{append_assoc, append-nil, drop_more, length-append, map-append}
 use Rattle.std.proofs.lemmas.Grind.{flat_map-append}
 use Rattle.doc_store.specs.Maps.{TextMap}
@@ -126,6 +127,13 @@ module _ {D : Type 0} (seen : D → Option (List ℕ)) (may_leave : D → List �
       subst (Wrote seen may_leave failed a b) (sym (is ∙ (ap (λ l. done ++ l) none ∙ append-nil done))) wrote
 
 -- ---- the end
+
+nothing_long : (text : List ℕ) → length text ≡ 0 → text ≡ []
+nothing_long [] e = refl
+nothing_long (b ∷ text) e = absurd (omega (arith, e))
+
+pub nothing_in : (text : List ℕ) (test : Bool) → test ≡ (length text == 0) → test ≡ true → text ≡ []
+nothing_in text test e yes = nothing_long text (eqb-true (length text) 0 (sym e ∙ yes))
 
 ends : (line more : List ℕ) → (line ++ 10 ∷ []) ++ more ≡ [] → ⊥
 ends [] more e = cc
