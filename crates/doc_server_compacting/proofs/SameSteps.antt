@@ -1,6 +1,6 @@
 -- Names of pages, and whether two sites have them so.
-use Rattle.std.proofs.Common.{◌≡◌, ℕ, Bool, true, false, ◌&&◌, ◌||◌, List, [], ◌∷◌, ◌++◌, length, take, drop, cond, is_some, refl, ap, sym, ◌∙◌}
-use Rattle.std.proofs.Common.{subst, arith, bytes_eq}
+use Rattle.std.proofs.Common.{◌≡◌, ℕ, Bool, true, false, ◌&&◌, ◌||◌, List, [], ◌∷◌, ◌++◌, length, take, drop, cond, is_some, refl, ap, sym}
+use Rattle.std.proofs.Common.{◌∙◌, arith, bytes_eq}
 use Rattle.std.specs.Prelude.{◌≤◌, Option, Some, None, map as mapped}
 use Rattle.std.specs.Borrow.{Bor}
 use Rattle.std.specs.Cmp.Lexicographic.{pointwise}
@@ -58,7 +58,8 @@ none_here config site path none stands =
     by None is = absurd (clash (is_some (map.get config.pages path) || is_some (map.get site.pages path)) stands
         (ap (λ a. is_some a || is_some (map.get site.pages path)) none ∙ ap is_some is))
     by (Some other) is =
-        ap (λ a. same_pages a (map.get site.pages path) && same_texts (aliases_of config.aliases path) (aliases_of site.aliases path)) none
+        ap (λ a. same_pages a (map.get site.pages path)
+        && same_texts (aliases_of config.aliases path) (aliases_of site.aliases path)) none
         ∙ ap (λ b. same_pages None b && same_texts (aliases_of config.aliases path) (aliases_of site.aliases path)) is
 
 both_stand : (config site : Site) (path : List ℕ) (page : Page) (other : Option Page) → Some page ≡ map.get config.pages path
@@ -66,7 +67,8 @@ both_stand : (config site : Site) (path : List ℕ) (page : Page) (other : Optio
     → same_at config site path
     ≡ same_pages (Some page) other && same_texts (aliases_of config.aliases path) (aliases_of site.aliases path)
 both_stand config site path page other here there =
-    ap (λ a. same_pages a (map.get site.pages path) && same_texts (aliases_of config.aliases path) (aliases_of site.aliases path)) (sym here)
+    ap (λ a. same_pages a (map.get site.pages path)
+    && same_texts (aliases_of config.aliases path) (aliases_of site.aliases path)) (sym here)
     ∙ ap (λ b. same_pages (Some page) b && same_texts (aliases_of config.aliases path) (aliases_of site.aliases path)) (sym there)
 
 pub none_there : (config site : Site) (path : List ℕ) (page : Page) → Some page ≡ map.get config.pages path

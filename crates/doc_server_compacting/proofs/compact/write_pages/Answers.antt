@@ -32,8 +32,8 @@ entries-preserved g c =
     record {
       writer = still_writer g.D.Device.seen g.D.Device.may_leave g.D.Device.failed c.entries.writer c.write_page.new.writer _
           c.entries.invariant.writer c.in_ok-write_page.ensures;
-      written = goes_on g.D.Device.seen g.D.Device.may_leave g.D.Device.failed c.args.writer.now c.entries.writer c.write_page.new.writer _ _ _ _
-          c.entries.invariant.written c.in_ok-write_page.ensures
+      written = goes_on g.D.Device.seen g.D.Device.may_leave g.D.Device.failed c.args.writer.now c.entries.writer
+          c.write_page.new.writer _ _ _ _ c.entries.invariant.written c.in_ok-write_page.ensures
           (ap (made_left config site) steps ∙ made_more config site entry rest);
       left = others_stand site.pages entry rest (subst (Stand site.pages) steps c.entries.invariant.left);
     }

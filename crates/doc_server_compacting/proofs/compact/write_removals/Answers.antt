@@ -32,8 +32,8 @@ entries-preserved g c =
     record {
       writer = still_writer g.D.Device.seen g.D.Device.may_leave g.D.Device.failed c.entries.writer c.write_removal.new.writer _
           c.entries.invariant.writer c.in_ok-write_removal.ensures;
-      written = goes_on g.D.Device.seen g.D.Device.may_leave g.D.Device.failed c.args.writer.now c.entries.writer c.write_removal.new.writer _ _ _ _
-          c.entries.invariant.written c.in_ok-write_removal.ensures
+      written = goes_on g.D.Device.seen g.D.Device.may_leave g.D.Device.failed c.args.writer.now c.entries.writer
+          c.write_removal.new.writer _ _ _ _ c.entries.invariant.written c.in_ok-write_removal.ensures
           (ap (removals_left config site) steps ∙ removals_more config site entry rest);
       left = others_stand config.pages entry rest (subst (Stand config.pages) steps c.entries.invariant.left);
     }

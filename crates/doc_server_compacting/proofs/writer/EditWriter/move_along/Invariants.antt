@@ -8,5 +8,6 @@ use Rattle.doc_server_compacting.proofs.writer.EditWriter.move_along.Given as go
 abbrev pub invariant-names : goal.invariant-names
 invariant-names g l = record {
   writer : IsWriter g.D.Device.seen g.D.Device.may_leave g.D.Device.failed l.self;
-  written : WroteUpTo g.D.Device.seen g.D.Device.may_leave g.D.Device.failed l.fn.self l.self (moves l.from (texts_of l.names)) (moves l.last (texts_of (drop l.name-index l.names)));
+  written : WroteUpTo g.D.Device.seen g.D.Device.may_leave g.D.Device.failed l.fn.self l.self
+      (moves l.from (texts_of l.names)) (moves l.last (texts_of (drop l.name-index l.names)));
 }
