@@ -1,11 +1,11 @@
 -- A run of one character, a character at a time.
-use Rattle.std.proofs.Common.{◌≡◌, ◌∙◌, ℕ, ◌+◌, ◌-◌, ◌<◌, ◌≤◌, Bool, true, false, ◌==◌, List, [], ◌∷◌, length, refl, ap, sym, zero, suc}
+use Rattle.std.proofs.Common.{◌≡◌, ◌∙◌, ℕ, ◌+◌, ◌<◌, ◌≤◌, Bool, true, false, ◌==◌, List, [], ◌∷◌, length, refl, ap, sym, zero, suc}
 use Rattle.std.proofs.Common.{Option, Some, None, arith}
 use Rattle.std.specs.Prelude.{chars, option_and_then}
 use Rattle.std.specs.Str.{IsUtf8}
 use Rattle.std.proofs.lemmas.Str.{chars-encodes, length-le-encodes}
 use Rattle.doc_rules.specs.Characters.{Text}
-use Rattle.doc_rules.specs.Parsers.{one, is, many, some}
+use Rattle.doc_rules.specs.Parsers.{is, many, some}
 
 -- a text has no more characters than bytes
 pub fewer_characters : (bytes : List ℕ) → IsUtf8 bytes → length (chars bytes) ≤ length bytes
@@ -21,7 +21,7 @@ pub record HasPassed (c : ℕ) (text rest : Text) (count : ℕ) : Type 0 where
   pub size : count + length rest ≡ length text
 
 pub none_passed : (c : ℕ) (text : Text) → HasPassed c text text 0
-none_passed c text = record { nothing = λ _. refl; run = λ h. absurd (omega (arith, h)); size = refl }
+none_passed c text = record { nothing = λ _. refl; run = λ h. absurd (omega (arith, h)); size = omega arith }
 
 abbrev after : (ℕ → Bool) → ℕ → Text → Bool → Option Text
 after test c rest b = elim b [ true ↦ Some rest | false ↦ None ]
@@ -52,7 +52,7 @@ many_stops c (d ∷ rest) e = at (d == c) e
     at true e = absurd cc
     at false e = refl
 
-one_shorter : (c : ℕ) (rest behind : Text) → Some behind ≡ is c rest → length rest ≡ suc (length behind)
+pub one_shorter : (c : ℕ) (rest behind : Text) → Some behind ≡ is c rest → length rest ≡ suc (length behind)
 one_shorter c [] behind e = absurd cc
 one_shorter c (d ∷ rest) behind e = ap (λ (t : Text). suc (length t)) (sym (passes c d rest behind e).1)
 
