@@ -9,8 +9,8 @@ use Rattle.doc_blocks_starts.specs.Lines.{inside_of}
 use Rattle.doc_blocks.specs.BuilderSteps.{IsBegun}
 use Rattle.doc_blocks.proofs.builder.Builder.begin.Goals as goal
 
-pub returns-then-branch-clause-reached : goal.returns-then-branch-clause-reached
-returns-then-branch-clause-reached c =
+pub returns-then-not-branch-clause-reached : goal.returns-then-not-branch-clause-reached
+returns-then-not-branch-clause-reached c =
     let s = state_of c.containers.self in
     let n = state_of c.begin_one.new.self in
     let line = left_of c.containers.line in
