@@ -3,8 +3,7 @@ ghost use Rattle.std.specs.Prelude.{◌≡◌, ◌==◌, ◌-◌, ℕ, Option, c
 ghost use Rattle.doc_rules.specs.Parsers.{some};
 ghost use Rattle.doc_lines.specs.MeaningSteps.{behind_of};
 
-use doc_lines::scan::front::front;
-use doc_lines::scan::run::some;
+use doc_lines::scan::character::is;
 
 /// How many of this character stand at the front, one at least, and the text behind them.
 pub fn run_of(text: &str, c: char) -> Option<(usize, &str)>
@@ -12,12 +11,14 @@ pub fn run_of(text: &str, c: char) -> Option<(usize, &str)>
     ensures count { IfSome result (λ run. run.0
         ≡ length (chars text.now) - length (chars run.1.now)) }
 {
-    let rest = some(text, |d| d == c)?;
-    Some((count(front(text, rest)), rest))
-}
-
-fn count(text: &str) -> usize
-    ensures { result ≡ length (chars text.now) }
-{
-    text.chars().count()
+    let mut count = 0;
+    let mut rest = text;
+    'characters: while let Some(behind) = is(rest, c) {
+        count += 1;
+        rest = behind;
+    }
+    if count == 0 {
+        return None;
+    }
+    Some((count, rest))
 }
