@@ -1,3 +1,4 @@
+mod CompactionLaw
 mod Effects
 mod LineLaws
 mod MadeSteps

@@ -19,11 +19,11 @@ use Rattle.doc_server_restore.specs.Restores.{after_record, edit_in, edits_in, e
 use Rattle.doc_server_restore.specs.RestoreSteps.{Reads, Tells, is_edit, made_by, made_of}
 use Rattle.doc_server_restore.proofs.Effects.{events_made}
 
-abbrev onto : ℕ → List (List ℕ) → Result StoreState RestoreFault → Result StoreState RestoreFault
+abbrev pub onto : ℕ → List (List ℕ) → Result StoreState RestoreFault → Result StoreState RestoreFault
 onto n texts (Err fault) = Err fault
 onto n texts (Ok next) = restored_from (n + 1) next texts
 
-as_onto : (n : ℕ) (store : StoreState) (text : List ℕ) (texts : List (List ℕ)) (answer : Result StoreState RestoreFault)
+pub as_onto : (n : ℕ) (store : StoreState) (text : List ℕ) (texts : List (List ℕ)) (answer : Result StoreState RestoreFault)
     → after_record store n (edits_of text) ≡ answer → restored_from n store (text ∷ texts) ≡ onto n texts answer
 as_onto n store text texts answer is = each (after_record store n (edits_of text)) ∙ ap (onto n texts) is
   where

@@ -1,10 +1,14 @@
 -- Laws of a restoration; the proofs are in proofs/.
-use Rattle.std.specs.Prelude.{◌≡◌, List, [], ◌∷◌, ⊤, Some}
+use Rattle.std.specs.Prelude.{◌≡◌, ℕ, List, [], ◌∷◌, ⊤, Some, Ok}
 use Rattle.doc_store.specs.Groups.{IsGroups}
-use Rattle.doc_store.specs.Store.{Edit, set_page, remove_page, move_page}
+use Rattle.doc_store.specs.Sites.{Site, IsSite}
+use Rattle.doc_store.specs.Store.{Edit, set_page, remove_page, move_page, StoreState}
 use Rattle.doc_server_script.specs.Laws.{IsText, IsPathText}
+use Rattle.doc_server_compact.specs.Compactions.{compacted}
 use Rattle.doc_server_compact.specs.Lines.{lines_of}
-use Rattle.doc_server_restore.specs.Restores.{edits_of}
+use Rattle.doc_server_compact.specs.Replays.{HasRoom}
+use Rattle.doc_server_compacting.specs.Written.{AreLines}
+use Rattle.doc_server_restore.specs.Restores.{edits_of, restored, unstamped}
 
 -- an edit of paths, groups and a text as every call takes them
 abbrev pub IsEdit : Edit → Type 0
@@ -19,3 +23,9 @@ AreEdits (edit ∷ edits) = IsEdit edit × AreEdits edits
 -- what is written of edits, one line for each, reads as these edits
 abbrev pub LinesAreRead : Type 0
 LinesAreRead = (edits : List Edit) → AreEdits edits → edits_of (lines_of edits) ≡ Some edits
+
+-- what a compaction writes, restored on the configuration's site, gives the other site
+abbrev pub CompactionIsRestored : Type 0
+CompactionIsRestored = (store : StoreState) (site : Site) (records : List (List ℕ)) → IsSite store.site → IsSite site → HasRoom store site
+    → AreEdits (compacted store.site site) → AreLines records (compacted store.site site)
+    → (after : StoreState) × (restored (unstamped store) records ≡ Ok after) × (after.site ≡ site)

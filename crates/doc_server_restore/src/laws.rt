@@ -1,9 +1,15 @@
 //! Laws of a restoration. Each function does nothing: its contract is the law.
 
-ghost use Rattle.doc_server_restore.specs.Laws.{LinesAreRead};
+ghost use Rattle.doc_server_restore.specs.Laws.{CompactionIsRestored, LinesAreRead};
 
 /// The lines of edits, read as a record, are these edits: for every path, set of groups and text.
 #[tactic(auto, using(crate::proofs::LineLaws::lines_are_read))]
 pub fn the_lines_of_edits_are_these_edits()
     ensures { LinesAreRead }
+{}
+
+/// The records of a compaction, restored on the configuration's site, give the site that was compacted, aliases included.
+#[tactic(auto, using(crate::proofs::CompactionLaw::compaction_is_restored))]
+pub fn a_compaction_is_restored()
+    ensures { CompactionIsRestored }
 {}

@@ -23,6 +23,7 @@ pub enum Command<'a> {
     Check(Check<'a>),
     Replay(Replay<'a>),
     Serve(Serve<'a>),
+    Listen(Listen<'a>),
 }
 
 /// The report of a reader of a configured site.
@@ -52,6 +53,18 @@ pub struct Serve<'a> {
     pub count: u32,
     /// How many passes go over them.
     pub turns: u32,
+}
+
+/// A configured site that is served until the program is told to stop.
+#[derive(Drop)]
+pub struct Listen<'a> {
+    /// The file of the configuration.
+    pub config: &'a str,
+    /// The address as it is written, and what that means.
+    pub written: &'a str,
+    pub address: SocketAddr,
+    /// The file of the journal, where there is one.
+    pub journal: Option<&'a str>,
 }
 
 /// The arguments behind the name of the program.
@@ -104,6 +117,36 @@ pub fn command_of(words: &[String]) -> Result<Command<'_>, Fault> {
                 turns.as_str(),
             )
         }
+        ("listen", [config, address]) => listen_of(config.as_str(), address.as_str(), None),
+        ("listen", [config, address, option, journal]) => {
+            let journal = journal_of(option.as_str(), journal.as_str())?;
+            listen_of(config.as_str(), address.as_str(), Some(journal))
+        }
+        _ => Err(Fault::Usage),
+    }
+}
+
+/// The command `listen`.
+fn listen_of<'a>(
+    config: &'a str,
+    written: &'a str,
+    journal: Option<&'a str>,
+) -> Result<Command<'a>, Fault> {
+    let Ok(address) = written.parse::<SocketAddr>() else {
+        return Err(Fault::Usage);
+    };
+    Ok(Command::Listen(Listen {
+        config,
+        written,
+        address,
+        journal,
+    }))
+}
+
+/// The file that the option `--journal` names.
+fn journal_of<'a>(option: &str, name: &'a str) -> Result<&'a str, Fault> {
+    match option {
+        "--journal" => Ok(name),
         _ => Err(Fault::Usage),
     }
 }

@@ -34,6 +34,11 @@ pub fn read_site<R: AllocGlobal + Files>(rt: &R, name: &str) -> Result<Site, Fau
     let heap = heap(rt.alloc(), u64::MAX)?;
     let text = read_file(rt, heap, name)?;
     let config = config_of(heap, &text)?;
+    site_of(rt, heap, config)
+}
+
+/// The site of a configuration.
+pub fn site_of<R: Files>(rt: &R, heap: Heap, config: SiteConfig) -> Result<Site, Fault> {
     let table = read_table(rt, heap, &config)?;
     let texts = read_pages(rt, heap, config.pages.get())?;
     let entities = match table {
@@ -55,12 +60,13 @@ pub fn open_file<R: Files>(rt: &R, heap: Heap, name: &str) -> Result<ReadFrom<R:
 }
 
 /// The text of a file.
-fn read_file<R: Files>(rt: &R, heap: Heap, name: &str) -> Result<String, Fault> {
+pub fn read_file<R: Files>(rt: &R, heap: Heap, name: &str) -> Result<String, Fault> {
     let mut input = open_file(rt, heap, name)?;
     read_text(heap, name, &mut input)
 }
 
-fn config_of(heap: Heap, text: &str) -> Result<SiteConfig, Fault> {
+/// The configuration that a text is.
+pub fn config_of(heap: Heap, text: &str) -> Result<SiteConfig, Fault> {
     match SiteConfig::from_toml(heap, text) {
         Ok(config) => Ok(config),
         Err(ConfigError::Memory) => Err(Fault::Memory),

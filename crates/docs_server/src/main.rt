@@ -2,23 +2,30 @@
 #![tactic(auto)]
 
 mod arguments;
+mod bounded;
 mod commands;
 mod files;
+mod held;
+mod journal;
+mod listen_fault;
+mod listening;
 mod serving;
 mod sites;
 mod status;
 
 use crate::arguments::{Command, command_of, words_of};
 use crate::commands::{run_demo, run_examples, run_render};
+use crate::listening::run_listen;
 use crate::serving::run_serve;
 use crate::sites::{run_check, run_replay};
 use crate::status::status_of;
 use doc_heap::heap;
 use doc_server_input::fault::Fault;
+use std::fs::File;
 use std::marker::Brand;
 use std::net::{Net, TcpListener, TcpStream};
 use std::process::ExitCode;
-use std::rt::{Env, Files};
+use std::rt::{Clock, Env, Files};
 use std::sync::ledger::Blank;
 
 fn main(rt: HostRuntime) -> ExitCode {
@@ -29,9 +36,12 @@ fn main(rt: HostRuntime) -> ExitCode {
 fn run<R>(rt: &R) -> Result<u8, Fault>
 where
     R: AllocGlobal
+        + Clock
+        + Clone
+        + Drop
         + Env
         + Eprint
-        + Files
+        + Files<File = File>
         + Input
         + Net<Listener = TcpListener, Stream = TcpStream>
         + Print,
@@ -44,5 +54,6 @@ where
         Command::Check(check) => run_check::<Brand, R>(rt, Blank::new(1), &check),
         Command::Replay(replay) => run_replay::<Brand, R>(rt, Blank::new(1), &replay),
         Command::Serve(serve) => run_serve::<Brand, R>(rt, Blank::new(1), &serve),
+        Command::Listen(listen) => Ok(run_listen::<Brand, R>(rt, Blank::new(1), &listen)),
     }
 }

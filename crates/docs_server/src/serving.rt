@@ -62,7 +62,7 @@ fn serve_with<
 }
 
 /// Writes the line that tells the address.
-fn tell_address<O: Output>(output: &mut O, written: &str) -> Result<(), Fault> {
+pub fn tell_address<O: Output>(output: &mut O, written: &str) -> Result<(), Fault> {
     send(output, b"listening ")?;
     send(output, written.as_bytes())?;
     send(output, b"\n")?;

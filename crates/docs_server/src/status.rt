@@ -1,9 +1,9 @@
 //! The status that the program ends with.
 
-use doc_server_input::fault::Fault;
+use std::fmt::Display;
 
-/// The status to end with. A fault is printed.
-pub fn status_of<P: Eprint>(rt: &P, ended: Result<u8, Fault>) -> u8 {
+/// The status to end with. What stops the program is printed.
+pub fn status_of<P: Eprint, F: Display + Drop>(rt: &P, ended: Result<u8, F>) -> u8 {
     match ended {
         Ok(status) => status,
         Err(fault) => {

@@ -5,20 +5,30 @@ use crate::line::{Line, read_line};
 use doc_heap::{Heap, String, heap};
 use doc_page::failure::Memory;
 use std::io;
-use std::io::{BufRead, BufReader};
 
-/// The calls of a trial program.
+/// The calls of a trial program, and what they change.
 pub trait Calls {
-    /// What a call answers, where there is one of this name.
-    fn called(&self, heap: Heap, name: &str, given: &str) -> Option<Result<String, Memory>>;
+    /// What a call answers.
+    fn called(&mut self, heap: Heap, name: &str, given: &str) -> Result<String, Memory>;
 }
 
 /// Prints for each line of standard input what it answers.
-pub fn run<R: AllocGlobal + Input + Print, C: Calls>(rt: &R, calls: &C) -> io::Result<()> {
+pub fn run<R: AllocGlobal + Input + Print, C: Calls>(rt: &R, calls: &mut C) -> io::Result<()> {
+    let text = io::read_to_string(rt.alloc(), rt.reader())?;
+    let ran = run_lines(rt, &text, calls);
+    drop(text);
+    ran
+}
+
+/// Prints for each line of a text what it answers.
+pub fn run_lines<R: AllocGlobal + Print, C: Calls>(
+    rt: &R,
+    text: &str,
+    calls: &mut C,
+) -> io::Result<()> {
     let heap = heap(rt.alloc(), u64::MAX)?;
-    for line in BufReader::new(rt.alloc(), rt.reader())?.lines(rt.alloc()) {
-        let line = line?;
-        match answer_of(heap, line.as_str(), calls) {
+    for line in text.lines() {
+        match answer_of(heap, line, calls) {
             Ok(answer) => println!(rt; "{answer}")?,
             Err(Memory) => println!(rt; "no memory for the line")?,
         }
@@ -27,13 +37,14 @@ pub fn run<R: AllocGlobal + Input + Print, C: Calls>(rt: &R, calls: &C) -> io::R
 }
 
 /// What is printed for a line.
-fn answer_of<C: Calls>(heap: Heap, line: &str, calls: &C) -> Result<String, Memory> {
+fn answer_of<C: Calls>(heap: Heap, line: &str, calls: &mut C) -> Result<String, Memory> {
     match read_line(heap, line)? {
         Line::Comment => Ok(String::from_str(heap, line)?),
-        Line::Call { name, given } => match calls.called(heap, name, &given) {
-            Some(answer) => answer,
-            None => no_call(heap),
-        },
+        Line::Call { name, given } => {
+            let answer = calls.called(heap, name, &given);
+            drop(given);
+            answer
+        }
         Line::Wrong => no_call(heap),
     }
 }

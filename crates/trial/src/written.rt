@@ -126,6 +126,26 @@ fn written_char(written: &str) -> Option<(char, &str)> {
 /// The character that a hexadecimal number between braces names, and the text behind it.
 fn numbered_char(written: &str) -> Option<(char, &str)> {
     let (digits, behind) = written.strip_prefix("{")?.split_once('}')?;
-    let number = u32::from_str_radix(digits, 16).ok()?;
-    Some((char::from_u32(number)?, behind))
+    Some((char::from_u32(hexadecimal(digits)?)?, behind))
+}
+
+/// The number that hexadecimal digits write. (To read them by the standard library is much dearer to prove.)
+pub fn hexadecimal(digits: &str) -> Option<u32> {
+    if digits.is_empty() {
+        return None;
+    }
+    let mut number: u32 = 0;
+    for digit in digits.bytes() {
+        number = number.checked_mul(16)?.checked_add(value_of(digit)?)?;
+    }
+    Some(number)
+}
+
+fn value_of(digit: u8) -> Option<u32> {
+    match digit {
+        b'0'..=b'9' => Some(u32::from(digit - b'0')),
+        b'a'..=b'f' => Some(u32::from(digit - b'a') + 10),
+        b'A'..=b'F' => Some(u32::from(digit - b'A') + 10),
+        _ => None,
+    }
 }

@@ -12,12 +12,12 @@ use std::cell::Cell;
 #[derive(Drop)]
 pub struct Counting<'a> {
     sight: &'a SiteSight<'a>,
-    watched: &'a Path,
+    watched: &'a str,
     asked: Cell<u64>,
 }
 
 impl<'a> Counting<'a> {
-    pub fn new(sight: &'a SiteSight<'a>, watched: &'a Path) -> Counting<'a> {
+    pub fn new(sight: &'a SiteSight<'a>, watched: &'a str) -> Counting<'a> {
         Counting {
             sight,
             watched,
@@ -41,7 +41,7 @@ impl<'a> Sight for Counting<'a> {
     ghost goals = { λ c. goal_in c.sight.now };
 
     fn sees(&self, path: &Path) -> bool {
-        if path == self.watched {
+        if path.text() == self.watched {
             self.asked.set(self.asked.get().saturating_add(1));
         }
         self.sight.sees(path)

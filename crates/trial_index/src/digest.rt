@@ -16,7 +16,23 @@ pub fn digested(trial: &mut Trial, calls: &str) -> Result<String, Stop> {
     Ok(format!(in trial.heaps.desk; "{value:016x}")?)
 }
 
-/// That number.
+/// `CALL ; CALL ; ..`: makes the calls, and answers what the last does.
+pub fn last_of(trial: &mut Trial, calls: &str) -> Result<String, Stop> {
+    match calls.rsplit_once(" ; ") {
+        Some((before, last)) => {
+            digest_of(trial, before)?;
+            answer_to(trial, last)
+        }
+        None => answer_to(trial, calls),
+    }
+}
+
+fn answer_to(trial: &mut Trial, call: &str) -> Result<String, Stop> {
+    let (name, given) = last_word_of(call);
+    called(trial, name, given)
+}
+
+/// The number of what calls answer.
 pub fn digest_of(trial: &mut Trial, calls: &str) -> Result<u64, Stop> {
     let mut value = OFFSET;
     for call in calls.split(" ; ") {
@@ -26,8 +42,7 @@ pub fn digest_of(trial: &mut Trial, calls: &str) -> Result<u64, Stop> {
 }
 
 fn with_answer(trial: &mut Trial, value: u64, call: &str) -> Result<u64, Stop> {
-    let (name, given) = last_word_of(call);
-    let answer = called(trial, name, given)?;
+    let answer = answer_to(trial, call)?;
     let value = with_line(value, &answer);
     drop(answer);
     Ok(value)

@@ -10,23 +10,8 @@ use doc_page::list::List;
 use doc_page::path::Path;
 use doc_page::text::Text;
 
-/// What a call of this name answers, if there is one.
-pub fn called(
-    heaps: Heaps,
-    cache: &mut PageCache,
-    name: &str,
-    given: &str,
-) -> Option<Result<String, Stop>> {
-    match name {
-        "cache" => Some(renewed(heaps, cache, given)),
-        "keep" => Some(kept(heaps.desk, cache, given)),
-        "look" => Some(looked(heaps.desk, cache, given)),
-        _ => None,
-    }
-}
-
 /// `CAPACITY`: begins an empty cache.
-fn renewed(heaps: Heaps, cache: &mut PageCache, given: &str) -> Result<String, Stop> {
+pub fn renewed(heaps: Heaps, cache: &mut PageCache, given: &str) -> Result<String, Stop> {
     let capacity = number_of(given)?;
     answered(heaps.desk, renew(heaps.tried, cache, capacity as usize))
 }
@@ -37,7 +22,7 @@ fn renew(heap: Heap, cache: &mut PageCache, capacity: usize) -> Result<(), Cache
 }
 
 /// `KEY | TEXT`: true, or no memory.
-fn kept(desk: Heap, cache: &mut PageCache, given: &str) -> Result<String, Stop> {
+pub fn kept(desk: Heap, cache: &mut PageCache, given: &str) -> Result<String, Stop> {
     let (key, text) = two(given)?;
     let key = key_of(desk, key)?;
     let text = Text::copy_of(desk, text)?;
@@ -49,7 +34,7 @@ fn kept(desk: Heap, cache: &mut PageCache, given: &str) -> Result<String, Stop> 
 }
 
 /// `KEY`: the text under it.
-fn looked(desk: Heap, cache: &mut PageCache, given: &str) -> Result<String, Stop> {
+pub fn looked(desk: Heap, cache: &mut PageCache, given: &str) -> Result<String, Stop> {
     let key = key_of(desk, given)?;
     let told = written(desk, cache.look(&key));
     drop(key);

@@ -8,26 +8,8 @@ use doc_index::index::Index;
 use doc_page::failure::Memory;
 use doc_page::path::Path;
 
-/// What a call of this name answers, if there is one.
-pub fn called(
-    heaps: Heaps,
-    index: &mut Index<u64>,
-    name: &str,
-    given: &str,
-) -> Option<Result<String, Stop>> {
-    match name {
-        "index" => Some(renewed(heaps, index)),
-        "enter" => Some(entered(heaps.desk, index, given)),
-        "copy" => Some(copied(heaps.desk, index, given)),
-        "drop" => Some(dropped(heaps.desk, index, given)),
-        "pages" => Some(listed(heaps, index, None)),
-        "key" => Some(listed(heaps, index, Some(given))),
-        _ => None,
-    }
-}
-
 /// Begins an empty index.
-fn renewed(heaps: Heaps, index: &mut Index<u64>) -> Result<String, Stop> {
+pub fn renewed(heaps: Heaps, index: &mut Index<u64>) -> Result<String, Stop> {
     *index = Index::new(heaps.tried);
     told(heaps.desk, "()")
 }
@@ -49,7 +31,7 @@ fn place_of(desk: Heap, given: &str) -> Result<(Place, &str), Stop> {
 }
 
 /// `PATH STAMP VALUE KEY:COUNT ..`: holds a page, and answers whether there was none under that path and stamp.
-fn entered(desk: Heap, index: &mut Index<u64>, given: &str) -> Result<String, Stop> {
+pub fn entered(desk: Heap, index: &mut Index<u64>, given: &str) -> Result<String, Stop> {
     let (place, rest) = place_of(desk, given)?;
     let is_free = enter(desk, index, &place, rest);
     drop(place);
@@ -103,7 +85,7 @@ fn add_key(desk: Heap, keys: &mut BTreeMap<String, u64>, given: &str) -> Result<
 }
 
 /// `PATH STAMP PATH STAMP VALUE`: holds a page with the keys of another, and answers likewise.
-fn copied(desk: Heap, index: &mut Index<u64>, given: &str) -> Result<String, Stop> {
+pub fn copied(desk: Heap, index: &mut Index<u64>, given: &str) -> Result<String, Stop> {
     let (from, rest) = place_of(desk, given)?;
     let is_free = copy_from(desk, index, &from, rest);
     drop(from);
@@ -127,7 +109,7 @@ fn copy_to(index: &mut Index<u64>, from: &Place, to: &Place, value: &str) -> Res
 }
 
 /// `PATH STAMP`: whether a page was there.
-fn dropped(desk: Heap, index: &mut Index<u64>, given: &str) -> Result<String, Stop> {
+pub fn dropped(desk: Heap, index: &mut Index<u64>, given: &str) -> Result<String, Stop> {
     let (place, _) = place_of(desk, given)?;
     let was_there = index.drop_page(&place.path, place.stamp);
     drop(place);
@@ -135,7 +117,7 @@ fn dropped(desk: Heap, index: &mut Index<u64>, given: &str) -> Result<String, St
 }
 
 /// The pages with their values, or those that have a key with its counts.
-fn listed(heaps: Heaps, index: &Index<u64>, key: Option<&str>) -> Result<String, Stop> {
+pub fn listed(heaps: Heaps, index: &Index<u64>, key: Option<&str>) -> Result<String, Stop> {
     let slots = index.in_order(heaps.tried)?;
     let told = told_of(heaps.desk, index, &slots, key);
     drop(slots);
@@ -201,8 +183,8 @@ fn push_page(out: &mut String, page: &Held<u64>, number: u64) -> Result<(), Memo
     if !out.is_empty() {
         out.push_str(", ")?;
     }
-    let path = page.path.text();
+    out.push_str(page.path.text())?;
     let stamp = page.stamp;
-    write!(out, "{path} {stamp} {number}")?;
+    write!(out, " {stamp} {number}")?;
     Ok(())
 }

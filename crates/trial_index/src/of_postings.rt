@@ -7,11 +7,11 @@ ghost use Rattle.doc_store.specs.Sites.{goal_in};
 ghost use Rattle.doc_words.specs.Searches.{pages_of};
 
 use crate::counting::Counting;
-use crate::given::{Heaps, path_of};
+use crate::given::Heaps;
 use crate::indexes::STAMP;
 use crate::of_answers::{hits_told, sources_told};
 use crate::of_site::Site;
-use crate::stop::{Stop, written};
+use crate::stop::Stop;
 use doc_heap::{Heap, String};
 use doc_links::LinkIndex;
 use doc_page::list::List;
@@ -21,18 +21,15 @@ use doc_store::reader::Reader;
 use doc_store::site_sight::SiteSight;
 use doc_store::store::Store;
 use doc_words::index::WordIndex;
-use doc_words::query::{QueryError, query};
 use doc_words::word::Word;
 
-/// `PATH`: the text of the pages with links to a page that is held and seen.
-pub fn backlinks(heaps: Heaps, site: &Site, reader: &Reader, path: &str) -> Result<String, Stop> {
-    let target = path_of(heaps.desk, path)?;
-    let told = backlinks_to(heaps, site, reader, &target);
-    drop(target);
-    told
-}
-
-fn backlinks_to(heaps: Heaps, site: &Site, reader: &Reader, target: &Path) -> Result<String, Stop> {
+/// The text of the pages with links to a page that is held and seen.
+pub fn backlinks_to(
+    heaps: Heaps,
+    site: &Site,
+    reader: &Reader,
+    target: &Path,
+) -> Result<String, Stop> {
     let all = sources(&site.store, site.indexes.links(), reader, target)?;
     let told = sources_told(heaps, all.get());
     drop(all);
@@ -63,25 +60,8 @@ fn sources(
     Ok(all?)
 }
 
-/// `QUERY`: the text of the pages that have its words, of fewer than 100 that are seen, or why it has none.
-pub fn search(
-    heaps: Heaps,
-    index: &WordIndex,
-    sight: &Counting,
-    text: &str,
-) -> Result<String, Stop> {
-    match query(heaps.tried, text) {
-        Ok(words) => {
-            let told = search_for(heaps, index, sight, words.get());
-            drop(words);
-            told
-        }
-        Err(QueryError::Memory) => Err(Stop::Memory),
-        Err(e) => written(heaps.desk, e),
-    }
-}
-
-fn search_for(
+/// The text of the pages that have these words, of fewer than 100 that are seen.
+pub fn search_among(
     heaps: Heaps,
     index: &WordIndex,
     sight: &Counting,

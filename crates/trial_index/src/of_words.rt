@@ -1,7 +1,7 @@
 //! Calls of words and queries.
 
 use crate::given::Heaps;
-use crate::page::page_of_texts;
+use crate::page::{Kind, page_of};
 use crate::stop::{Stop, written};
 use doc_heap::{Heap, String};
 use doc_page::failure::Memory;
@@ -10,18 +10,9 @@ use doc_words::query::{QueryError, query};
 use doc_words::word::Word;
 use doc_words::words::words;
 
-/// What a call of this name answers, if there is one.
-pub fn called(heaps: Heaps, name: &str, given: &str) -> Option<Result<String, Stop>> {
-    match name {
-        "words" => Some(words_told(heaps, given)),
-        "query" => Some(query_told(heaps, given)),
-        _ => None,
-    }
-}
-
 /// `TEXT | TEXT ..`: the words of a page of these texts, each with its count.
-fn words_told(heaps: Heaps, given: &str) -> Result<String, Stop> {
-    let page = page_of_texts(heaps.desk, given)?;
+pub fn words_told(heaps: Heaps, given: &str) -> Result<String, Stop> {
+    let page = page_of(heaps.desk, Kind::Texts, given)?;
     let told = words_of(heaps, &page);
     drop(page);
     Ok(told?)
@@ -49,7 +40,7 @@ fn push_counts(out: &mut String, counts: &[(Word, u64)]) -> Result<(), Memory> {
 }
 
 /// `TEXT`: the words of a query, or why it has none.
-fn query_told(heaps: Heaps, given: &str) -> Result<String, Stop> {
+pub fn query_told(heaps: Heaps, given: &str) -> Result<String, Stop> {
     match query(heaps.tried, given) {
         Ok(words) => {
             let told = listed(heaps.desk, words.get());

@@ -9,6 +9,17 @@ use doc_page::list::List;
 use doc_page::rendered::{Heading, LinkSpot, Piece, Rendered};
 use doc_page::text::Text;
 
+/// What a page is made from.
+#[derive(Clone, Copy)]
+pub enum Kind {
+    /// Lines, as said above.
+    Lines,
+    /// The texts of blocks, with ` | ` between two.
+    Texts,
+    /// The destinations of links, with ` | ` between two.
+    Links,
+}
+
 /// What is made of a page so far.
 #[derive(Drop)]
 struct Draft {
@@ -42,18 +53,24 @@ impl Draft {
         }
     }
 
-    fn add_lines(&mut self, text: &str) -> Result<(), Stop> {
-        for line in text.split('\n') {
-            self.add_line(line)?;
+    /// Adds the parts that a page of this kind is made of.
+    fn add_parts(&mut self, kind: Kind, text: &str) -> Result<(), Stop> {
+        let between = match kind {
+            Kind::Lines => "\n",
+            Kind::Texts | Kind::Links => " | ",
+        };
+        for part in text.split(between) {
+            self.add_part(kind, part)?;
         }
         Ok(())
     }
 
-    fn add_texts(&mut self, texts: &str) -> Result<(), Memory> {
-        for text in texts.split(" | ") {
-            self.add_text(text)?;
+    fn add_part(&mut self, kind: Kind, part: &str) -> Result<(), Stop> {
+        match kind {
+            Kind::Lines => self.add_line(part),
+            Kind::Texts => Ok(self.add_text(part)?),
+            Kind::Links => Ok(self.add_link(part)?),
         }
-        Ok(())
     }
 
     fn add_line(&mut self, line: &str) -> Result<(), Stop> {
@@ -120,16 +137,13 @@ fn heading(heap: Heap, level: u8, anchor: &str, text: &str) -> Result<Heading, M
     })
 }
 
-/// The page of a text.
-pub fn rendered(heap: Heap, text: &str) -> Result<Rendered, Stop> {
+/// The page of a text of this kind.
+pub fn page_of(heap: Heap, kind: Kind, text: &str) -> Result<Rendered, Stop> {
     let mut draft = Draft::new(heap);
-    draft.add_lines(text)?;
-    Ok(draft.into_page())
-}
-
-/// The page of these blocks' texts, which have ` | ` between them.
-pub fn page_of_texts(heap: Heap, texts: &str) -> Result<Rendered, Memory> {
-    let mut draft = Draft::new(heap);
-    draft.add_texts(texts)?;
-    Ok(draft.into_page())
+    let added = draft.add_parts(kind, text);
+    let page = draft.into_page();
+    match added {
+        Ok(()) => Ok(page),
+        Err(stop) => Err(stop),
+    }
 }

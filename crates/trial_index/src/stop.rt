@@ -50,6 +50,11 @@ pub fn written<T: Debug + Drop>(desk: Heap, value: T) -> Result<String, Stop> {
     Ok(shown(desk, value)?)
 }
 
+/// The same, where memory did not run out for it.
+pub fn written_made<T: Debug + Drop>(desk: Heap, made: Result<T, Memory>) -> Result<String, Stop> {
+    written(desk, made?)
+}
+
 /// What is printed for a value that is written so.
 pub fn told(desk: Heap, text: &str) -> Result<String, Stop> {
     Ok(String::from_str(desk, text)?)

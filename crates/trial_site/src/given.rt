@@ -8,6 +8,7 @@ use doc_page::text::Text;
 use doc_store::groups::Groups;
 use doc_store::reader::Reader;
 use trial::answer::{number_and_text, two_texts};
+use trial::written::hexadecimal;
 
 /// Two texts that a call is given, or one and further ones.
 pub fn two(given: &str) -> Result<(&str, &str), Stop> {
@@ -81,10 +82,10 @@ fn push_numbered(bytes: &mut Vec<u8>, text: &str) -> Result<(), Stop> {
     let Some((digits, rest)) = text.split_at_checked(2) else {
         return Err(Stop::NoCall);
     };
-    let Ok(byte) = u8::from_str_radix(digits, 16) else {
+    let Some(byte) = hexadecimal(digits) else {
         return Err(Stop::NoCall);
     };
-    bytes.push(byte)?;
+    bytes.push(byte as u8)?;
     bytes.extend_from_slice(rest.as_bytes())?;
     Ok(())
 }

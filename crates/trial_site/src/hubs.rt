@@ -5,7 +5,7 @@ use crate::given::id_and_bytes;
 use crate::outcomes::{all_said, one_said};
 use crate::stop::{Answer, Stop};
 use crate::world::{World, asked, set_witness};
-use crate::written::Written;
+use crate::written::push_after;
 use doc_heap::{Heap, String};
 use doc_hub::event::Event;
 use doc_hub::hub::Hub;
@@ -79,10 +79,11 @@ fn report<R: Renderer + Drop>(desk: Heap, hub: &mut Hub<R>, token: &str) -> Resu
 }
 
 fn reported(desk: Heap, report: Text) -> Result<Answer, Stop> {
-    let lines = Written::new(report.get().as_bytes());
-    let text = format!(in desk; "report {lines}");
+    let mut text = String::new(desk);
+    let pushed = push_after(&mut text, "report ", report.get().as_bytes());
     drop(report);
-    Ok(Answer::of(text?))
+    pushed?;
+    Ok(Answer::of(text))
 }
 
 /// `EVENT ; EVENT ..`: a run of these events.

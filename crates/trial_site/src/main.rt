@@ -1,4 +1,5 @@
-//! Tries the calls of `doc_http` and of `doc_hub`, as `trial` says, in worlds: a line `world` begins a new one.
+//! Tries the calls of `doc_http` and of `doc_hub`, and the commands `demo`, `render` and `examples`, as `trial` says. A line `world` begins
+//! a new world, of which the calls below it are; the lines in front of the first one are of commands and streams (`programs`).
 //!
 //! - `world keep CACHE READERS` makes a hub with the readers of a TOML text, and `world close CACHE READERS` one that keeps no connection
 //!   alive. It answers `()`, or what refuses it; then no calls follow.
@@ -17,17 +18,28 @@
 
 ghost use Rattle.std.specs.Prelude.{◌≡◌, ◌<◌};
 
+mod commands;
+mod echo;
 mod events;
+mod feed;
 mod given;
 mod hubs;
+mod in_turn;
 mod outcomes;
+mod programs;
 mod requests;
 mod rounds;
+mod scene;
+mod scripts;
+mod sink;
 mod stop;
+mod streams;
+mod tried;
+mod ways;
 mod world;
 mod written;
 
-use doc_heap::{String, heap};
+use doc_heap::{Heap, String, heap};
 use doc_html::CommonMark;
 use doc_lines::entities::Entities;
 use doc_page::failure::Memory;
@@ -38,8 +50,7 @@ use std::io;
 use std::marker::Brand;
 use std::sync::ledger::{Blank, Ledger};
 use stop::said;
-use trial::answer::no_call;
-use trial::line::{Line, read_line};
+use trial::run::{Calls, run_lines};
 use world::{Heaps, World, new_world};
 
 fn main(rt: HostRuntime) -> io::Result<()> {
@@ -49,10 +60,11 @@ fn main(rt: HostRuntime) -> io::Result<()> {
     ran
 }
 
-/// Prints what the lines of each world answer, behind the comments in front of the first one.
+/// Prints what the lines in front of the first world answer, and then those of each world.
 fn run<P: AllocGlobal + Print>(rt: &P, text: &str) -> io::Result<()> {
-    let (comments, worlds) = text.split_once("\nworld ").unwrap_or((text, ""));
-    println!(rt; "{comments}")?;
+    let (lines, worlds) = text.split_once("\nworld ").unwrap_or((text, ""));
+    let mut heaps = new_heaps(rt)?;
+    run_lines(rt, lines, &mut heaps)?;
     for lines in worlds.split("\nworld ") {
         begin_world(rt, lines)?;
     }
@@ -104,27 +116,17 @@ fn run_world_with<R: Renderer + Drop, P: AllocGlobal + Print>(
 }
 
 /// Prints what a world's line and each of its calls answer.
-fn run_calls<R: Renderer + Drop, P: Print>(
+fn run_calls<R: Renderer + Drop, P: AllocGlobal + Print>(
     rt: &P,
     world: &mut World<R>,
     calls: &str,
 ) -> io::Result<()> {
     println!(rt; "()")?;
-    for line in calls.lines() {
-        match answer_of(world, line) {
-            Ok(answer) => println!(rt; "{answer}")?,
-            Err(Memory) => println!(rt; "no memory for the line")?,
-        }
-    }
-    Ok(())
+    run_lines(rt, calls, world)
 }
 
-/// What is printed for a line.
-fn answer_of<R: Renderer + Drop>(world: &mut World<R>, line: &str) -> Result<String, Memory> {
-    let desk = world.heaps.desk;
-    match read_line(desk, line)? {
-        Line::Comment => Ok(String::from_str(desk, line)?),
-        Line::Call { name, given } => said(desk, answer(world, name, &given)),
-        Line::Wrong => no_call(desk),
+impl<R: Renderer + Drop> Calls for World<R> {
+    fn called(&mut self, heap: Heap, name: &str, given: &str) -> Result<String, Memory> {
+        said(heap, answer(self, name, given))
     }
 }

@@ -1,31 +1,34 @@
 //! How outcomes of events are written.
 
 use crate::stop::{Answer, Stop};
-use crate::written::Written;
+use crate::written::{push, push_after};
 use doc_heap::{Heap, String};
 use doc_hub::event::{ConnId, Step};
 use doc_hub::outcome::Outcome;
 use doc_hub::refusal::Refusal;
+use doc_page::failure::Memory;
 use doc_store::readers::Set;
 use doc_store::store::Put;
-use std::fmt;
 
-/// An outcome, for printing: a word, and of a connection its number, of a step its bytes, and of a refusal what it prints.
-#[derive(Clone, Copy)]
-struct Said<'a> {
-    outcome: &'a Outcome,
+/// Writes an outcome: a word, and of a connection its number, of a step its bytes, and of a refusal what it prints.
+fn push_outcome(out: &mut String, outcome: &Outcome) -> Result<(), Memory> {
+    match outcome {
+        Outcome::Conn(ConnId(number)) => push_connection(out, *number),
+        Outcome::Stepped(Step::Sent(reply)) => push_after(out, "sent ", reply.get()),
+        Outcome::Stepped(Step::Last(reply)) => push_after(out, "last ", reply.get()),
+        Outcome::Refused(refusal) => push_refusal(out, *refusal),
+        other => push(out, word_of(other)),
+    }
 }
 
-impl fmt::Display for Said<'_> {
-    fn fmt<W: fmt::Write>(&self, f: &mut fmt::Formatter<W>) -> fmt::Result {
-        match self.outcome {
-            Outcome::Conn(ConnId(number)) => write!(f, "connection {number}"),
-            Outcome::Stepped(Step::Sent(reply)) => write!(f, "sent {}", Written::new(reply.get())),
-            Outcome::Stepped(Step::Last(reply)) => write!(f, "last {}", Written::new(reply.get())),
-            Outcome::Refused(refusal) => write!(f, "refused: {refusal}"),
-            other => f.write_str(word_of(other)),
-        }
-    }
+fn push_connection(out: &mut String, number: u64) -> Result<(), Memory> {
+    write!(out, "connection {number}")?;
+    Ok(())
+}
+
+fn push_refusal(out: &mut String, refusal: Refusal) -> Result<(), Memory> {
+    write!(out, "refused: {refusal}")?;
+    Ok(())
 }
 
 /// The word for what came of an event.
@@ -47,20 +50,16 @@ fn word_of(outcome: &Outcome) -> &'static str {
 }
 
 /// Whether memory ran out in the event.
-pub fn is_memory(outcome: &Outcome) -> bool {
+fn is_memory(outcome: &Outcome) -> bool {
     matches!(outcome, Outcome::Refused(Refusal::Memory))
-}
-
-/// An outcome, as it is printed.
-pub fn text_of(desk: Heap, outcome: &Outcome) -> Result<String, Stop> {
-    let said = Said { outcome };
-    Ok(format!(in desk; "{said}")?)
 }
 
 /// The answer that came of one event.
 pub fn one_said(desk: Heap, outcome: &Outcome) -> Result<Answer, Stop> {
+    let mut text = String::new(desk);
+    push_outcome(&mut text, outcome)?;
     Ok(Answer {
-        text: text_of(desk, outcome)?,
+        text,
         memory: is_memory(outcome),
     })
 }
@@ -73,7 +72,7 @@ pub fn all_said(desk: Heap, outcomes: &[Outcome]) -> Result<Answer, Stop> {
     Ok(Answer { text, memory })
 }
 
-fn push_all(out: &mut String, outcomes: &[Outcome]) -> Result<(), Stop> {
+fn push_all(out: &mut String, outcomes: &[Outcome]) -> Result<(), Memory> {
     for outcome in outcomes {
         push_said(out, outcome)?;
     }
@@ -81,9 +80,9 @@ fn push_all(out: &mut String, outcomes: &[Outcome]) -> Result<(), Stop> {
 }
 
 /// Adds an outcome behind others or none.
-fn push_said(out: &mut String, outcome: &Outcome) -> Result<(), Stop> {
-    let between = if out.is_empty() { "" } else { " | " };
-    let said = Said { outcome };
-    write!(out, "{between}{said}")?;
-    Ok(())
+fn push_said(out: &mut String, outcome: &Outcome) -> Result<(), Memory> {
+    if !out.is_empty() {
+        push(out, " | ")?;
+    }
+    push_outcome(out, outcome)
 }

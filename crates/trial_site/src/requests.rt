@@ -3,41 +3,41 @@
 use crate::given::bytes_of;
 use crate::stop::{Answer, Stop};
 use crate::world::Heaps;
-use crate::written::Written;
+use crate::written::{push, push_after, push_bytes};
+use doc_heap::{Heap, String};
 use doc_http::request::{Next, Request, next_request};
 use doc_http::unread::Unread;
 use doc_page::failure::Memory;
-use std::fmt;
-
-/// What a call of this name answers, if there is one.
-pub fn called(heaps: Heaps, name: &str, given: &str) -> Option<Result<Answer, Stop>> {
-    match name {
-        "next" => Some(next(heaps, given)),
-        "drip" => Some(drip(heaps, given)),
-        _ => None,
-    }
-}
 
 /// `BYTES`: what they begin with.
-fn next(heaps: Heaps, given: &str) -> Result<Answer, Stop> {
+pub fn next(heaps: Heaps, given: &str) -> Result<Answer, Stop> {
     let bytes = bytes_of(heaps.desk, given)?;
     let next = next_request(heaps.tried, &bytes);
     drop(bytes);
     let answer = match &next {
-        Ok(next) => found(heaps, next),
+        Ok(next) => found(heaps.desk, None, next),
         Err(Memory) => Answer::memory(heaps.desk),
     };
     drop(next);
     answer
 }
 
-fn found(heaps: Heaps, next: &Next) -> Result<Answer, Stop> {
-    let said = Said { next };
-    Ok(Answer::of(format!(in heaps.desk; "{said}")?))
+/// What bytes begin with, behind how many decide it, where that is told.
+fn found(desk: Heap, count: Option<usize>, next: &Next) -> Result<Answer, Stop> {
+    let mut out = String::new(desk);
+    push_found(&mut out, count, next)?;
+    Ok(Answer::of(out))
+}
+
+fn push_found(out: &mut String, count: Option<usize>, next: &Next) -> Result<(), Memory> {
+    if let Some(count) = count {
+        write!(out, "{count}: ")?;
+    }
+    push_next(out, next)
 }
 
 /// `BYTES`: how many of them decide what they begin with, and what that is, where they come one by one.
-fn drip(heaps: Heaps, given: &str) -> Result<Answer, Stop> {
+pub fn drip(heaps: Heaps, given: &str) -> Result<Answer, Stop> {
     let bytes = bytes_of(heaps.desk, given)?;
     let mut unread = Unread::new(heaps.tried);
     let answer = dripped(heaps, &mut unread, &bytes);
@@ -48,14 +48,9 @@ fn drip(heaps: Heaps, given: &str) -> Result<Answer, Stop> {
 
 fn dripped(heaps: Heaps, unread: &mut Unread, bytes: &[u8]) -> Result<Answer, Stop> {
     let next = next_of_bytes(unread, bytes)?;
-    let answer = found_behind(heaps, unread.get().len(), &next);
+    let answer = found(heaps.desk, Some(unread.get().len()), &next);
     drop(next);
     answer
-}
-
-fn found_behind(heaps: Heaps, count: usize, next: &Next) -> Result<Answer, Stop> {
-    let said = Said { next };
-    Ok(Answer::of(format!(in heaps.desk; "{count}: {said}")?))
 }
 
 /// What bytes come to that are pushed one by one, until that is decided.
@@ -74,48 +69,39 @@ fn next_with(unread: &mut Unread, byte: u8) -> Result<Next, Memory> {
     unread.next_request()
 }
 
-/// What bytes begin with, for printing.
-#[derive(Clone, Copy)]
-struct Said<'a> {
-    next: &'a Next,
-}
-
-impl fmt::Display for Said<'_> {
-    fn fmt<W: fmt::Write>(&self, f: &mut fmt::Formatter<W>) -> fmt::Result {
-        match self.next {
-            Next::More => f.write_str("more"),
-            Next::Fault { code, bare: true } => write!(f, "bare fault {code}"),
-            Next::Fault { code, bare: false } => write!(f, "fault {code}"),
-            Next::Request { used, request } => {
-                let parts = Parts { request };
-                write!(f, "request {used} {parts}")
-            }
-        }
+/// Writes what bytes begin with.
+fn push_next(out: &mut String, next: &Next) -> Result<(), Memory> {
+    match next {
+        Next::More => push(out, "more"),
+        Next::Fault { code, bare } => push_fault(out, *code, *bare),
+        Next::Request { used, request } => push_request(out, *used, request),
     }
 }
 
-/// A request, for printing: its method and target, and where it has them the value of its Authorization, that it closes, and its body.
-#[derive(Clone, Copy)]
-struct Parts<'a> {
-    request: &'a Request,
+fn push_fault(out: &mut String, code: u16, bare: bool) -> Result<(), Memory> {
+    push(out, if bare { "bare fault " } else { "fault " })?;
+    write!(out, "{code}")?;
+    Ok(())
 }
 
-impl fmt::Display for Parts<'_> {
-    fn fmt<W: fmt::Write>(&self, f: &mut fmt::Formatter<W>) -> fmt::Result {
-        let method = self.request.method.get();
-        let target = Written::new(self.request.target.get().as_bytes());
-        write!(f, "{method} {target}")?;
-        if let Some(value) = &self.request.authorization {
-            write!(f, " by {}", Written::new(value.get()))?;
-        }
-        f.write_str(if self.request.close { " closes" } else { "" })?;
-        write_body(f, self.request.body.get())
+fn push_request(out: &mut String, used: usize, request: &Request) -> Result<(), Memory> {
+    write!(out, "request {used} ")?;
+    push_parts(out, request)
+}
+
+/// Writes a request's method and target, and where it has them the value of its Authorization, that it closes, and its body.
+fn push_parts(out: &mut String, request: &Request) -> Result<(), Memory> {
+    push(out, request.method.get())?;
+    push(out, " ")?;
+    push_bytes(out, request.target.get().as_bytes())?;
+    if let Some(value) = &request.authorization {
+        push_after(out, " by ", value.get())?;
     }
-}
-
-fn write_body<W: fmt::Write>(f: &mut fmt::Formatter<W>, body: &[u8]) -> fmt::Result {
-    if body.is_empty() {
+    if request.close {
+        push(out, " closes")?;
+    }
+    if request.body.get().is_empty() {
         return Ok(());
     }
-    write!(f, " with {}", Written::new(body))
+    push_after(out, " with ", request.body.get())
 }

@@ -50,9 +50,10 @@ pub fn answer<R: Renderer + Drop>(
 }
 
 fn called<R: Renderer + Drop>(world: &mut World<R>, call: Call) -> Result<Answer, Stop> {
-    match requests::called(world.heaps, call.name, call.given) {
-        Some(answer) => answer,
-        None => hubs::called(world, call.name, call.given),
+    match call.name {
+        "next" => requests::next(world.heaps, call.given),
+        "drip" => requests::drip(world.heaps, call.given),
+        _ => hubs::called(world, call.name, call.given),
     }
 }
 

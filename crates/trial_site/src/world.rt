@@ -11,8 +11,8 @@ use doc_hub::outcome::Outcome;
 use doc_page::renderer::Renderer;
 use doc_store::readers::Readers;
 
-/// The heap of the crates under trial, whose growths may be refused, and the heap of what is given
-/// and answered, whose growths never are.
+/// The heap of the crates under trial, whose growths may be refused, and the heap of what is given and answered, whose growths never
+/// are.
 #[derive(Clone, Copy)]
 pub struct Heaps {
     pub tried: Heap,

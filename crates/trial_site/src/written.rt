@@ -1,38 +1,20 @@
 //! How bytes are written in answers.
 
-use std::fmt;
+use doc_heap::String;
+use doc_page::failure::Memory;
 
 /// Runs of as many equal bytes are written as a repetition.
 const LONG_RUN: u64 = 32;
 
-/// Bytes, for printing.
-#[derive(Clone, Copy)]
-pub struct Written<'a> {
-    bytes: &'a [u8],
+/// Writes a text as it is.
+pub fn push(out: &mut String, text: &str) -> Result<(), Memory> {
+    Ok(out.push_str(text)?)
 }
 
-impl<'a> Written<'a> {
-    pub fn new(bytes: &'a [u8]) -> Written<'a> {
-        Written { bytes }
-    }
-}
-
-impl fmt::Display for Written<'_> {
-    fn fmt<W: fmt::Write>(&self, f: &mut fmt::Formatter<W>) -> fmt::Result {
-        let mut run = Run { byte: 0, count: 0 };
-        for byte in self.bytes {
-            if *byte == run.byte {
-                run.count = run.count.wrapping_add(1);
-            } else {
-                write!(f, "{run}")?;
-                run = Run {
-                    byte: *byte,
-                    count: 1,
-                };
-            }
-        }
-        write!(f, "{run}")
-    }
+/// Writes bytes behind a word.
+pub fn push_after(out: &mut String, word: &str, bytes: &[u8]) -> Result<(), Memory> {
+    push(out, word)?;
+    push_bytes(out, bytes)
 }
 
 /// A byte that stands some times in a row.
@@ -42,36 +24,54 @@ struct Run {
     count: u64,
 }
 
-impl fmt::Display for Run {
-    fn fmt<W: fmt::Write>(&self, f: &mut fmt::Formatter<W>) -> fmt::Result {
-        let count = self.count;
-        let one = One { byte: self.byte };
-        if count >= LONG_RUN {
-            return write!(f, "{{{count}*{one}}}");
+/// Writes bytes, for printing.
+pub fn push_bytes(out: &mut String, bytes: &[u8]) -> Result<(), Memory> {
+    let mut run = Run { byte: 0, count: 0 };
+    for byte in bytes {
+        if *byte == run.byte {
+            run.count = run.count.wrapping_add(1);
+        } else {
+            push_run(out, run)?;
+            run = Run {
+                byte: *byte,
+                count: 1,
+            };
         }
-        for _ in 0..count {
-            write!(f, "{one}")?;
-        }
-        Ok(())
+    }
+    push_run(out, run)
+}
+
+fn push_run(out: &mut String, run: Run) -> Result<(), Memory> {
+    if run.count >= LONG_RUN {
+        return push_long(out, run);
+    }
+    for _ in 0..run.count {
+        push_byte(out, run.byte)?;
+    }
+    Ok(())
+}
+
+/// Writes a run as a repetition.
+fn push_long(out: &mut String, run: Run) -> Result<(), Memory> {
+    let count = run.count;
+    write!(out, "{{{count}*")?;
+    push_byte(out, run.byte)?;
+    push(out, "}")
+}
+
+fn push_byte(out: &mut String, byte: u8) -> Result<(), Memory> {
+    match byte {
+        b'\n' => push(out, "\\n"),
+        b'\r' => push(out, "\\r"),
+        b'\t' => push(out, "\\t"),
+        b'\\' => push(out, "\\\\"),
+        b'{' | b'}' | 0..=31 | 127..=255 => push_number(out, byte),
+        _ => Ok(out.push(char::from(byte))?),
     }
 }
 
-/// A byte.
-#[derive(Clone, Copy)]
-struct One {
-    byte: u8,
-}
-
-impl fmt::Display for One {
-    fn fmt<W: fmt::Write>(&self, f: &mut fmt::Formatter<W>) -> fmt::Result {
-        let byte = self.byte;
-        match byte {
-            b'\n' => f.write_str("\\n"),
-            b'\r' => f.write_str("\\r"),
-            b'\t' => f.write_str("\\t"),
-            b'\\' => f.write_str("\\\\"),
-            b'{' | b'}' | 0..=31 | 127..=255 => write!(f, "\\x{byte:02x}"),
-            _ => f.write_char(char::from(byte)),
-        }
-    }
+/// Writes a byte by its hexadecimal number.
+fn push_number(out: &mut String, byte: u8) -> Result<(), Memory> {
+    write!(out, "\\x{byte:02x}")?;
+    Ok(())
 }

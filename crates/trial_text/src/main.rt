@@ -34,23 +34,23 @@ struct TextCalls {
 }
 
 impl Calls for TextCalls {
-    fn called(&self, heap: Heap, name: &str, given: &str) -> Option<Result<String, Memory>> {
+    fn called(&mut self, heap: Heap, name: &str, given: &str) -> Result<String, Memory> {
         let tools = Tools {
             tried: self.tried,
             desk: heap,
             entities: &self.entities,
         };
-        Some(match name.strip_prefix("grow_") {
+        match name.strip_prefix("grow_") {
             Some(name) => growing::called(tools, name, given),
             None => of_lines::called(tools, name, given),
-        })
+        }
     }
 }
 
 fn main(rt: HostRuntime) -> io::Result<()> {
-    let calls = TextCalls {
+    let mut calls = TextCalls {
         tried: heap(rt.alloc(), u64::MAX)?,
         entities: Entities::built_in(),
     };
-    run(&rt, &calls)
+    run(&rt, &mut calls)
 }

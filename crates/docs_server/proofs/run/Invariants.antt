@@ -11,3 +11,6 @@ ghosts-run_replay g a = record { name = a.blank.name; parts = a.blank.parts }
 
 abbrev pub ghosts-run_serve : goal.ghosts-run_serve
 ghosts-run_serve g a = record { name = a.blank.name; parts = a.blank.parts }
+
+abbrev pub ghosts-run_listen : goal.ghosts-run_listen
+ghosts-run_listen g a = record { name = a.blank.name; parts = a.blank.parts }

@@ -1,0 +1,2 @@
+mod SameSteps
+mod WriterLaws

@@ -1,0 +1,3 @@
+pub mod Keepings
+pub mod MioChannels
+pub mod Servers

@@ -1,0 +1,54 @@
+//! What becomes of the edits of a turn.
+
+ghost use Rattle.std.specs.Prelude.{◌≡◌, OnOk};
+ghost use Rattle.doc_server_listen.specs.Turns.{ServesAll};
+ghost use Rattle.doc_server_poll.specs.Keepings.{IsReady, KeepsEdits};
+
+use doc_heap::Heap;
+use doc_hub::hub::Hub;
+use doc_page::renderer::Renderer;
+use doc_server_journal::device::Device;
+use doc_server_journal::journal::Journal;
+use doc_server_listen::channel::Channel;
+use doc_server_listen::client::Client;
+use doc_server_listen::fault::TurnFault;
+use doc_server_listen::settling::settled_turn;
+use doc_server_listen::turn::turn;
+
+/// What becomes of the edits that clients make.
+#[derive(Drop)]
+pub enum Keeping<D: Device> {
+    /// They hold until the server ends.
+    Forgets,
+    /// They are in a journal before a reply tells of them.
+    Keeps(Journal<D>),
+}
+
+impl<D: Device> Keeping<D> {
+    /// A turn of the clients at these places. After an `Err` the server ends: the edits of the turn aren't kept, and none of its
+    /// replies was handed over.
+    pub fn turn<R: Renderer + Drop, S: Channel + Drop>(
+        &mut self,
+        heap: Heap,
+        hub: &mut Hub<R>,
+        clients: &mut [Client<S>],
+        ready: &[usize],
+        piece: &mut [u8],
+    ) -> Result<(), TurnFault>
+        requires ready { IsReady D.seen D.may_leave D.failed self.old }
+        ensures serves { (s : ServesAll (R.page hub.old.0) hub.old.1 clients.old
+            hub.new.1 clients.new)
+            × KeepsEdits D.seen D.may_leave D.failed D.moment D.left_since self.old self.new
+            (R.page hub.old.0) s.run hub.new.1 clients.old clients.new result }
+        ensures ready { OnOk result (IsReady D.seen D.may_leave D.failed self.new) }
+        ensures same { R.page hub.new.0 ≡ R.page hub.old.0 }
+    {
+        match self {
+            Keeping::Forgets => {
+                turn(hub, clients, ready, piece);
+                Ok(())
+            }
+            Keeping::Keeps(journal) => settled_turn(heap, journal, hub, clients, ready, piece),
+        }
+    }
+}

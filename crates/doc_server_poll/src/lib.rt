@@ -1,0 +1,11 @@
+//! A server that accepts while it serves: turns over the streams that a poll tells of.
+#![tactic(auto)]
+
+mod channel;
+mod door;
+pub mod fault;
+pub mod keeping;
+mod peers;
+pub mod server;
+mod slot;
+mod wire;

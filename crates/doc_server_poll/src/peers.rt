@@ -1,0 +1,288 @@
+//! The table of the clients that are served, and the turns over those that are ready.
+
+ghost use Rattle.std.specs.Prelude.{◌≡◌, ◌≤◌, ◌++◌, ◌∷◌, [], length, IfOk, OnOk, OnErr};
+ghost use Rattle.doc_server_poll.specs.Keepings.{IsReady};
+ghost use Rattle.doc_server_poll.specs.Servers.{Leads};
+
+use crate::channel::MioChannel;
+use crate::keeping::Keeping;
+use crate::slot::{Fate, Slot};
+use crate::wire::Wire;
+use doc_heap::{BTreeMap, Heap, Vec};
+use doc_hub::event::ConnId;
+use doc_hub::hub::Hub;
+use doc_page::failure::Memory;
+use doc_page::renderer::Renderer;
+use doc_server_journal::device::Device;
+use doc_server_listen::client::Client;
+use doc_server_listen::fault::TurnFault;
+use std::marker::Model;
+use std::rc::Rc;
+use std::time::{Duration, Instant};
+
+/// The clients that are served. Beside each stands its slot, at the same place, which moves where another client is let go; a client
+/// is found by the number of its connection.
+#[derive(Drop)]
+pub struct Peers {
+    clients: Vec<Client<MioChannel>>,
+    slots: Vec<Slot>,
+    places: BTreeMap<u64, usize>,
+    /// The places of those that take part in the turn that runs.
+    ready: Vec<usize>,
+    /// The numbers of those that take part in the next turn.
+    going: Vec<u64>,
+    /// The numbers of those that are to be let go.
+    gone: Vec<u64>,
+}
+
+impl Model for Peers {
+    ghost use Rattle.std.specs.Prelude.{◌≡◌, List as Seq, vec_len};
+    ghost use Rattle.doc_server_listen.specs.Peers.{Peer};
+
+    ghost Value = { Seq Peer };
+
+    ghost view = { λ p. p.clients.items };
+
+    ghost invariant = { λ p. vec_len p.slots ≡ vec_len p.clients };
+}
+
+impl Peers {
+    /// A table without clients, and with room for so many.
+    pub fn new(heap: Heap, most: usize) -> Result<Peers, Memory>
+        ensures { IfOk result (λ peers. peers ≡ []) }
+    {
+        Ok(Peers {
+            clients: Vec::with_capacity(heap, most)?,
+            slots: Vec::with_capacity(heap, most)?,
+            places: BTreeMap::new(heap),
+            ready: Vec::with_capacity(heap, most)?,
+            going: Vec::with_capacity(heap, most)?,
+            gone: Vec::with_capacity(heap, most)?,
+        })
+    }
+
+    /// How many are served.
+    pub fn count(&self) -> usize
+        ensures { result ≡ length self.now }
+    {
+        self.slots.len()
+    }
+
+    /// Whether a client goes on in the next turn, so that it may not wait.
+    pub fn goes_on(&self) -> bool {
+        !self.going.is_empty()
+    }
+
+    /// Takes a client in, which takes part in the next turn.
+    pub fn insert(
+        &mut self,
+        client: Client<MioChannel>,
+        wire: Rc<Wire, Heap>,
+        now: Instant,
+    ) -> Result<(), Memory>
+        ensures taken { OnOk result (self.new ≡ self.old ++ client ∷ []) }
+        ensures refused { OnErr result (self.new ≡ self.old) }
+    {
+        let number = client.id().0;
+        self.clients.reserve(1)?;
+        self.slots.reserve(1)?;
+        self.going.reserve(1)?;
+        let place = self.clients.len();
+        self.places.insert(number, place)?;
+        self.clients.push_reserved(client);
+        self.slots.push_reserved(Slot::new(wire, now));
+        self.going.push_reserved(number);
+        Ok(())
+    }
+
+    /// Takes the client with this number into the turn that runs.
+    pub fn enter(&mut self, number: u64, now: Instant)
+        ensures { self.new ≡ self.old }
+    {
+        let Some(place) = self.places.get(&number) else {
+            return;
+        };
+        let place = *place;
+        let Some(slot) = self.slots.get_mut(place) else {
+            return;
+        };
+        if slot.enter(now) {
+            let _ = self.ready.push(place);
+        }
+    }
+
+    /// Takes those in that the turn before has left ready.
+    pub fn enter_going(&mut self, now: Instant)
+        ensures { self.new ≡ self.old }
+    {
+        'numbers: for at in 0..self.going.len() {
+            self.enter_going_at(at, now);
+        }
+        self.going.clear();
+    }
+
+    /// Takes one of them in.
+    fn enter_going_at(&mut self, at: usize, now: Instant)
+        ensures { self.new ≡ self.old }
+    {
+        let Some(number) = self.going.get(at) else {
+            return;
+        };
+        let number = *number;
+        self.enter(number, now);
+    }
+
+    /// The turn of those that were taken in, behind which those that end are let go. After an `Err` the server ends.
+    pub fn turn<D: Device, R: Renderer + Drop>(
+        &mut self,
+        heap: Heap,
+        keeping: &mut Keeping<D>,
+        hub: &mut Hub<R>,
+        piece: &mut [u8],
+        now: Instant,
+    ) -> Result<(), TurnFault>
+        requires ready { IsReady D.seen D.may_leave D.failed keeping.old }
+        ensures leads { Leads (R.page hub.old.0) hub.old.1 hub.new.1 }
+        ensures same { R.page hub.new.0 ≡ R.page hub.old.0 }
+        ensures ready { OnOk result (IsReady D.seen D.may_leave D.failed keeping.new) }
+        ensures none { length self.new ≤ length self.old }
+    {
+        self.settle(heap, keeping, hub, piece)?;
+        'places: for at in 0..self.ready.len() {
+            self.leave_at(at, piece, now);
+        }
+        self.ready.clear();
+        self.let_go(hub);
+        Ok(())
+    }
+
+    /// Reads, steps and answers those that were taken in.
+    fn settle<D: Device, R: Renderer + Drop>(
+        &mut self,
+        heap: Heap,
+        keeping: &mut Keeping<D>,
+        hub: &mut Hub<R>,
+        piece: &mut [u8],
+    ) -> Result<(), TurnFault>
+        requires ready { IsReady D.seen D.may_leave D.failed keeping.old }
+        ensures leads { Leads (R.page hub.old.0) hub.old.1 hub.new.1 }
+        ensures same { R.page hub.new.0 ≡ R.page hub.old.0 }
+        ensures ready { OnOk result (IsReady D.seen D.may_leave D.failed keeping.new) }
+        ensures many { length self.new ≡ length self.old }
+    {
+        keeping.turn(heap, hub, self.clients.as_mut_slice(), &self.ready, piece)
+    }
+
+    /// Ends the part of one of them in the turn.
+    fn leave_at(&mut self, at: usize, piece: &mut [u8], now: Instant)
+        ensures { self.new ≡ self.old }
+    {
+        let Some(place) = self.ready.get(at) else {
+            return;
+        };
+        let place = *place;
+        self.leave(place, piece, now);
+    }
+
+    /// Ends the part of the client at this place in the turn.
+    fn leave(&mut self, place: usize, piece: &mut [u8], now: Instant)
+        ensures { self.new ≡ self.old }
+    {
+        let Some(client) = self.clients.get(place) else {
+            return;
+        };
+        let Some(slot) = self.slots.get_mut(place) else {
+            return;
+        };
+        let _ = match slot.leave(client, piece, now) {
+            Fate::Waits => Ok(()),
+            Fate::Goes => self.going.push(client.id().0),
+            Fate::Gone => self.gone.push(client.id().0),
+        };
+    }
+
+    /// Lets those go whose time is over.
+    pub fn sweep<R: Renderer + Drop>(&mut self, hub: &mut Hub<R>, idle: Duration, now: Instant)
+        ensures leads { Leads (R.page hub.old.0) hub.old.1 hub.new.1 }
+        ensures same { R.page hub.new.0 ≡ R.page hub.old.0 }
+        ensures none { length self.new ≤ length self.old }
+    {
+        'places: for at in 0..self.slots.len() {
+            self.sweep_at(at, idle, now);
+        }
+        self.let_go(hub);
+    }
+
+    /// Has the client at this place let go, where its time is over.
+    fn sweep_at(&mut self, place: usize, idle: Duration, now: Instant)
+        ensures { self.new ≡ self.old }
+    {
+        let (Some(client), Some(slot)) = (self.clients.get(place), self.slots.get(place)) else {
+            return;
+        };
+        if slot.is_over(idle, now) {
+            let _ = self.gone.push(client.id().0);
+        }
+    }
+
+    /// Lets those go that are to be.
+    fn let_go<R: Renderer + Drop>(&mut self, hub: &mut Hub<R>)
+        ensures leads { Leads (R.page hub.old.0) hub.old.1 hub.new.1 }
+        ensures same { R.page hub.new.0 ≡ R.page hub.old.0 }
+        ensures none { length self.new ≤ length self.old }
+    {
+        'numbers: for at in 0..self.gone.len() {
+            self.let_go_at(hub, at);
+        }
+        self.gone.clear();
+    }
+
+    /// Lets one of them go.
+    fn let_go_at<R: Renderer + Drop>(&mut self, hub: &mut Hub<R>, at: usize)
+        ensures leads { Leads (R.page hub.old.0) hub.old.1 hub.new.1 }
+        ensures same { R.page hub.new.0 ≡ R.page hub.old.0 }
+        ensures none { length self.new ≤ length self.old }
+    {
+        let Some(number) = self.gone.get(at) else {
+            return;
+        };
+        let number = *number;
+        drop_connection(hub, number);
+        self.remove(number);
+    }
+
+    /// Drops the client with this number. The last client moves to its place.
+    fn remove(&mut self, number: u64)
+        ensures { length self.new ≤ length self.old }
+    {
+        let Some(place) = self.places.remove(&number) else {
+            return;
+        };
+        if place >= self.clients.len() || place >= self.slots.len() {
+            return;
+        }
+        let _ = self.clients.swap_remove(place);
+        let _ = self.slots.swap_remove(place);
+        self.note_place(place);
+    }
+
+    /// Notes the place of the client that has come to it.
+    fn note_place(&mut self, place: usize)
+        ensures { self.new ≡ self.old }
+    {
+        let Some(moved) = self.clients.get(place) else {
+            return;
+        };
+        if let Some(at) = self.places.get_mut(&moved.id().0) {
+            *at = place;
+        }
+    }
+}
+
+/// Drops a connection of the hub.
+pub fn drop_connection<R: Renderer + Drop>(hub: &mut Hub<R>, number: u64)
+    ensures leads { Leads (R.page hub.old.0) hub.old.1 hub.new.1 }
+    ensures same { R.page hub.new.0 ≡ R.page hub.old.0 }
+{
+    hub.disconnect(ConnId(number));
+}

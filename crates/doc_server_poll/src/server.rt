@@ -1,0 +1,238 @@
+//! The loop over the poll.
+
+ghost use Rattle.std.specs.Prelude.{◌≡◌, ◌≤◌, [], length, IfOk, OnOk};
+ghost use Rattle.doc_server_poll.specs.Keepings.{IsReady};
+ghost use Rattle.doc_server_poll.specs.Servers.{Leads};
+
+use crate::door::Door;
+use crate::fault::PollFault;
+use crate::keeping::Keeping;
+use crate::peers::Peers;
+use doc_heap::{Heap, Vec};
+use doc_hub::hub::Hub;
+use doc_page::failure::Memory;
+use doc_page::renderer::Renderer;
+use doc_server_journal::device::Device;
+use mio::net::TcpListener;
+use mio::unix::SourceFd;
+use mio::{Events, Interest, Poll, Token};
+use std::marker::Model;
+use std::net::{Net, SocketAddr};
+use std::os::fd::RawFd;
+use std::rt::Clock;
+use std::time::{Duration, Instant};
+
+/// The token of the listener. Those of connections are their numbers, which begin at 1.
+const LISTENER: usize = usize::MAX;
+
+/// The token of standard input.
+const INPUT: usize = usize::MAX - 1;
+
+const STANDARD_INPUT: RawFd = 0;
+
+/// How many events a poll gives at most.
+const MOST_EVENTS: usize = 256;
+
+/// How many bytes a read gives at most.
+const PIECE: usize = 16_384;
+
+/// How long a poll waits at most, in milliseconds.
+const WAIT: u64 = 500;
+
+/// How long it is at least from one sweep to the next, in milliseconds.
+const SWEEP: u64 = 250;
+
+/// A server that accepts while it serves.
+#[derive(Drop)]
+pub struct Server {
+    heap: Heap,
+    poll: Poll,
+    events: Events<Heap>,
+    door: Door,
+    peers: Peers,
+    /// After how long a silence a connection ends.
+    idle: Duration,
+    piece: Vec<u8>,
+    swept: Instant,
+}
+
+impl Model for Server {
+    ghost use Rattle.std.specs.Prelude.{◌≤◌, length};
+    ghost use Rattle.doc_server_poll.specs.Servers.{Serving};
+
+    ghost Value = { Serving };
+
+    ghost view = { λ s. record { most = s.door.most; clients = s.peers } };
+
+    ghost invariant = { λ s. length s.peers ≤ s.door.most };
+}
+
+impl Server {
+    /// A server that listens at this address, with at most so many connections at once, each of which ends after so many seconds
+    /// without an event. It accepts nobody before it serves.
+    pub fn bind<R: Clock + Net>(
+        rt: &R,
+        heap: Heap,
+        address: SocketAddr,
+        connections: usize,
+        idle_seconds: u64,
+    ) -> Result<Server, PollFault>
+        ensures { IfOk result (λ server. server ≡ record { most = connections; clients = [] }) }
+    {
+        let Ok(poll) = Poll::new(rt) else {
+            return Err(PollFault::Socket);
+        };
+        let Ok(listener) = listener_of(rt, &poll, address) else {
+            return Err(PollFault::Socket);
+        };
+        let Ok(swept) = Instant::now(rt) else {
+            return Err(PollFault::Socket);
+        };
+        watch_input(&poll);
+        Ok(Server {
+            heap,
+            poll,
+            events: Events::with_capacity(heap, MOST_EVENTS)?,
+            door: Door::new(heap, listener, connections),
+            peers: Peers::new(heap, connections)?,
+            idle: Duration::from_secs(idle_seconds),
+            piece: Vec::from_elem(heap, 0u8, PIECE)?,
+            swept,
+        })
+    }
+
+    /// Serves until standard input ends, where that is a pipe; any other one doesn't end it. Each of its turns keeps the bound.
+    pub fn serve<D: Device, T: Renderer + Drop, R: Clock>(
+        &mut self,
+        rt: &R,
+        keeping: &mut Keeping<D>,
+        hub: &mut Hub<T>,
+    ) -> Result<(), PollFault>
+        requires ready { IsReady D.seen D.may_leave D.failed keeping.old }
+        ensures leads { Leads (T.page hub.old.0) hub.old.1 hub.new.1 }
+        ensures same { T.page hub.new.0 ≡ T.page hub.old.0 }
+        ensures most { self.new.most ≡ self.old.most }
+    {
+        'turns: for _ in 0..u64::MAX {
+            if self.turn(rt, keeping, hub)? {
+                return Ok(());
+            }
+        }
+        Ok(())
+    }
+
+    /// One turn. True: standard input has ended, and nobody is accepted any more.
+    fn turn<D: Device, T: Renderer + Drop, R: Clock>(
+        &mut self,
+        rt: &R,
+        keeping: &mut Keeping<D>,
+        hub: &mut Hub<T>,
+    ) -> Result<bool, PollFault>
+        requires ready { IsReady D.seen D.may_leave D.failed keeping.old }
+        ensures ready { OnOk result (IsReady D.seen D.may_leave D.failed keeping.new) }
+        ensures leads { Leads (T.page hub.old.0) hub.old.1 hub.new.1 }
+        ensures same { T.page hub.new.0 ≡ T.page hub.old.0 }
+        ensures most { self.new.most ≡ self.old.most }
+        ensures bound { length self.new.clients ≤ self.new.most }
+    {
+        let now = self.wait_for_events(rt)?;
+        let ends = self.take_in(now);
+        self.peers
+            .turn(self.heap, keeping, hub, &mut self.piece, now)?;
+        if ends {
+            return Ok(true);
+        }
+        self.end_turn(hub, now);
+        Ok(false)
+    }
+
+    /// Waits for events, and tells the time.
+    fn wait_for_events<R: Clock>(&mut self, rt: &R) -> Result<Instant, PollFault>
+        ensures same { self.new ≡ self.old }
+        ensures bound { length self.new.clients ≤ self.new.most }
+    {
+        let wait = self.wait();
+        if self.poll.poll(&mut self.events, Some(wait)).is_err() {
+            return Err(PollFault::Socket);
+        }
+        match Instant::now(rt) {
+            Ok(now) => Ok(now),
+            Err(_) => Err(PollFault::Socket),
+        }
+    }
+
+    /// Takes those into the turn whose events came, and those that go on. True: standard input has ended.
+    fn take_in(&mut self, now: Instant) -> bool
+        ensures { self.new ≡ self.old }
+    {
+        self.peers.enter_going(now);
+        take_events(&self.events, &mut self.door, &mut self.peers, now)
+    }
+
+    /// Lets those go whose time is over, and accepts others.
+    fn end_turn<T: Renderer + Drop>(&mut self, hub: &mut Hub<T>, now: Instant)
+        ensures leads { Leads (T.page hub.old.0) hub.old.1 hub.new.1 }
+        ensures same { T.page hub.new.0 ≡ T.page hub.old.0 }
+        ensures most { self.new.most ≡ self.old.most }
+        ensures bound { length self.new.clients ≤ self.new.most }
+    {
+        self.sweep(hub, now);
+        self.door
+            .accept(hub, self.poll.registry(), &mut self.peers, now);
+    }
+
+    /// How long the next poll waits: not at all where something is left to do.
+    fn wait(&self) -> Duration {
+        if self.peers.goes_on() || self.door.is_open(&self.peers) {
+            return Duration::from_millis(0);
+        }
+        Duration::from_millis(WAIT)
+    }
+
+    /// Lets those go whose time is over, from time to time.
+    fn sweep<T: Renderer + Drop>(&mut self, hub: &mut Hub<T>, now: Instant)
+        ensures leads { Leads (T.page hub.old.0) hub.old.1 hub.new.1 }
+        ensures same { T.page hub.new.0 ≡ T.page hub.old.0 }
+        ensures most { self.new.most ≡ self.old.most }
+    {
+        if now.duration_since(self.swept) < Duration::from_millis(SWEEP) {
+            return;
+        }
+        self.swept = now;
+        self.door.wake();
+        self.peers.sweep(hub, self.idle, now);
+    }
+}
+
+/// A listener whose events the poll gives.
+fn listener_of<R: Net>(rt: &R, poll: &Poll, address: SocketAddr) -> std::io::Result<TcpListener> {
+    let mut listener = TcpListener::bind(rt, address)?;
+    poll.registry()
+        .register(&mut listener, Token(LISTENER), Interest::READABLE)?;
+    Ok(listener)
+}
+
+/// Has the poll give the end of standard input, which isn't read. A file can't be waited for: then nothing but a signal ends the server.
+fn watch_input(poll: &Poll) {
+    let _ = poll.registry().register(
+        &mut SourceFd(&STANDARD_INPUT),
+        Token(INPUT),
+        Interest::READABLE,
+    );
+}
+
+/// Takes those in whose events came. True: standard input has ended.
+fn take_events(events: &Events<Heap>, door: &mut Door, peers: &mut Peers, now: Instant) -> bool
+    ensures most { door.new.most ≡ door.old.most }
+    ensures peers { peers.new ≡ peers.old }
+{
+    let mut ends = false;
+    'events: for event in events {
+        match event.token().0 {
+            LISTENER => door.knocked(),
+            INPUT => ends = ends || event.is_read_closed(),
+            number => peers.enter(number as u64, now),
+        }
+    }
+    ends
+}

@@ -1,0 +1,103 @@
+//! What the loop keeps beside a client: its wire, and when its peer was last heard.
+
+use crate::channel::MioChannel;
+use crate::wire::Wire;
+use doc_heap::Heap;
+use doc_server_listen::channel::Came;
+use doc_server_listen::client::Client;
+use std::rc::Rc;
+use std::time::{Duration, Instant};
+
+/// For how many seconds a peer that was sent its last reply may go on sending.
+const LINGERS: u64 = 2;
+
+/// What becomes of a client behind a turn.
+#[derive(Clone, Copy, Debug, PartialEq, Eq)]
+pub enum Fate {
+    /// It waits for an event of its stream.
+    Waits,
+    /// It takes part in the next turn, whether an event comes or not.
+    Goes,
+    /// It is let go.
+    Gone,
+}
+
+/// What stands beside a client.
+#[derive(Drop)]
+pub struct Slot {
+    wire: Rc<Wire, Heap>,
+    /// When an event of its stream came last, or when it was sent its last reply.
+    seen: Instant,
+    /// Whether it was sent its last reply, so that what still comes is dropped.
+    lingers: bool,
+    /// Whether it takes part in the turn that runs.
+    is_ready: bool,
+}
+
+impl Slot {
+    pub fn new(wire: Rc<Wire, Heap>, now: Instant) -> Slot {
+        Slot {
+            wire,
+            seen: now,
+            lingers: false,
+            is_ready: false,
+        }
+    }
+
+    /// Takes it into the turn that runs. False: it takes part already.
+    pub fn enter(&mut self, now: Instant) -> bool {
+        if self.is_ready {
+            return false;
+        }
+        self.is_ready = true;
+        self.wire.begin();
+        if !self.lingers {
+            self.seen = now;
+        }
+        true
+    }
+
+    /// Ends its part in a turn, by which its client has come to stand as it does.
+    pub fn leave(&mut self, client: &Client<MioChannel>, piece: &mut [u8], now: Instant) -> Fate {
+        self.is_ready = false;
+        if self.wire.is_broken() {
+            return Fate::Gone;
+        }
+        if client.has_pending() {
+            return Fate::Waits;
+        }
+        if client.is_open() {
+            return if self.wire.is_dry() {
+                Fate::Waits
+            } else {
+                Fate::Goes
+            };
+        }
+        self.linger(piece, now)
+    }
+
+    /// Behind the last reply its peer is told of the end, and what still comes is dropped.
+    fn linger(&mut self, piece: &mut [u8], now: Instant) -> Fate {
+        if !self.lingers {
+            self.lingers = true;
+            self.seen = now;
+            if !self.wire.end() {
+                return Fate::Gone;
+            }
+        }
+        match self.wire.read(piece) {
+            Ok(Came::Bytes(_)) => Fate::Goes,
+            Ok(Came::Nothing) => Fate::Waits,
+            Ok(Came::End) | Err(_) => Fate::Gone,
+        }
+    }
+
+    /// Whether its time is over.
+    pub fn is_over(&self, idle: Duration, now: Instant) -> bool {
+        let silent = now.duration_since(self.seen);
+        if self.lingers {
+            return silent >= Duration::from_secs(LINGERS);
+        }
+        silent >= idle
+    }
+}

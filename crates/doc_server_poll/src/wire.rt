@@ -1,0 +1,117 @@
+//! A peer's stream, which its channel and the table of peers share.
+
+ghost use Rattle.std.specs.Prelude.{◌≤◌, ◌≡◌, length};
+ghost use Rattle.doc_server_listen.specs.Channels.{came_len, took_len};
+
+use doc_server_listen::channel::Came;
+use doc_server_streams::fault::StreamFault;
+use mio::net::TcpStream;
+use std::cell::Cell;
+use std::io::{ErrorKind, Read, Write};
+use std::net::Shutdown;
+use std::os::fd::{AsRawFd, RawFd};
+
+/// How often an interrupted call is tried, so that it ends.
+const TRIES: u64 = 0x1_0000_0000;
+
+/// A stream, and what its last calls said.
+#[derive(Drop)]
+pub struct Wire {
+    stream: TcpStream,
+    is_dry: Cell<bool>,
+    is_broken: Cell<bool>,
+}
+
+impl Wire {
+    pub fn new(stream: TcpStream) -> Wire {
+        Wire {
+            stream,
+            is_dry: Cell::new(false),
+            is_broken: Cell::new(false),
+        }
+    }
+
+    /// The descriptor, as a poll wants it.
+    pub fn descriptor(&self) -> RawFd {
+        self.stream.as_raw_fd()
+    }
+
+    /// A turn begins: whatever a read said before is forgotten.
+    pub fn begin(&self) {
+        self.is_dry.set(false);
+    }
+
+    /// Whether a read of this turn found nothing.
+    pub fn is_dry(&self) -> bool {
+        self.is_dry.get()
+    }
+
+    /// Whether a call has failed.
+    pub fn is_broken(&self) -> bool {
+        self.is_broken.get()
+    }
+
+    /// Ends what is written, so that the peer sees the end behind the last reply. True: it was done.
+    pub fn end(&self) -> bool {
+        self.stream.shutdown(Shutdown::Write).is_ok()
+    }
+
+    /// Reads once. An interrupted read is tried again, 2^32 times at most.
+    pub fn read(&self, buf: &mut [u8]) -> Result<Came, StreamFault>
+        ensures room { length buf.new ≡ length buf.old }
+        ensures bound { came_len result ≤ length buf.new }
+    {
+        let result = read_whenever(&self.stream, buf);
+        match result {
+            Ok(Came::Nothing) => self.is_dry.set(true),
+            Ok(_) => {}
+            Err(_) => self.is_broken.set(true),
+        }
+        result
+    }
+
+    /// Writes once. An interrupted write is tried again, 2^32 times at most.
+    pub fn write(&self, buf: &[u8]) -> Result<usize, StreamFault>
+        ensures { took_len result ≤ length buf.now }
+    {
+        let result = write_whenever(&self.stream, buf);
+        if result.is_err() {
+            self.is_broken.set(true);
+        }
+        result
+    }
+}
+
+/// Reads, again where the read was interrupted.
+fn read_whenever(stream: &TcpStream, buf: &mut [u8]) -> Result<Came, StreamFault>
+    ensures room { length buf.new ≡ length buf.old }
+    ensures bound { came_len result ≤ length buf.new }
+{
+    let mut reader = stream;
+    'tries: for _ in 0..TRIES {
+        match reader.read(buf) {
+            Ok(0) => return Ok(Came::End),
+            Ok(count) => return Ok(Came::Bytes(count)),
+            Err(e) if e.kind() == ErrorKind::Interrupted => {}
+            Err(e) if e.kind() == ErrorKind::WouldBlock => return Ok(Came::Nothing),
+            Err(_) => return Err(StreamFault),
+        }
+    }
+    Err(StreamFault)
+}
+
+/// Writes, again where the write was interrupted.
+fn write_whenever(stream: &TcpStream, buf: &[u8]) -> Result<usize, StreamFault>
+    ensures { took_len result ≤ length buf.now }
+{
+    let mut writer = stream;
+    'tries: for _ in 0..TRIES {
+        match writer.write(buf) {
+            Ok(count) => return Ok(count),
+            Err(e) if e.kind() == ErrorKind::Interrupted => {}
+            Err(e) if e.kind() == ErrorKind::WouldBlock => return Ok(0),
+            Err(_) => return Err(StreamFault),
+        }
+    }
+    Err(StreamFault)
+}

@@ -1,0 +1,115 @@
+-- The records of a compaction, restored.
+use Rattle.std.proofs.Common.{◌≡◌, ℕ, ◌+◌, List, [], ◌∷◌, ◌++◌, Bool, true, false, refl, ap, sym, subst, ◌∙◌}
+use Rattle.std.specs.Prelude.{map as mapped, Option, Some, None, option_map, Result, Ok, Err, if◌then◌else◌}
+use Rattle.std.specs.FinMap as map
+use Rattle.std.specs.List.{flat_map}
+use Rattle.std.specs.Option.{ok_or}
+use Rattle.doc_store.specs.Sites.{Site, IsSite}
+use Rattle.doc_store.specs.Store.{Edit, set_page, remove_page, move_page, StoreState, effect_of}
+use Rattle.doc_server_compact.proofs.ReplayLaw.{replay_gives_the_site}
+use Rattle.doc_server_compact.specs.Compactions.{compacted}
+use Rattle.doc_server_compact.specs.Lines.{lines_of}
+use Rattle.doc_server_compact.specs.Replays.{HasRoom, edited, replayed}
+use Rattle.doc_server_compacting.specs.Written.{AreLines, joined}
+use Rattle.doc_server_restore.specs.declared.fault.RestoreFault.{RestoreFault}
+use Rattle.doc_server_restore.specs.declared.fault.RestoreFault.TheVariants as faults
+use Rattle.doc_server_restore.specs.Laws.{AreEdits, CompactionIsRestored}
+use Rattle.doc_server_restore.specs.Restores.{after_record, all_made, edits_of, made, restored, restored_from, unstamped}
+use Rattle.doc_server_restore.proofs.Effects.{no_some, same_some}
+use Rattle.doc_server_restore.proofs.LineLaws.{lines_are_read}
+use Rattle.doc_server_restore.proofs.MadeSteps.{store_put, store_moved}
+use Rattle.doc_server_restore.proofs.RecordSteps.{as_onto}
+
+-- ---- stamps decide nothing
+
+made_unstamped : (store : StoreState) (edit : Edit) → made (unstamped store) edit ≡ made store edit
+made_unstamped store (set_page path page) = store_put store path page
+made_unstamped store (remove_page path) = by (map.contains_key store.site.pages path)
+  where
+    by : (b : Bool) → option_map unstamped (if b then Some (if b then (record {
+      site = effect_of store.site (remove_page path);
+      stamps = map.remove (map.empty) path;
+      puts = store.puts;
+    }) else unstamped store) else None) ≡ option_map unstamped (if b then Some (if b then (record {
+      site = effect_of store.site (remove_page path);
+      stamps = map.remove store.stamps path;
+      puts = store.puts;
+    }) else store) else None)
+    by true = refl
+    by false = refl
+made_unstamped store (move_page from to) = store_moved store from to
+
+-- ---- edits one after the other
+
+abbrev behind : List Edit → Option StoreState → Option StoreState
+behind edits None = None
+behind edits (Some next) = all_made next edits
+
+as_behind : (edits : List Edit) (mid : Option StoreState)
+    → ◌≡◌ {A = Option StoreState} (elim mid [ None ↦ None | Some next ↦ all_made next edits ]) (behind edits mid)
+as_behind edits None = refl
+as_behind edits (Some next) = refl
+
+none_replayed : (edits : List Edit) → replayed None edits ≡ None
+none_replayed [] = refl
+none_replayed (edit ∷ edits) = refl
+
+all_replayed : (edits : List Edit) (store : StoreState) → all_made (unstamped store) edits ≡ option_map unstamped (replayed (Some store) edits)
+all_replayed [] store = refl
+all_replayed (edit ∷ edits) store =
+    as_behind edits (made (unstamped store) edit) ∙ (ap (behind edits) (made_unstamped store edit) ∙ by (edited store edit))
+  where
+    by : (mid : Option StoreState) → behind edits (option_map unstamped mid) ≡ option_map unstamped (replayed mid edits)
+    by None = sym (ap (option_map unstamped) (none_replayed edits))
+    by (Some next) = all_replayed edits next
+
+all_joined : (edits more : List Edit) (store : StoreState) → all_made store (edits ++ more) ≡ behind more (all_made store edits)
+all_joined [] more store = refl
+all_joined (edit ∷ edits) more store = by (made store edit)
+  where
+    by : (mid : Option StoreState)
+        → ◌≡◌ {A = Option StoreState} (elim mid [ None ↦ None | Some next ↦ all_made next (edits ++ more) ])
+        (behind more (elim mid [ None ↦ None | Some next ↦ all_made next edits ]))
+    by None = refl
+    by (Some next) = all_joined edits more next
+
+edits_apart : (edits more : List Edit) → AreEdits (edits ++ more) → AreEdits edits × AreEdits more
+edits_apart [] more are = (tt, are)
+edits_apart (edit ∷ edits) more are =
+    let rest = edits_apart edits more are.1 in
+    ((are.0, rest.0), rest.1)
+
+-- ---- records of whole lines
+
+parts_restored : (parts : List (List Edit)) (n : ℕ) (store last : StoreState) → AreEdits (joined parts)
+    → all_made store (joined parts) ≡ Some last
+    → restored_from n store (mapped lines_of parts) ≡ Ok last
+parts_restored [] n store last are is = ap Ok (same_some store last is)
+parts_restored (part ∷ parts) n store last are is =
+    by (all_made store part) refl (sym (all_joined part (joined parts) store) ∙ is)
+  where
+    by : (mid : Option StoreState) → all_made store part ≡ mid → behind (joined parts) mid ≡ Some last
+        → restored_from n store (lines_of part ∷ mapped lines_of parts) ≡ Ok last
+    by None first rest = absurd (no_some last rest)
+    by (Some next) first rest =
+        as_onto n store (lines_of part) (mapped lines_of parts) (Ok next)
+        (ap (after_record store n) (lines_are_read part (edits_apart part (joined parts) are).0) ∙ ap (λ o. ok_or o (faults.Refused n)) first)
+        ∙ parts_restored parts (n + 1) next last (edits_apart part (joined parts) are).1 rest
+
+pub compaction_is_restored : CompactionIsRestored
+compaction_is_restored store site records is_config is_site room are lines =
+    by (replayed (Some store) edits) refl (replay_gives_the_site store site is_config is_site room)
+  where
+    edits : List Edit
+    edits = compacted store.site site
+
+    by : (mid : Option StoreState) → replayed (Some store) edits ≡ mid → option_map (λ after. after.site) mid ≡ Some site
+        → (after : StoreState) × (restored (unstamped store) records ≡ Ok after) × (after.site ≡ site)
+    by None all is = absurd (no_some site is)
+    by (Some after) all is = (
+      unstamped after,
+      ap (restored (unstamped store)) lines.are
+          ∙ parts_restored lines.parts 1 (unstamped store) (unstamped after) (subst AreEdits (sym lines.all) are)
+          (ap (all_made (unstamped store)) lines.all ∙ (all_replayed edits store ∙ ap (option_map unstamped) all)),
+      same_some after.site site is,
+    )

@@ -1,0 +1,105 @@
+//! The site of a server that runs, with the pages of its folders.
+
+ghost use Rattle.std.specs.Prelude.{◌≡◌};
+ghost use Rattle.docs_server.specs.Listening.{row_of};
+
+use crate::files::{Pages, Site, config_of, read_file, site_of};
+use crate::listen_fault::ListenFault;
+use doc_heap::{Heap, Vec, heap};
+use doc_page::failure::Memory;
+use doc_page::list::List;
+use doc_server_config::config::SiteConfig;
+use doc_server_config::page_row::{PageRow, Source};
+use doc_server_folders::folder::{FolderPage, read_folder};
+use doc_server_input::fault::Fault;
+use doc_server_listening::bounds::Bounds;
+use doc_server_listening::folder::Folder;
+use doc_server_listening::listening::{Listening, ListeningError};
+use std::rt::Files;
+
+/// A configured site with the bounds of a server that runs.
+pub struct Bounded {
+    pub site: Site,
+    pub bounds: Bounds,
+}
+
+/// The site of the configuration of this name, its folders' pages behind its own, and its bounds. Folders are read last.
+pub fn read_bounded<R: AllocGlobal + Files + Clone + Drop>(
+    rt: &R,
+    name: &str,
+) -> Result<Bounded, ListenFault> {
+    let heap = heap(rt.alloc(), u64::MAX)?;
+    let text = read_file(rt, heap, name)?;
+    let config = config_of(heap, &text)?;
+    let listening = listening_of(heap, &text)?;
+    let Site { pages, entities } = site_of(rt, heap, config)?;
+    let pages = with_folders(rt, heap, pages, listening.folders.get())?;
+    Ok(Bounded {
+        site: Site { pages, entities },
+        bounds: Bounds {
+            connections: listening.connections,
+            idle_seconds: listening.idle_seconds,
+        },
+    })
+}
+
+/// What a server that runs goes by, of a configuration with this text.
+fn listening_of(heap: Heap, text: &str) -> Result<Listening, ListenFault> {
+    match Listening::from_toml(heap, text) {
+        Ok(listening) => Ok(listening),
+        Err(ListeningError::Memory) => Err(ListenFault::Command(Fault::Memory)),
+        Err(e) => Err(ListenFault::Listening(e)),
+    }
+}
+
+/// The pages with those of folders behind them.
+fn with_folders<R: AllocGlobal + Files + Clone + Drop>(
+    rt: &R,
+    heap: Heap,
+    pages: Pages,
+    folders: &[Folder],
+) -> Result<Pages, Fault> {
+    let Pages { config, texts } = pages;
+    let SiteConfig {
+        keep_alive,
+        cache,
+        entities,
+        readers,
+        pages,
+    } = config;
+    let mut rows = pages.into_inner();
+    for folder in folders {
+        let found = read_folder(rt, heap, folder)?;
+        add_rows(&mut rows, found)?;
+    }
+    Ok(Pages {
+        config: SiteConfig {
+            keep_alive,
+            cache,
+            entities,
+            readers,
+            pages: List::new(rows),
+        },
+        texts,
+    })
+}
+
+/// Adds the pages of a folder.
+fn add_rows(rows: &mut Vec<PageRow>, pages: List<FolderPage>) -> Result<(), Memory> {
+    for page in pages.into_inner() {
+        rows.push(row_of(page))?;
+    }
+    Ok(())
+}
+
+/// A page of a folder, as one of the configuration.
+fn row_of(page: FolderPage) -> PageRow
+    ensures { result ≡ row_of page }
+{
+    let FolderPage { path, groups, text } = page;
+    PageRow {
+        path,
+        groups,
+        source: Source::Text(text),
+    }
+}

@@ -1,0 +1,96 @@
+//! What stops the command `listen`.
+
+use doc_page::failure::Memory;
+use doc_server_files::fault::FileFault;
+use doc_server_input::fault::Fault;
+use doc_server_journal::fault::OpenFault;
+use doc_server_listening::listening::ListeningError;
+use doc_server_restore::fault::RestoreFault;
+use std::alloc::AllocError;
+use std::error::Error;
+use std::fmt;
+
+/// What stops the command `listen`.
+#[derive(Debug, Drop)]
+pub enum ListenFault {
+    /// What stops other commands too.
+    Command(Fault),
+    /// What the configuration says of a server that runs is bad.
+    Listening(ListeningError),
+    /// The journal's file isn't opened.
+    File(FileFault),
+    /// The journal isn't read.
+    Journal(OpenFault),
+    /// The journal's edits can't be made.
+    Restore(RestoreFault),
+}
+
+impl fmt::Display for ListenFault {
+    fn fmt<W: fmt::Write>(&self, f: &mut fmt::Formatter<W>) -> fmt::Result {
+        match self {
+            ListenFault::Command(fault) => write!(f, "{fault}"),
+            ListenFault::Listening(e) => write!(f, "config: {e}"),
+            ListenFault::File(fault) => write!(f, "{fault}"),
+            ListenFault::Journal(fault) => write!(f, "{fault}"),
+            ListenFault::Restore(fault) => write!(f, "{fault}"),
+        }
+    }
+}
+
+impl Error for ListenFault {}
+
+impl From<Fault> for ListenFault {
+    ghost use Rattle.std.specs.Prelude.{◌≡◌};
+    ghost use Rattle.docs_server.specs.declared.listen_fault.ListenFault.TheVariants as faults;
+
+    ghost from_gives = { λ fault stop. stop ≡ faults.Command fault };
+
+    fn from(fault: Fault) -> ListenFault {
+        ListenFault::Command(fault)
+    }
+}
+
+impl From<FileFault> for ListenFault {
+    ghost use Rattle.std.specs.Prelude.{◌≡◌};
+    ghost use Rattle.docs_server.specs.declared.listen_fault.ListenFault.TheVariants as faults;
+
+    ghost from_gives = { λ fault stop. stop ≡ faults.File fault };
+
+    fn from(fault: FileFault) -> ListenFault {
+        ListenFault::File(fault)
+    }
+}
+
+impl From<OpenFault> for ListenFault {
+    ghost use Rattle.std.specs.Prelude.{◌≡◌};
+    ghost use Rattle.docs_server.specs.declared.listen_fault.ListenFault.TheVariants as faults;
+
+    ghost from_gives = { λ fault stop. stop ≡ faults.Journal fault };
+
+    fn from(fault: OpenFault) -> ListenFault {
+        ListenFault::Journal(fault)
+    }
+}
+
+impl From<RestoreFault> for ListenFault {
+    ghost use Rattle.std.specs.Prelude.{◌≡◌};
+    ghost use Rattle.docs_server.specs.declared.listen_fault.ListenFault.TheVariants as faults;
+
+    ghost from_gives = { λ fault stop. stop ≡ faults.Restore fault };
+
+    fn from(fault: RestoreFault) -> ListenFault {
+        ListenFault::Restore(fault)
+    }
+}
+
+impl From<Memory> for ListenFault {
+    fn from(_e: Memory) -> ListenFault {
+        ListenFault::Command(Fault::Memory)
+    }
+}
+
+impl From<AllocError> for ListenFault {
+    fn from(_e: AllocError) -> ListenFault {
+        ListenFault::Command(Fault::Memory)
+    }
+}

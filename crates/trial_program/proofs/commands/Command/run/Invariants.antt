@@ -1,4 +1,0 @@
-use Rattle.trial_program.proofs.commands.Command.run.Given as goal
-
-abbrev pub ghosts-demonstrated : goal.ghosts-demonstrated
-ghosts-demonstrated a = record { name = a.blank.name; parts = a.blank.parts }

@@ -1,0 +1,102 @@
+//! Commands on what a call is given.
+
+use crate::commands::Command;
+use crate::feed::Feed;
+use crate::sink::Sink;
+use crate::ways::{Given, bytes_of, read_given};
+use doc_heap::{Heap, String};
+use doc_page::failure::Memory;
+use doc_server::fault::Fault;
+use doc_server_streams::read_from::ReadFrom;
+use doc_server_streams::write_to::WriteTo;
+use trial::answer::no_call;
+use trial::growths::{Refusal, refused_each};
+
+/// What came of a command: the status that it ended with or what stopped it, whether it left bytes of the input, and what it wrote.
+#[derive(Debug, PartialEq, Drop)]
+struct Came {
+    ended: Result<u8, Fault>,
+    leaves: bool,
+    wrote: String,
+}
+
+/// What is printed for a command.
+pub fn answer(heap: Heap, command: Command, given: &str) -> Result<String, Memory> {
+    match read_given(given) {
+        Some(given) => told(heap, run(heap, command, given, Refusal::After(u64::MAX))?),
+        None => no_call(heap),
+    }
+}
+
+fn told(heap: Heap, came: Came) -> Result<String, Memory> {
+    let mut out = String::new(heap);
+    let pushed = push_told(&mut out, &came);
+    drop(came);
+    pushed?;
+    Ok(out)
+}
+
+fn push_told(out: &mut String, came: &Came) -> Result<(), Memory> {
+    match &came.ended {
+        Ok(status) => write!(out, "status {status}; ")?,
+        Err(fault) => write!(out, "{fault}; ")?,
+    }
+    if came.leaves {
+        out.push_str("not all was read; ")?;
+    }
+    let wrote = came.wrote.as_str();
+    write!(out, "wrote {wrote:?}")?;
+    Ok(())
+}
+
+/// What is printed for a command whose growths are refused in turn.
+pub fn grown(heap: Heap, command: Command, given: &str) -> Result<String, Memory> {
+    if read_given(given).is_none() {
+        return no_call(heap);
+    }
+    refused_each(
+        heap,
+        move |refusal| run_refused(heap, command, given, refusal),
+    )
+}
+
+/// What came of a command with growths refused: `Memory` where memory ran out before anything was written.
+fn run_refused(
+    heap: Heap,
+    command: Command,
+    given: &str,
+    refusal: Refusal,
+) -> Result<Came, Memory> {
+    let Some(given) = read_given(given) else {
+        return Err(Memory);
+    };
+    let came = run(heap, command, given, refusal)?;
+    match &came.ended {
+        Err(Fault::Memory) if came.wrote.is_empty() => Err(Memory),
+        _ => Ok(came),
+    }
+}
+
+/// Runs a command, with growths refused from its beginning on.
+fn run(heap: Heap, command: Command, given: Given<'_>, refusal: Refusal) -> Result<Came, Memory> {
+    let bytes = bytes_of(heap, given)?;
+    let feed = Feed::new(given.way, &bytes);
+    let sink = Sink::new(heap, given)?;
+    refusal.begin(heap);
+    let came = run_on(heap, command, feed, sink);
+    drop(bytes);
+    Ok(came)
+}
+
+fn run_on(heap: Heap, command: Command, feed: Feed<'_>, sink: Sink) -> Came {
+    let mut input = ReadFrom::new(feed);
+    let mut output = WriteTo::new(sink);
+    let ended = command.run(heap, &mut input, &mut output);
+    let leaves = input.reader().is_left();
+    drop(input);
+    Came {
+        ended,
+        leaves,
+        wrote: output.into_writer().into_text(heap),
+    }
+}
