@@ -15,6 +15,7 @@ use mio::net::{TcpListener, TcpStream};
 use mio::unix::SourceFd;
 use mio::{Interest, Registry, Token};
 use std::io::ErrorKind;
+use std::net::SocketAddr;
 use std::rc::Rc;
 use std::time::Instant;
 
@@ -45,6 +46,14 @@ impl Door {
             most,
             is_awaited: true,
             rests: false,
+        }
+    }
+
+    /// The address of the listener, where the system tells it.
+    pub fn address(&self) -> Option<SocketAddr> {
+        match self.listener.local_addr() {
+            Ok(address) => Some(address),
+            Err(_) => None,
         }
     }
 

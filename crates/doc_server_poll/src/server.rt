@@ -101,6 +101,11 @@ impl Server {
         })
     }
 
+    /// The address that it listens at, where the system tells it. It tells the port where the port of the address asked for was 0.
+    pub fn address(&self) -> Option<SocketAddr> {
+        self.door.address()
+    }
+
     /// Serves until standard input ends, where that is a pipe; any other one doesn't end it. Each of its turns keeps the bound.
     pub fn serve<D: Device, T: Renderer + Drop, R: Clock>(
         &mut self,
@@ -122,7 +127,7 @@ impl Server {
     }
 
     /// One turn. True: standard input has ended, and nobody is accepted any more.
-    fn turn<D: Device, T: Renderer + Drop, R: Clock>(
+    pub fn turn<D: Device, T: Renderer + Drop, R: Clock>(
         &mut self,
         rt: &R,
         keeping: &mut Keeping<D>,
