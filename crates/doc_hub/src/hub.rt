@@ -212,17 +212,6 @@ impl<R: Renderer + Drop> Hub<R> {
         self.connections.remove(id.0)
     }
 
-    /// The bytes that a connection's peer sent and that no reply has answered yet, where there is such a connection.
-    pub fn unread(&self, id: ConnId) -> Option<&[u8]>
-        ensures { option_map (λ bytes. bytes.now) result
-            ≡ option_map (λ c. c.unread) (map.get self.now.1.connections id.0) }
-    {
-        match self.connections.get(id.0) {
-            Some(connection) => Some(connection.unread.get()),
-            None => None,
-        }
-    }
-
     /// The page of a path with its groups and its text, where one stands there.
     pub fn page(&self, path: &Path) -> Option<&Page>
         ensures { option_map (λ page. page.now.page) result
