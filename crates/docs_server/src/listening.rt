@@ -3,6 +3,7 @@
 ghost use Rattle.std.specs.Prelude.{◌≡◌, ◌<◌};
 ghost use Rattle.doc_server_poll.specs.Keepings.{IsReady};
 
+use crate::access_log::serve_logging;
 use crate::arguments::Listen;
 use crate::bounded::{Bounded, read_bounded};
 use crate::files::{Pages, Site};
@@ -58,7 +59,10 @@ fn run_listen_with<
 
 /// The same, as a result. All pages stand, and the journal's edits are made, before the address is bound; peers are accepted behind the
 /// line that tells it.
-fn listen_with<R: Renderer + Drop, P: AllocGlobal + Clock + Files<File = File> + Net + Print>(
+fn listen_with<
+    R: Renderer + Drop,
+    P: AllocGlobal + Clock + Eprint + Files<File = File> + Net + Print,
+>(
     rt: &P,
     renderer: R,
     pages: Pages,
@@ -73,7 +77,7 @@ fn listen_with<R: Renderer + Drop, P: AllocGlobal + Clock + Files<File = File> +
 }
 
 /// Serves a hub that has the pages of the configuration, with the journal that the arguments name, if they do.
-fn listen_on<R: Renderer + Drop, P: Clock + Files<File = File> + Net + Print>(
+fn listen_on<R: Renderer + Drop, P: Clock + Eprint + Files<File = File> + Net + Print>(
     rt: &P,
     heap: Heap,
     hub: &mut Hub<R>,
@@ -91,7 +95,7 @@ fn listen_on<R: Renderer + Drop, P: Clock + Files<File = File> + Net + Print>(
 }
 
 /// Serves a hub on which the edits of a journal are made first, and which keeps its further edits there.
-fn serve_journal<R: Renderer + Drop, P: Clock + Files<File = File> + Net + Print>(
+fn serve_journal<R: Renderer + Drop, P: Clock + Eprint + Files<File = File> + Net + Print>(
     rt: &P,
     heap: Heap,
     hub: &mut Hub<R>,
@@ -105,7 +109,7 @@ fn serve_journal<R: Renderer + Drop, P: Clock + Files<File = File> + Net + Print
 }
 
 /// Binds the address, tells it, and serves until the program is told to stop.
-fn serve_keeping<D: Device + Drop, R: Renderer + Drop, P: Clock + Net + Print>(
+fn serve_keeping<D: Device + Drop, R: Renderer + Drop, P: Clock + Eprint + Net + Print>(
     rt: &P,
     heap: Heap,
     hub: &mut Hub<R>,
@@ -123,6 +127,6 @@ fn serve_keeping<D: Device + Drop, R: Renderer + Drop, P: Clock + Net + Print>(
         bounds.idle_seconds,
     )?;
     tell_address(&mut WriteTo::new(io::writer(rt)), command.written)?;
-    server.serve(rt, keeping, hub)?;
+    serve_logging(rt, heap, command.log, &mut server, keeping, hub)?;
     Ok(0)
 }
