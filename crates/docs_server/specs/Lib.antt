@@ -1,3 +1,4 @@
 pub mod Arguments
+pub mod Compacting
 pub mod Listening
 pub mod Serving

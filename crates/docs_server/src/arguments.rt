@@ -24,6 +24,7 @@ pub enum Command<'a> {
     Replay(Replay<'a>),
     Serve(Serve<'a>),
     Listen(Listen<'a>),
+    Compact(Compact<'a>),
 }
 
 /// The report of a reader of a configured site.
@@ -65,6 +66,15 @@ pub struct Listen<'a> {
     pub address: SocketAddr,
     /// The file of the journal, where there is one.
     pub journal: Option<&'a str>,
+}
+
+/// A journal that is written anew, as short as can be for the same site.
+#[derive(Drop)]
+pub struct Compact<'a> {
+    /// The file of the configuration.
+    pub config: &'a str,
+    /// The file of the journal.
+    pub journal: &'a str,
 }
 
 /// The arguments behind the name of the program.
@@ -121,6 +131,13 @@ pub fn command_of(words: &[String]) -> Result<Command<'_>, Fault> {
         ("listen", [config, address, option, journal]) => {
             let journal = journal_of(option.as_str(), journal.as_str())?;
             listen_of(config.as_str(), address.as_str(), Some(journal))
+        }
+        ("compact", [config, option, journal]) => {
+            let journal = journal_of(option.as_str(), journal.as_str())?;
+            Ok(Command::Compact(Compact {
+                config: config.as_str(),
+                journal,
+            }))
         }
         _ => Err(Fault::Usage),
     }
