@@ -288,6 +288,9 @@ impl<R: Renderer + Drop> Hub<R> {
         Ok(Some(self.shelf.report(reader)?))
     }
 
+    /// Lets the hub go, with all that it holds.
+    pub fn discard(self) {}
+
     /// Makes these events happen in their order, each in what those before it left, and answers what
     /// came of each. One that is refused does nothing, and the next one follows. `Memory` says that
     /// there was no room for the outcomes: then no event happened.

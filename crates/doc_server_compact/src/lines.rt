@@ -29,8 +29,9 @@ pub fn push_made_along(out: &mut String, page: &Page, names: &[&Path]) -> Result
     }
 }
 
+/// Writes the edit that puts a page.
 #[tactic(auto, using(doc_page::proofs::BufferSteps::front_same, doc_page::proofs::BufferSteps::front_more))]
-fn push_put_line(out: &mut String, path: &Path, page: &Page) -> Result<(), Memory>
+pub fn push_put_line(out: &mut String, path: &Path, page: &Page) -> Result<(), Memory>
     ensures ok { OnOk result (string_bytes out.new
         ≡ string_bytes out.old ++ line_of (set_page path.now page.now.page)) }
     ensures err { OnErr result (StartsWith (string_bytes out.new) (string_bytes out.old)) }
@@ -52,8 +53,9 @@ pub fn push_remove_line(out: &mut String, path: &Path) -> Result<(), Memory>
     Ok(())
 }
 
+/// Writes the edit that moves a page.
 #[tactic(auto, using(doc_page::proofs::BufferSteps::front_same, doc_page::proofs::BufferSteps::front_more))]
-fn push_move_line(out: &mut String, from: &Path, to: &Path) -> Result<(), Memory>
+pub fn push_move_line(out: &mut String, from: &Path, to: &Path) -> Result<(), Memory>
     ensures ok { OnOk result (string_bytes out.new
         ≡ string_bytes out.old ++ line_of (move_page from.now to.now)) }
     ensures err { OnErr result (StartsWith (string_bytes out.new) (string_bytes out.old)) }

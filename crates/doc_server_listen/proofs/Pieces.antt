@@ -143,7 +143,8 @@ module _ (render : Renders) where
 
   -- ---- the disconnect, behind a run on the connection
 
-  pub disconnect_drops : (w v : World) (id : ConnId) (said : Bool) → Happens render w (events.Disconnect id) v said → connection id.0 v ≡ None
+  pub disconnect_drops : (w v : World) (id : ConnId) (said : Bool) → Happens render w (events.Disconnect id) v said
+      → connection id.0 v ≡ None
   disconnect_drops w v id said h =
       subst (λ (r : World × Bool). connection id.0 r.0 ≡ None) h
       (map.get-remove nat_cmp_total w.connections id.0 id.0
@@ -197,7 +198,8 @@ module _ (render : Renders) where
     }
 
   -- a client closes behind no event
-  abbrev pub drops_only : (w u : World) (p q : Peer) (id : ConnId) (said : Bool) → id.0 ≡ p.id → Happens render w (events.Disconnect id) u said
+  abbrev pub drops_only : (w u : World) (p q : Peer) (id : ConnId) (said : Bool) → id.0 ≡ p.id
+      → Happens render w (events.Disconnect id) u said
       → p.is_open ≡ true → q.is_open ≡ false → q.id ≡ p.id → Consumes p.unread q.unread []
       → HandsOver p.written q.written p.pending q.pending → (p.failed ≡ true → q.failed ≡ true) → (q.failed ≡ true) ⊎ IsAtEnd q.unread
       → Serves render w p u q

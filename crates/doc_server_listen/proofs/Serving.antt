@@ -172,7 +172,8 @@ module _ (c : ℕ) (w v u : World) (p q s : Peer) (xs ys : List Happened) (a : S
   }
 
 -- a client that is served twice
-abbrev pub serves_join : (render page : Renders) (w v u : World) (p q s : Peer) → page ≡ render → Serves render w p v q → Serves page v q u s
+abbrev pub serves_join : (render page : Renders) (w v u : World) (p q s : Peer) → page ≡ render → Serves render w p v q
+    → Serves page v q u s
     → Serves render w p u s
 serves_join render page w v u p q s same a b =
     let runs : Runs render v b.run u = subst (λ r. Runs r v b.run u) same b.runs in

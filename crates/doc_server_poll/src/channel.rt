@@ -40,12 +40,18 @@ impl Channel for MioChannel {
 
     fn read(&mut self, buf: &mut [u8]) -> Result<Came, StreamFault> {
         let result = self.wire.read(buf);
+        if let Ok(Came::Bytes(count)) = &result {
+            self.wire.tape().came(&buf[..*count]);
+        }
         self.is_failed = result.is_err();
         result
     }
 
     fn write(&mut self, buf: &[u8]) -> Result<usize, StreamFault> {
         let result = self.wire.write(buf);
+        if let Ok(count) = &result {
+            self.wire.tape().went(buf, *count);
+        }
         self.is_failed = result.is_err();
         result
     }

@@ -5,6 +5,7 @@ ghost use Rattle.doc_server_poll.specs.Servers.{Leads};
 
 use crate::channel::MioChannel;
 use crate::peers::{Peers, drop_connection};
+use crate::tape::Tape;
 use crate::wire::Wire;
 use doc_heap::Heap;
 use doc_hub::event::ConnId;
@@ -78,13 +79,14 @@ impl Door {
         self.is_awaited && !self.rests && peers.count() < self.most
     }
 
-    /// Accepts peers while there is room, at most so many. The next ones wait in the listener's queue.
+    /// Accepts peers while there is room, at most so many, who are watched or not. The next ones wait in the listener's queue.
     pub fn accept<R: Renderer + Drop>(
         &mut self,
         hub: &mut Hub<R>,
         registry: &Registry,
         peers: &mut Peers,
         now: Instant,
+        is_watched: bool,
     )
         requires bound { length peers.old ≤ self.old.most }
         ensures bound { length peers.new ≤ self.new.most }
@@ -96,7 +98,7 @@ impl Door {
             if !self.is_open(peers) {
                 return;
             }
-            self.accept_one(hub, registry, peers, now);
+            self.accept_one(hub, registry, peers, now, is_watched);
         }
     }
 
@@ -107,6 +109,7 @@ impl Door {
         registry: &Registry,
         peers: &mut Peers,
         now: Instant,
+        is_watched: bool,
     )
         requires room { length peers.old < self.old.most }
         ensures bound { length peers.new ≤ self.new.most }
@@ -118,7 +121,7 @@ impl Door {
             return;
         };
         let _ = stream.set_nodelay(true);
-        let Some(wires) = wires_of(self.heap, stream) else {
+        let Some(wires) = wires_of(self.heap, stream, is_watched) else {
             return;
         };
         keep(self.heap, hub, registry, peers, wires, now);
@@ -154,8 +157,9 @@ struct Wires {
     table: Rc<Wire, Heap>,
 }
 
-fn wires_of(heap: Heap, stream: TcpStream) -> Option<Wires> {
-    let Ok(table) = Rc::new(heap, Wire::new(stream)) else {
+fn wires_of(heap: Heap, stream: TcpStream, is_watched: bool) -> Option<Wires> {
+    let wire = Wire::new(stream, Tape::new(heap, is_watched));
+    let Ok(table) = Rc::new(heap, wire) else {
         return None;
     };
     let Ok(channel) = table.clone() else {

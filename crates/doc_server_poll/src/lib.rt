@@ -8,4 +8,6 @@ pub mod keeping;
 mod peers;
 pub mod server;
 mod slot;
+mod tape;
+pub mod watch;
 mod wire;

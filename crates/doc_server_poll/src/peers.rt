@@ -7,6 +7,7 @@ ghost use Rattle.doc_server_poll.specs.Servers.{Leads};
 use crate::channel::MioChannel;
 use crate::keeping::Keeping;
 use crate::slot::{Fate, Slot};
+use crate::watch::Watch;
 use crate::wire::Wire;
 use doc_heap::{BTreeMap, Heap, Vec};
 use doc_hub::event::ConnId;
@@ -132,14 +133,16 @@ impl Peers {
         self.enter(number, now);
     }
 
-    /// The turn of those that were taken in, behind which those that end are let go. After an `Err` the server ends.
-    pub fn turn<D: Device, R: Renderer + Drop>(
+    /// The turn of those that were taken in, behind which the watcher is told, and those that end are let go. After an `Err` the server
+    /// ends.
+    pub fn turn<D: Device, R: Renderer + Drop, W: Watch>(
         &mut self,
         heap: Heap,
         keeping: &mut Keeping<D>,
         hub: &mut Hub<R>,
         piece: &mut [u8],
         now: Instant,
+        watch: &mut W,
     ) -> Result<(), TurnFault>
         requires ready { IsReady D.seen D.may_leave D.failed keeping.old }
         ensures leads { Leads (R.page hub.old.0) hub.old.1 hub.new.1 }
@@ -149,10 +152,12 @@ impl Peers {
     {
         self.settle(heap, keeping, hub, piece)?;
         'places: for at in 0..self.ready.len() {
-            self.leave_at(at, piece, now);
+            self.leave_at(at, piece, now, watch);
         }
         self.ready.clear();
+        self.tell_gone(watch);
         self.let_go(hub);
+        watch.end_turn();
         Ok(())
     }
 
@@ -174,18 +179,18 @@ impl Peers {
     }
 
     /// Ends the part of one of them in the turn.
-    fn leave_at(&mut self, at: usize, piece: &mut [u8], now: Instant)
+    fn leave_at<W: Watch>(&mut self, at: usize, piece: &mut [u8], now: Instant, watch: &mut W)
         ensures { self.new ≡ self.old }
     {
         let Some(place) = self.ready.get(at) else {
             return;
         };
         let place = *place;
-        self.leave(place, piece, now);
+        self.leave(place, piece, now, watch);
     }
 
-    /// Ends the part of the client at this place in the turn.
-    fn leave(&mut self, place: usize, piece: &mut [u8], now: Instant)
+    /// Ends the part of the client at this place in the turn, and tells what passed.
+    fn leave<W: Watch>(&mut self, place: usize, piece: &mut [u8], now: Instant, watch: &mut W)
         ensures { self.new ≡ self.old }
     {
         let Some(client) = self.clients.get(place) else {
@@ -194,6 +199,7 @@ impl Peers {
         let Some(slot) = self.slots.get_mut(place) else {
             return;
         };
+        slot.tell(client.id(), now, watch);
         let _ = match slot.leave(client, piece, now) {
             Fate::Waits => Ok(()),
             Fate::Goes => self.going.push(client.id().0),
@@ -202,7 +208,13 @@ impl Peers {
     }
 
     /// Lets those go whose time is over.
-    pub fn sweep<R: Renderer + Drop>(&mut self, hub: &mut Hub<R>, idle: Duration, now: Instant)
+    pub fn sweep<R: Renderer + Drop, W: Watch>(
+        &mut self,
+        hub: &mut Hub<R>,
+        idle: Duration,
+        now: Instant,
+        watch: &mut W,
+    )
         ensures leads { Leads (R.page hub.old.0) hub.old.1 hub.new.1 }
         ensures same { R.page hub.new.0 ≡ R.page hub.old.0 }
         ensures none { length self.new ≤ length self.old }
@@ -210,6 +222,7 @@ impl Peers {
         'places: for at in 0..self.slots.len() {
             self.sweep_at(at, idle, now);
         }
+        self.tell_gone(watch);
         self.let_go(hub);
     }
 
@@ -222,6 +235,13 @@ impl Peers {
         };
         if slot.is_over(idle, now) {
             let _ = self.gone.push(client.id().0);
+        }
+    }
+
+    /// Tells who is let go.
+    fn tell_gone<W: Watch>(&self, watch: &mut W) {
+        'numbers: for number in &self.gone {
+            watch.left(ConnId(*number));
         }
     }
 

@@ -8,6 +8,7 @@ use crate::door::Door;
 use crate::fault::PollFault;
 use crate::keeping::Keeping;
 use crate::peers::Peers;
+use crate::watch::Watch;
 use doc_heap::{Heap, Vec};
 use doc_hub::hub::Hub;
 use doc_page::failure::Memory;
@@ -106,12 +107,14 @@ impl Server {
         self.door.address()
     }
 
-    /// Serves until standard input ends, where that is a pipe; any other one doesn't end it. Each of its turns keeps the bound.
-    pub fn serve<D: Device, T: Renderer + Drop, R: Clock>(
+    /// Serves until standard input ends, where that is a pipe; any other one doesn't end it. Each of its turns keeps the bound, whoever
+    /// watches.
+    pub fn serve<D: Device, T: Renderer + Drop, R: Clock, W: Watch>(
         &mut self,
         rt: &R,
         keeping: &mut Keeping<D>,
         hub: &mut Hub<T>,
+        watch: &mut W,
     ) -> Result<(), PollFault>
         requires ready { IsReady D.seen D.may_leave D.failed keeping.old }
         ensures leads { Leads (T.page hub.old.0) hub.old.1 hub.new.1 }
@@ -119,7 +122,7 @@ impl Server {
         ensures most { self.new.most ≡ self.old.most }
     {
         'turns: for _ in 0..u64::MAX {
-            if self.turn(rt, keeping, hub)? {
+            if self.turn(rt, keeping, hub, watch)? {
                 return Ok(());
             }
         }
@@ -127,11 +130,12 @@ impl Server {
     }
 
     /// One turn. True: standard input has ended, and nobody is accepted any more.
-    pub fn turn<D: Device, T: Renderer + Drop, R: Clock>(
+    pub fn turn<D: Device, T: Renderer + Drop, R: Clock, W: Watch>(
         &mut self,
         rt: &R,
         keeping: &mut Keeping<D>,
         hub: &mut Hub<T>,
+        watch: &mut W,
     ) -> Result<bool, PollFault>
         requires ready { IsReady D.seen D.may_leave D.failed keeping.old }
         ensures ready { OnOk result (IsReady D.seen D.may_leave D.failed keeping.new) }
@@ -143,11 +147,11 @@ impl Server {
         let now = self.wait_for_events(rt)?;
         let ends = self.take_in(now);
         self.peers
-            .turn(self.heap, keeping, hub, &mut self.piece, now)?;
+            .turn(self.heap, keeping, hub, &mut self.piece, now, watch)?;
         if ends {
             return Ok(true);
         }
-        self.end_turn(hub, now);
+        self.end_turn(hub, now, watch);
         Ok(false)
     }
 
@@ -175,15 +179,20 @@ impl Server {
     }
 
     /// Lets those go whose time is over, and accepts others.
-    fn end_turn<T: Renderer + Drop>(&mut self, hub: &mut Hub<T>, now: Instant)
+    fn end_turn<T: Renderer + Drop, W: Watch>(
+        &mut self,
+        hub: &mut Hub<T>,
+        now: Instant,
+        watch: &mut W,
+    )
         ensures leads { Leads (T.page hub.old.0) hub.old.1 hub.new.1 }
         ensures same { T.page hub.new.0 ≡ T.page hub.old.0 }
         ensures most { self.new.most ≡ self.old.most }
         ensures bound { length self.new.clients ≤ self.new.most }
     {
-        self.sweep(hub, now);
-        self.door
-            .accept(hub, self.poll.registry(), &mut self.peers, now);
+        self.sweep(hub, now, watch);
+        let is_watched = watch.is_watching();
+        self.door.accept(hub, self.poll.registry(), &mut self.peers, now, is_watched);
     }
 
     /// How long the next poll waits: not at all where something is left to do.
@@ -195,7 +204,7 @@ impl Server {
     }
 
     /// Lets those go whose time is over, from time to time.
-    fn sweep<T: Renderer + Drop>(&mut self, hub: &mut Hub<T>, now: Instant)
+    fn sweep<T: Renderer + Drop, W: Watch>(&mut self, hub: &mut Hub<T>, now: Instant, watch: &mut W)
         ensures leads { Leads (T.page hub.old.0) hub.old.1 hub.new.1 }
         ensures same { T.page hub.new.0 ≡ T.page hub.old.0 }
         ensures most { self.new.most ≡ self.old.most }
@@ -205,7 +214,7 @@ impl Server {
         }
         self.swept = now;
         self.door.wake();
-        self.peers.sweep(hub, self.idle, now);
+        self.peers.sweep(hub, self.idle, now, watch);
     }
 }
 

@@ -1,8 +1,10 @@
 //! What the loop keeps beside a client: its wire, and when its peer was last heard.
 
 use crate::channel::MioChannel;
+use crate::watch::Watch;
 use crate::wire::Wire;
 use doc_heap::Heap;
+use doc_hub::event::ConnId;
 use doc_server_listen::channel::Came;
 use doc_server_listen::client::Client;
 use std::rc::Rc;
@@ -55,6 +57,11 @@ impl Slot {
             self.seen = now;
         }
         true
+    }
+
+    /// Tells what passed in a turn on its connection, which has this number.
+    pub fn tell<W: Watch>(&self, id: ConnId, now: Instant, watch: &mut W) {
+        self.wire.tape().tell(id, now, watch);
     }
 
     /// Ends its part in a turn, by which its client has come to stand as it does.

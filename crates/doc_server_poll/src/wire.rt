@@ -3,6 +3,7 @@
 ghost use Rattle.std.specs.Prelude.{◌≤◌, ◌≡◌, length};
 ghost use Rattle.doc_server_listen.specs.Channels.{came_len, took_len};
 
+use crate::tape::Tape;
 use doc_server_listen::channel::Came;
 use doc_server_streams::fault::StreamFault;
 use mio::net::TcpStream;
@@ -14,26 +15,32 @@ use std::os::fd::{AsRawFd, RawFd};
 /// How often an interrupted call is tried, so that it ends.
 const TRIES: u64 = 0x1_0000_0000;
 
-/// A stream, and what its last calls said.
+/// A stream, what its last calls said, and what passed over it as far as somebody watches.
 #[derive(Drop)]
 pub struct Wire {
     stream: TcpStream,
     is_dry: Cell<bool>,
     is_broken: Cell<bool>,
+    tape: Tape,
 }
 
 impl Wire {
-    pub fn new(stream: TcpStream) -> Wire {
+    pub fn new(stream: TcpStream, tape: Tape) -> Wire {
         Wire {
             stream,
             is_dry: Cell::new(false),
             is_broken: Cell::new(false),
+            tape,
         }
     }
 
     /// The descriptor, as a poll wants it.
     pub fn descriptor(&self) -> RawFd {
         self.stream.as_raw_fd()
+    }
+
+    pub fn tape(&self) -> &Tape {
+        &self.tape
     }
 
     /// A turn begins: whatever a read said before is forgotten.

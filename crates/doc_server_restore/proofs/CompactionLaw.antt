@@ -54,7 +54,8 @@ none_replayed : (edits : List Edit) → replayed None edits ≡ None
 none_replayed [] = refl
 none_replayed (edit ∷ edits) = refl
 
-all_replayed : (edits : List Edit) (store : StoreState) → all_made (unstamped store) edits ≡ option_map unstamped (replayed (Some store) edits)
+all_replayed : (edits : List Edit) (store : StoreState) → all_made (unstamped store) edits
+    ≡ option_map unstamped (replayed (Some store) edits)
 all_replayed [] store = refl
 all_replayed (edit ∷ edits) store =
     as_behind edits (made (unstamped store) edit) ∙ (ap (behind edits) (made_unstamped store edit) ∙ by (edited store edit))
@@ -93,7 +94,8 @@ parts_restored (part ∷ parts) n store last are is =
     by None first rest = absurd (no_some last rest)
     by (Some next) first rest =
         as_onto n store (lines_of part) (mapped lines_of parts) (Ok next)
-        (ap (after_record store n) (lines_are_read part (edits_apart part (joined parts) are).0) ∙ ap (λ o. ok_or o (faults.Refused n)) first)
+        (ap (after_record store n) (lines_are_read part (edits_apart part (joined parts) are).0) ∙ ap
+        (λ o. ok_or o (faults.Refused n)) first)
         ∙ parts_restored parts (n + 1) next last (edits_apart part (joined parts) are).1 rest
 
 pub compaction_is_restored : CompactionIsRestored

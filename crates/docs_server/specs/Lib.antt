@@ -1,3 +1,4 @@
 pub mod Arguments
 pub mod Listening
+pub mod RequestLines
 pub mod Serving

@@ -5,6 +5,7 @@ ghost use Rattle.std.specs.Char.{is_ascii_digit};
 ghost use Rattle.std.specs.List.{list_all};
 ghost use Rattle.docs_server.specs.Arguments.{are_digits, count_of};
 
+use crate::listen_options::options_of;
 use doc_heap::{Heap, String, Vec};
 use doc_page::failure::Memory;
 use doc_server_input::fault::Fault;
@@ -65,6 +66,8 @@ pub struct Listen<'a> {
     pub address: SocketAddr,
     /// The file of the journal, where there is one.
     pub journal: Option<&'a str>,
+    /// Whether each request is logged.
+    pub log: bool,
 }
 
 /// The arguments behind the name of the program.
@@ -117,10 +120,8 @@ pub fn command_of(words: &[String]) -> Result<Command<'_>, Fault> {
                 turns.as_str(),
             )
         }
-        ("listen", [config, address]) => listen_of(config.as_str(), address.as_str(), None),
-        ("listen", [config, address, option, journal]) => {
-            let journal = journal_of(option.as_str(), journal.as_str())?;
-            listen_of(config.as_str(), address.as_str(), Some(journal))
+        ("listen", [config, address, options @ ..]) => {
+            listen_of(config.as_str(), address.as_str(), options)
         }
         _ => Err(Fault::Usage),
     }
@@ -130,25 +131,19 @@ pub fn command_of(words: &[String]) -> Result<Command<'_>, Fault> {
 fn listen_of<'a>(
     config: &'a str,
     written: &'a str,
-    journal: Option<&'a str>,
+    options: &'a [String],
 ) -> Result<Command<'a>, Fault> {
     let Ok(address) = written.parse::<SocketAddr>() else {
         return Err(Fault::Usage);
     };
+    let options = options_of(options)?;
     Ok(Command::Listen(Listen {
         config,
         written,
         address,
-        journal,
+        journal: options.journal,
+        log: options.log,
     }))
-}
-
-/// The file that the option `--journal` names.
-fn journal_of<'a>(option: &str, name: &'a str) -> Result<&'a str, Fault> {
-    match option {
-        "--journal" => Ok(name),
-        _ => Err(Fault::Usage),
-    }
 }
 
 /// The command `serve`.

@@ -5,6 +5,7 @@ use doc_server_files::fault::FileFault;
 use doc_server_input::fault::Fault;
 use doc_server_journal::fault::OpenFault;
 use doc_server_listening::listening::ListeningError;
+use doc_server_poll::fault::PollFault;
 use doc_server_restore::fault::RestoreFault;
 use std::alloc::AllocError;
 use std::error::Error;
@@ -80,6 +81,22 @@ impl From<RestoreFault> for ListenFault {
 
     fn from(fault: RestoreFault) -> ListenFault {
         ListenFault::Restore(fault)
+    }
+}
+
+impl From<PollFault> for ListenFault {
+    ghost use Rattle.std.specs.Prelude.{◌≡◌};
+    ghost use Rattle.docs_server.specs.declared.listen_fault.ListenFault.TheVariants as faults;
+    ghost use Rattle.docs_server.specs.Listening.{poll_fault_of};
+
+    ghost from_gives = { λ fault stop. stop ≡ faults.Command (poll_fault_of fault) };
+
+    fn from(fault: PollFault) -> ListenFault {
+        ListenFault::Command(match fault {
+            PollFault::Socket => Fault::Socket,
+            PollFault::CannotWrite => Fault::CannotWrite,
+            PollFault::Memory => Fault::Memory,
+        })
     }
 }
 

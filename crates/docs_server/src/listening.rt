@@ -1,8 +1,9 @@
 //! The command `listen`: a configured site over TCP, until the program is told to stop.
 
 ghost use Rattle.std.specs.Prelude.{◌≡◌, ◌<◌};
-ghost use Rattle.docs_server.specs.Listening.{poll_fault_of};
+ghost use Rattle.doc_server_poll.specs.Keepings.{IsReady};
 
+use crate::access_log::serve_logging;
 use crate::arguments::Listen;
 use crate::bounded::{Bounded, read_bounded};
 use crate::files::{Pages, Site};
@@ -16,9 +17,8 @@ use doc_html::CommonMark;
 use doc_hub::hub::Hub;
 use doc_page::renderer::Renderer;
 use doc_server_files::file_device::FileDevice;
-use doc_server_input::fault::Fault;
+use doc_server_journal::device::Device;
 use doc_server_listening::bounds::Bounds;
-use doc_server_poll::fault::PollFault;
 use doc_server_poll::keeping::Keeping;
 use doc_server_poll::server::Server;
 use doc_server_sites::site::site_hub;
@@ -59,7 +59,10 @@ fn run_listen_with<
 
 /// The same, as a result. All pages stand, and the journal's edits are made, before the address is bound; peers are accepted behind the
 /// line that tells it.
-fn listen_with<R: Renderer + Drop, P: AllocGlobal + Clock + Files<File = File> + Net + Print>(
+fn listen_with<
+    R: Renderer + Drop,
+    P: AllocGlobal + Clock + Eprint + Files<File = File> + Net + Print,
+>(
     rt: &P,
     renderer: R,
     pages: Pages,
@@ -68,48 +71,62 @@ fn listen_with<R: Renderer + Drop, P: AllocGlobal + Clock + Files<File = File> +
 ) -> Result<u8, ListenFault> {
     let heap = heap(rt.alloc(), u64::MAX)?;
     let mut hub = site_hub(heap, renderer, pages.config, pages.texts.get())?;
+    let ended = listen_on(rt, heap, &mut hub, &bounds, command);
+    hub.discard();
+    ended
+}
+
+/// Serves a hub that has the pages of the configuration, with the journal that the arguments name, if they do.
+fn listen_on<R: Renderer + Drop, P: Clock + Eprint + Files<File = File> + Net + Print>(
+    rt: &P,
+    heap: Heap,
+    hub: &mut Hub<R>,
+    bounds: &Bounds,
+    command: &Listen<'_>,
+) -> Result<u8, ListenFault> {
     let _held = hold(rt, heap, command.config)?;
-    let mut keeping = keeping_of(rt, heap, command.journal, &mut hub)?;
-    let mut server = match Server::bind(
+    match command.journal {
+        None => {
+            let mut forgets: Keeping<FileDevice> = Keeping::Forgets;
+            serve_keeping(rt, heap, hub, bounds, command, &mut forgets)
+        }
+        Some(name) => serve_journal(rt, heap, hub, bounds, command, name),
+    }
+}
+
+/// Serves a hub on which the edits of a journal are made first, and which keeps its further edits there.
+fn serve_journal<R: Renderer + Drop, P: Clock + Eprint + Files<File = File> + Net + Print>(
+    rt: &P,
+    heap: Heap,
+    hub: &mut Hub<R>,
+    bounds: &Bounds,
+    command: &Listen<'_>,
+    name: &str,
+) -> Result<u8, ListenFault> {
+    let device = FileDevice::open(rt, name)?;
+    let journal = open_journal(heap, device, hub)?;
+    serve_keeping(rt, heap, hub, bounds, command, &mut Keeping::Keeps(journal))
+}
+
+/// Binds the address, tells it, and serves until the program is told to stop.
+fn serve_keeping<D: Device + Drop, R: Renderer + Drop, P: Clock + Eprint + Net + Print>(
+    rt: &P,
+    heap: Heap,
+    hub: &mut Hub<R>,
+    bounds: &Bounds,
+    command: &Listen<'_>,
+    keeping: &mut Keeping<D>,
+) -> Result<u8, ListenFault>
+    requires ready { IsReady D.seen D.may_leave D.failed keeping.old }
+{
+    let mut server = Server::bind(
         rt,
         heap,
         command.address,
         bounds.connections,
         bounds.idle_seconds,
-    ) {
-        Ok(server) => server,
-        Err(fault) => return Err(ListenFault::Command(poll_fault_of(fault))),
-    };
+    )?;
     tell_address(&mut WriteTo::new(io::writer(rt)), command.written)?;
-    match server.serve(rt, &mut keeping, &mut hub) {
-        Ok(()) => Ok(0),
-        Err(fault) => Err(ListenFault::Command(poll_fault_of(fault))),
-    }
-}
-
-/// What becomes of edits: those in the journal that is named are made on the hub.
-fn keeping_of<R: Renderer + Drop, P: Files<File = File>>(
-    rt: &P,
-    heap: Heap,
-    journal: Option<&str>,
-    hub: &mut Hub<R>,
-) -> Result<Keeping<FileDevice>, ListenFault> {
-    match journal {
-        None => Ok(Keeping::Forgets),
-        Some(name) => {
-            let device = FileDevice::open(rt, name)?;
-            Ok(Keeping::Keeps(open_journal(heap, device, hub)?))
-        }
-    }
-}
-
-/// What stops the program where the server doesn't run.
-fn poll_fault_of(fault: PollFault) -> Fault
-    ensures { result ≡ poll_fault_of fault }
-{
-    match fault {
-        PollFault::Socket => Fault::Socket,
-        PollFault::CannotWrite => Fault::CannotWrite,
-        PollFault::Memory => Fault::Memory,
-    }
+    serve_logging(rt, heap, command.log, &mut server, keeping, hub)?;
+    Ok(0)
 }

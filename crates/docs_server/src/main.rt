@@ -1,6 +1,7 @@
 //! The program `docs_server`: its arguments, the files that they name, and the commands of `doc_server`.
 #![tactic(auto)]
 
+mod access_log;
 mod arguments;
 mod bounded;
 mod commands;
@@ -8,10 +9,13 @@ mod files;
 mod held;
 mod journal;
 mod listen_fault;
+mod listen_options;
 mod listening;
+mod request_line;
 mod serving;
 mod sites;
 mod status;
+mod unanswered;
 
 use crate::arguments::{Command, command_of, words_of};
 use crate::commands::{run_demo, run_examples, run_render};

@@ -17,7 +17,8 @@ places-init g c = record {
 pub places-preserved : goal.places-preserved
 places-preserved g c = record {
   serves = all_keeping_join (g.R.Renderer.page c.args.hub.now.0) (g.R.Renderer.page c.places.hub.0) c.args.hub.now.1 c.places.hub.1
-      c.take_in_at.new.hub.1 c.args.clients.now c.places.clients c.take_in_at.new.clients c.args.edits.now c.places.edits c.take_in_at.new.edits c.places.invariant.same c.places.invariant.serves
+      c.take_in_at.new.hub.1 c.args.clients.now c.places.clients c.take_in_at.new.clients c.args.edits.now c.places.edits
+      c.take_in_at.new.edits c.places.invariant.same c.places.invariant.serves
       c.take_in_at.ensures.serves;
   waits = c.take_in_at.ensures.waits ∙ c.places.invariant.waits;
   same = c.take_in_at.ensures.same ∙ c.places.invariant.same;

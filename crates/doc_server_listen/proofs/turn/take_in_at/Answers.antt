@@ -4,7 +4,10 @@ use Rattle.doc_server_listen.proofs.TurnSteps.{all_start, served_at, waits_at}
 use Rattle.doc_server_listen.proofs.turn.take_in_at.Goals as goal
 
 pub returns-then-place-clients-clause-serves : goal.returns-then-place-clients-clause-serves
-returns-then-place-clients-clause-serves g c = (all_start (g.R.Renderer.page c.args.hub.now.0) c.args.hub.now.1 c.args.clients.now, quiet_records (g.R.Renderer.page c.args.hub.now.0) [] c.args.hub.now.1 c.args.edits.now tt)
+returns-then-place-clients-clause-serves g c = (
+  all_start (g.R.Renderer.page c.args.hub.now.0) c.args.hub.now.1 c.args.clients.now,
+  quiet_records (g.R.Renderer.page c.args.hub.now.0) [] c.args.hub.now.1 c.args.edits.now tt,
+)
 
 pub returns-clause-serves : goal.returns-clause-serves
 returns-clause-serves g c = (

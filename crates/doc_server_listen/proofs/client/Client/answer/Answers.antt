@@ -22,12 +22,14 @@ step-requires-clause-room g c =
 pub returns-in_default-clause-serves : goal.returns-in_default-clause-serves
 returns-in_default-clause-serves g c =
     keeping_join (g.R.Renderer.page c.args.hub.now.0) (g.R.Renderer.page c.steps.hub.0) c.args.hub.now.1 c.steps.hub.1
-    c.step.new.hub.1 c.args.self.now c.steps.self c.step.new.self c.args.edits.now c.steps.edits c.step.new.edits c.steps.invariant.same c.steps.invariant.serves c.step.ensures.serves
+    c.step.new.hub.1 c.args.self.now c.steps.self c.step.new.self c.args.edits.now c.steps.edits c.step.new.edits
+    c.steps.invariant.same c.steps.invariant.serves c.step.ensures.serves
 
 pub steps-preserved : goal.steps-preserved
 steps-preserved g c = record {
   serves = keeping_join (g.R.Renderer.page c.args.hub.now.0) (g.R.Renderer.page c.steps.hub.0) c.args.hub.now.1 c.steps.hub.1
-      c.step.new.hub.1 c.args.self.now c.steps.self c.step.new.self c.args.edits.now c.steps.edits c.step.new.edits c.steps.invariant.same c.steps.invariant.serves c.step.ensures.serves;
+      c.step.new.hub.1 c.args.self.now c.steps.self c.step.new.self c.args.edits.now c.steps.edits c.step.new.edits
+      c.steps.invariant.same c.steps.invariant.serves c.step.ensures.serves;
   written = c.step.ensures.written ∙ c.steps.invariant.written;
   opened = c.in-Some.ensures.open;
   held = held_more (length c.steps.self.pending) (length c.step.new.self.pending) c.in-Some.count c.steps.held

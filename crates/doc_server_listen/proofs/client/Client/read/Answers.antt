@@ -20,7 +20,8 @@ returns-in-Ok-clause-serves g c =
     (take (came_len (Ok x)) c.read.new.buf)) c.in-Ok-Bytes.field-0-is c.in-Ok-Bytes.ensures.bytes in
     rw (← c.self.view_is) (
       stepped_on (g.R.Renderer.page c.args.hub.now.0) c.args.hub.now.1 c.push.new.self.1 _ _
-          (events.Push c.self.inside.id (take c.in-Ok-Bytes.count c.read.new.buf)) outcomes.Pushed refl (Ok tt, c.in-Ok.ensures.world, refl) refl
+          (events.Push c.self.inside.id (take c.in-Ok-Bytes.count c.read.new.buf)) outcomes.Pushed refl
+          (Ok tt, c.in-Ok.ensures.world, refl) refl
           opened refl refl came c.in-Ok-Bytes.ensures.written refl
           (fine_first c.self.inside.stage (g.S.Channel.failed c.self.inside.stream) (g.S.Channel.failed c.read.new.self) c.self.invariant.1
           opened),
@@ -64,7 +65,8 @@ returns-in-Ok-End-clause-serves g c =
     (take (came_len (Ok x)) c.read.new.buf)) c.in-Ok-End.field-0-is c.in-Ok-End.ensures.bytes in
     rw (c.dropped-self-inside-in-Ok-End.ensures.stage, ← c.self.view_is) (
       drops_only (g.R.Renderer.page c.args.hub.now.0)
-          c.args.hub.now.1 c.dropped-self-inside-in-Ok-End.new.hub.1 _ _ c.self.inside.id _ refl c.dropped-self-inside-in-Ok-End.ensures.world
+          c.args.hub.now.1 c.dropped-self-inside-in-Ok-End.new.hub.1 _ _ c.self.inside.id _ refl
+          c.dropped-self-inside-in-Ok-End.ensures.world
           opened refl refl came (kept _ _ _ _ c.in-Ok-End.ensures.written refl)
           (fine_first c.self.inside.stage (g.S.Channel.failed c.self.inside.stream) (g.S.Channel.failed c.read.new.self) c.self.invariant.1
           opened)

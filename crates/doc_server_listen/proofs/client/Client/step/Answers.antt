@@ -25,7 +25,8 @@ returns-then-is_err-clause-serves g c =
 pub returns-in-Ok-Sent-clause-serves : goal.returns-in-Ok-Sent-clause-serves
 returns-in-Ok-Sent-clause-serves g c =
     let opened = ap (λ (p : Peer). p.is_open) c.self.view_is ∙ c.requires.open in
-    let h = subst (λ s. Happens (g.R.Renderer.page c.args.hub.now.0) c.args.hub.now.1 (events.Step c.self.inside.id) c.step_and_keep.new.hub.1
+    let h = subst (λ s. Happens (g.R.Renderer.page c.args.hub.now.0) c.args.hub.now.1 (events.Step c.self.inside.id)
+    c.step_and_keep.new.hub.1
     (Ok s))
     c.in-Ok-Sent.field-0-is c.in-Ok-Sent.ensures.world in
     let waits = ap (left_of c.self.inside.sent)
@@ -35,15 +36,18 @@ returns-in-Ok-Sent-clause-serves g c =
     rw (← c.self.view_is) (
       replied (g.R.Renderer.page c.args.hub.now.0) c.args.hub.now.1 c.step_and_keep.new.hub.1 _ _ c.self.inside.id
           c.in-Ok-Sent.reply refl h opened opened refl refl refl waits room (λ f. f),
-      step_records (g.R.Renderer.page c.args.hub.now.0) c.args.hub.now.1 c.step_and_keep.new.hub.1 c.self.inside.id (Ok (steps.Sent c.in-Ok-Sent.reply)) c.args.edits.now c.step_and_keep.new.edits
-          (subst (λ s. Told (g.R.Renderer.page c.args.hub.now.0) c.args.hub.now.1 c.self.inside.id (Ok s) c.step_and_keep.new.hub.1 c.args.edits.now c.step_and_keep.new.edits)
+      step_records (g.R.Renderer.page c.args.hub.now.0) c.args.hub.now.1 c.step_and_keep.new.hub.1 c.self.inside.id
+          (Ok (steps.Sent c.in-Ok-Sent.reply)) c.args.edits.now c.step_and_keep.new.edits
+          (subst (λ s. Told (g.R.Renderer.page c.args.hub.now.0) c.args.hub.now.1 c.self.inside.id (Ok s) c.step_and_keep.new.hub.1
+          c.args.edits.now c.step_and_keep.new.edits)
           c.in-Ok-Sent.field-0-is c.in-Ok-Sent.ensures.edit),
     )
 
 pub returns-in-Ok-Last-clause-serves : goal.returns-in-Ok-Last-clause-serves
 returns-in-Ok-Last-clause-serves g c =
     let opened = ap (λ (p : Peer). p.is_open) c.self.view_is ∙ c.requires.open in
-    let h = subst (λ s. Happens (g.R.Renderer.page c.args.hub.now.0) c.args.hub.now.1 (events.Step c.self.inside.id) c.step_and_keep.new.hub.1
+    let h = subst (λ s. Happens (g.R.Renderer.page c.args.hub.now.0) c.args.hub.now.1 (events.Step c.self.inside.id)
+    c.step_and_keep.new.hub.1
     (Ok s))
     c.in-Ok-Last.field-0-is c.in-Ok-Last.ensures.world in
     let waits = ap (left_of c.self.inside.sent)
@@ -52,33 +56,40 @@ returns-in-Ok-Last-clause-serves g c =
     let room = subst (λ (p : Peer). length p.pending < most_pending) (sym c.self.view_is) c.requires.room in
     rw (c.dropped-self-inside.ensures.stage, ← c.self.view_is) (
       drops_after (g.R.Renderer.page c.args.hub.now.0) c.args.hub.now.1
-          c.step_and_keep.new.hub.1 c.dropped-self-inside.new.hub.1 _ _ (events.Step c.self.inside.id) (outcomes.Stepped (steps.Last c.in-Ok-Last.reply))
+          c.step_and_keep.new.hub.1 c.dropped-self-inside.new.hub.1 _ _ (events.Step c.self.inside.id)
+          (outcomes.Stepped (steps.Last c.in-Ok-Last.reply))
           c.self.inside.id _ refl refl (Ok (steps.Last c.in-Ok-Last.reply), h, refl) c.dropped-self-inside.ensures.world opened refl refl
           ([], Consumes-nil (g.S.Channel.unread c.self.inside.stream)) refl waits (inl room) (λ f. f) tt,
-      last_records (g.R.Renderer.page c.args.hub.now.0) c.args.hub.now.1 c.step_and_keep.new.hub.1 c.dropped-self-inside.new.hub.1 c.self.inside.id c.self.inside.id (Ok (steps.Last c.in-Ok-Last.reply)) _ c.args.edits.now c.step_and_keep.new.edits
-          (subst (λ s. Told (g.R.Renderer.page c.args.hub.now.0) c.args.hub.now.1 c.self.inside.id (Ok s) c.step_and_keep.new.hub.1 c.args.edits.now c.step_and_keep.new.edits)
+      last_records (g.R.Renderer.page c.args.hub.now.0) c.args.hub.now.1 c.step_and_keep.new.hub.1 c.dropped-self-inside.new.hub.1
+          c.self.inside.id c.self.inside.id (Ok (steps.Last c.in-Ok-Last.reply)) _ c.args.edits.now c.step_and_keep.new.edits
+          (subst (λ s. Told (g.R.Renderer.page c.args.hub.now.0) c.args.hub.now.1 c.self.inside.id (Ok s) c.step_and_keep.new.hub.1
+          c.args.edits.now c.step_and_keep.new.edits)
           c.in-Ok-Last.field-0-is c.in-Ok-Last.ensures.edit),
     )
 
 pub returns-in-Ok-More-clause-serves : goal.returns-in-Ok-More-clause-serves
 returns-in-Ok-More-clause-serves g c =
     let opened = ap (λ (p : Peer). p.is_open) c.self.view_is ∙ c.requires.open in
-    let h = subst (λ s. Happens (g.R.Renderer.page c.args.hub.now.0) c.args.hub.now.1 (events.Step c.self.inside.id) c.step_and_keep.new.hub.1
+    let h = subst (λ s. Happens (g.R.Renderer.page c.args.hub.now.0) c.args.hub.now.1 (events.Step c.self.inside.id)
+    c.step_and_keep.new.hub.1
     (Ok s))
     c.in-Ok-More.field-0-is c.in-Ok-More.ensures.world in
     rw (← c.self.view_is) (
       stepped_on (g.R.Renderer.page c.args.hub.now.0) c.args.hub.now.1 c.step_and_keep.new.hub.1 _ _
           (events.Step c.self.inside.id) (outcomes.Stepped steps.More) refl (Ok steps.More, h, refl) refl opened refl refl
           (Consumes-nil (g.S.Channel.unread c.self.inside.stream)) refl (ap (left_of c.self.inside.sent) c.reserve.ensures.items) (λ f. f),
-      step_records (g.R.Renderer.page c.args.hub.now.0) c.args.hub.now.1 c.step_and_keep.new.hub.1 c.self.inside.id (Ok steps.More) c.args.edits.now c.step_and_keep.new.edits
-          (subst (λ s. Told (g.R.Renderer.page c.args.hub.now.0) c.args.hub.now.1 c.self.inside.id (Ok s) c.step_and_keep.new.hub.1 c.args.edits.now c.step_and_keep.new.edits)
+      step_records (g.R.Renderer.page c.args.hub.now.0) c.args.hub.now.1 c.step_and_keep.new.hub.1 c.self.inside.id (Ok steps.More)
+          c.args.edits.now c.step_and_keep.new.edits
+          (subst (λ s. Told (g.R.Renderer.page c.args.hub.now.0) c.args.hub.now.1 c.self.inside.id (Ok s) c.step_and_keep.new.hub.1
+          c.args.edits.now c.step_and_keep.new.edits)
           c.in-Ok-More.field-0-is c.in-Ok-More.ensures.edit),
     )
 
 pub returns-in-Ok-Closed-clause-serves : goal.returns-in-Ok-Closed-clause-serves
 returns-in-Ok-Closed-clause-serves g c =
     let opened = ap (λ (p : Peer). p.is_open) c.self.view_is ∙ c.requires.open in
-    let h = subst (λ s. Happens (g.R.Renderer.page c.args.hub.now.0) c.args.hub.now.1 (events.Step c.self.inside.id) c.step_and_keep.new.hub.1
+    let h = subst (λ s. Happens (g.R.Renderer.page c.args.hub.now.0) c.args.hub.now.1 (events.Step c.self.inside.id)
+    c.step_and_keep.new.hub.1
     (Ok s))
     c.in-Ok-Closed.field-0-is c.in-Ok-Closed.ensures.world in
     let waits = ap (left_of c.self.inside.sent) c.reserve.ensures.items
@@ -86,17 +97,22 @@ returns-in-Ok-Closed-clause-serves g c =
     rw (c.dropped-self-inside-in-Ok-Closed.ensures.stage, ← c.self.view_is) (
       drops_after (g.R.Renderer.page c.args.hub.now.0)
           c.args.hub.now.1 c.step_and_keep.new.hub.1 c.dropped-self-inside-in-Ok-Closed.new.hub.1 _ _ (events.Step c.self.inside.id)
-          (outcomes.Stepped steps.Closed) c.self.inside.id _ refl refl (Ok steps.Closed, h, refl) c.dropped-self-inside-in-Ok-Closed.ensures.world
+          (outcomes.Stepped steps.Closed) c.self.inside.id _ refl refl (Ok steps.Closed, h, refl)
+          c.dropped-self-inside-in-Ok-Closed.ensures.world
           opened refl refl ([], Consumes-nil (g.S.Channel.unread c.self.inside.stream)) refl waits (inr refl) (λ f. f) tt,
-      last_records (g.R.Renderer.page c.args.hub.now.0) c.args.hub.now.1 c.step_and_keep.new.hub.1 c.dropped-self-inside-in-Ok-Closed.new.hub.1 c.self.inside.id c.self.inside.id (Ok steps.Closed) _ c.args.edits.now c.step_and_keep.new.edits
-          (subst (λ s. Told (g.R.Renderer.page c.args.hub.now.0) c.args.hub.now.1 c.self.inside.id (Ok s) c.step_and_keep.new.hub.1 c.args.edits.now c.step_and_keep.new.edits)
+      last_records (g.R.Renderer.page c.args.hub.now.0) c.args.hub.now.1 c.step_and_keep.new.hub.1
+          c.dropped-self-inside-in-Ok-Closed.new.hub.1 c.self.inside.id c.self.inside.id (Ok steps.Closed) _ c.args.edits.now
+          c.step_and_keep.new.edits
+          (subst (λ s. Told (g.R.Renderer.page c.args.hub.now.0) c.args.hub.now.1 c.self.inside.id (Ok s) c.step_and_keep.new.hub.1
+          c.args.edits.now c.step_and_keep.new.edits)
           c.in-Ok-Closed.field-0-is c.in-Ok-Closed.ensures.edit),
     )
 
 pub returns-in-Err-NoConnection-clause-serves : goal.returns-in-Err-NoConnection-clause-serves
 returns-in-Err-NoConnection-clause-serves g c =
     let opened = ap (λ (p : Peer). p.is_open) c.self.view_is ∙ c.requires.open in
-    let h = subst (λ s. Happens (g.R.Renderer.page c.args.hub.now.0) c.args.hub.now.1 (events.Step c.self.inside.id) c.step_and_keep.new.hub.1
+    let h = subst (λ s. Happens (g.R.Renderer.page c.args.hub.now.0) c.args.hub.now.1 (events.Step c.self.inside.id)
+    c.step_and_keep.new.hub.1
     (Err s))
     c.in-Err-NoConnection.field-0-is c.in-Err-NoConnection.ensures.world in
     let waits = ap (left_of c.self.inside.sent) c.reserve.ensures.items
@@ -107,22 +123,28 @@ returns-in-Err-NoConnection-clause-serves g c =
           (stepping (Err step_errors.NoConnection)) c.self.inside.id _ refl refl (Err step_errors.NoConnection, h, refl)
           c.dropped-self-inside-in-Err-NoConnection.ensures.world opened refl refl
           ([], Consumes-nil (g.S.Channel.unread c.self.inside.stream)) refl waits (inr refl) (λ f. f) tt,
-      last_records (g.R.Renderer.page c.args.hub.now.0) c.args.hub.now.1 c.step_and_keep.new.hub.1 c.dropped-self-inside-in-Err-NoConnection.new.hub.1 c.self.inside.id c.self.inside.id (Err step_errors.NoConnection) _ c.args.edits.now c.step_and_keep.new.edits
-          (subst (λ s. Told (g.R.Renderer.page c.args.hub.now.0) c.args.hub.now.1 c.self.inside.id (Err s) c.step_and_keep.new.hub.1 c.args.edits.now c.step_and_keep.new.edits)
+      last_records (g.R.Renderer.page c.args.hub.now.0) c.args.hub.now.1 c.step_and_keep.new.hub.1
+          c.dropped-self-inside-in-Err-NoConnection.new.hub.1 c.self.inside.id c.self.inside.id (Err step_errors.NoConnection) _
+          c.args.edits.now c.step_and_keep.new.edits
+          (subst (λ s. Told (g.R.Renderer.page c.args.hub.now.0) c.args.hub.now.1 c.self.inside.id (Err s) c.step_and_keep.new.hub.1
+          c.args.edits.now c.step_and_keep.new.edits)
           c.in-Err-NoConnection.field-0-is c.in-Err-NoConnection.ensures.edit),
     )
 
 pub returns-in-Err-Memory-clause-serves : goal.returns-in-Err-Memory-clause-serves
 returns-in-Err-Memory-clause-serves g c =
     let opened = ap (λ (p : Peer). p.is_open) c.self.view_is ∙ c.requires.open in
-    let h = subst (λ s. Happens (g.R.Renderer.page c.args.hub.now.0) c.args.hub.now.1 (events.Step c.self.inside.id) c.step_and_keep.new.hub.1
+    let h = subst (λ s. Happens (g.R.Renderer.page c.args.hub.now.0) c.args.hub.now.1 (events.Step c.self.inside.id)
+    c.step_and_keep.new.hub.1
     (Err s))
     c.in-Err-Memory.field-0-is c.in-Err-Memory.ensures.world in
     rw (← c.self.view_is) (
       stepped_on (g.R.Renderer.page c.args.hub.now.0) c.args.hub.now.1 c.step_and_keep.new.hub.1 _ _
           (events.Step c.self.inside.id) (stepping (Err step_errors.Memory)) refl (Err step_errors.Memory, h, refl) refl opened opened refl
           (Consumes-nil (g.S.Channel.unread c.self.inside.stream)) refl (ap (left_of c.self.inside.sent) c.reserve.ensures.items) (λ f. f),
-      step_records (g.R.Renderer.page c.args.hub.now.0) c.args.hub.now.1 c.step_and_keep.new.hub.1 c.self.inside.id (Err step_errors.Memory) c.args.edits.now c.step_and_keep.new.edits
-          (subst (λ s. Told (g.R.Renderer.page c.args.hub.now.0) c.args.hub.now.1 c.self.inside.id (Err s) c.step_and_keep.new.hub.1 c.args.edits.now c.step_and_keep.new.edits)
+      step_records (g.R.Renderer.page c.args.hub.now.0) c.args.hub.now.1 c.step_and_keep.new.hub.1 c.self.inside.id
+          (Err step_errors.Memory) c.args.edits.now c.step_and_keep.new.edits
+          (subst (λ s. Told (g.R.Renderer.page c.args.hub.now.0) c.args.hub.now.1 c.self.inside.id (Err s) c.step_and_keep.new.hub.1
+          c.args.edits.now c.step_and_keep.new.edits)
           c.in-Err-Memory.field-0-is c.in-Err-Memory.ensures.edit),
     )

@@ -4,10 +4,16 @@ use Rattle.doc_server_listen.proofs.EditSteps.{keeping_join, quiet_keeps, quiet_
 use Rattle.doc_server_listen.proofs.client.Client.take_in.Goals as goal
 
 pub returns-then-not-is_open-clause-serves : goal.returns-then-not-is_open-clause-serves
-returns-then-not-is_open-clause-serves g c = (nothing_done (g.R.Renderer.page c.args.hub.now.0) c.args.hub.now.1 c.args.self.now, quiet_records (g.R.Renderer.page c.args.hub.now.0) [] c.args.hub.now.1 c.args.edits.now tt)
+returns-then-not-is_open-clause-serves g c = (
+  nothing_done (g.R.Renderer.page c.args.hub.now.0) c.args.hub.now.1 c.args.self.now,
+  quiet_records (g.R.Renderer.page c.args.hub.now.0) [] c.args.hub.now.1 c.args.edits.now tt,
+)
 
 pub returns-then-has_pending-clause-serves : goal.returns-then-has_pending-clause-serves
-returns-then-has_pending-clause-serves g c = (nothing_done (g.R.Renderer.page c.args.hub.now.0) c.args.hub.now.1 c.args.self.now, quiet_records (g.R.Renderer.page c.args.hub.now.0) [] c.args.hub.now.1 c.args.edits.now tt)
+returns-then-has_pending-clause-serves g c = (
+  nothing_done (g.R.Renderer.page c.args.hub.now.0) c.args.hub.now.1 c.args.self.now,
+  quiet_records (g.R.Renderer.page c.args.hub.now.0) [] c.args.hub.now.1 c.args.edits.now tt,
+)
 
 pub returns-clause-serves : goal.returns-clause-serves
 returns-clause-serves g c =

@@ -8,6 +8,7 @@ returns-in-Keeps-clause-serves g c =
     let s = c.settled_turn.ensures.serves in (
       s.0,
       subst (λ k. KeepsEdits g.D.Device.seen g.D.Device.may_leave g.D.Device.failed g.D.Device.moment g.D.Device.left_since k
-          (keepings.Keeps c.settled_turn.new.journal) (g.R.Renderer.page c.args.hub.now.0) s.0.run c.settled_turn.new.hub.1 c.args.clients.now
+          (keepings.Keeps c.settled_turn.new.journal) (g.R.Renderer.page c.args.hub.now.0) s.0.run c.settled_turn.new.hub.1
+          c.args.clients.now
           c.settled_turn.new.clients c.settled_turn.result) (sym c.in-Keeps.is) (s.1, c.settled_turn.ensures.waits),
     )

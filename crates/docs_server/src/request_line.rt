@@ -1,0 +1,109 @@
+//! The first line of a request, as the log writes it: its method, and its target without the query. What a field of the head says, as a
+//! token, isn't among it.
+
+ghost use Rattle.std.specs.Prelude.{◌≡◌, ◌++◌, ◌∷◌, string_bytes, OnOk};
+ghost use Rattle.docs_server.specs.RequestLines.{shown_method, shown_path, shown_target, is_shown};
+
+use doc_heap::String;
+use doc_page::failure::Memory;
+use percent_encoding::{AsciiSet, CONTROLS, ascii_set, percent_encode};
+
+/// How many bytes a method has at most that is written.
+const METHOD_LIMIT: usize = 16;
+
+/// How many bytes of a path are written.
+const PATH_LIMIT: usize = 1_000;
+
+/// What is written by a number: controls, spaces, and all that isn't ASCII.
+const HIDDEN: AsciiSet = ascii_set!(CONTROLS.add(b' '));
+
+/// Method and target.
+#[derive(Clone, Copy)]
+pub struct RequestLine<'a> {
+    pub method: &'a str,
+    pub target: &'a str,
+}
+
+/// The first line of bytes that are no request, where it has the form of one.
+pub fn first_line(bytes: &[u8]) -> Option<RequestLine<'_>> {
+    let line = bytes
+        .split(|b| matches!(b, b'\r' | b'\n'))
+        .find(|line| !line.is_empty())?;
+    let Ok(text) = std::str::from_utf8(line) else {
+        return None;
+    };
+    let (method, rest) = text.split_once(' ')?;
+    let (target, version) = rest.split_once(' ')?;
+    match version {
+        "HTTP/1.0" | "HTTP/1.1" => Some(RequestLine { method, target }),
+        _ => None,
+    }
+}
+
+/// Writes both, with a space between.
+pub fn push_request_line(out: &mut String, line: RequestLine<'_>) -> Result<(), Memory>
+    ensures { OnOk result (string_bytes out.new ≡ string_bytes out.old
+        ++ (shown_method line.method.now ++ 32 ∷ shown_target line.target.now)) }
+{
+    push_method(out, line.method)?;
+    out.push_str(" ")?;
+    push_target(out, line.target)
+}
+
+/// Writes a method, `-` where it isn't 1 to 16 capital letters.
+fn push_method(out: &mut String, method: &str) -> Result<(), Memory>
+    ensures { OnOk result
+        (string_bytes out.new ≡ string_bytes out.old ++ shown_method method.now) }
+{
+    if is_shown(method.as_bytes()) {
+        out.push_str(method)?;
+    } else {
+        out.push_str("-")?;
+    }
+    Ok(())
+}
+
+/// Whether these are 1 to 16 capital letters.
+fn is_shown(method: &[u8]) -> bool
+    ensures { result ≡ is_shown method.now }
+{
+    !method.is_empty()
+        && method.len() <= METHOD_LIMIT
+        && method.iter().all(|byte| byte.is_ascii_uppercase())
+}
+
+/// Writes a target without its query, `-` where it doesn't begin with a slash.
+fn push_target(out: &mut String, target: &str) -> Result<(), Memory>
+    ensures { OnOk result
+        (string_bytes out.new ≡ string_bytes out.old ++ shown_target target.now) }
+{
+    let path = before_query(target);
+    if path.starts_with('/') {
+        push_path(out, path.as_bytes())?;
+    } else {
+        out.push_str("-")?;
+    }
+    Ok(())
+}
+
+/// What stands before the first `?`.
+fn before_query(target: &str) -> &str {
+    match target.split_once('?') {
+        Some((path, _)) => path,
+        None => target,
+    }
+}
+
+/// Writes a path, cut where it is too long.
+fn push_path(out: &mut String, path: &[u8]) -> Result<(), Memory>
+    ensures { OnOk result
+        (string_bytes out.new ≡ string_bytes out.old ++ shown_path path.now) }
+{
+    if path.len() <= PATH_LIMIT {
+        percent_encode(path, HIDDEN).append_to(out)?;
+        return Ok(());
+    }
+    percent_encode(&path[..PATH_LIMIT], HIDDEN).append_to(out)?;
+    out.push_str("...")?;
+    Ok(())
+}

@@ -1,0 +1,72 @@
+//! What came on a connection and isn't answered yet, as the log knows it.
+
+ghost use Rattle.std.specs.Prelude.{IfOk};
+
+use crate::request_line::{RequestLine, first_line, push_request_line};
+use doc_heap::{Heap, String};
+use doc_http::request::Next;
+use doc_http::unread::Unread;
+use doc_page::failure::Memory;
+use std::time::Instant;
+
+/// What came on a connection and isn't answered yet: the same bytes as the server's, which reads them in the same way.
+#[derive(Drop)]
+pub struct Unanswered {
+    unread: Unread,
+    /// When the turn began in which bytes came last. By then all requests before them had been answered.
+    began: Option<Instant>,
+}
+
+impl Unanswered {
+    /// Nothing came yet.
+    pub fn new(heap: Heap) -> Unanswered {
+        Unanswered {
+            unread: Unread::new(heap),
+            began: None,
+        }
+    }
+
+    /// Adds bytes that came in a turn which began then.
+    pub fn add(&mut self, bytes: &[u8], began: Instant) -> Result<(), Memory> {
+        self.began = Some(began);
+        self.unread.push(bytes)
+    }
+
+    /// For how many microseconds the next request has waited for its reply.
+    pub fn waited(&self, now: Instant) -> u128 {
+        match self.began {
+            Some(began) => now.duration_since(began).as_micros(),
+            None => 0,
+        }
+    }
+
+    /// Writes method and target of the next request, and takes it.
+    pub fn take(&mut self, out: &mut String) -> Result<(), Memory> {
+        match self.unread.next_request()? {
+            Next::Request { used, request } => {
+                let line = RequestLine {
+                    method: request.method.get(),
+                    target: request.target.get(),
+                };
+                push_request_line(out, line)?;
+                self.unread.take_front(used);
+            }
+            Next::Fault { .. } | Next::More => {
+                push_first_line(out, self.unread.get())?;
+                self.unread.clear();
+            }
+        }
+        Ok(())
+    }
+}
+
+/// Writes what is known of bytes that are no request.
+fn push_first_line(out: &mut String, bytes: &[u8]) -> Result<(), Memory> {
+    match first_line(bytes) {
+        Some(line) => push_request_line(out, line),
+        None => {
+            out.push_str("- -")?;
+            Ok(())
+        }
+    }
+}
