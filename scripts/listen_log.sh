@@ -168,7 +168,7 @@ def bad(log):
             (f"PUT /page/a.md HTTP/1.1\r\nHost: a\r\n{secret}Transfer-Encoding: chunked\r\n\r\n{OWNER}\r\n".encode(), "PUT", "/page/a.md")):
         log.peer().send((data, method, target)).replies().close()
     good = request("GET", "/page/a.md")
-    log.peer().send(good, good, (b"BAD" + good[0], "-", "-")).replies().close()
+    log.peer().send(good, good, (b"BAD " + good[0], "-", "-")).replies().close()
 
 
 def pipelines(log):
@@ -265,7 +265,8 @@ tally.check("no log: nothing is written", server.said() == "", server.said()[:10
 
 # ---- options
 for words, good in ((["--log"], True), (["--journal", "j", "--log"], True), (["--log", "--journal", "j"], True),
-                    (["--journal", "--log"], True), (["--journal", "--log", "--log"], True), (["--log", "--log"], False), (["--log", "x"], False), (["--journal"], False),
+                    (["--journal", "--log"], True), (["--journal", "--log", "--log"], True), (["--log", "--log"], False),
+                    (["--log", "x"], False), (["--journal"], False),
                     (["--log", "--journal"], False), (["--journal", "j", "--journal", "k"], False), (["--log", "--log", "--log"], False),
                     (["--journal", "j", "--log", "--log"], False), (["--journal", "j", "x"], False), (["log"], False), (["--Log"], False),
                     (["--log="], False), ([""], False)):

@@ -7,6 +7,7 @@ ghost use Rattle.std.specs.List.{list_all};
 ghost use Rattle.docs_server.specs.RequestLines.{before_query, is_shown, shown_method, shown_path, shown_target};
 
 use doc_heap::String;
+use doc_http_bodies::slices::front;
 use doc_page::failure::Memory;
 use percent_encoding::{AsciiSet, CONTROLS, ascii_set, percent_encode};
 
@@ -103,11 +104,10 @@ fn push_path(out: &mut String, path: &[u8]) -> Result<(), Memory>
     ensures { OnOk result
         (string_bytes out.new ≡ string_bytes out.old ++ shown_path path.now) }
 {
+    percent_encode(front(path, PATH_LIMIT), HIDDEN).append_to(out)?;
     if path.len() <= PATH_LIMIT {
-        percent_encode(path, HIDDEN).append_to(out)?;
         return Ok(());
     }
-    percent_encode(&path[..PATH_LIMIT], HIDDEN).append_to(out)?;
     out.push_str("...")?;
     Ok(())
 }
