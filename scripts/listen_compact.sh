@@ -3,8 +3,9 @@
 # the broken links and some searches, for each reader. The journals hold PUTs, DELETEs and moves, also of the configuration's own pages.
 #
 # Also: `compact` killed by SIGKILL at random moments, and stopped at each call that it makes of the system for files (strace), by SIGKILL
-# or a failure, EIO: each time the old journal or the new one is there, whole, and the site is the same. Then edits behind a compacted
-# journal; a second compaction, which changes no byte; and that a journal which a server has open is refused as in use.
+# or a failure, EIO: each time the old journal or the new one is there, whole, the site is the same, and a failure leaves no other file.
+# Then edits behind a compacted journal; a second compaction, which changes no byte; and that a journal which a server has open is refused
+# as in use.
 #
 #     scripts/listen_compact.sh PROGRAM [KILLS]
 #
@@ -85,6 +86,8 @@ def compact(name, status=0, said=""):
 def stopped(way, call, number):
     """A compaction with the call of this name and number stopped. Whether there was such a call."""
     put(large)
+    if way != "killed" and os.path.exists(JOURNAL + ".compacting"):
+        os.remove(JOURNAL + ".compacting")
     inject = "signal=SIGKILL" if way == "killed" else f"error={way}"
     words = ["strace", "-f", "-o", f"{scratch}/calls", "-e", f"trace={call}", "-e", f"inject={call}:{inject}:when={number}+", program]
     done = subprocess.run([*words, "compact", CONFIG, "--journal", JOURNAL], stdin=subprocess.DEVNULL, capture_output=True, timeout=60)
@@ -94,6 +97,7 @@ def stopped(way, call, number):
     name = f"{way} at {call} {number}"
     tally.check(f"{name}: one of the two journals", got() in (large, small), f"{len(got())} bytes")
     tally.check(f"{name}: done, or not said to be", (done.returncode == 0) <= (got() == small and (way == "killed") <= (not hit)), done)
+    tally.check(f"{name}: no other file is left", way == "killed" or not os.path.exists(JOURNAL + ".compacting"))
     return hit
 
 
