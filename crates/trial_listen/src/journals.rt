@@ -70,6 +70,7 @@ fn read_texts(
 }
 
 /// What came of a reading, and how often in a row.
+#[derive(Clone, Copy)]
 struct Run {
     outcome: Option<Result<usize, OpenFault>>,
     count: u64,

@@ -5,7 +5,8 @@
 //! - `server CONNECTIONS IDLE CALLS` begins a server at a port that the system chooses, with at most so many connections, each of which
 //!   ends after so many seconds of silence. Its journal is a file in memory, of which so many calls go well and the next one fails. Its
 //!   site has no pages yet, and three readers: an owner (`tok-owner`), one of the group `staff` (`tok-ann`), one of `ops` (`tok-bob`).
-//!   The calls below it are of this server. The lines in front of the first one are printed as they stand.
+//!   The calls below it are of this server. The lines in front of the first one are printed as they stand, and so are those of one that
+//!   can't be made.
 //! - The calls: `calls`.
 //!
 //! Values that own memory go by calls of `drop`, once on each way: that is much cheaper to prove than what the end of a scope does, which
@@ -45,9 +46,17 @@ fn main(rt: HostRuntime) -> io::Result<()> {
 /// Prints the lines in front of the first server, and then what those of each server answer.
 fn run<P: AllocGlobal + Clock + Net + Print>(rt: &P, text: &str) -> io::Result<()> {
     let (front, servers) = text.split_once("\nserver ").unwrap_or((text, ""));
-    println!(rt; "{front}")?;
+    print_lines(rt, front)?;
     for lines in servers.split("\nserver ") {
         begin(rt, lines)?;
+    }
+    Ok(())
+}
+
+/// Prints lines as they stand.
+fn print_lines<P: Print>(rt: &P, text: &str) -> io::Result<()> {
+    for line in text.lines() {
+        println!(rt; "{line}")?;
     }
     Ok(())
 }
@@ -81,7 +90,8 @@ fn run_server<R: Renderer + Drop, P: Clock + Net + Print>(
     texts: &[&str; 2],
 ) -> io::Result<()> {
     let Some(mut scene) = new_scene(rt, heap, renderer, texts[0]) else {
-        return println!(rt; "no server");
+        println!(rt; "no server")?;
+        return print_lines(rt, texts[1]);
     };
     let ran = run_calls(rt, &mut scene, texts[1]);
     drop(scene);

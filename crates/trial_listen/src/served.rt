@@ -14,6 +14,7 @@ use doc_server_journal::opening::Opened;
 use doc_server_poll::fault::PollFault;
 use doc_server_poll::keeping::Keeping;
 use doc_server_poll::server::Server;
+use doc_server_poll::watch::Unwatched;
 use std::marker::Model;
 use std::net::{Ipv4Addr, Net, SocketAddr};
 use std::rt::Clock;
@@ -50,18 +51,23 @@ impl<R: Renderer + Drop> Model for Served<R> {
 
 impl<R: Renderer + Drop> Served<R> {
     /// A server at a port that the system chooses, with an empty journal.
-    pub fn new<P: Clock + Net>(rt: &P, heap: Heap, hub: Hub<R>, bounds: Bounds) -> Option<Served<R>> {
-        let keeping = keeping_of(heap, bounds.calls)?;
-        let address = SocketAddr::from((Ipv4Addr::LOCALHOST, 0));
-        let server = Server::bind(rt, heap, address, bounds.connections, bounds.idle_seconds);
-        match server {
-            Ok(server) => Some(Served {
+    pub fn new<P: Clock + Net>(
+        rt: &P,
+        heap: Heap,
+        hub: Hub<R>,
+        bounds: Bounds,
+    ) -> Option<Served<R>> {
+        match parts_of(rt, heap, bounds) {
+            Some((server, keeping)) => Some(Served {
                 server,
                 keeping,
                 hub,
                 fault: None,
             }),
-            Err(_) => None,
+            None => {
+                hub.discard();
+                None
+            }
         }
     }
 
@@ -80,7 +86,10 @@ impl<R: Renderer + Drop> Served<R> {
         if self.fault.is_some() {
             return false;
         }
-        match self.server.turn(rt, &mut self.keeping, &mut self.hub) {
+        let turn = self
+            .server
+            .turn(rt, &mut self.keeping, &mut self.hub, &mut Unwatched);
+        match turn {
             Ok(_) => true,
             Err(fault) => {
                 self.fault = Some(fault);
@@ -95,6 +104,22 @@ impl<R: Renderer + Drop> Served<R> {
             Keeping::Forgets => &[],
             Keeping::Keeps(journal) => journal.device.bytes(),
         }
+    }
+}
+
+/// A server without clients, and an empty journal in memory.
+fn parts_of<P: Clock + Net>(
+    rt: &P,
+    heap: Heap,
+    bounds: Bounds,
+) -> Option<(Server, Keeping<MemoryDevice>)>
+    ensures { IfSome result (λ parts. IsReady memory_seen memory_leaves has_failed parts.1) }
+{
+    let keeping = keeping_of(heap, bounds.calls)?;
+    let address = SocketAddr::from((Ipv4Addr::LOCALHOST, 0));
+    match Server::bind(rt, heap, address, bounds.connections, bounds.idle_seconds) {
+        Ok(server) => Some((server, keeping)),
+        Err(_) => None,
     }
 }
 
