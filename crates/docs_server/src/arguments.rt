@@ -71,7 +71,7 @@ pub struct Listen<'a> {
     pub log: bool,
 }
 
-/// A journal that is written anew, as short as can be for the same site.
+/// A journal that is written anew, of the site that its edits lead to.
 #[derive(Drop)]
 pub struct Compact<'a> {
     /// The file of the configuration.

@@ -1,4 +1,4 @@
-//! The command `compact`: a journal is written anew, as short as can be for the same site.
+//! The command `compact`: a journal is written anew, of the site that its edits lead to.
 
 ghost use Rattle.std.specs.Prelude.{◌≡◌, false, Ok, List, ℕ, IfOk};
 ghost use Rattle.doc_server_journal.specs.Journals.{IsOpen};

@@ -82,10 +82,13 @@ fn push_numbered(bytes: &mut Vec<u8>, text: &str) -> Result<(), Stop> {
     let Some((digits, rest)) = text.split_at_checked(2) else {
         return Err(Stop::NoCall);
     };
-    let Some(byte) = hexadecimal(digits) else {
+    let Some(number) = hexadecimal(digits) else {
         return Err(Stop::NoCall);
     };
-    bytes.push(byte as u8)?;
+    let Ok(byte) = u8::try_from(number) else {
+        return Err(Stop::NoCall);
+    };
+    bytes.push(byte)?;
     bytes.extend_from_slice(rest.as_bytes())?;
     Ok(())
 }

@@ -1,0 +1,140 @@
+//! A server with a hub and a journal in memory.
+
+ghost use Rattle.std.specs.Prelude.{IfSome};
+ghost use Rattle.doc_server_journal.specs.Memories.{has_failed, memory_leaves, memory_seen};
+ghost use Rattle.doc_server_poll.specs.Keepings.{IsReady};
+
+use doc_heap::{Heap, Vec};
+use doc_hub::hub::Hub;
+use doc_page::bytes::Bytes;
+use doc_page::renderer::Renderer;
+use doc_server_journal::journal::Journal;
+use doc_server_journal::memory::MemoryDevice;
+use doc_server_journal::opening::Opened;
+use doc_server_poll::fault::PollFault;
+use doc_server_poll::keeping::Keeping;
+use doc_server_poll::server::Server;
+use doc_server_poll::watch::Unwatched;
+use std::marker::Model;
+use std::net::{Ipv4Addr, Net, SocketAddr};
+use std::rt::Clock;
+
+/// How many connections a server has at most, after how many seconds of silence each of them ends, and how many calls of its journal's
+/// device go well.
+#[derive(Clone, Copy)]
+pub struct Bounds {
+    pub connections: usize,
+    pub idle_seconds: u64,
+    pub calls: u64,
+}
+
+/// A server, and what it serves. Behind a turn that was refused it makes no further one.
+#[derive(Drop)]
+pub struct Served<R: Renderer + Drop> {
+    server: Server,
+    keeping: Keeping<MemoryDevice>,
+    hub: Hub<R>,
+    fault: Option<PollFault>,
+}
+
+impl<R: Renderer + Drop> Model for Served<R> {
+    ghost use Rattle.std.specs.Prelude.{◌≡◌, ⊤, None};
+    ghost use Rattle.doc_server_journal.specs.Memories.{has_failed, memory_leaves, memory_seen};
+    ghost use Rattle.doc_server_poll.specs.Keepings.{IsReady};
+
+    ghost Value = { ⊤ };
+
+    ghost view = { λ _. tt };
+
+    ghost invariant = { λ s. s.fault ≡ None → IsReady memory_seen memory_leaves has_failed s.keeping };
+}
+
+impl<R: Renderer + Drop> Served<R> {
+    /// A server at a port that the system chooses, with an empty journal.
+    pub fn new<P: Clock + Net>(
+        rt: &P,
+        heap: Heap,
+        hub: Hub<R>,
+        bounds: Bounds,
+    ) -> Option<Served<R>> {
+        match parts_of(rt, heap, bounds) {
+            Some((server, keeping)) => Some(Served {
+                server,
+                keeping,
+                hub,
+                fault: None,
+            }),
+            None => {
+                hub.discard();
+                None
+            }
+        }
+    }
+
+    /// The address that it listens at.
+    pub fn address(&self) -> Option<SocketAddr> {
+        self.server.address()
+    }
+
+    /// Why it serves no more.
+    pub fn fault(&self) -> Option<PollFault> {
+        self.fault
+    }
+
+    /// One turn. False: none is made any more.
+    pub fn turn<P: Clock>(&mut self, rt: &P) -> bool {
+        if self.fault.is_some() {
+            return false;
+        }
+        let turn = self
+            .server
+            .turn(rt, &mut self.keeping, &mut self.hub, &mut Unwatched);
+        match turn {
+            Ok(_) => true,
+            Err(fault) => {
+                self.fault = Some(fault);
+                false
+            }
+        }
+    }
+
+    /// What the journal's file holds.
+    pub fn journal_bytes(&self) -> &[u8] {
+        match &self.keeping {
+            Keeping::Forgets => &[],
+            Keeping::Keeps(journal) => journal.device.bytes(),
+        }
+    }
+}
+
+/// A server without clients, and an empty journal in memory.
+fn parts_of<P: Clock + Net>(
+    rt: &P,
+    heap: Heap,
+    bounds: Bounds,
+) -> Option<(Server, Keeping<MemoryDevice>)>
+    ensures { IfSome result (λ parts. IsReady memory_seen memory_leaves has_failed parts.1) }
+{
+    let keeping = keeping_of(heap, bounds.calls)?;
+    let address = SocketAddr::from((Ipv4Addr::LOCALHOST, 0));
+    match Server::bind(rt, heap, address, bounds.connections, bounds.idle_seconds) {
+        Ok(server) => Some((server, keeping)),
+        Err(_) => None,
+    }
+}
+
+/// An empty journal in memory, of whose device so many calls go well.
+fn keeping_of(heap: Heap, calls: u64) -> Option<Keeping<MemoryDevice>>
+    ensures { IfSome result (IsReady memory_seen memory_leaves has_failed) }
+{
+    let Ok(device) = MemoryDevice::new(heap, Bytes::new(Vec::new(heap)), calls) else {
+        return None;
+    };
+    match Journal::open(heap, device, 0) {
+        Ok(Opened { journal, texts }) => {
+            drop(texts);
+            Some(Keeping::Keeps(journal))
+        }
+        Err(_) => None,
+    }
+}

@@ -1,0 +1,272 @@
+"""What the peers of a server over TCP hear, and what its journal has: an outside expectation for `doc_server_poll` and what it stands on.
+
+Replies are those of replies.py, over pages of plain paragraphs; the journal is written and read by journals.py. What the server does with
+streams is by docs/RUNNING.md: a peer is read where it is owed nothing, one that was sent its last reply is told the end, one too many
+waits, one that is silent for too long is let go, and where the journal can't be written nobody hears of the edit.
+
+    python3 scripts/oracles/listening.py
+
+writes its lines into stdin and stdout of crates/trial_listen.
+"""
+
+import journals
+from replies import REASONS, Hub, bytes_of
+from trial_lines import debug, fnv, write
+
+READERS = {"tok-owner": None, "tok-ann": {"staff"}, "tok-bob": {"ops"}}
+OWNER, ANN, BOB = READERS
+FULL = 10**6  # more calls than a journal of these lines makes
+LONG = 2_000  # longer ones are told by their number of bytes and FNV-1a
+
+
+def told(data):
+    try:
+        text = data.decode()
+    except UnicodeDecodeError:
+        text = None
+    return f"{len(data)} bytes, {fnv(data):016x}" if text is None or len(data) > LONG else debug(text)
+
+
+def given(text):
+    return text.replace("\\", "\\\\").replace("\n", "\\n").replace("\r", "\\r")
+
+
+def closing(reply):
+    """A reply behind which the connection closes."""
+    head, body = reply.split("\r\n\r\n", 1)
+    return f"{head}\r\nConnection: close\r\n\r\n{body}"
+
+
+def fault(code):
+    body = f"{code} {REASONS[code]}\n"
+    head = f"HTTP/1.1 {code} {REASONS[code]}\r\nContent-Type: text/plain; charset=utf-8\r\nContent-Length: {len(body)}\r\n"
+    return closing(head + "\r\n" + body)
+
+
+REASONS[413] = "Content Too Large"
+
+
+class Server:
+    """A server, and what each of its peers has still to hear."""
+
+    def __init__(self, what, connections, idle=1_000, calls=FULL):
+        self.lines = [f"# {what}", (f"server {connections} {idle} {calls}", "()" if calls >= 4 else "no server")]
+        self.hub, self.peers, self.owed, self.edits = Hub(), 0, {}, []
+        self.hub.readers = dict(READERS)
+
+    def note(self, text):
+        self.lines.append(f"# {text}")
+
+    def call(self, call, answer="()"):
+        self.lines.append((call, answer))
+
+    def open(self):
+        self.peers += 1
+        self.owed[self.peers] = ""
+        self.call("open", str(self.peers))
+        return self.peers
+
+    def answer(self, token, method, target, body=""):
+        """The reply to a request, and its edit is noted."""
+        reply = self.hub.reply(token, method, target, body)
+        if method in ("PUT", "DELETE") and reply.split(" ")[1] in ("201", "204"):
+            path, _, groups = target.removeprefix("/page/").partition("?groups=")
+            text = body.replace("\\", "\\\\").replace("\n", "\\n")
+            self.edits.append(f"put {path} {groups or '-'} {text}\n" if method == "PUT" else f"remove {path}\n")
+        return reply
+
+    def ask(self, peer, *requests, call="send"):
+        """Requests by one write or byte by byte, and then their replies."""
+        self.call(f"{call} {peer} " + given("".join(bytes_of(*request) for request in requests)))
+        self.owed[peer] += "".join(self.answer(*request) for request in requests)
+        self.hear(peer)
+
+    def hear(self, peer):
+        owed, self.owed[peer] = self.owed[peer].encode(), ""
+        self.call(f"hear {peer} {len(owed)}", told(owed))
+
+    def last(self, peer, text, reply):
+        """What ends the stream, with the last reply."""
+        self.call(f"send {peer} {given(text)}")
+        self.call(f"end {peer}", told(reply.encode()) + " end")
+
+    def journal(self, calls=("records",), texts=None):
+        texts = [edit.encode() for edit in self.edits] if texts is None else texts
+        file = journals.written(texts)
+        for call in calls:
+            self.call(call, journal_told(call, file))
+
+
+def reading(file):
+    try:
+        return f"Ok({len(journals.read(file)[0])})"
+    except journals.Damaged as damaged:
+        return f"Err(Damaged({damaged.number}))"
+
+
+def in_a_row(outcomes):
+    out, last, count = "", None, 0
+    for outcome in [*outcomes, None]:
+        if outcome != last and last is not None:
+            out += f"{'; ' if out else ''}{last} {count}"
+        last, count = outcome, count + 1 if outcome == last else 1
+    return out
+
+
+def journal_told(call, file):
+    if call == "file":
+        return told(file)
+    if call == "records":
+        return told(b"".join(journals.read(file)[0]))
+    if call == "cuts":
+        return in_a_row(reading(file[:length]) for length in range(len(file) + 1))
+    return in_a_row(reading(file[:at] + bytes([file[at] ^ 1]) + file[at + 1:]) for at in range(len(file)))
+
+
+def readers():
+    s = Server("Three readers on connections of their own.", 12)
+    owner, ann, bob = s.open(), s.open(), s.open()
+    s.ask(owner, (OWNER, "PUT", "/page/a.md?groups=staff", "Hello\n"))
+    s.ask(owner, (OWNER, "PUT", "/page/c.md?groups=ops,qa", "One & two.\n\nThree\\four\n"))
+    for peer, token in ((owner, OWNER), (ann, ANN), (bob, BOB)):
+        for path in ("a.md", "c.md", "absent.md"):
+            s.ask(peer, (token, "GET", f"/page/{path}"))
+    s.note("Other refusals, and HEAD.")
+    s.ask(ann, ("tok-none", "GET", "/page/a.md"))
+    s.ask(ann, (ANN, "GET", "/nothing"))
+    s.ask(ann, (ANN, "POST", "/page/a.md"))
+    s.ask(ann, (ANN, "PUT", "/page/a.md", "mine"))
+    s.ask(ann, (ANN, "HEAD", "/page/a.md"))
+    s.ask(ann, (ANN, "HEAD", "/page/c.md"))
+    s.note("A PUT and a DELETE, and what the others see then.")
+    s.ask(owner, (OWNER, "PUT", "/page/a.md?groups=ops", "Anew\n"))
+    s.ask(ann, (ANN, "GET", "/page/a.md"))
+    s.ask(bob, (BOB, "GET", "/page/a.md"))
+    s.ask(owner, (OWNER, "DELETE", "/page/c.md"))
+    s.ask(bob, (BOB, "GET", "/page/c.md"))
+    s.ask(bob, (BOB, "GET", "/contents"))
+    s.note("Several requests by one write; one byte by byte.")
+    s.ask(owner, (OWNER, "PUT", "/page/b.md?groups=staff", "first"), (OWNER, "GET", "/page/b.md"), (OWNER, "DELETE", "/page/b.md"),
+          (OWNER, "GET", "/page/b.md"), (OWNER, "PUT", "/page/b.md?groups=staff", "again"), (OWNER, "HEAD", "/page/b.md"))
+    s.ask(ann, (ANN, "GET", "/page/b.md"), (ANN, "GET", "/page/a.md"), (ANN, "GET", "/page/b.md"))
+    s.ask(bob, (BOB, "GET", "/page/a.md"), call="drip")
+    s.ask(owner, (OWNER, "PUT", "/page/drop.md", "drop by drop"), call="drip")
+    s.note("One that goes away half-way holds up nobody, nor does one that waits half-way.")
+    gone = s.open()
+    s.call(f"send {gone} " + given(bytes_of(ANN, "GET", "/page/b.md")[:40]))
+    s.call(f"close {gone}")
+    half = s.open()
+    request = bytes_of(ANN, "GET", "/page/b.md")
+    s.call(f"send {half} " + given(request[:40]))
+    s.ask(ann, (ANN, "GET", "/page/b.md"))
+    s.call(f"hear {half} 0", told(b""))
+    s.call(f"send {half} " + given(request[40:]))
+    s.owed[half] += s.answer(ANN, "GET", "/page/b.md")
+    s.hear(half)
+    s.note("A fault, HTTP/1.0 and `close` end the stream behind the reply.")
+    get = bytes_of(ANN, "GET", "/page/b.md")
+    page = s.answer(ANN, "GET", "/page/b.md")
+    s.last(s.open(), "PUT /page/a.md HTTP/1.1\r\nHost: h\r\nContent-Length: 1048577\r\n\r\n", fault(413))
+    s.last(s.open(), "GET /page/a.md HTTP/1.1\nHost: h\n\n" + "\r\n\r\n" + get, fault(400))
+    s.last(s.open(), get.replace("HTTP/1.1", "HTTP/1.0") + get, closing(page))
+    s.last(s.open(), get.replace("Host: h", "Host: h\r\nConnection: close") + get, closing(page))
+    s.last(half, get + "GET /page/a.md HTTP/1.1\r\n\r\n", page + fault(400))
+    s.ask(ann, (ANN, "GET", "/page/b.md"))
+    s.call("fault", "None")
+    s.note("The journal has the edits.")
+    s.journal(("records",))
+    return s.lines
+
+
+def bound():
+    s = Server("Two connections at most: the third and the fourth wait until another goes.", 2)
+    peers = [s.open() for _ in range(4)]
+    for peer in peers:
+        s.call(f"send {peer} " + given(bytes_of(OWNER, "GET", "/nothing")))
+        s.owed[peer] = s.answer(OWNER, "GET", "/nothing")
+    s.hear(peers[0])
+    s.hear(peers[1])
+    s.call("turns 2")
+    s.call(f"hear {peers[2]} 0", told(b""))
+    s.call(f"hear {peers[3]} 0", told(b""))
+    s.call(f"close {peers[0]}")
+    s.hear(peers[2])
+    s.call("turns 2")
+    s.call(f"hear {peers[3]} 0", told(b""))
+    s.last(peers[1], "GET /nothing HTTP/1.1\r\n\r\n", fault(400))
+    s.hear(peers[3])
+    s.ask(peers[2], (OWNER, "GET", "/nothing"))
+    return s.lines
+
+
+def slow():
+    s = Server("One that doesn't read holds up nobody, and hears all in the end.", 4)
+    slow, other = s.open(), s.open()
+    text, get = "x" * 65_536, bytes_of(OWNER, "GET", "/page/x.md")
+    s.call(f"send {slow} " + given(bytes_of(OWNER, "PUT", "/page/x.md?groups=ops", text)).replace(text, "\\{65536 x}"))
+    s.owed[slow] += s.answer(OWNER, "PUT", "/page/x.md?groups=ops", text)
+    s.hear(slow)
+    s.call(f"send {slow} \\{{100 {given(get)}}}")
+    s.owed[slow] += 100 * s.answer(OWNER, "GET", "/page/x.md")
+    s.ask(other, (OWNER, "HEAD", "/page/x.md"))
+    s.ask(other, (OWNER, "PUT", "/page/y.md?groups=ops", "Meanwhile"))
+    s.ask(other, (BOB, "GET", "/page/y.md"))
+    s.hear(slow)
+    s.note("More requests by one write than a turn answers.")
+    s.call(f"send {other} \\{{300 {given(bytes_of(ANN, 'GET', '/page/x.md'))}}}")
+    s.owed[other] += 300 * s.answer(ANN, "GET", "/page/x.md")
+    s.hear(other)
+    s.journal()
+    return s.lines
+
+
+def silent():
+    s = Server("After a second of silence a connection ends, also one that is half-way.", 4, idle=1)
+    one, other = s.open(), s.open()
+    s.call(f"send {other} " + given(bytes_of(OWNER, "GET", "/nothing")[:30]))
+    s.call(f"end {one}", told(b"") + " end")
+    s.call(f"end {other}", told(b"") + " end")
+    return s.lines
+
+
+def failing(calls):
+    """A server whose journal's file fails in some call: opening makes four of them, and so does each record: it is written behind the gate and
+    synced, and the gate is opened and synced. A write that fails has written half."""
+    s = Server(f"The journal's file fails behind {calls} calls.", 2, calls=calls)
+    if calls < 4:
+        return s.lines
+    peer, texts, file = s.open(), [], b"\0"
+    for path in ("a", "b", "c"):
+        request = (OWNER, "PUT", f"/page/{path}?groups=ops", path)
+        well = calls - 4 * len(texts) - 4
+        if well < 4:
+            s.call(f"send {peer} " + given(bytes_of(*request)))
+            s.call(f"hear {peer} 1", told(b""))
+            s.call("fault", "Some(CannotWrite)")
+            s.answer(*request)
+            file = left(texts, s.edits[-1].encode(), well)
+            break
+        s.ask(peer, request)
+        texts.append(s.edits[-1].encode())
+        file = journals.written(texts)
+    else:
+        s.call("fault", "None")
+    for call in ("records",) if calls not in (9, 16) else ("file", "records", "flips", "cuts"):
+        s.call(call, journal_told(call, file))
+    return s.lines
+
+
+def left(texts, text, well):
+    """What a journal's file holds where so many calls of a further record went well."""
+    digest = journals.SEED
+    for before in texts:
+        digest = journals.record(digest, before)[1]
+    behind = journals.record(digest, text)[0] + b"\0"
+    if well == 3:
+        return journals.written([*texts, text])
+    return journals.written(texts) + (behind[: len(behind) // 2] if well == 0 else behind)
+
+
+if __name__ == "__main__":
+    parts = [readers(), bound(), slow(), silent(), *map(failing, range(17))]
+    write("listening", [line for part in parts for line in [*part, ""]], "trial_listen")
