@@ -1,5 +1,5 @@
 #!/usr/bin/env bash
-# Tries what stops `listen` before it does anything, by the line and the status that it ends with: each fault alone, and with
+# Tries what stops `listen` and `compact` before they do anything, by the line and the status that they end with: each fault alone, and with
 # the next ones, of which the earlier one is told. No fault changes a journal. What is wanted is worked out from docs/RUNNING.md; what
 # stops all commands alike is tried by scripts/faults.sh, and each way to damage a journal by scripts/listen_damage.sh.
 #
@@ -53,10 +53,12 @@ def stops(words, line, stdout=subprocess.DEVNULL, limit=None):
     return tally.check(" ".join(words), found == (2, f"docs_server: {line}\n"), f"{found}, wanted {line}")
 
 
-def both(config, journal, line):
-    """The same alone, and with what comes later: an address that is taken, an output that is full."""
+def both(config, journal, line, later=True):
+    """The same for `listen` and `compact`, and for `listen` with what comes later: an address that is taken, an output that is full."""
     stops(["listen", config, f"{HOST}:0", "--journal", journal], line)
-    stops(["listen", config, TAKEN, "--journal", journal], line, stdout=full)
+    stops(["compact", config, "--journal", journal], line)
+    if later:
+        stops(["listen", config, TAKEN, "--journal", journal], line, stdout=full)
 
 
 for name, text in SITES.items():
@@ -71,9 +73,11 @@ full = os.open("/dev/full", os.O_WRONLY)
 
 # ---- usage
 
-for words in (["listen"], ["listen", "good.toml"], ["listen", "good.toml", f"{HOST}:0", "--journal"],
+for words in (["listen"], ["listen", "good.toml"], ["listen", "good.toml", f"{HOST}:0", "--journal"], ["compact"], ["compact", "good.toml"],
               ["listen", "good.toml", f"{HOST}:0", "good"], ["listen", "good.toml", f"{HOST}:0", "--Journal", "good"],
-              ["listen", "good.toml", f"{HOST}:0", "--journal", "good", "x"]):
+              ["compact", "good.toml", "good"],
+              ["listen", "good.toml", f"{HOST}:0", "--journal", "good", "x"], ["compact", "good.toml", "--journal"],
+              ["compact", "good.toml", "--journal", "good", "x"], ["compact", "good.toml", "--log", "good"]):
     stops(words, "usage")
 for address in ("", HOST, "localhost:80", ":80", f"{HOST}:", f"{HOST}:65536", "256.0.0.1:80", "::1:80"):
     stops(["listen", "absent.toml", address], "usage", stdout=full)
@@ -111,5 +115,6 @@ stops(["listen", "good.toml", f"{HOST}:0"], "socket", limit=lambda: resource.set
 for name, texts in DIFFER.items():
     tally.check(f"the journal {name} is as it was", got(name) == written(texts))
 tally.check("the damaged one is too", got("damaged") == b"no journal at all")
+tally.check("no file is left", not [name for name in os.listdir(".") if name.endswith(".compacting")], os.listdir("."))
 sys.exit(tally.end())
 PYTHON

@@ -1,5 +1,5 @@
 #!/usr/bin/env bash
-# A site whose pages are files of a folder (`[[folder]]`, which `listen` alone reads): which files are pages and who sees them,
+# A site whose pages are files of a folder (`[[folder]]`, which `listen` and `compact` alone read): which files are pages and who sees them,
 # that an edit in the journal wins over the file at the next start and a file without an edit is read anew, and which files and bounds are
 # refused, by name.
 #

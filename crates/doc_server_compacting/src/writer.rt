@@ -11,10 +11,9 @@ ghost use Rattle.doc_server_compacting.specs.WriterSteps.{IsWriter, Wrote};
 use crate::fault::CompactFault;
 use doc_heap::{Heap, String};
 use doc_page::path::Path;
-use doc_server_compact::lines::push_remove_line;
+use doc_server_compact::lines::{push_move_line, push_put_line, push_remove_line};
 use doc_server_journal::device::Device;
 use doc_server_journal::journal::Journal;
-use doc_server_script::edit::{push_move, push_put};
 use doc_store::page::Page;
 
 /// How many bytes the text of a record may have.
@@ -35,8 +34,7 @@ impl<D: Device> EditWriter<D> {
             (set_page path.now page.now.page ∷ [])) }
     {
         let mut line = String::new(heap);
-        push_put(&mut line, path, page.groups(), page.text())?;
-        line.push_str("\n")?;
+        push_put_line(&mut line, path, page)?;
         self.add(heap, line.as_str())
     }
 
@@ -58,8 +56,7 @@ impl<D: Device> EditWriter<D> {
             (move_page from.now to.now ∷ [])) }
     {
         let mut line = String::new(heap);
-        push_move(&mut line, from, to)?;
-        line.push_str("\n")?;
+        push_move_line(&mut line, from, to)?;
         self.add(heap, line.as_str())
     }
 

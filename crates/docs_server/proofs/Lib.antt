@@ -1,1 +1,2 @@
 mod CountSteps
+mod StoreSteps

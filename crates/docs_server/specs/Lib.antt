@@ -1,4 +1,5 @@
 pub mod Arguments
+pub mod Compacting
 pub mod Listening
 pub mod RequestLines
 pub mod Serving

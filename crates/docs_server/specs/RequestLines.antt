@@ -14,8 +14,7 @@ shown_method method = if is_shown method then method else codes "-"
 
 -- a path, controls, spaces and what isn't ASCII by their numbers, and cut behind 1,000 bytes
 abbrev pub shown_path : List ℕ → List ℕ
-shown_path path =
-    if nat_le (length path) 1000 then percent_encode HIDDEN path else percent_encode HIDDEN (take 1000 path) ++ codes "..."
+shown_path path = percent_encode HIDDEN (take 1000 path) ++ (if nat_le (length path) 1000 then [] else codes "...")
 
 -- whether a text begins with a slash
 abbrev pub is_rooted : List ℕ → Bool

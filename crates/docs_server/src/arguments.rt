@@ -25,6 +25,7 @@ pub enum Command<'a> {
     Replay(Replay<'a>),
     Serve(Serve<'a>),
     Listen(Listen<'a>),
+    Compact(Compact<'a>),
 }
 
 /// The report of a reader of a configured site.
@@ -68,6 +69,15 @@ pub struct Listen<'a> {
     pub journal: Option<&'a str>,
     /// Whether each request is logged.
     pub log: bool,
+}
+
+/// A journal that is written anew, of the site that its edits lead to.
+#[derive(Drop)]
+pub struct Compact<'a> {
+    /// The file of the configuration.
+    pub config: &'a str,
+    /// The file of the journal.
+    pub journal: &'a str,
 }
 
 /// The arguments behind the name of the program.
@@ -123,6 +133,9 @@ pub fn command_of(words: &[String]) -> Result<Command<'_>, Fault> {
         ("listen", [config, address, options @ ..]) => {
             listen_of(config.as_str(), address.as_str(), options)
         }
+        ("compact", [config, option, journal]) => {
+            compact_of(config.as_str(), option.as_str(), journal.as_str())
+        }
         _ => Err(Fault::Usage),
     }
 }
@@ -144,6 +157,14 @@ fn listen_of<'a>(
         journal: options.journal,
         log: options.log,
     }))
+}
+
+/// The command `compact`.
+fn compact_of<'a>(config: &'a str, option: &str, journal: &'a str) -> Result<Command<'a>, Fault> {
+    match option {
+        "--journal" => Ok(Command::Compact(Compact { config, journal })),
+        _ => Err(Fault::Usage),
+    }
 }
 
 /// The command `serve`.

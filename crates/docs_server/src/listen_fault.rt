@@ -1,6 +1,7 @@
-//! What stops the command `listen`.
+//! What stops the commands `listen` and `compact`.
 
 use doc_page::failure::Memory;
+use doc_server_compacting::fault::CompactFault;
 use doc_server_files::fault::FileFault;
 use doc_server_input::fault::Fault;
 use doc_server_journal::fault::OpenFault;
@@ -11,7 +12,7 @@ use std::alloc::AllocError;
 use std::error::Error;
 use std::fmt;
 
-/// What stops the command `listen`.
+/// What stops the commands `listen` and `compact`.
 #[derive(Debug, Drop)]
 pub enum ListenFault {
     /// What stops other commands too.
@@ -24,6 +25,8 @@ pub enum ListenFault {
     Journal(OpenFault),
     /// The journal's edits can't be made.
     Restore(RestoreFault),
+    /// The new journal isn't written.
+    Compact(CompactFault),
 }
 
 impl fmt::Display for ListenFault {
@@ -34,6 +37,7 @@ impl fmt::Display for ListenFault {
             ListenFault::File(fault) => write!(f, "{fault}"),
             ListenFault::Journal(fault) => write!(f, "{fault}"),
             ListenFault::Restore(fault) => write!(f, "{fault}"),
+            ListenFault::Compact(fault) => write!(f, "{fault}"),
         }
     }
 }
@@ -97,6 +101,17 @@ impl From<PollFault> for ListenFault {
             PollFault::CannotWrite => Fault::CannotWrite,
             PollFault::Memory => Fault::Memory,
         })
+    }
+}
+
+impl From<CompactFault> for ListenFault {
+    ghost use Rattle.std.specs.Prelude.{◌≡◌};
+    ghost use Rattle.docs_server.specs.declared.listen_fault.ListenFault.TheVariants as faults;
+
+    ghost from_gives = { λ fault stop. stop ≡ faults.Compact fault };
+
+    fn from(fault: CompactFault) -> ListenFault {
+        ListenFault::Compact(fault)
     }
 }
 

@@ -5,6 +5,7 @@ mod access_log;
 mod arguments;
 mod bounded;
 mod commands;
+mod compacting;
 mod files;
 mod held;
 mod journal;
@@ -13,12 +14,14 @@ mod listen_options;
 mod listening;
 mod request_line;
 mod serving;
+mod site_store;
 mod sites;
 mod status;
 mod unanswered;
 
 use crate::arguments::{Command, command_of, words_of};
 use crate::commands::{run_demo, run_examples, run_render};
+use crate::compacting::run_compact;
 use crate::listening::run_listen;
 use crate::serving::run_serve;
 use crate::sites::{run_check, run_replay};
@@ -59,5 +62,6 @@ where
         Command::Replay(replay) => run_replay::<Brand, R>(rt, Blank::new(1), &replay),
         Command::Serve(serve) => run_serve::<Brand, R>(rt, Blank::new(1), &serve),
         Command::Listen(listen) => Ok(run_listen::<Brand, R>(rt, Blank::new(1), &listen)),
+        Command::Compact(compact) => Ok(run_compact(rt, &compact)),
     }
 }

@@ -2,9 +2,12 @@
 //! token, isn't among it.
 
 ghost use Rattle.std.specs.Prelude.{◌≡◌, ◌++◌, ◌∷◌, string_bytes, OnOk};
-ghost use Rattle.docs_server.specs.RequestLines.{shown_method, shown_path, shown_target, is_shown};
+ghost use Rattle.std.specs.Char.{is_ascii_uppercase};
+ghost use Rattle.std.specs.List.{list_all};
+ghost use Rattle.docs_server.specs.RequestLines.{before_query, is_shown, shown_method, shown_path, shown_target};
 
 use doc_heap::String;
+use doc_http_bodies::slices::front;
 use doc_page::failure::Memory;
 use percent_encoding::{AsciiSet, CONTROLS, ascii_set, percent_encode};
 
@@ -17,37 +20,33 @@ const PATH_LIMIT: usize = 1_000;
 /// What is written by a number: controls, spaces, and all that isn't ASCII.
 const HIDDEN: AsciiSet = ascii_set!(CONTROLS.add(b' '));
 
-/// Method and target.
-#[derive(Clone, Copy)]
-pub struct RequestLine<'a> {
-    pub method: &'a str,
-    pub target: &'a str,
-}
-
-/// The first line of bytes that are no request, where it has the form of one.
-pub fn first_line(bytes: &[u8]) -> Option<RequestLine<'_>> {
-    let line = bytes
-        .split(|b| matches!(b, b'\r' | b'\n'))
-        .find(|line| !line.is_empty())?;
+/// Method and target of the first line of bytes that are no request, where that line has the form of a request's.
+pub fn first_line(bytes: &[u8]) -> Option<(&str, &str)> {
+    let end = bytes.iter().position(|byte| ends_line(*byte))?;
+    let line = bytes.get(..end)?;
     let Ok(text) = std::str::from_utf8(line) else {
         return None;
     };
     let (method, rest) = text.split_once(' ')?;
     let (target, version) = rest.split_once(' ')?;
     match version {
-        "HTTP/1.0" | "HTTP/1.1" => Some(RequestLine { method, target }),
+        "HTTP/1.0" | "HTTP/1.1" => Some((method, target)),
         _ => None,
     }
 }
 
-/// Writes both, with a space between.
-pub fn push_request_line(out: &mut String, line: RequestLine<'_>) -> Result<(), Memory>
+fn ends_line(byte: u8) -> bool {
+    matches!(byte, b'\r' | b'\n')
+}
+
+/// Writes a method, a space and a target.
+pub fn push_request_line(out: &mut String, method: &str, target: &str) -> Result<(), Memory>
     ensures { OnOk result (string_bytes out.new ≡ string_bytes out.old
-        ++ (shown_method line.method.now ++ 32 ∷ shown_target line.target.now)) }
+        ++ (shown_method method.now ++ 32 ∷ shown_target target.now)) }
 {
-    push_method(out, line.method)?;
+    push_method(out, method)?;
     out.push_str(" ")?;
-    push_target(out, line.target)
+    push_target(out, target)
 }
 
 /// Writes a method, `-` where it isn't 1 to 16 capital letters.
@@ -67,9 +66,13 @@ fn push_method(out: &mut String, method: &str) -> Result<(), Memory>
 fn is_shown(method: &[u8]) -> bool
     ensures { result ≡ is_shown method.now }
 {
-    !method.is_empty()
-        && method.len() <= METHOD_LIMIT
-        && method.iter().all(|byte| byte.is_ascii_uppercase())
+    !method.is_empty() && method.len() <= METHOD_LIMIT && are_capitals(method)
+}
+
+fn are_capitals(bytes: &[u8]) -> bool
+    ensures { result ≡ list_all is_ascii_uppercase bytes.now }
+{
+    bytes.iter().all(|byte| byte.is_ascii_uppercase())
 }
 
 /// Writes a target without its query, `-` where it doesn't begin with a slash.
@@ -87,7 +90,9 @@ fn push_target(out: &mut String, target: &str) -> Result<(), Memory>
 }
 
 /// What stands before the first `?`.
-fn before_query(target: &str) -> &str {
+fn before_query(target: &str) -> &str
+    ensures { result.now ≡ before_query target.now }
+{
     match target.split_once('?') {
         Some((path, _)) => path,
         None => target,
@@ -99,11 +104,10 @@ fn push_path(out: &mut String, path: &[u8]) -> Result<(), Memory>
     ensures { OnOk result
         (string_bytes out.new ≡ string_bytes out.old ++ shown_path path.now) }
 {
+    percent_encode(front(path, PATH_LIMIT), HIDDEN).append_to(out)?;
     if path.len() <= PATH_LIMIT {
-        percent_encode(path, HIDDEN).append_to(out)?;
         return Ok(());
     }
-    percent_encode(&path[..PATH_LIMIT], HIDDEN).append_to(out)?;
     out.push_str("...")?;
     Ok(())
 }

@@ -1,8 +1,6 @@
 //! What came on a connection and isn't answered yet, as the log knows it.
 
-ghost use Rattle.std.specs.Prelude.{IfOk};
-
-use crate::request_line::{RequestLine, first_line, push_request_line};
+use crate::request_line::{first_line, push_request_line};
 use doc_heap::{Heap, String};
 use doc_http::request::Next;
 use doc_http::unread::Unread;
@@ -44,11 +42,7 @@ impl Unanswered {
     pub fn take(&mut self, out: &mut String) -> Result<(), Memory> {
         match self.unread.next_request()? {
             Next::Request { used, request } => {
-                let line = RequestLine {
-                    method: request.method.get(),
-                    target: request.target.get(),
-                };
-                push_request_line(out, line)?;
+                push_request_line(out, request.method.get(), request.target.get())?;
                 self.unread.take_front(used);
             }
             Next::Fault { .. } | Next::More => {
@@ -63,10 +57,7 @@ impl Unanswered {
 /// Writes what is known of bytes that are no request.
 fn push_first_line(out: &mut String, bytes: &[u8]) -> Result<(), Memory> {
     match first_line(bytes) {
-        Some(line) => push_request_line(out, line),
-        None => {
-            out.push_str("- -")?;
-            Ok(())
-        }
+        Some((method, target)) => push_request_line(out, method, target),
+        None => push_request_line(out, "", ""),
     }
 }

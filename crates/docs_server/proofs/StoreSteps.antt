@@ -1,0 +1,123 @@
+-- The store of a configured site, beside the world of its hub.
+use Rattle.std.proofs.Common.{◌≡◌, ℕ, List, [], ◌∷◌, true, cond, refl, ap, sym, ◌∙◌}
+use Rattle.std.specs.Prelude.{Option, Some, None, option_map, Result, Ok, Err}
+use Rattle.std.specs.Option.{ok_or}
+use Rattle.doc_hub.specs.Worlds.{World, is_capacity, new_world, store_of, with_store}
+use Rattle.doc_store.specs.declared.store.EditError.{EditError}
+use Rattle.doc_store.specs.declared.store.Put.{Put}
+use Rattle.doc_store.specs.Store.{StoreState, empty_store, put_into}
+use Rattle.doc_server_compact.specs.Replays.{unless_refused}
+use Rattle.doc_server_config.specs.declared.config.SiteConfig.{SiteConfig}
+use Rattle.doc_server_config.specs.declared.page_row.PageRow.{PageRow}
+use Rattle.doc_server_input.specs.declared.fault.Fault.{Fault}
+use Rattle.doc_server_input.specs.declared.fault.Fault.TheVariants as faults
+use Rattle.doc_server_restore.specs.Restores.{unstamped}
+use Rattle.doc_server_sites.specs.Sites.{accepted, site_world, text_of, texts_behind, with_page, with_pages}
+use Rattle.docs_server.specs.Compacting.{store_in, stored_page, stored_pages}
+
+-- ---- one page
+
+put_alike : (w : World) (r : StoreState × Result Put EditError)
+    → option_map store_of (accepted (with_store w r.0) r.1) ≡ option_map unstamped (unless_refused r.0 r.1)
+put_alike w (store, Ok put) = refl
+put_alike w (store, Err e) = refl
+
+page_alike : (w : World) (page : PageRow) (text : Option (List ℕ))
+    → option_map store_of (with_page w page text) ≡ stored_page (store_of w) page text
+page_alike w page None = refl
+page_alike w page (Some text) = put_alike w (put_into (store_of w) page.path page.groups text)
+
+-- ---- pages one after the other
+
+abbrev world_behind : List PageRow → List (List ℕ) → Option World → Option World
+world_behind more texts None = None
+world_behind more texts (Some v) = with_pages v more texts
+
+as_world_behind : (more : List PageRow) (texts : List (List ℕ)) (mid : Option World)
+    → ◌≡◌ {A = Option World} (elim mid [ None ↦ None | Some v ↦ with_pages v more texts ]) (world_behind more texts mid)
+as_world_behind more texts None = refl
+as_world_behind more texts (Some v) = refl
+
+abbrev pub store_behind : List PageRow → List (List ℕ) → Option StoreState → Option StoreState
+store_behind more texts None = None
+store_behind more texts (Some next) = stored_pages next more texts
+
+as_store_behind : (more : List PageRow) (texts : List (List ℕ)) (mid : Option StoreState)
+    → ◌≡◌ {A = Option StoreState} (elim mid [ None ↦ None | Some next ↦ stored_pages next more texts ]) (store_behind more texts mid)
+as_store_behind more texts None = refl
+as_store_behind more texts (Some next) = refl
+
+pages_alike : (pages : List PageRow) (w : World) (texts : List (List ℕ))
+    → option_map store_of (with_pages w pages texts) ≡ stored_pages (store_of w) pages texts
+pages_alike [] w texts = refl
+pages_alike (page ∷ more) w texts =
+    ap (option_map store_of) (as_world_behind more left (with_page w page text))
+    ∙ (by (with_page w page text)
+    ∙ (ap (store_behind more left) (page_alike w page text) ∙ sym (as_store_behind more left (stored_page (store_of w) page text))))
+  where
+    text : Option (List ℕ)
+    text = text_of page.source texts
+
+    left : List (List ℕ)
+    left = texts_behind page.source texts
+
+    by : (mid : Option World) → option_map store_of (world_behind more left mid) ≡ store_behind more left (option_map store_of mid)
+    by None = refl
+    by (Some v) = pages_alike more v left
+
+-- a page is put, and others behind it
+pub next_page : (all : Option StoreState) (store : StoreState) (left more : List PageRow) (page : PageRow) (texts behind : List (List ℕ))
+    (answer : Option StoreState) → all ≡ stored_pages store left texts → left ≡ page ∷ more
+    → stored_page store page (text_of page.source texts) ≡ answer → behind ≡ texts_behind page.source texts
+    → all ≡ store_behind more behind answer
+next_page all store left more page texts behind answer so first is rest =
+    so ∙ (ap (λ pages. stored_pages store pages texts) first
+    ∙ (as_store_behind more (texts_behind page.source texts) (stored_page store page (text_of page.source texts))
+    ∙ (ap (store_behind more (texts_behind page.source texts)) is ∙ ap (λ t. store_behind more t answer) (sym rest))))
+
+-- ---- the site
+
+store_or : (o : Option World) → store_in (ok_or o faults.Refused) ≡ ok_or (option_map store_of o) faults.Refused
+store_or None = refl
+store_or (Some w) = refl
+
+site_by : (config : SiteConfig) (texts : List (List ℕ)) → is_capacity config.cache ≡ true
+    → store_in (site_world config texts) ≡ ok_or (stored_pages (unstamped empty_store) config.pages texts) faults.Refused
+site_by config texts can =
+    ap (λ t. store_in (cond t (ok_or (with_pages first config.pages texts) faults.Refused) (Err faults.Config))) can
+    ∙ (store_or (with_pages first config.pages texts) ∙ ap (λ o. ok_or o faults.Refused) (pages_alike config.pages first texts))
+  where
+    first : World
+    first = new_world config.readers config.keep_alive
+
+-- all pages of a site were put
+pub site_stored : (config : SiteConfig) (texts : List (List ℕ)) (pages : List PageRow) (before after : StoreState)
+    → is_capacity config.cache ≡ true → pages ≡ config.pages → before ≡ empty_store
+    → stored_pages (unstamped before) pages texts ≡ Some (unstamped after)
+    → store_in (site_world config texts) ≡ Ok (unstamped after)
+site_stored config texts pages before after can same new is =
+    site_by config texts can
+    ∙ ap (λ o. ok_or o faults.Refused)
+    (ap (λ ps. stored_pages (unstamped empty_store) ps texts) (sym same)
+    ∙ (ap (λ s. stored_pages (unstamped s) pages texts) (sym new) ∙ is))
+
+-- why a world isn't there, from why its store isn't
+no_world : (site : Result World Fault) (fault : Fault) → store_in site ≡ Err fault → site ≡ Err fault
+no_world (Err other) fault is = ap (λ r. world_error r) is
+  where
+    abbrev world_error : Result StoreState Fault → Result World Fault
+    world_error (Err e) = Err e
+    world_error (Ok store) = Err other
+no_world (Ok w) fault is = cc
+
+-- one of them is refused
+pub site_refused : (config : SiteConfig) (texts : List (List ℕ)) (pages : List PageRow) (before : StoreState) (fault : Fault)
+    → is_capacity config.cache ≡ true → pages ≡ config.pages → before ≡ empty_store
+    → (fault ≡ faults.Refused) × (stored_pages (unstamped before) pages texts ≡ None)
+    → site_world config texts ≡ Err fault
+site_refused config texts pages before fault can same new (why, none) =
+    no_world (site_world config texts) fault (site_by config texts can
+    ∙ (ap (λ o. ok_or o faults.Refused)
+    (ap (λ ps. stored_pages (unstamped empty_store) ps texts) (sym same)
+    ∙ (ap (λ s. stored_pages (unstamped s) pages texts) (sym new) ∙ none))
+    ∙ ap (λ e. Err e) (sym why)))

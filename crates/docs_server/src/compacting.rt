@@ -1,0 +1,135 @@
+//! The command `compact`: a journal is written anew, of the site that its edits lead to.
+
+ghost use Rattle.std.specs.Prelude.{◌≡◌, false, Ok, List, ℕ, IfOk};
+ghost use Rattle.doc_server_journal.specs.Journals.{IsOpen};
+ghost use Rattle.doc_server_restore.specs.Restores.{restored, unstamped};
+
+use crate::arguments::Compact;
+use crate::bounded::{Bounded, read_bounded};
+use crate::files::{Pages, Site};
+use crate::held::hold;
+use crate::journal::MOST_BYTES;
+use crate::listen_fault::ListenFault;
+use crate::site_store::site_store;
+use crate::status::status_of;
+use doc_heap::{Heap, heap};
+use doc_server_compacting::compact::compact;
+use doc_server_files::file_device::FileDevice;
+use doc_server_files::names::Replacement;
+use doc_server_journal::device::Device;
+use doc_server_journal::journal::Journal;
+use doc_server_journal::opening::Opened;
+use doc_server_restore::restore::restore;
+use doc_store::store::Store;
+use std::fs::{File, remove_file};
+use std::rt::Files;
+
+/// Runs `compact`, and answers the status to end with.
+pub fn run_compact<P: AllocGlobal + Clone + Drop + Eprint + Files<File = File>>(
+    rt: &P,
+    command: &Compact<'_>,
+) -> u8 {
+    status_of(rt, compact_with(rt, command))
+}
+
+/// The same, as a result.
+fn compact_with<P: AllocGlobal + Clone + Drop + Files<File = File>>(
+    rt: &P,
+    command: &Compact<'_>,
+) -> Result<u8, ListenFault> {
+    let pages = pages_of(rt, command.config)?;
+    compact_over(rt, &pages, command)?;
+    Ok(0)
+}
+
+/// The pages of the configuration of this name, those of its folders behind its own.
+fn pages_of<P: AllocGlobal + Clone + Drop + Files>(
+    rt: &P,
+    config: &str,
+) -> Result<Pages, ListenFault> {
+    let Bounded { site, bounds: _ } = read_bounded(rt, config)?;
+    let Site { pages, entities: _ } = site;
+    Ok(pages)
+}
+
+/// The same over these pages: they stand in a store, and once more in the store on which the journal's edits are made.
+fn compact_over<P: AllocGlobal + Files<File = File>>(
+    rt: &P,
+    pages: &Pages,
+    command: &Compact<'_>,
+) -> Result<(), ListenFault> {
+    let heap = heap(rt.alloc(), u64::MAX)?;
+    let config = site_store(heap, &pages.config, pages.texts.get())?;
+    let mut site = site_store(heap, &pages.config, pages.texts.get())?;
+    let _held = hold(rt, heap, command.config)?;
+    compact_file(rt, heap, command.journal, &config, &mut site)
+}
+
+/// The same of the journal of this name, whose edits are made on a site that is the configuration's.
+fn compact_file<P: AllocGlobal + Files<File = File>>(
+    rt: &P,
+    heap: Heap,
+    name: &str,
+    config: &Store,
+    site: &mut Store,
+) -> Result<(), ListenFault> {
+    let device = FileDevice::open(rt, name)?;
+    let journal = restore_journal(heap, device, site)?;
+    replace(rt, heap, name, &journal.device, config, site)
+}
+
+/// The journal of a device, opened, and its edits made on a store, in their order.
+fn restore_journal<D: Device + Drop>(
+    heap: Heap,
+    device: D,
+    site: &mut Store,
+) -> Result<Journal<D>, ListenFault>
+    requires usable { D.failed device ≡ false }
+    ensures restored { IfOk result (λ journal. (texts : List (List ℕ))
+        × IsOpen D.seen D.may_leave D.failed journal texts
+        × (restored (unstamped site.old) texts ≡ Ok (unstamped site.new))) }
+{
+    match Journal::open(heap, device, MOST_BYTES) {
+        Ok(Opened { journal, texts }) => {
+            restore(heap, site, texts.get())?;
+            Ok(journal)
+        }
+        Err(refused) => Err(ListenFault::Journal(refused.fault)),
+    }
+}
+
+/// A journal of the edits that lead from the configuration's site to another takes the place of an open one. Where that fails the file
+/// beside it goes.
+fn replace<P: AllocGlobal + Files<File = File>>(
+    rt: &P,
+    heap: Heap,
+    name: &str,
+    old: &FileDevice,
+    config: &Store,
+    site: &Store,
+) -> Result<(), ListenFault> {
+    let place = Replacement::of(rt, heap, name)?;
+    match write_beside(rt, heap, &place, old, config, site) {
+        Ok(()) => Ok(()),
+        Err(fault) => {
+            let _ = remove_file(rt, place.new_name());
+            Err(fault)
+        }
+    }
+}
+
+/// Writes the new journal into a file beside the old one, which then takes its name. All of it is on the disk before that, and both
+/// files are locked until it has the name.
+fn write_beside<P: AllocGlobal + Files<File = File>>(
+    rt: &P,
+    heap: Heap,
+    place: &Replacement,
+    old: &FileDevice,
+    config: &Store,
+    site: &Store,
+) -> Result<(), ListenFault> {
+    let device = old.make_like(rt, place.new_name())?;
+    let _written = compact(heap, config, site, device)?;
+    place.take_name(rt)?;
+    Ok(())
+}
