@@ -1,5 +1,5 @@
 -- Names of pages, and whether two sites have them so.
-use Rattle.std.proofs.Common.{◌≡◌, ℕ, Bool, true, false, ◌&&◌, ◌||◌, List, [], ◌∷◌, ◌++◌, length, take, drop, cond, is_some, refl, ap, sym}
+use Rattle.std.proofs.Common.{◌≡◌, ℕ, true, false, ◌&&◌, ◌||◌, List, [], ◌∷◌, ◌++◌, length, take, drop, cond, is_some, refl, ap, sym}
 use Rattle.std.proofs.Common.{◌∙◌, arith, bytes_eq}
 use Rattle.std.specs.Prelude.{◌≤◌, Option, Some, None, map as mapped}
 use Rattle.std.specs.Borrow.{Bor}
@@ -35,7 +35,6 @@ first_of other (x ∷ xs) = x
 
 turned : (names : List (Bor (List ℕ))) (first : List ℕ) (others : List (List ℕ)) → texts_of names ≡ first ∷ others
     → texts_of (drop 1 names ++ take 1 names) ≡ others ++ first ∷ []
-unfolding first_of
 turned [] first others e = cc
 turned (name ∷ names) first others e =
     map-append (λ text. text.now) names (name ∷ [])

@@ -1,16 +1,16 @@
 -- What a writer has written, line by line and record by record.
 use Rattle.std.proofs.Common.{◌≡◌, ℕ, Bool, true, false, List, [], ◌∷◌, ◌++◌, length, cond, not, refl, ap, sym, ◌∙◌, subst, string_bytes}
-use Rattle.std.proofs.Common.{◌==◌, arith, drop, get_or, is_some}
+use Rattle.std.proofs.Common.{◌==◌, arith, drop, get_or, is_some, take}
 use Rattle.std.specs.Borrow.{Bor}
 use Rattle.doc_store.specs.Groups.{texts_of}
-use Rattle.std.specs.Prelude.{◌≤◌, ◌<◌, ◌+◌, Option, map as mapped, OnOk, Result, Ok, Err}
+use Rattle.std.specs.Prelude.{◌≤◌, ◌<◌, ◌+◌, ◌-◌, Option, map as mapped, OnOk, Result, Ok, Err}
 use Rattle.std.specs.Cmp.Lexicographic.{slice_cmp}
 use Rattle.std.specs.FinMap as map
 use Rattle.std.specs.FinMap.Entries.{is_some-find}
 use Rattle.std.specs.Ordering.{nat_cmp}
 use Rattle.std.specs.List.{filter, flat_map}
 use Rattle.std.proofs.lemmas.Bool.{eqb-true}
-use Rattle.std.proofs.lemmas.List.{append_assoc, append-nil, drop_more, length-append, map-append}
+use Rattle.std.proofs.lemmas.List.{append_assoc, append-nil, drop_more, length-append, map-append, take_rest}
 use Rattle.std.proofs.lemmas.Grind.{flat_map-append}
 use Rattle.doc_store.specs.Maps.{TextMap}
 use Rattle.doc_store.specs.Pages.{Page}
@@ -133,7 +133,7 @@ nothing_long [] e = refl
 nothing_long (b ∷ text) e = absurd (omega (arith, e))
 
 pub nothing_in : (text : List ℕ) (test : Bool) → test ≡ (length text == 0) → test ≡ true → text ≡ []
-nothing_in text test e yes = nothing_long text (eqb-true (length text) 0 (sym e ∙ yes))
+nothing_in text test e none = nothing_long text (eqb-true (length text) 0 (sym e ∙ none))
 
 ends : (line more : List ℕ) → (line ++ 10 ∷ []) ++ more ≡ [] → ⊥
 ends [] more e = cc
@@ -168,10 +168,17 @@ pub next_move : (last : List ℕ) (names : List (Bor (List ℕ))) (i : ℕ) (nam
 next_move last names i name within is =
     ap (λ left. moves last (texts_of left)) (drop_more names i name within ∙ ap (λ n. n ∷ drop (i + 1) names) (sym is))
 
-pub made_first : (page : Page) (names : List (Bor (List ℕ))) (first : Bor (List ℕ)) → 1 ≤ length names → first ≡ get_or names 0 first
+made_by_first : (page : Page) (names : List (Bor (List ℕ))) (first : Bor (List ℕ)) → 1 ≤ length names → first ≡ get_or names 0 first
     → (set_page first.now page ∷ []) ++ moves first.now (texts_of (drop 1 names)) ≡ made_along page (texts_of names)
-made_first page [] first within is = absurd (omega arith)
-made_first page (name ∷ names) first within is = ap (λ n. set_page n.now page ∷ moves n.now (texts_of names)) is
+made_by_first page [] first within is = absurd (omega arith)
+made_by_first page (name ∷ names) first within is = ap (λ n. set_page n.now page ∷ moves n.now (texts_of names)) is
+
+pub made_first : (page : Page) (names : List (Bor (List ℕ))) (first : Bor (List ℕ)) → 1 ≤ length names → first ≡ get_or names 0 first
+    → (set_page first.now page ∷ []) ++ moves first.now (texts_of (take (length names - 1) (drop 1 names)))
+    ≡ made_along page (texts_of names)
+made_first page names first within is =
+    ap (λ left. (set_page first.now page ∷ []) ++ moves first.now (texts_of left)) (take_rest names 1)
+    ∙ made_by_first page names first within is
 
 -- ---- pages that stand
 

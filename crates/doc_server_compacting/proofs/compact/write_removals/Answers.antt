@@ -26,7 +26,6 @@ pub entries-preserved : goal.entries-preserved
 entries-preserved g c =
     let config = c.args.config.now.site in
     let site = c.args.site.now.site in
-    let entry = (c.in-Some.path.now, c.in-Some._page.now.page) in
     let rest = without_stamps c.next.new.self in
     let steps = ap without_stamps c.in-Some.ensures.steps in
     record {
@@ -34,6 +33,7 @@ entries-preserved g c =
           c.entries.invariant.writer c.in_ok-write_removal.ensures;
       written = goes_on g.D.Device.seen g.D.Device.may_leave g.D.Device.failed c.args.writer.now c.entries.writer
           c.write_removal.new.writer _ _ _ _ c.entries.invariant.written c.in_ok-write_removal.ensures
-          (ap (removals_left config site) steps ∙ removals_more config site entry rest);
-      left = others_stand config.pages entry rest (subst (Stand config.pages) steps c.entries.invariant.left);
+          (ap (removals_left config site) steps ∙ removals_more config site (c.in-Some.path.now, c.in-Some._page.now.page) rest);
+      left = others_stand config.pages (c.in-Some.path.now, c.in-Some._page.now.page) rest
+          (subst (Stand config.pages) steps c.entries.invariant.left);
     }

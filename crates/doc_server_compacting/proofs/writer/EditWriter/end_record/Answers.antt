@@ -1,4 +1,4 @@
-use Rattle.std.proofs.Common.{subst, sym, ◌∷◌, ◌++◌, []}
+use Rattle.std.proofs.Common.{subst, ◌∷◌, ◌++◌, []}
 use Rattle.doc_server_journal.specs.Journals.{IsOpen}
 use Rattle.doc_server_compacting.proofs.WriterLaws.{ended}
 use Rattle.doc_server_compacting.proofs.writer.EditWriter.end_record.Goals as goal
