@@ -1,6 +1,6 @@
 -- The store of a configured site, beside the world of its hub.
-use Rattle.std.proofs.Common.{◌≡◌, ℕ, List, [], ◌∷◌, true, cond, refl, ap, sym, ◌∙◌}
-use Rattle.std.specs.Prelude.{Option, Some, None, option_map, Result, Ok, Err}
+use Rattle.std.proofs.Common.{◌≡◌, ℕ, List, [], ◌∷◌, true, cond, refl, ap, sym, ◌∙◌, subst, T}
+use Rattle.std.specs.Prelude.{Option, Some, None, option_map, Result, Ok, Err, is_ok}
 use Rattle.std.specs.Option.{ok_or}
 use Rattle.doc_hub.specs.Worlds.{World, is_capacity, new_world, store_of, with_store}
 use Rattle.doc_store.specs.declared.store.EditError.{EditError}
@@ -101,14 +101,14 @@ site_stored config texts pages before after can same new is =
     (ap (λ ps. stored_pages (unstamped empty_store) ps texts) (sym same)
     ∙ (ap (λ s. stored_pages (unstamped s) pages texts) (sym new) ∙ is))
 
+abbrev fault_or : Fault → Result StoreState Fault → Fault
+fault_or other (Err fault) = fault
+fault_or other (Ok store) = other
+
 -- why a world isn't there, from why its store isn't
 no_world : (site : Result World Fault) (fault : Fault) → store_in site ≡ Err fault → site ≡ Err fault
-no_world (Err other) fault is = ap (λ r. world_error r) is
-  where
-    abbrev world_error : Result StoreState Fault → Result World Fault
-    world_error (Err e) = Err e
-    world_error (Ok store) = Err other
-no_world (Ok w) fault is = cc
+no_world (Err other) fault is = ap (λ r. Err (fault_or other r)) is
+no_world (Ok w) fault is = absurd (subst T (ap is_ok is) tt)
 
 -- one of them is refused
 pub site_refused : (config : SiteConfig) (texts : List (List ℕ)) (pages : List PageRow) (before : StoreState) (fault : Fault)

@@ -29,17 +29,19 @@ pub fn run_compact<P: AllocGlobal + Clone + Drop + Eprint + Files<File = File>>(
     rt: &P,
     command: &Compact<'_>,
 ) -> u8 {
-    status_of(rt, compact_with(rt, command))
+    match compact_with(rt, command) {
+        Ok(()) => 0,
+        Err(fault) => status_of(rt, Err(fault)),
+    }
 }
 
 /// The same, as a result.
 fn compact_with<P: AllocGlobal + Clone + Drop + Files<File = File>>(
     rt: &P,
     command: &Compact<'_>,
-) -> Result<u8, ListenFault> {
+) -> Result<(), ListenFault> {
     let pages = pages_of(rt, command.config)?;
-    compact_over(rt, &pages, command)?;
-    Ok(0)
+    compact_over(rt, &pages, command)
 }
 
 /// The pages of the configuration of this name, those of its folders behind its own.
@@ -52,7 +54,7 @@ fn pages_of<P: AllocGlobal + Clone + Drop + Files>(
     Ok(pages)
 }
 
-/// The same over these pages: they stand in a store, and once more in the store on which the journal's edits are made.
+/// The same over these pages, which stand in a store.
 fn compact_over<P: AllocGlobal + Files<File = File>>(
     rt: &P,
     pages: &Pages,
@@ -60,9 +62,31 @@ fn compact_over<P: AllocGlobal + Files<File = File>>(
 ) -> Result<(), ListenFault> {
     let heap = heap(rt.alloc(), u64::MAX)?;
     let config = site_store(heap, &pages.config, pages.texts.get())?;
+    compact_beside(rt, heap, pages, &config, command)
+}
+
+/// The same, where they stand in a second store too: the journal's edits are made on it.
+fn compact_beside<P: AllocGlobal + Files<File = File>>(
+    rt: &P,
+    heap: Heap,
+    pages: &Pages,
+    config: &Store,
+    command: &Compact<'_>,
+) -> Result<(), ListenFault> {
     let mut site = site_store(heap, &pages.config, pages.texts.get())?;
+    compact_held(rt, heap, config, &mut site, command)
+}
+
+/// The same, with no descriptor of a standard stream left to the journal's files.
+fn compact_held<P: AllocGlobal + Files<File = File>>(
+    rt: &P,
+    heap: Heap,
+    config: &Store,
+    site: &mut Store,
+    command: &Compact<'_>,
+) -> Result<(), ListenFault> {
     let _held = hold(rt, heap, command.config)?;
-    compact_file(rt, heap, command.journal, &config, &mut site)
+    compact_file(rt, heap, command.journal, config, site)
 }
 
 /// The same of the journal of this name, whose edits are made on a site that is the configuration's.
