@@ -15,6 +15,7 @@ use doc_server_poll::fault::PollFault;
 use doc_server_poll::keeping::Keeping;
 use doc_server_poll::server::Server;
 use doc_server_poll::watch::Unwatched;
+use doc_server_restore::edits::Edits;
 use doc_server_restore::restore::restore;
 use std::marker::Model;
 use std::net::{Ipv4Addr, Net, SocketAddr};
@@ -140,15 +141,21 @@ fn keeping_of<R: Renderer + Drop>(
     let device = device_of(heap, calls, file)?;
     match Journal::open(heap, device, file.len()) {
         Ok(Opened { journal, texts }) => {
-            let restored = restore(heap, hub, texts.get());
+            let are_made = are_made(heap, hub, texts.get());
             drop(texts);
-            match restored {
-                Ok(()) => Some(Keeping::Keeps(journal)),
-                Err(_) => None,
+            if are_made {
+                return Some(Keeping::Keeps(journal));
             }
+            None
         }
         Err(_) => None,
     }
+}
+
+/// Makes the edits of a journal's records, and answers whether none was refused. The type of the heap is left open, since a call that
+/// names it beside a hub can't be proved.
+fn are_made<E: Edits, H: Into<Heap>>(heap: H, site: &mut E, records: &[Bytes]) -> bool {
+    restore(heap.into(), site, records).is_ok()
 }
 
 /// A file in memory of which so many calls go well.
