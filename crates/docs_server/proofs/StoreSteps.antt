@@ -38,7 +38,7 @@ as_world_behind : (more : List PageRow) (texts : List (List ℕ)) (mid : Option 
 as_world_behind more texts None = refl
 as_world_behind more texts (Some v) = refl
 
-abbrev pub store_behind : List PageRow → List (List ℕ) → Option StoreState → Option StoreState
+abbrev store_behind : List PageRow → List (List ℕ) → Option StoreState → Option StoreState
 store_behind more texts None = None
 store_behind more texts (Some next) = stored_pages next more texts
 
@@ -65,16 +65,6 @@ pages_alike (page ∷ more) w texts =
         → option_map store_of (world_behind more left mid) ≡ store_behind more left (option_map store_of mid)
     by None each = refl
     by (Some v) each = each v
-
--- a page is put, and others behind it
-pub next_page : (all : Option StoreState) (store : StoreState) (left more : List PageRow) (page : PageRow) (texts behind : List (List ℕ))
-    (answer : Option StoreState) → all ≡ stored_pages store left texts → left ≡ page ∷ more
-    → stored_page store page (text_of page.source texts) ≡ answer → behind ≡ texts_behind page.source texts
-    → all ≡ store_behind more behind answer
-next_page all store left more page texts behind answer so first is rest =
-    so ∙ (ap (λ pages. stored_pages store pages texts) first
-    ∙ (as_store_behind more (texts_behind page.source texts) (stored_page store page (text_of page.source texts))
-    ∙ (ap (store_behind more (texts_behind page.source texts)) is ∙ ap (λ t. store_behind more t answer) (sym rest))))
 
 -- ---- the site
 
