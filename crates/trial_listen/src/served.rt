@@ -1,6 +1,7 @@
 //! A server with a hub and a journal in memory.
 
-ghost use Rattle.std.specs.Prelude.{◌≡◌, false, IfSome};
+ghost use Rattle.std.specs.Prelude.{◌≡◌, List, ℕ, false, IfSome};
+ghost use Rattle.doc_server_journal.specs.Journals.{IsOpen};
 ghost use Rattle.doc_server_journal.specs.Memories.{has_failed, memory_leaves, memory_seen};
 ghost use Rattle.doc_server_poll.specs.Keepings.{IsReady};
 
@@ -8,6 +9,7 @@ use doc_heap::Heap;
 use doc_hub::hub::Hub;
 use doc_page::bytes::Bytes;
 use doc_page::renderer::Renderer;
+use doc_server_journal::device::Device;
 use doc_server_journal::journal::Journal;
 use doc_server_journal::memory::MemoryDevice;
 use doc_server_journal::opening::Opened;
@@ -139,23 +141,37 @@ fn keeping_of<R: Renderer + Drop>(
     ensures { IfSome result (IsReady memory_seen memory_leaves has_failed) }
 {
     let device = device_of(heap, calls, file)?;
-    match Journal::open(heap, device, file.len()) {
-        Ok(Opened { journal, texts }) => {
-            let are_made = are_made(heap, hub, texts.get());
-            drop(texts);
-            if are_made {
-                return Some(Keeping::Keeps(journal));
-            }
-            None
-        }
-        Err(_) => None,
+    let opened: Option<Journal<MemoryDevice>> = open_journal(heap, device, file.len(), hub);
+    match opened {
+        Some(journal) => Some(Keeping::Keeps(journal)),
+        None => None,
     }
 }
 
-/// Makes the edits of a journal's records, and answers whether none was refused. The type of the heap is left open, since a call that
-/// names it beside a hub can't be proved.
-fn are_made<E: Edits, H: Into<Heap>>(heap: H, site: &mut E, records: &[Bytes]) -> bool {
-    restore(heap.into(), site, records).is_ok()
+/// The journal of a device, opened, and its edits made on a site. The type of the heap is left open, since a call that names it beside a
+/// hub can't be proved.
+fn open_journal<D: Device + Drop, E: Edits, H: Into<Heap>>(
+    heap: H,
+    device: D,
+    most: usize,
+    site: &mut E,
+) -> Option<Journal<D>>
+    requires usable { D.failed device ≡ false }
+    ensures { IfSome result (λ journal. (texts : List (List ℕ))
+        × IsOpen D.seen D.may_leave D.failed journal texts) }
+{
+    let heap = heap.into();
+    match Journal::open(heap, device, most) {
+        Ok(Opened { journal, texts }) => {
+            let restored = restore(heap, site, texts.get());
+            drop(texts);
+            match restored {
+                Ok(()) => Some(journal),
+                Err(_) => None,
+            }
+        }
+        Err(_) => None,
+    }
 }
 
 /// A file in memory of which so many calls go well.
