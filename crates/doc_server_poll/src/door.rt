@@ -158,8 +158,7 @@ struct Wires {
 }
 
 fn wires_of(heap: Heap, stream: TcpStream, is_watched: bool) -> Option<Wires> {
-    let wire = Wire::new(stream, Tape::new(heap, is_watched));
-    let Ok(table) = Rc::new(heap, wire) else {
+    let Ok(table) = Rc::new(heap, Wire::new(stream, Tape::new(heap, is_watched))) else {
         return None;
     };
     let Ok(channel) = table.clone() else {

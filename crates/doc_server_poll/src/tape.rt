@@ -5,7 +5,7 @@ ghost use Rattle.std.specs.Prelude.{◌≤◌};
 use crate::watch::{Handed, Watch};
 use doc_heap::{Heap, Vec};
 use doc_hub::event::ConnId;
-use std::cell::Cell;
+use std::cell::{Cell, RefCell};
 use std::time::Instant;
 
 /// What passed at once.
@@ -24,7 +24,7 @@ pub struct Tape {
     is_on: Cell<bool>,
     is_new: Cell<bool>,
     is_torn: Cell<bool>,
-    passed: Cell<Vec<Passed>>,
+    passed: RefCell<Vec<Passed>>,
     /// The reply that was begun and isn't handed over in full.
     begun: Cell<Option<Handed>>,
 }
@@ -37,7 +37,7 @@ impl Tape {
             is_on: Cell::new(is_watched),
             is_new: Cell::new(is_watched),
             is_torn: Cell::new(false),
-            passed: Cell::new(Vec::new(heap)),
+            passed: RefCell::new(Vec::new(heap)),
             begun: Cell::new(None),
         }
     }
@@ -78,12 +78,10 @@ impl Tape {
         if self.is_new.replace(false) {
             watch.joined(id);
         }
-        let passed = self.passed.replace(Vec::new(self.heap));
-        'passed: for one in &passed {
-            match one {
-                Passed::Came(bytes) => watch.came(id, bytes.as_slice(), began),
-                Passed::Handed(reply) => watch.answered(id, *reply),
-            }
+        if let Ok(mut guard) = self.passed.try_borrow_mut() {
+            let passed = &mut *guard;
+            tell_all(passed.as_slice(), id, began, watch);
+            passed.clear();
         }
         if self.is_torn.replace(false) {
             watch.left(id);
@@ -91,17 +89,29 @@ impl Tape {
     }
 
     fn keep(&self, one: Passed) {
-        let mut passed = self.passed.replace(Vec::new(self.heap));
-        if passed.push(one).is_err() {
+        let kept = match self.passed.try_borrow_mut() {
+            Ok(mut passed) => passed.push(one).is_ok(),
+            Err(_) => false,
+        };
+        if !kept {
             self.tear();
         }
-        self.passed.set(passed);
     }
 
     /// Memory was lacking.
     fn tear(&self) {
         self.is_on.set(false);
         self.is_torn.set(true);
+    }
+}
+
+/// Tells what passed on a connection, in its order.
+fn tell_all<W: Watch>(passed: &[Passed], id: ConnId, began: Instant, watch: &mut W) {
+    'passed: for one in passed {
+        match one {
+            Passed::Came(bytes) => watch.came(id, bytes.as_slice(), began),
+            Passed::Handed(reply) => watch.answered(id, *reply),
+        }
     }
 }
 
