@@ -96,6 +96,15 @@ impl<S: Channel + Drop> Client<S> {
         self.id
     }
 
+    /// The stream, to be asked what it knows.
+    pub fn stream(&self) -> &S
+        ensures unread { S.unread result.now ≡ self.now.unread }
+        ensures written { S.written result.now ≡ self.now.written }
+        ensures failed { S.failed result.now ≡ self.now.failed }
+    {
+        &self.stream
+    }
+
     /// Whether the connection is still the client's.
     pub fn is_open(&self) -> bool
         ensures { result ≡ self.now.is_open }

@@ -1,30 +1,41 @@
-//! A channel over TCP. Of its bytes nothing is known.
+//! A channel over TCP. Of its bytes nothing is known; what passed over it in a turn is kept for who watches.
 
 ghost use Rattle.std.specs.Prelude.{◌≡◌, false};
 ghost use Rattle.doc_server_poll.specs.MioChannels.{has_failed};
 
+use crate::tape::Tape;
+use crate::watch::Watch;
 use crate::wire::Wire;
 use doc_heap::Heap;
+use doc_hub::event::ConnId;
 use doc_server_listen::channel::{Came, Channel};
 use doc_server_streams::fault::StreamFault;
 use std::rc::Rc;
+use std::time::Instant;
 
 /// A channel over a stream that never waits.
 #[derive(Drop)]
 pub struct MioChannel {
     wire: Rc<Wire, Heap>,
+    tape: Tape,
     is_failed: bool,
 }
 
 impl MioChannel {
-    /// A channel that no call of has failed yet.
-    pub fn new(wire: Rc<Wire, Heap>) -> MioChannel
+    /// A channel of which no call has failed yet.
+    pub fn new(wire: Rc<Wire, Heap>, tape: Tape) -> MioChannel
         ensures { has_failed result ≡ false }
     {
         MioChannel {
             wire,
+            tape,
             is_failed: false,
         }
+    }
+
+    /// Tells what passed in the turn that runs and began then, on the connection of this number.
+    pub fn tell<W: Watch>(&self, id: ConnId, began: Instant, watch: &mut W) {
+        self.tape.tell(self.wire.turn(), id, began, watch);
     }
 }
 
@@ -41,7 +52,7 @@ impl Channel for MioChannel {
     fn read(&mut self, buf: &mut [u8]) -> Result<Came, StreamFault> {
         let result = self.wire.read(buf);
         if let Ok(Came::Bytes(count)) = &result {
-            self.wire.tape().came(&buf[..*count]);
+            self.tape.came(self.wire.turn(), &buf[..*count]);
         }
         self.is_failed = result.is_err();
         result
@@ -50,7 +61,7 @@ impl Channel for MioChannel {
     fn write(&mut self, buf: &[u8]) -> Result<usize, StreamFault> {
         let result = self.wire.write(buf);
         if let Ok(count) = &result {
-            self.wire.tape().went(buf, *count);
+            self.tape.went(self.wire.turn(), buf, *count);
         }
         self.is_failed = result.is_err();
         result

@@ -150,21 +150,26 @@ fn both() -> Interest {
     Interest::READABLE | Interest::WRITABLE
 }
 
-/// A stream's wire, for its channel and for the table of peers.
+/// A stream's wire, for its channel and for the table of peers, and whether what passes is told.
 #[derive(Drop)]
 struct Wires {
     channel: Rc<Wire, Heap>,
     table: Rc<Wire, Heap>,
+    is_watched: bool,
 }
 
 fn wires_of(heap: Heap, stream: TcpStream, is_watched: bool) -> Option<Wires> {
-    let Ok(table) = Rc::new(heap, Wire::new(stream, Tape::new(heap, is_watched))) else {
+    let Ok(table) = Rc::new(heap, Wire::new(stream)) else {
         return None;
     };
     let Ok(channel) = table.clone() else {
         return None;
     };
-    Some(Wires { channel, table })
+    Some(Wires {
+        channel,
+        table,
+        is_watched,
+    })
 }
 
 /// Takes a peer in. Where that is refused its stream is dropped.
@@ -180,8 +185,12 @@ fn keep<R: Renderer + Drop>(
     ensures leads { Leads (R.page hub.old.0) hub.old.1 hub.new.1 }
     ensures same { R.page hub.new.0 ≡ R.page hub.old.0 }
 {
-    let Wires { channel, table } = wires;
-    let Some(client) = client_of(heap, hub, channel) else {
+    let Wires {
+        channel,
+        table,
+        is_watched,
+    } = wires;
+    let Some(client) = client_of(heap, hub, channel, is_watched) else {
         return;
     };
     let id = client.id();
@@ -212,11 +221,13 @@ fn client_of<R: Renderer + Drop>(
     heap: Heap,
     hub: &mut Hub<R>,
     wire: Rc<Wire, Heap>,
+    is_watched: bool,
 ) -> Option<Client<MioChannel>>
     ensures leads { Leads (R.page hub.old.0) hub.old.1 hub.new.1 }
     ensures same { R.page hub.new.0 ≡ R.page hub.old.0 }
 {
-    match Client::new(heap, hub, MioChannel::new(wire)) {
+    let channel = MioChannel::new(wire, Tape::new(heap, is_watched));
+    match Client::new(heap, hub, channel) {
         Ok(client) => Some(client),
         Err(_) => None,
     }

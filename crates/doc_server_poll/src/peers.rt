@@ -199,7 +199,7 @@ impl Peers {
         let Some(slot) = self.slots.get_mut(place) else {
             return;
         };
-        slot.tell(client.id(), now, watch);
+        slot.tell(client, now, watch);
         let _ = match slot.leave(client, piece, now) {
             Fate::Waits => Ok(()),
             Fate::Goes => self.going.push(client.id().0),

@@ -4,7 +4,6 @@ use crate::channel::MioChannel;
 use crate::watch::Watch;
 use crate::wire::Wire;
 use doc_heap::Heap;
-use doc_hub::event::ConnId;
 use doc_server_listen::channel::Came;
 use doc_server_listen::client::Client;
 use std::rc::Rc;
@@ -34,6 +33,8 @@ pub struct Slot {
     lingers: bool,
     /// Whether it takes part in the turn that runs.
     is_ready: bool,
+    /// Whether nothing of it was told yet.
+    is_new: bool,
 }
 
 impl Slot {
@@ -43,6 +44,7 @@ impl Slot {
             seen: now,
             lingers: false,
             is_ready: false,
+            is_new: true,
         }
     }
 
@@ -59,9 +61,13 @@ impl Slot {
         true
     }
 
-    /// Tells what passed in a turn on its connection, which has this number.
-    pub fn tell<W: Watch>(&self, id: ConnId, now: Instant, watch: &mut W) {
-        self.wire.tape().tell(id, now, watch);
+    /// Tells what passed on its client's connection in the turn that began then.
+    pub fn tell<W: Watch>(&mut self, client: &Client<MioChannel>, began: Instant, watch: &mut W) {
+        if self.is_new {
+            self.is_new = false;
+            watch.joined(client.id());
+        }
+        client.stream().tell(client.id(), began, watch);
     }
 
     /// Ends its part in a turn, by which its client has come to stand as it does.

@@ -1,11 +1,10 @@
-//! What passed over a wire in a turn, kept until its watcher is told.
+//! What passed over a channel in a turn, kept until its watcher is told.
 
 ghost use Rattle.std.specs.Prelude.{◌≤◌};
 
 use crate::watch::{Handed, Watch};
 use doc_heap::{Heap, Vec};
 use doc_hub::event::ConnId;
-use std::cell::{Cell, RefCell};
 use std::time::Instant;
 
 /// What passed at once.
@@ -17,16 +16,17 @@ enum Passed {
     Handed(Handed),
 }
 
-/// What passed over a wire in the turn that runs, in its order. Once memory was lacking for something nothing more is kept.
+/// What passed over a channel in one turn, in its order. Once memory was lacking for something nothing more is kept.
 #[derive(Drop)]
 pub struct Tape {
     heap: Heap,
-    is_on: Cell<bool>,
-    is_new: Cell<bool>,
-    is_torn: Cell<bool>,
-    passed: RefCell<Vec<Passed>>,
+    is_on: bool,
+    is_torn: bool,
+    /// The number of the turn in which something passed last.
+    turn: u64,
+    passed: Vec<Passed>,
     /// The reply that was begun and isn't handed over in full.
-    begun: Cell<Option<Handed>>,
+    begun: Option<Handed>,
 }
 
 impl Tape {
@@ -34,31 +34,31 @@ impl Tape {
     pub fn new(heap: Heap, is_watched: bool) -> Tape {
         Tape {
             heap,
-            is_on: Cell::new(is_watched),
-            is_new: Cell::new(is_watched),
-            is_torn: Cell::new(false),
-            passed: RefCell::new(Vec::new(heap)),
-            begun: Cell::new(None),
+            is_on: is_watched,
+            is_torn: false,
+            turn: 0,
+            passed: Vec::new(heap),
+            begun: None,
         }
     }
 
-    /// Keeps bytes that came.
-    pub fn came(&self, bytes: &[u8]) {
-        if !self.is_on.get() {
+    /// Keeps bytes that came in this turn.
+    pub fn came(&mut self, turn: u64, bytes: &[u8]) {
+        if !self.is_on {
             return;
         }
         match Vec::from_slice(self.heap, bytes) {
-            Ok(copy) => self.keep(Passed::Came(copy)),
-            Err(_) => self.tear(),
+            Ok(copy) => self.keep(turn, Passed::Came(copy)),
+            Err(_) => self.tear(turn),
         }
     }
 
     /// Keeps a reply once it is handed over in full. A write is passed what is left of one reply, and took so many bytes of that.
-    pub fn went(&self, rest: &[u8], taken: usize) {
-        if !self.is_on.get() {
+    pub fn went(&mut self, turn: u64, rest: &[u8], taken: usize) {
+        if !self.is_on {
             return;
         }
-        let reply = match self.begun.get() {
+        let reply = match self.begun {
             Some(reply) => reply,
             None => Handed {
                 code: code_of(rest),
@@ -66,42 +66,46 @@ impl Tape {
             },
         };
         if taken < rest.len() {
-            self.begun.set(Some(reply));
+            self.begun = Some(reply);
             return;
         }
-        self.begun.set(None);
-        self.keep(Passed::Handed(reply));
+        self.begun = None;
+        self.keep(turn, Passed::Handed(reply));
     }
 
-    /// Tells what was kept, of the connection of this number in the turn that began then, and forgets it.
-    pub fn tell<W: Watch>(&self, id: ConnId, began: Instant, watch: &mut W) {
-        if self.is_new.replace(false) {
-            watch.joined(id);
+    /// Tells what was kept in this turn, which began then, of the connection of this number.
+    pub fn tell<W: Watch>(&self, turn: u64, id: ConnId, began: Instant, watch: &mut W) {
+        if self.turn != turn {
+            return;
         }
-        if let Ok(mut guard) = self.passed.try_borrow_mut() {
-            let passed = &mut *guard;
-            tell_all(passed.as_slice(), id, began, watch);
-            passed.clear();
+        'passed: for one in &self.passed {
+            match one {
+                Passed::Came(bytes) => watch.came(id, bytes.as_slice(), began),
+                Passed::Handed(reply) => watch.answered(id, *reply),
+            }
         }
-        if self.is_torn.replace(false) {
+        if self.is_torn {
             watch.left(id);
         }
     }
 
-    fn keep(&self, one: Passed) {
-        let kept = match self.passed.try_borrow_mut() {
-            Ok(mut passed) => passed.push(one).is_ok(),
-            Err(_) => false,
-        };
-        if !kept {
-            self.tear();
+    /// Keeps what passed in this turn, behind what passed in it before.
+    fn keep(&mut self, turn: u64, one: Passed) {
+        if self.turn != turn {
+            self.turn = turn;
+            self.passed.clear();
+        }
+        if self.passed.push(one).is_err() {
+            self.tear(turn);
         }
     }
 
-    /// Memory was lacking.
-    fn tear(&self) {
-        self.is_on.set(false);
-        self.is_torn.set(true);
+    /// Memory was lacking in this turn.
+    fn tear(&mut self, turn: u64) {
+        self.turn = turn;
+        self.is_on = false;
+        self.is_torn = true;
+        self.passed.clear();
     }
 }
 

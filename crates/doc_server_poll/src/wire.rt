@@ -3,7 +3,6 @@
 ghost use Rattle.std.specs.Prelude.{◌≤◌, ◌≡◌, length};
 ghost use Rattle.doc_server_listen.specs.Channels.{came_len, took_len};
 
-use crate::tape::Tape;
 use doc_server_listen::channel::Came;
 use doc_server_streams::fault::StreamFault;
 use mio::net::TcpStream;
@@ -15,22 +14,22 @@ use std::os::fd::{AsRawFd, RawFd};
 /// How often an interrupted call is tried, so that it ends.
 const TRIES: u64 = 0x1_0000_0000;
 
-/// A stream, what its last calls said, and what passed over it as far as somebody watches.
+/// A stream, what its last calls said, and the number of its turn.
 #[derive(Drop)]
 pub struct Wire {
     stream: TcpStream,
     is_dry: Cell<bool>,
     is_broken: Cell<bool>,
-    tape: Tape,
+    turn: Cell<u64>,
 }
 
 impl Wire {
-    pub fn new(stream: TcpStream, tape: Tape) -> Wire {
+    pub fn new(stream: TcpStream) -> Wire {
         Wire {
             stream,
             is_dry: Cell::new(false),
             is_broken: Cell::new(false),
-            tape,
+            turn: Cell::new(0),
         }
     }
 
@@ -39,13 +38,15 @@ impl Wire {
         self.stream.as_raw_fd()
     }
 
-    pub fn tape(&self) -> &Tape {
-        &self.tape
-    }
-
     /// A turn begins: whatever a read said before is forgotten.
     pub fn begin(&self) {
         self.is_dry.set(false);
+        self.turn.set(self.turn.get().wrapping_add(1));
+    }
+
+    /// The number of the turn that runs.
+    pub fn turn(&self) -> u64 {
+        self.turn.get()
     }
 
     /// Whether a read of this turn found nothing.

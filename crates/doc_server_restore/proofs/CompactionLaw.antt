@@ -1,20 +1,17 @@
 -- The records of a compaction, restored.
 use Rattle.std.proofs.Common.{◌≡◌, ℕ, ◌+◌, List, [], ◌∷◌, ◌++◌, Bool, true, false, refl, ap, sym, subst, ◌∙◌}
-use Rattle.std.specs.Prelude.{map as mapped, Option, Some, None, option_map, Result, Ok, Err, if◌then◌else◌}
+use Rattle.std.specs.Prelude.{map as mapped, Option, Some, None, option_map, Ok, if◌then◌else◌}
 use Rattle.std.specs.FinMap as map
-use Rattle.std.specs.List.{flat_map}
 use Rattle.std.specs.Option.{ok_or}
-use Rattle.doc_store.specs.Sites.{Site, IsSite}
 use Rattle.doc_store.specs.Store.{Edit, set_page, remove_page, move_page, StoreState, effect_of}
 use Rattle.doc_server_compact.proofs.ReplayLaw.{replay_gives_the_site}
 use Rattle.doc_server_compact.specs.Compactions.{compacted}
 use Rattle.doc_server_compact.specs.Lines.{lines_of}
-use Rattle.doc_server_compact.specs.Replays.{HasRoom, edited, replayed}
-use Rattle.doc_server_compacting.specs.Written.{AreLines, joined}
-use Rattle.doc_server_restore.specs.declared.fault.RestoreFault.{RestoreFault}
+use Rattle.doc_server_compact.specs.Replays.{edited, replayed}
+use Rattle.doc_server_compacting.specs.Written.{joined}
 use Rattle.doc_server_restore.specs.declared.fault.RestoreFault.TheVariants as faults
 use Rattle.doc_server_restore.specs.Laws.{AreEdits, CompactionIsRestored}
-use Rattle.doc_server_restore.specs.Restores.{after_record, all_made, edits_of, made, restored, restored_from, unstamped}
+use Rattle.doc_server_restore.specs.Restores.{after_record, all_made, made, restored, restored_from, unstamped}
 use Rattle.doc_server_restore.proofs.Effects.{no_some, same_some}
 use Rattle.doc_server_restore.proofs.LineLaws.{lines_are_read}
 use Rattle.doc_server_restore.proofs.MadeSteps.{store_put, store_moved}
@@ -58,21 +55,24 @@ all_replayed : (edits : List Edit) (store : StoreState) → all_made (unstamped 
     ≡ option_map unstamped (replayed (Some store) edits)
 all_replayed [] store = refl
 all_replayed (edit ∷ edits) store =
-    as_behind edits (made (unstamped store) edit) ∙ (ap (behind edits) (made_unstamped store edit) ∙ by (edited store edit))
+    as_behind edits (made (unstamped store) edit)
+    ∙ (ap (behind edits) (made_unstamped store edit) ∙ by (edited store edit) (λ next. all_replayed edits next))
   where
-    by : (mid : Option StoreState) → behind edits (option_map unstamped mid) ≡ option_map unstamped (replayed mid edits)
-    by None = sym (ap (option_map unstamped) (none_replayed edits))
-    by (Some next) = all_replayed edits next
+    by : (mid : Option StoreState)
+        → ((next : StoreState) → all_made (unstamped next) edits ≡ option_map unstamped (replayed (Some next) edits))
+        → behind edits (option_map unstamped mid) ≡ option_map unstamped (replayed mid edits)
+    by None each = sym (ap (option_map unstamped) (none_replayed edits))
+    by (Some next) each = each next
 
 all_joined : (edits more : List Edit) (store : StoreState) → all_made store (edits ++ more) ≡ behind more (all_made store edits)
 all_joined [] more store = refl
-all_joined (edit ∷ edits) more store = by (made store edit)
+all_joined (edit ∷ edits) more store = by (made store edit) (λ next. all_joined edits more next)
   where
-    by : (mid : Option StoreState)
+    by : (mid : Option StoreState) → ((next : StoreState) → all_made next (edits ++ more) ≡ behind more (all_made next edits))
         → ◌≡◌ {A = Option StoreState} (elim mid [ None ↦ None | Some next ↦ all_made next (edits ++ more) ])
         (behind more (elim mid [ None ↦ None | Some next ↦ all_made next edits ]))
-    by None = refl
-    by (Some next) = all_joined edits more next
+    by None each = refl
+    by (Some next) each = each next
 
 edits_apart : (edits more : List Edit) → AreEdits (edits ++ more) → AreEdits edits × AreEdits more
 edits_apart [] more are = (tt, are)
@@ -87,16 +87,19 @@ parts_restored : (parts : List (List Edit)) (n : ℕ) (store last : StoreState) 
     → restored_from n store (mapped lines_of parts) ≡ Ok last
 parts_restored [] n store last are is = ap Ok (same_some store last is)
 parts_restored (part ∷ parts) n store last are is =
-    by (all_made store part) refl (sym (all_joined part (joined parts) store) ∙ is)
+    by (all_made store part) (λ next. parts_restored parts (n + 1) next last (edits_apart part (joined parts) are).1) refl
+    (sym (all_joined part (joined parts) store) ∙ is)
   where
-    by : (mid : Option StoreState) → all_made store part ≡ mid → behind (joined parts) mid ≡ Some last
+    by : (mid : Option StoreState)
+        → ((next : StoreState) → all_made next (joined parts) ≡ Some last → restored_from (n + 1) next (mapped lines_of parts) ≡ Ok last)
+        → all_made store part ≡ mid → behind (joined parts) mid ≡ Some last
         → restored_from n store (lines_of part ∷ mapped lines_of parts) ≡ Ok last
-    by None first rest = absurd (no_some last rest)
-    by (Some next) first rest =
+    by None each first rest = absurd (no_some last rest)
+    by (Some next) each first rest =
         as_onto n store (lines_of part) (mapped lines_of parts) (Ok next)
         (ap (after_record store n) (lines_are_read part (edits_apart part (joined parts) are).0) ∙ ap
         (λ o. ok_or o (faults.Refused n)) first)
-        ∙ parts_restored parts (n + 1) next last (edits_apart part (joined parts) are).1 rest
+        ∙ each next rest
 
 pub compaction_is_restored : CompactionIsRestored
 compaction_is_restored store site records is_config is_site room are lines =

@@ -9,7 +9,6 @@ pub fn the_lines_of_edits_are_these_edits()
 {}
 
 /// The records of a compaction, restored on the configuration's site, give the site that was compacted, aliases included.
-#[tactic(auto, using(crate::proofs::CompactionLaw::compaction_is_restored))]
 pub fn a_compaction_is_restored()
     ensures { CompactionIsRestored }
 {}

@@ -52,7 +52,7 @@ pages_alike : (pages : List PageRow) (w : World) (texts : List (List ℕ))
 pages_alike [] w texts = refl
 pages_alike (page ∷ more) w texts =
     ap (option_map store_of) (as_world_behind more left (with_page w page text))
-    ∙ (by (with_page w page text)
+    ∙ (by (with_page w page text) (λ v. pages_alike more v left)
     ∙ (ap (store_behind more left) (page_alike w page text) ∙ sym (as_store_behind more left (stored_page (store_of w) page text))))
   where
     text : Option (List ℕ)
@@ -61,9 +61,10 @@ pages_alike (page ∷ more) w texts =
     left : List (List ℕ)
     left = texts_behind page.source texts
 
-    by : (mid : Option World) → option_map store_of (world_behind more left mid) ≡ store_behind more left (option_map store_of mid)
-    by None = refl
-    by (Some v) = pages_alike more v left
+    by : (mid : Option World) → ((v : World) → option_map store_of (with_pages v more left) ≡ stored_pages (store_of v) more left)
+        → option_map store_of (world_behind more left mid) ≡ store_behind more left (option_map store_of mid)
+    by None each = refl
+    by (Some v) each = each v
 
 -- a page is put, and others behind it
 pub next_page : (all : Option StoreState) (store : StoreState) (left more : List PageRow) (page : PageRow) (texts behind : List (List ℕ))
