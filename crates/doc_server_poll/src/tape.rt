@@ -109,16 +109,6 @@ impl Tape {
     }
 }
 
-/// Tells what passed on a connection, in its order.
-fn tell_all<W: Watch>(passed: &[Passed], id: ConnId, began: Instant, watch: &mut W) {
-    'passed: for one in passed {
-        match one {
-            Passed::Came(bytes) => watch.came(id, bytes.as_slice(), began),
-            Passed::Handed(reply) => watch.answered(id, *reply),
-        }
-    }
-}
-
 /// The code of a reply's status line, `HTTP/1.1 ` and three digits; 0 where there is none.
 fn code_of(reply: &[u8]) -> u16 {
     match reply {
