@@ -2,12 +2,15 @@
 
 Replies are those of replies.py, over pages of plain paragraphs; the journal is written and read by journals.py. What the server does with
 streams is by docs/RUNNING.md: a peer is read where it is owed nothing, one that was sent its last reply is told the end, one too many
-waits, one that is silent for too long is let go, and where the journal can't be written nobody hears of the edit.
+waits, one that is silent for too long is let go, and where the journal can't be written nobody hears of the edit. A server that begins
+with the journal that another left has the pages of its edits.
 
     python3 scripts/oracles/listening.py
 
 writes its lines into stdin and stdout of crates/trial_listen.
 """
+
+import re
 
 import journals
 from replies import REASONS, Hub, bytes_of
@@ -49,10 +52,21 @@ REASONS[413] = "Content Too Large"
 class Server:
     """A server, and what each of its peers has still to hear."""
 
-    def __init__(self, what, connections, idle=1_000, calls=FULL):
-        self.lines = [f"# {what}", (f"server {connections} {idle} {calls}", "()" if calls >= 4 else "no server")]
+    def __init__(self, what, connections, idle=1_000, calls=FULL, edits=None):
+        self.lines = [f"# {what}", (f"server {connections} {idle} {calls}{'' if edits is None else ' again'}", "()" if calls >= 4 else "no server")]
         self.hub, self.peers, self.owed, self.edits = Hub(), 0, {}, []
         self.hub.readers = dict(READERS)
+        for edit in edits or []:
+            self.make(edit)
+
+    def make(self, edit):
+        """Makes an edit of the journal that the server begins with."""
+        name, path, *rest = edit.removesuffix("\n").split(" ", 3)
+        self.edits.append(edit)
+        if name == "put":
+            self.hub.put(path, rest[0].replace("-", ""), re.sub(r"\\(.)", lambda m: {"n": "\n"}.get(m[1], m[1]), rest[1]))
+        else:
+            self.hub.remove(path)
 
     def note(self, text):
         self.lines.append(f"# {text}")
@@ -174,8 +188,24 @@ def readers():
     s.ask(ann, (ANN, "GET", "/page/b.md"))
     s.call("fault", "None")
     s.note("The journal has the edits.")
-    s.journal(("records",))
-    return s.lines
+    s.journal()
+    return s.lines + after(s)
+
+
+def after(before):
+    """What the readers see once the journal is read anew, and again once one more edit was made."""
+    s = Server("A server that begins with that journal has its pages.", 4, edits=before.edits)
+    owner, ann, bob = s.open(), s.open(), s.open()
+    for peer, token in ((owner, OWNER), (ann, ANN), (bob, BOB)):
+        for path in ("a.md", "b.md", "c.md", "drop.md"):
+            s.ask(peer, (token, "GET", f"/page/{path}"))
+    s.ask(owner, (OWNER, "DELETE", "/page/a.md"))
+    s.journal()
+    t = Server("And so has the next one.", 4, edits=s.edits)
+    bob = t.open()
+    t.ask(bob, (BOB, "GET", "/page/a.md"))
+    t.journal()
+    return ["", *s.lines, "", *t.lines]
 
 
 def bound():
@@ -253,7 +283,11 @@ def failing(calls):
         s.call("fault", "None")
     for call in ("records",) if calls not in (9, 16) else ("file", "records", "flips", "cuts"):
         s.call(call, journal_told(call, file))
-    return s.lines
+    t = Server("What was answered is there, and nothing in part.", 2, edits=[text.decode() for text in journals.read(file)[0]])
+    peer = t.open()
+    for path in ("a", "b", "c"):
+        t.ask(peer, (OWNER, "GET", f"/page/{path}"))
+    return [*s.lines, *t.lines]
 
 
 def left(texts, text, well):

@@ -1,14 +1,10 @@
 //! The command `compact`: a journal is written anew, of the site that its edits lead to.
 
-ghost use Rattle.std.specs.Prelude.{◌≡◌, false, Ok, List, ℕ, IfOk};
-ghost use Rattle.doc_server_journal.specs.Journals.{IsOpen};
-ghost use Rattle.doc_server_restore.specs.Restores.{restored, unstamped};
-
 use crate::arguments::Compact;
 use crate::bounded::{Bounded, read_bounded};
 use crate::files::{Pages, Site};
 use crate::held::hold;
-use crate::journal::MOST_BYTES;
+use crate::journal::open_journal;
 use crate::listen_fault::ListenFault;
 use crate::site_store::site_store;
 use crate::status::status_of;
@@ -16,10 +12,7 @@ use doc_heap::{Heap, heap};
 use doc_server_compacting::compact::compact;
 use doc_server_files::file_device::FileDevice;
 use doc_server_files::names::Replacement;
-use doc_server_journal::device::Device;
 use doc_server_journal::journal::Journal;
-use doc_server_journal::opening::Opened;
-use doc_server_restore::restore::restore;
 use doc_store::store::Store;
 use std::fs::{File, remove_file};
 use std::rt::Files;
@@ -98,28 +91,9 @@ fn compact_file<P: AllocGlobal + Files<File = File>>(
     site: &mut Store,
 ) -> Result<(), ListenFault> {
     let device = FileDevice::open(rt, name)?;
-    let journal = restore_journal(heap, device, site)?;
+    let opened: Result<Journal<FileDevice>, ListenFault> = open_journal(heap, device, site);
+    let journal = opened?;
     replace(rt, heap, name, &journal.device, config, site)
-}
-
-/// The journal of a device, opened, and its edits made on a store, in their order.
-fn restore_journal<D: Device + Drop>(
-    heap: Heap,
-    device: D,
-    site: &mut Store,
-) -> Result<Journal<D>, ListenFault>
-    requires usable { D.failed device ≡ false }
-    ensures restored { IfOk result (λ journal. (texts : List (List ℕ))
-        × IsOpen D.seen D.may_leave D.failed journal texts
-        × (restored (unstamped site.old) texts ≡ Ok (unstamped site.new))) }
-{
-    match Journal::open(heap, device, MOST_BYTES) {
-        Ok(Opened { journal, texts }) => {
-            restore(heap, site, texts.get())?;
-            Ok(journal)
-        }
-        Err(refused) => Err(ListenFault::Journal(refused.fault)),
-    }
 }
 
 /// A journal of the edits that lead from the configuration's site to another takes the place of an open one. Where that fails the file

@@ -18,6 +18,7 @@ use doc_hub::hub::Hub;
 use doc_page::renderer::Renderer;
 use doc_server_files::file_device::FileDevice;
 use doc_server_journal::device::Device;
+use doc_server_journal::journal::Journal;
 use doc_server_listening::bounds::Bounds;
 use doc_server_poll::keeping::Keeping;
 use doc_server_poll::server::Server;
@@ -104,8 +105,9 @@ fn serve_journal<R: Renderer + Drop, P: Clock + Eprint + Files<File = File> + Ne
     name: &str,
 ) -> Result<u8, ListenFault> {
     let device = FileDevice::open(rt, name)?;
-    let journal = open_journal(heap, device, hub)?;
-    serve_keeping(rt, heap, hub, bounds, command, &mut Keeping::Keeps(journal))
+    let opened: Result<Journal<FileDevice>, ListenFault> = open_journal(heap, device, hub);
+    let mut keeps = Keeping::Keeps(opened?);
+    serve_keeping(rt, heap, hub, bounds, command, &mut keeps)
 }
 
 /// Binds the address, tells it, and serves until the program is told to stop.

@@ -3,10 +3,11 @@
 //! the same whatever the timing.
 //!
 //! - `server CONNECTIONS IDLE CALLS` begins a server at a port that the system chooses, with at most so many connections, each of which
-//!   ends after so many seconds of silence. Its journal is a file in memory, of which so many calls go well and the next one fails. Its
-//!   site has no pages yet, and three readers: an owner (`tok-owner`), one of the group `staff` (`tok-ann`), one of `ops` (`tok-bob`).
-//!   The calls below it are of this server. The lines in front of the first one are printed as they stand, and so are those of one that
-//!   can't be made.
+//!   ends after so many seconds of silence. Its journal is an empty file in memory, of which so many calls go well and the next one fails.
+//!   Its site has no pages, and three readers: an owner (`tok-owner`), one of the group `staff` (`tok-ann`), one of `ops` (`tok-bob`). The
+//!   calls below it are of this server. The lines in front of the first one are printed as they stand, and so are those of one that can't
+//!   be made.
+//! - `server CONNECTIONS IDLE CALLS again` begins one with the file that the server before has left, and with the pages of its edits.
 //! - The calls: `calls`.
 //!
 //! Values that own memory go by calls of `drop`, once on each way: that is much cheaper to prove than what the end of a scope does, which
@@ -23,7 +24,7 @@ mod served;
 mod told;
 
 use calls::answer;
-use doc_heap::{Heap, String, heap};
+use doc_heap::{Heap, String, Vec, heap};
 use doc_page::failure::Memory;
 use doc_page::plain::PlainRenderer;
 use doc_page::renderer::Renderer;
@@ -47,8 +48,9 @@ fn main(rt: HostRuntime) -> io::Result<()> {
 fn run<P: AllocGlobal + Clock + Net + Print>(rt: &P, text: &str) -> io::Result<()> {
     let (front, servers) = text.split_once("\nserver ").unwrap_or((text, ""));
     print_lines(rt, front)?;
+    let mut file = Vec::new(heap(rt.alloc(), u64::MAX)?);
     for lines in servers.split("\nserver ") {
-        begin(rt, lines)?;
+        begin(rt, lines, &mut file)?;
     }
     Ok(())
 }
@@ -61,10 +63,14 @@ fn print_lines<P: Print>(rt: &P, text: &str) -> io::Result<()> {
     Ok(())
 }
 
-/// Makes a server and its calls.
-fn begin<P: AllocGlobal + Clock + Net + Print>(rt: &P, lines: &str) -> io::Result<()> {
+/// Makes a server and its calls. The file is that of the journal of the server before, and then of this one.
+fn begin<P: AllocGlobal + Clock + Net + Print>(
+    rt: &P,
+    lines: &str,
+    file: &mut Vec<u8>,
+) -> io::Result<()> {
     let (line, calls) = lines.split_once('\n').unwrap_or((lines, ""));
-    begin_server::<Brand, P>(rt, Blank::new(1), &[line, calls])
+    begin_server::<Brand, P>(rt, Blank::new(1), &[line, calls], file)
 }
 
 /// Makes a server of plain pages as the first of two texts says, and the calls of the lines of the second.
@@ -72,6 +78,7 @@ fn begin_server<L: Ledger, P: AllocGlobal + Clock + Net + Print>(
     rt: &P,
     blank: Blank,
     texts: &[&str; 2],
+    file: &mut Vec<u8>,
 ) -> io::Result<()>
     requires name { blank.name ≡ L.name }
     requires parts { blank.parts ≡ L.parts }
@@ -79,7 +86,7 @@ fn begin_server<L: Ledger, P: AllocGlobal + Clock + Net + Print>(
 {
     let renderer: PlainRenderer<L> = PlainRenderer::new(blank);
     let heap = heap(rt.alloc(), u64::MAX)?;
-    run_server(rt, heap, renderer, texts)
+    run_server(rt, heap, renderer, texts, file)
 }
 
 /// The same with any renderer.
@@ -88,13 +95,17 @@ fn run_server<R: Renderer + Drop, P: Clock + Net + Print>(
     heap: Heap,
     renderer: R,
     texts: &[&str; 2],
+    file: &mut Vec<u8>,
 ) -> io::Result<()> {
-    let Some(mut scene) = new_scene(rt, heap, renderer, texts[0]) else {
+    let Some(mut scene) = new_scene(rt, heap, renderer, texts[0], file) else {
         println!(rt; "no server")?;
         return print_lines(rt, texts[1]);
     };
     let ran = run_calls(rt, &mut scene, texts[1]);
+    file.clear();
+    let kept = file.extend_from_slice(scene.served.journal_bytes());
     drop(scene);
+    kept?;
     ran
 }
 

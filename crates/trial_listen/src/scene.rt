@@ -47,16 +47,21 @@ pub enum Awaited {
     End,
 }
 
-/// The server of a line `CONNECTIONS IDLE CALLS`.
+/// The server of a line `CONNECTIONS IDLE CALLS`, or `CONNECTIONS IDLE CALLS again`, which has this file.
 pub fn new_scene<R: Renderer + Drop, P: Clock + Net>(
     rt: &P,
     heap: Heap,
     renderer: R,
     line: &str,
+    file: &[u8],
 ) -> Option<Scene<R>> {
+    let (line, file) = match line.strip_suffix(" again") {
+        Some(line) => (line, file),
+        None => (line, b"".as_slice()),
+    };
     let bounds = bounds_of(line)?;
     let hub = new_hub(heap, renderer)?;
-    let served = Served::new(rt, heap, hub, bounds)?;
+    let served = Served::new(rt, heap, hub, bounds, file)?;
     Some(Scene {
         heap,
         served,

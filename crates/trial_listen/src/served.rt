@@ -1,10 +1,10 @@
 //! A server with a hub and a journal in memory.
 
-ghost use Rattle.std.specs.Prelude.{IfSome};
+ghost use Rattle.std.specs.Prelude.{◌≡◌, false, IfSome};
 ghost use Rattle.doc_server_journal.specs.Memories.{has_failed, memory_leaves, memory_seen};
 ghost use Rattle.doc_server_poll.specs.Keepings.{IsReady};
 
-use doc_heap::{Heap, Vec};
+use doc_heap::Heap;
 use doc_hub::hub::Hub;
 use doc_page::bytes::Bytes;
 use doc_page::renderer::Renderer;
@@ -15,6 +15,8 @@ use doc_server_poll::fault::PollFault;
 use doc_server_poll::keeping::Keeping;
 use doc_server_poll::server::Server;
 use doc_server_poll::watch::Unwatched;
+use doc_server_restore::edits::Edits;
+use doc_server_restore::restore::restore;
 use std::marker::Model;
 use std::net::{Ipv4Addr, Net, SocketAddr};
 use std::rt::Clock;
@@ -50,14 +52,16 @@ impl<R: Renderer + Drop> Model for Served<R> {
 }
 
 impl<R: Renderer + Drop> Served<R> {
-    /// A server at a port that the system chooses, with an empty journal.
+    /// A server at a port that the system chooses, with the journal of this file, whose edits are made on the hub.
     pub fn new<P: Clock + Net>(
         rt: &P,
         heap: Heap,
         hub: Hub<R>,
         bounds: Bounds,
+        file: &[u8],
     ) -> Option<Served<R>> {
-        match parts_of(rt, heap, bounds) {
+        let mut hub = hub;
+        match parts_of(rt, heap, &mut hub, bounds, file) {
             Some((server, keeping)) => Some(Served {
                 server,
                 keeping,
@@ -107,15 +111,17 @@ impl<R: Renderer + Drop> Served<R> {
     }
 }
 
-/// A server without clients, and an empty journal in memory.
-fn parts_of<P: Clock + Net>(
+/// A server without clients, and the journal of a file in memory, whose edits are made on the hub.
+fn parts_of<P: Clock + Net, R: Renderer + Drop>(
     rt: &P,
     heap: Heap,
+    hub: &mut Hub<R>,
     bounds: Bounds,
+    file: &[u8],
 ) -> Option<(Server, Keeping<MemoryDevice>)>
     ensures { IfSome result (λ parts. IsReady memory_seen memory_leaves has_failed parts.1) }
 {
-    let keeping = keeping_of(heap, bounds.calls)?;
+    let keeping = keeping_of(heap, hub, bounds.calls, file)?;
     let address = SocketAddr::from((Ipv4Addr::LOCALHOST, 0));
     match Server::bind(rt, heap, address, bounds.connections, bounds.idle_seconds) {
         Ok(server) => Some((server, keeping)),
@@ -123,18 +129,44 @@ fn parts_of<P: Clock + Net>(
     }
 }
 
-/// An empty journal in memory, of whose device so many calls go well.
-fn keeping_of(heap: Heap, calls: u64) -> Option<Keeping<MemoryDevice>>
+/// The journal of a file in memory of which so many calls go well. Its edits are made on the hub.
+fn keeping_of<R: Renderer + Drop>(
+    heap: Heap,
+    hub: &mut Hub<R>,
+    calls: u64,
+    file: &[u8],
+) -> Option<Keeping<MemoryDevice>>
     ensures { IfSome result (IsReady memory_seen memory_leaves has_failed) }
 {
-    let Ok(device) = MemoryDevice::new(heap, Bytes::new(Vec::new(heap)), calls) else {
+    let device = device_of(heap, calls, file)?;
+    match Journal::open(heap, device, file.len()) {
+        Ok(Opened { journal, texts }) => {
+            let are_made = are_made(heap, hub, texts.get());
+            drop(texts);
+            if are_made {
+                return Some(Keeping::Keeps(journal));
+            }
+            None
+        }
+        Err(_) => None,
+    }
+}
+
+/// Makes the edits of a journal's records, and answers whether none was refused. The type of the heap is left open, since a call that
+/// names it beside a hub can't be proved.
+fn are_made<E: Edits, H: Into<Heap>>(heap: H, site: &mut E, records: &[Bytes]) -> bool {
+    restore(heap.into(), site, records).is_ok()
+}
+
+/// A file in memory of which so many calls go well.
+fn device_of(heap: Heap, calls: u64, file: &[u8]) -> Option<MemoryDevice>
+    ensures { IfSome result (λ device. has_failed device ≡ false) }
+{
+    let Ok(bytes) = Bytes::copy_of(heap, file) else {
         return None;
     };
-    match Journal::open(heap, device, 0) {
-        Ok(Opened { journal, texts }) => {
-            drop(texts);
-            Some(Keeping::Keeps(journal))
-        }
+    match MemoryDevice::new(heap, bytes, calls) {
+        Ok(device) => Some(device),
         Err(_) => None,
     }
 }
