@@ -16,9 +16,15 @@ use std::num::NonZeroUsize;
 const MOST: usize = 4096;
 
 /// Texts under keys, the one asked for or kept last in front. Contracts see them in this order.
-#[derive(Drop)]
 pub struct PageCache {
     pages: LruCache<Key, Text, DefaultHasher, Heap>,
+}
+
+/// Written out, so that it is proved here once: what a derived drop does is proved wherever a value is let go.
+impl Drop for PageCache {
+    fn drop(self) {
+        let PageCache { pages: _ } = self;
+    }
 }
 
 impl Model for PageCache {

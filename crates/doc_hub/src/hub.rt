@@ -53,7 +53,6 @@ use std::marker::Model;
 ///
 /// A call that is refused leaves the world as it was. The hub keeps the heap that it was made with,
 /// so its calls take none.
-#[derive(Drop)]
 pub struct Hub<R: Renderer + Drop> {
     heap: Heap,
     routes: Routes,
@@ -62,6 +61,21 @@ pub struct Hub<R: Renderer + Drop> {
     shelf: Shelf<R>,
     given: u64,
     connections: Connections,
+}
+
+/// Written out, so that it is proved here once: what a derived drop does is proved wherever a value is let go.
+impl<R: Renderer + Drop> Drop for Hub<R> {
+    fn drop(self) {
+        let Hub {
+            heap: _,
+            routes: _,
+            readers: _,
+            keep_alive: _,
+            shelf: _,
+            given: _,
+            connections: _,
+        } = self;
+    }
 }
 
 impl<R: Renderer + Drop> Model for Hub<R> {
@@ -287,9 +301,6 @@ impl<R: Renderer + Drop> Hub<R> {
         };
         Ok(Some(self.shelf.report(reader)?))
     }
-
-    /// Lets the hub go, with all that it holds.
-    pub fn discard(self) {}
 
     /// Makes these events happen in their order, each in what those before it left, and answers what
     /// came of each. One that is refused does nothing, and the next one follows. `Memory` says that

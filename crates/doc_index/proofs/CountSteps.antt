@@ -1,6 +1,6 @@
 -- What a table has after its numbers are set and taken, one key after another.
-use Rattle.std.proofs.Common.{◌≡◌, ℕ, ◌+◌, ◌-◌, ◌<◌, suc, zero, List, [], ◌∷◌, ◌++◌, Bool, true, false, cond, ◌&&◌, ◌==◌, drop, length, get_or, eqb→eq, refl, ap, sym, subst, T, ◌∙◌, arith}
-use Rattle.std.specs.Prelude.{◌≤◌, OnErr, OnOk, Result, Ok, Err, is_err, Option, Some, None, is_some, IsTrue, if◌then◌else◌}
+use Rattle.std.proofs.Common.{◌≡◌, ℕ, ◌-◌, ◌<◌, suc, zero, List, [], ◌∷◌, Bool, true, false, cond, ◌&&◌, ◌==◌, drop, length, get_or, eqb→eq, refl, ap, sym, subst, T, ◌∙◌, arith}
+use Rattle.std.specs.Prelude.{◌≤◌, OnErr, OnOk, Result, Ok, Err, is_err, Option, Some, None, is_some, if◌then◌else◌}
 use Rattle.std.specs.Cmp.Lexicographic.{slice_cmp}
 use Rattle.std.specs.FinMap as map
 use Rattle.std.specs.Ordering.{nat_cmp, is_eq}

@@ -1,11 +1,10 @@
 -- The definitions on an example.
-use Rattle.std.proofs.Common.{◌≡◌, ℕ, List, [], ◌∷◌, codes, refl, ◌∙◌}
-use Rattle.std.specs.Prelude.{Option, Some, None, option_map}
+use Rattle.std.proofs.Common.{◌≡◌, ℕ, List, [], ◌∷◌, codes, refl}
+use Rattle.std.specs.Prelude.{Option, Some, None}
 use Rattle.std.specs.FinMap as map
 use Rattle.std.proofs.lemmas.Cmp.{nat_list_cmp_total}
 use Rattle.doc_index.specs.declared.held.Held.{Held}
 use Rattle.doc_index.specs.Held.{count_in, entries_of, held, known_as, slot_at}
-use Rattle.doc_index.specs.Maps.{TextMap}
 use Rattle.doc_index.proofs.HeldSteps.{pairs_total}
 
 abbrev two_kiwis : List (List ℕ × ℕ)

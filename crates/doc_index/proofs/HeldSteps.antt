@@ -1,6 +1,6 @@
 -- What is held, found by the places.
-use Rattle.std.proofs.Common.{◌≡◌, ◌≢◌, ℕ, zero, suc, List, [], ◌∷◌, Bool, true, false, cond, ◌&&◌, get_or, refl, ap, sym, subst, ap₂, ◌∙◌}
-use Rattle.std.specs.Prelude.{Option, Some, None, option_map, is_some}
+use Rattle.std.proofs.Common.{◌≡◌, ◌≢◌, ℕ, zero, suc, List, [], ◌∷◌, Bool, true, false, cond, ◌&&◌, refl, ap, sym, ap₂, ◌∙◌}
+use Rattle.std.specs.Prelude.{Option, Some, None, option_map}
 use Rattle.std.specs.declared.cmp.Ordering.{Ordering}
 use Rattle.std.specs.declared.cmp.Ordering.TheVariants.{Less, Equal, Greater}
 use Rattle.std.specs.Cmp.{IsTotalOrder}
@@ -10,13 +10,11 @@ use Rattle.std.specs.Ordering.{nat_cmp, is_eq, eq_by_cmp, ordering_then}
 use Rattle.std.proofs.lemmas.Cmp.{nat_cmp_total, nat_list_cmp_total, on_total, then_total, tied_itself}
 use Rattle.std.proofs.lemmas.Map.Lookups.{CmpEqualImpliesEq, exact_bytes, exact_pairs, exact_unsigned}
 use Rattle.doc_index.specs.declared.held.Held.{Held}
-use Rattle.doc_index.specs.Held.{Known, count_in, entries_of, held, known, slot_at}
+use Rattle.doc_index.specs.Held.{Known, entries_of, held, known, slot_at}
 use Rattle.doc_index.specs.IndexSteps.{IsIndex}
-use Rattle.doc_index.specs.Maps.{TextMap, pair_cmp}
-use Rattle.doc_index.specs.TableSteps.{HasCounts, HasSame, LacksCounts, NumberTable, number_at, number_in, same_number, same_text, with_number, without_number}
-use Rattle.doc_index.proofs.CountSteps.{at_set, at_taken, number_is, number_itself, text_itself}
+use Rattle.doc_index.specs.Maps.{pair_cmp}
+use Rattle.doc_index.specs.TableSteps.{HasSame, NumberTable, number_at, number_in, same_number, same_text}
 use Rattle.doc_index.proofs.TableSteps.{equal_from}
-use Rattle.doc_index.proofs.TableSteps.{same_text as text_is}
 
 pub pairs_total : IsTotalOrder pair_cmp
 pairs_total = then_total (on_total (λ (p : List ℕ × ℕ). p.0) nat_list_cmp_total) (on_total (λ (p : List ℕ × ℕ). p.1) nat_cmp_total)

@@ -1,10 +1,10 @@
 -- An index after a page enters it, and after one leaves it.
 use Rattle.std.proofs.Common.{◌≡◌, ◌≢◌, ◌<◌, ◌≤◌, lt_of_le_of_lt, arith, ℕ, List, Bool, true, false, cond, ◌&&◌, refl, ap, ap₂, sym, subst, ◌∙◌, true≢false}
 use Rattle.std.specs.Borrow.{Bor}
-use Rattle.std.specs.Prelude.{IfSome, option_copied, Option, Some, None, option_map, is_some}
+use Rattle.std.specs.Prelude.{IfSome, option_copied, Option, Some, None, option_map}
 use Rattle.std.specs.FinMap as map
 use Rattle.doc_index.specs.declared.held.Held.{Held}
-use Rattle.doc_index.specs.Held.{AreApart, Known, count_in, held, known, slot_at}
+use Rattle.doc_index.specs.Held.{AreApart, count_in, held, known, slot_at}
 use Rattle.doc_index.specs.IndexSteps.{IsIndex}
 use Rattle.doc_index.specs.TableSteps.{HasCounts, LacksCounts, NumberTable, number_at, same_number, with_number, without_number}
 use Rattle.doc_index.proofs.CountSteps.{at_set, at_taken, number_is, number_itself}

@@ -12,7 +12,7 @@ use Rattle.std.specs.List.{AllByRecursion}
 use Rattle.std.specs.List.Sorted.{IsStrictlySortedBy}
 use Rattle.std.specs.Map.{keys_of, values_of}
 use Rattle.std.specs.String.{string_cmp}
-use Rattle.std.specs.Ordering.{eq_by_cmp, nat_cmp, ordering_then}
+use Rattle.std.specs.Ordering.{nat_cmp, ordering_then}
 use Rattle.std.proofs.lemmas.Cmp.{nat_cmp_total, nat_list_cmp_total, tied_itself}
 use Rattle.doc_page.proofs.Maps.{entries_in_order}
 use Rattle.doc_index.specs.declared.held.Held.{Held}
@@ -20,7 +20,7 @@ use Rattle.doc_index.specs.Held.{Known, entries_of, held, known, slot_at}
 use Rattle.doc_index.specs.IndexSteps.{IsIndex}
 use Rattle.doc_index.specs.Maps.{NumberMap, by_bytes, pair_cmp}
 use Rattle.doc_index.specs.TableSteps.{NumberTable, number_at, number_in, numbers_of, same_number, same_text}
-use Rattle.doc_index.proofs.HeldSteps.{both_same, held_at, known_at, pair_of, pairs_exact, pairs_total, same_pair}
+use Rattle.doc_index.proofs.HeldSteps.{both_same, held_at, known_at, pairs_exact, pairs_total, same_pair}
 use Rattle.doc_index.proofs.TableSteps.{same_text as text_is}
 
 to_less : (o : Ordering) → T (is_lt o) → o ≡ Less

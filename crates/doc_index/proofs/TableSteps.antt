@@ -1,13 +1,12 @@
 -- Maps by texts that a `BTreeMap` with `String` keys keeps.
-use Rattle.std.proofs.Common.{◌-◌, ◌≡◌, ◌≢◌, ℕ, List, [], ◌∷◌, Bool, true, false, cond, String, string_bytes, refl, ap, sym, ◌∙◌, not}
+use Rattle.std.proofs.Common.{◌-◌, ◌≡◌, ℕ, List, [], ◌∷◌, Bool, true, false, cond, String, string_bytes, refl, ap, sym, ◌∙◌}
 use Rattle.std.specs.Prelude.{Option, Some, None, IsTrue, is_some, Result, Ok, Err, OnOk, OnErr}
 use Rattle.std.specs.declared.cmp.Ordering.{Ordering}
 use Rattle.std.specs.declared.cmp.Ordering.TheVariants.{Less, Equal, Greater}
-use Rattle.std.specs.BTreeMap.{BTreeMap, UpdatesBy, is_at, get_by_text}
+use Rattle.std.specs.BTreeMap.{BTreeMap, UpdatesBy, is_at}
 use Rattle.std.specs.Map.{lookup}
 use Rattle.std.specs.Ordering.{nat_cmp, is_eq, eq_by_cmp}
 use Rattle.std.specs.String.{string_cmp}
-use Rattle.std.specs.Cmp.{eq_by_cmp_equiv}
 use Rattle.std.specs.Cmp.Lexicographic.{slice_cmp}
 use Rattle.std.specs.FinMap as map
 use Rattle.std.proofs.lemmas.Cmp.{nat_list_cmp_total, nat_cmp_total}
@@ -15,7 +14,7 @@ use Rattle.std.proofs.lemmas.Map.Lookups.{exact_bytes}
 use Rattle.std.proofs.lemmas.Map.Text.{btree_map_updates_text, is_eq-slice_cmp}
 use Rattle.doc_page.proofs.Maps.{inserted, looked_up, removed}
 use Rattle.doc_index.specs.Maps.{NumberMap, TextMap, by_bytes, text_map}
-use Rattle.doc_index.specs.TableSteps.{NumberTable, row_or_empty, left_in_row, with_number, without_number}
+use Rattle.doc_index.specs.TableSteps.{NumberTable, row_or_empty, left_in_row, with_number}
 
 looked_up_bytes : {A X : Type 0} (es : List (String A × X)) (text : List ℕ)
     → lookup (is_at (λ k. slice_cmp nat_cmp text (string_bytes k))) es ≡ lookup (is_at (slice_cmp nat_cmp text)) (by_bytes es)

@@ -18,13 +18,25 @@ use slab::Slab;
 use std::marker::Model;
 
 /// Pages, each held under a path and a stamp in a slot of its own. Contracts see the slots.
-#[derive(Drop)]
 pub struct Index<T> {
     heap: Heap,
     slots: Slab<Held<T>, Heap>,
     last: usize,
     places: Table,
     postings: Table,
+}
+
+/// Written out, so that it is proved here once: what a derived drop does is proved wherever a value is let go.
+impl<T: Drop> Drop for Index<T> {
+    fn drop(self) {
+        let Index {
+            heap: _,
+            slots: _,
+            last: _,
+            places: _,
+            postings: _,
+        } = self;
+    }
 }
 
 impl<T> Model for Index<T> {

@@ -30,10 +30,16 @@ use std::marker::Model;
 ///
 /// The queries answer for the pages that a sight sees. They take time for these pages and what they answer, and for the pages that
 /// are hidden only a look at their paths.
-#[derive(Drop)]
 pub struct LinkIndex {
     heap: Heap,
     pages: Index<Known>,
+}
+
+/// Written out, so that it is proved here once: what a derived drop does is proved wherever a value is let go.
+impl Drop for LinkIndex {
+    fn drop(self) {
+        let LinkIndex { heap: _, pages: _ } = self;
+    }
 }
 
 impl Model for LinkIndex {

@@ -13,11 +13,7 @@ pub mod journal;
 pub mod laws;
 pub mod memory;
 pub mod opening;
-#[cfg(test)]
-mod opening_tests;
 pub mod reading;
 pub mod record;
 mod repair;
-#[cfg(test)]
-mod tests;
 pub mod writing;

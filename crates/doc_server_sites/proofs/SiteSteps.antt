@@ -1,6 +1,6 @@
 -- Pages that are put one after the other.
-use Rattle.std.proofs.Common.{◌≡◌, List, ℕ, ◌∷◌, [], true, cond, ap, refl, sym, ◌∙◌}
-use Rattle.std.specs.Prelude.{Some, None, Option, Result, Ok, Err}
+use Rattle.std.proofs.Common.{◌≡◌, List, ℕ, true, cond, ap, refl, sym, ◌∙◌}
+use Rattle.std.specs.Prelude.{None, Result, Ok, Err}
 use Rattle.std.specs.Option.{ok_or}
 use Rattle.doc_page.specs.Refusals.{IsAnswer}
 use Rattle.doc_store.specs.declared.store.EditError.{EditError}

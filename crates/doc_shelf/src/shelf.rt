@@ -50,13 +50,25 @@ pub struct Saying<'a> {
 ///
 /// A call that is refused leaves the store as it was. Documents that were made for readers are kept, and nothing that a call answers
 /// depends on which. A shelf keeps the heap that it was made with.
-#[derive(Drop)]
 pub struct Shelf<R: Renderer + Drop> {
     heap: Heap,
     renderer: R,
     store: Store,
     kept: KeptPages,
     cache: PageCache,
+}
+
+/// Written out, so that it is proved here once: what a derived drop does is proved wherever a value is let go.
+impl<R: Renderer + Drop> Drop for Shelf<R> {
+    fn drop(self) {
+        let Shelf {
+            heap: _,
+            renderer: _,
+            store: _,
+            kept: _,
+            cache: _,
+        } = self;
+    }
 }
 
 impl<R: Renderer + Drop> Model for Shelf<R> {

@@ -15,11 +15,21 @@ use std::marker::Model;
 
 /// What is kept of pages, each under its path and a stamp: its links and headings, its words, and its rendering, of which the texts
 /// are dropped. Contracts see the three maps.
-#[derive(Drop)]
 pub struct KeptPages {
     links: LinkIndex,
     words: WordIndex,
     renderings: Renderings,
+}
+
+/// Written out, so that it is proved here once: what a derived drop does is proved wherever a value is let go.
+impl Drop for KeptPages {
+    fn drop(self) {
+        let KeptPages {
+            links: _,
+            words: _,
+            renderings: _,
+        } = self;
+    }
 }
 
 impl Model for KeptPages {

@@ -7,7 +7,7 @@ use Rattle.std.proofs.lemmas.Bool.{both_ways}
 use Rattle.std.proofs.lemmas.List.Sums.{length-filter, sum_by-cons}
 use Rattle.doc_index.specs.Maps.{TextMap}
 use Rattle.doc_page.specs.Sights.{leads_to_itself, seen}
-use Rattle.doc_words.specs.Searches.{holders, holds_all, ranked, search}
+use Rattle.doc_words.specs.Searches.{holds_all, search}
 use Rattle.doc_words.specs.SearchSteps.{Agree, AgreeEach, AgreeFor, has_word, hits_by, rarity_in, score_by, search_by, weight_by}
 use Rattle.doc_words.specs.Words.{capped}
 use Rattle.doc_words.specs.declared.hit.Hit.{Hit}

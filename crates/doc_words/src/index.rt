@@ -22,10 +22,16 @@ use doc_page::sight::Sight;
 use std::marker::Model;
 
 /// Pages, each held under a path and a stamp with the counts of its words. Contracts see the map.
-#[derive(Drop)]
 pub struct WordIndex {
     heap: Heap,
     pages: Index<()>,
+}
+
+/// Written out, so that it is proved here once: what a derived drop does is proved wherever a value is let go.
+impl Drop for WordIndex {
+    fn drop(self) {
+        let WordIndex { heap: _, pages: _ } = self;
+    }
 }
 
 impl Model for WordIndex {

@@ -72,9 +72,7 @@ fn listen_with<
 ) -> Result<u8, ListenFault> {
     let heap = heap(rt.alloc(), u64::MAX)?;
     let mut hub = site_hub(heap, renderer, pages.config, pages.texts.get())?;
-    let ended = listen_on(rt, heap, &mut hub, &bounds, command);
-    hub.discard();
-    ended
+    listen_on(rt, heap, &mut hub, &bounds, command)
 }
 
 /// Serves a hub that has the pages of the configuration, with the journal that the arguments name, if they do.

@@ -63,18 +63,13 @@ impl<R: Renderer + Drop> Served<R> {
         file: &[u8],
     ) -> Option<Served<R>> {
         let mut hub = hub;
-        match parts_of(rt, heap, &mut hub, bounds, file) {
-            Some((server, keeping)) => Some(Served {
-                server,
-                keeping,
-                hub,
-                fault: None,
-            }),
-            None => {
-                hub.discard();
-                None
-            }
-        }
+        let (server, keeping) = parts_of(rt, heap, &mut hub, bounds, file)?;
+        Some(Served {
+            server,
+            keeping,
+            hub,
+            fault: None,
+        })
     }
 
     /// The address that it listens at.

@@ -1,5 +1,4 @@
-use Rattle.std.proofs.Common.{ap, sym}
-use Rattle.std.specs.Prelude.{map as mapped}
+use Rattle.std.proofs.Common.{sym}
 use Rattle.doc_words.specs.Held.{words_held}
 use Rattle.doc_words.specs.Searches.{pages_of}
 use Rattle.doc_words.specs.SearchSteps.{pages_at}

@@ -1,4 +1,4 @@
-use Rattle.std.proofs.Common.{◌≡◌, ◌+◌, length, take}
+use Rattle.std.proofs.Common.{◌≡◌, length, take}
 use Rattle.doc_words.specs.SearchSteps.{AreMarked, MarksWords}
 use Rattle.doc_words.proofs.marking.slots_with.Given as goal
 

@@ -1,4 +1,4 @@
-use Rattle.std.proofs.Common.{refl, ap, sym, subst, ◌∙◌}
+use Rattle.std.proofs.Common.{ap, sym, subst, ◌∙◌}
 use Rattle.std.specs.FinMap as map
 use Rattle.slab.specs.Slab.{Slab}
 use Rattle.doc_index.specs.declared.held.Held.{Held}

@@ -1,4 +1,4 @@
-use Rattle.std.proofs.Common.{◌≡◌, ◌≤◌, length}
+use Rattle.std.proofs.Common.{◌≤◌, length}
 use Rattle.doc_server_poll.proofs.peers.Peers.turn.Given as goal
 
 abbrev pub invariant-places : goal.invariant-places

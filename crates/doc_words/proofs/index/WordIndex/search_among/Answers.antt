@@ -1,7 +1,6 @@
-use Rattle.std.proofs.Common.{ap, subst, sym, ◌∙◌}
+use Rattle.std.proofs.Common.{ap, subst, ◌∙◌}
 use Rattle.doc_page.specs.Sights.{seen}
-use Rattle.doc_words.specs.Held.{words_held}
-use Rattle.doc_words.specs.Searches.{pages_of, search}
+use Rattle.doc_words.specs.Searches.{pages_of}
 use Rattle.doc_words.specs.SearchSteps.{AgreeFor, pages_at, search_by}
 use Rattle.doc_words.proofs.AgreeSteps.{agree_for_seen, same_search}
 use Rattle.doc_words.proofs.SearchSteps.{seen_pages, told}
