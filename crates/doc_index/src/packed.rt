@@ -53,7 +53,7 @@ impl Packed {
     {
         Ok(Packed {
             texts: String::from_str(heap, self.texts.as_str())?,
-            ends: copy_of_ends(heap, &self.ends)?,
+            ends: Vec::from_slice(heap, &self.ends)?,
         })
     }
 
@@ -109,14 +109,4 @@ fn push(
 {
     texts.push_str(text)?;
     Ok(ends.push((texts.as_str().len(), number))?)
-}
-
-fn copy_of_ends(heap: Heap, ends: &[(usize, u64)]) -> Result<Vec<(usize, u64)>, Memory>
-    ensures { IfOk result (λ copy. copy.items ≡ ends.now) }
-{
-    let mut copy = Vec::with_capacity(heap, ends.len())?;
-    for end in ends {
-        copy.push(*end)?;
-    }
-    Ok(copy)
 }

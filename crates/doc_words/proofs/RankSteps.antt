@@ -1,5 +1,5 @@
 -- Hits in their order, whatever order they came in.
-use Rattle.std.proofs.Common.{◌≡◌, ℕ, suc, zero, ◌+◌, List, [], ◌∷◌, ◌++◌, take, Bool, true, false, cond, if◌then◌else◌, arith}
+use Rattle.std.proofs.Common.{◌≡◌, ℕ, suc, zero, ◌+◌, ◌<◌, ◌≤◌, List, [], ◌∷◌, ◌++◌, length, take, Bool, true, false, cond, if◌then◌else◌, arith}
 use Rattle.std.proofs.Common.{refl, ap, ap₂, sym, subst, ◌∙◌, Ordering, Less, Equal, Greater, is_eq, is_lt, nat_cmp, sum_by, zero-le}
 use Rattle.std.specs.Prelude.{map as mapped, slice_index_or}
 use Rattle.std.specs.Cmp.{IsTotalOrder}
@@ -8,6 +8,8 @@ use Rattle.std.specs.FinMap.{nat_cmp-IsAntisymmetric, slice_cmp-IsAntisymmetric}
 use Rattle.std.specs.List.Sorted.{IsPermutation, IsSortedBy}
 use Rattle.std.specs.Ordering.{ordering_reverse, ordering_then}
 use Rattle.std.proofs.lemmas.Cmp.{nat_cmp_total, nat_list_cmp_total, on_total, then_total, back_total, tied_itself}
+use Rattle.std.proofs.Math.Seq.{take-append_seam}
+use Rattle.std.proofs.lemmas.List.{length-map, map-append, take_all}
 use Rattle.std.proofs.lemmas.List.Sorted.{sum_by-IsPermutation}
 use Rattle.std.proofs.lemmas.List.Sums.{sum_by-append, sum_by-cons}
 use Rattle.doc_index.proofs.TableSteps.{equal_from}
@@ -141,6 +143,70 @@ same_ranked (x ∷ xs) ys same =
         = sum_by-append f found.front found.back in
         omega arith
 
+-- none of these comes before a hit
+abbrev NoneBefore : Hit → List Hit → Type 0
+NoneBefore h [] = Unit {0}
+NoneBefore h (y ∷ ys) = (before y h ≡ false) × NoneBefore h ys
+
+-- nor before any of these
+abbrev Apart : List Hit → List Hit → Type 0
+Apart [] back = Unit {0}
+Apart (x ∷ front) back = NoneBefore x back × Apart front back
+
+none_placed : (h y : Hit) (ys : List Hit) → before y h ≡ false → NoneBefore h ys → NoneBefore h (placed y ys)
+none_placed h y [] e none = (e, tt)
+none_placed h y (z ∷ ys) e none = by (none_placed h y ys e none.1) (before z y) refl
+  where
+    by : NoneBefore h (placed y ys) → (b : Bool) → before z y ≡ b → NoneBefore h (placed y (z ∷ ys))
+    by ih true p = subst (NoneBefore h) (sym (goes_behind y z ys p)) (none.0, ih)
+    by ih false p = subst (NoneBefore h) (sym (goes_first y z ys p)) (e, none)
+
+none_ranked : (h : Hit) (ys : List Hit) → NoneBefore h ys → NoneBefore h (ranked ys)
+none_ranked h [] none = tt
+none_ranked h (y ∷ ys) none = none_placed h y (ranked ys) none.0 (none_ranked h ys none.1)
+
+placed_in_front : (h : Hit) (front back : List Hit) → NoneBefore h back → placed h (front ++ back) ≡ placed h front ++ back
+placed_in_front h [] [] none = refl
+placed_in_front h [] (b ∷ back) none = goes_first h b back none.0
+placed_in_front h (a ∷ front) back none = by (placed_in_front h front back none) (before a h) refl
+  where
+    by : placed h (front ++ back) ≡ placed h front ++ back → (b : Bool) → before a h ≡ b
+        → placed h (a ∷ front ++ back) ≡ placed h (a ∷ front) ++ back
+    by ih true p =
+        goes_behind h a (front ++ back) p ∙ ap (λ hs. a ∷ hs) ih ∙ sym (ap (λ hs. hs ++ back) (goes_behind h a front p))
+    by ih false p = goes_first h a (front ++ back) p ∙ sym (ap (λ hs. hs ++ back) (goes_first h a front p))
+
+-- those that come first may be put in their order alone
+ranked_apart : (front back : List Hit) → Apart front back → ranked (front ++ back) ≡ ranked front ++ ranked back
+ranked_apart [] back apart = refl
+ranked_apart (x ∷ front) back apart =
+    ap (placed x) (ranked_apart front back apart.1)
+    ∙ placed_in_front x (ranked front) (ranked back) (none_ranked x back apart.0)
+
+length_placed : (h : Hit) (hits : List Hit) → length (placed h hits) ≡ suc (length hits)
+length_placed h [] = refl
+length_placed h (z ∷ hits) = by (length_placed h hits) (before z h) refl
+  where
+    by : length (placed h hits) ≡ suc (length hits) → (b : Bool) → before z h ≡ b → length (placed h (z ∷ hits)) ≡ suc (length (z ∷ hits))
+    by ih true p = ap length (goes_behind h z hits p) ∙ ap suc ih
+    by ih false p = ap length (goes_first h z hits p)
+
+length_ranked : (hits : List Hit) → length (ranked hits) ≡ length hits
+length_ranked [] = refl
+length_ranked (h ∷ hits) = length_placed h (ranked hits) ∙ ap suc (length_ranked hits)
+
+not_between : (b x a : Hit) → before b x ≡ false → before x a ≡ false → before b a ≡ false
+not_between b x a p q = by (before b a) refl (rank_cmp x a) refl
+  where
+    by : (t : Bool) → before b a ≡ t → (o : Ordering) → rank_cmp x a ≡ o → before b a ≡ false
+    by false r o e = r
+    by true r Less e = let s : before x a ≡ true = ap is_lt e in cc
+    by true r Equal e = subst (λ y. before b y ≡ false) (rank_exact x a e) p
+    by true r Greater e =
+        let s : before a x ≡ true = ap is_lt (rank_total.antisymm a x ∙ ap ordering_reverse e) in
+        let t : before b x ≡ true = trans_before b a x r s in
+        cc
+
 later : (k : ℕ) → suc k + 1 ≡ suc (k + 1)
 later k = omega arith
 
@@ -173,3 +239,39 @@ module _ {X : Type 0} (f : X → Hit) where
   first_mapped zero xs = refl
   first_mapped (suc n) [] = refl
   first_mapped (suc n) (x ∷ xs) = ap (λ hs. f x ∷ hs) (first_mapped n xs)
+
+  none_from : (a : Hit) (x : X) (back : List X) → before (f x) a ≡ false
+      → ((k : ℕ) (d : X) → k < length back → before (f (slice_index_or back k d)) (f x) ≡ false) → NoneBefore a (mapped f back)
+  none_from a x [] e later = tt
+  none_from a x (b ∷ back) e later =
+      (not_between (f b) (f x) a (later 0 b (omega arith)) e, none_from a x back e (λ k d low. later (suc k) d (omega arith)))
+
+  apart_from : (front : List X) (x : X) (back : List X)
+      → ((k : ℕ) (d : X) → k < length front → before (f x) (f (slice_index_or front k d)) ≡ false)
+      → ((k : ℕ) (d : X) → k < length back → before (f (slice_index_or back k d)) (f x) ≡ false)
+      → Apart (mapped f front) (mapped f (x ∷ back))
+  apart_from [] x back first later = tt
+  apart_from (a ∷ front) x back first later = (
+    (first 0 a (omega arith), none_from (f a) x back (first 0 a (omega arith)) later),
+    apart_from front x back (λ k d low. first (suc k) d (omega arith)) later,
+  )
+
+  -- of a list that was split at a place the front holds those that come first
+  pub front_is : (old front : List X) (x : X) (back : List X) (n : ℕ) → IsPermutation old (front ++ x ∷ back) → length front ≡ n
+      → ((k : ℕ) (d : X) → k < length front → before (f x) (f (slice_index_or front k d)) ≡ false)
+      → ((k : ℕ) (d : X) → k < length back → before (f (slice_index_or back k d)) (f x) ≡ false)
+      → ranked (mapped f front) ≡ take n (ranked (mapped f old))
+  front_is old front x back n same len first later =
+      sym (take-append_seam (ranked (mapped f front)) (ranked (mapped f (x ∷ back))))
+      ∙ ap₂ take (length_ranked (mapped f front) ∙ length-map front f ∙ len)
+      (sym (ranked_apart (mapped f front) (mapped f (x ∷ back)) (apart_from front x back first later))
+      ∙ ap ranked (sym (map-append f front (x ∷ back)))
+      ∙ same_ranked (mapped f (front ++ x ∷ back)) (mapped f old) (record {
+        sums = λ g. sum_mapped g (front ++ x ∷ back)
+            ∙ sum_by-IsPermutation (λ x. g (f x)) old (front ++ x ∷ back) same ∙ sym (sum_mapped g old);
+      }))
+
+  -- of a short list all are
+  pub all_first : (xs : List X) (n : ℕ) → length xs ≤ n → ranked (mapped f xs) ≡ take n (ranked (mapped f xs))
+  all_first xs n short =
+      sym (take_all n (ranked (mapped f xs)) (subst (λ k. k ≤ n) (sym (length_ranked (mapped f xs) ∙ length-map xs f)) short))

@@ -136,21 +136,24 @@ fn push_found<'a>(
     })?)
 }
 
-/// The first of these hits, in their order.
+/// The first of these hits, in their order. Only those that are answered are sorted.
 fn best(heap: Heap, found: Vec<Found<'_>>) -> Result<List<Hit>, Memory>
     ensures { IfOk result (λ hits. hits ≡ take 100 (ranked (mapped hit_of found.entry.items))) }
 {
-    let found = first(found);
-    copied(heap, &found)
+    let mut found = found;
+    if found.len() <= MOST {
+        return in_order(heap, &mut found);
+    }
+    let (first, _next, _rest) = found.select_nth_unstable(MOST);
+    in_order(heap, first)
 }
 
-fn first(found: Vec<Found<'_>>) -> Vec<Found<'_>>
-    ensures { mapped hit_of result.items ≡ take 100 (ranked (mapped hit_of found.entry.items)) }
+/// These hits, in their order.
+fn in_order(heap: Heap, found: &mut [Found<'_>]) -> Result<List<Hit>, Memory>
+    ensures { IfOk result (λ hits. hits ≡ ranked (mapped hit_of found.old)) }
 {
-    let mut found = found;
     found.sort_unstable();
-    found.truncate(MOST);
-    found
+    copied(heap, found)
 }
 
 fn copied(heap: Heap, found: &[Found<'_>]) -> Result<List<Hit>, Memory>
