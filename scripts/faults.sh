@@ -63,6 +63,10 @@ site("twice.toml", page("a.md", "whole.md"), "twice")
 site("table_and_page.toml", page("a.md", "absent"), "bad_row")
 site("long.toml", page("a.md", "long.md"))
 site("table_and_long.toml", page("a.md", "long.md"), "bad_row")
+most = "".join(page(f"{number}.md", "plain.md") for number in range(10_000))
+site("most.toml", most)
+site("most_and_again.toml", most + page("0.md", "whole.md"))
+site("too_many.toml", most + page("a.md", "plain.md"))
 
 
 # ---- one call
@@ -156,6 +160,11 @@ for command, rest in commands.items():
     for name in ("bad_row", "twice", "table_and_long"):
         stops([command, name + ".toml", *rest], "bad table", stdin=b"\xff", stdout="/dev/full")
     stops([command, "long.toml", *rest], "refused", stdin=b"\xff", stdout="/dev/full")
+    stops([command, "too_many.toml", *rest], "refused", stdin=b"\xff", stdout="/dev/full")
+stops(["check", "too_many.toml", "tok-x"], "refused")
+ends(["check", "most.toml", "tok"], 0, b"")
+ends(["check", "most_and_again.toml", "tok"], 1, b"0.md\t1\tpage\tabsent.md\n")
+ends(["replay", "most.toml"], 0, b"conn 1\n", stdin=b"connect\n")
 stops(["check", "absent.toml", "tok-x"], "cannot read absent")
 stops(["check", "bad_row.toml", "tok-x"], "bad table")
 stops(["check", "long.toml", "tok-x"], "refused")
