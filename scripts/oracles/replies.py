@@ -36,7 +36,7 @@ class Page:
 
     def __init__(self, groups, text):
         self.groups, self.aliases = groups, set()
-        self.texts, self.headings, self.links, self.pieces = [], [], [], []
+        self.texts, self.headings, self.links, self.pieces, self.anchors = [], [], [], [], set()
         for block in text.strip("\n").split("\n\n"):
             level, words = re.fullmatch(r"(#{0,6}) ?(.*)", block).groups()
             parts = re.split(r"\[([^]]*)\]\(([^)]*)\)", words)
@@ -45,6 +45,7 @@ class Page:
             if level:
                 anchor = anchor_of(plain, [heading[1] for heading in self.headings])
                 self.headings.append((len(level), anchor, plain))
+                self.anchors.add(anchor)
                 opening = f'{tag} id="{escaped(anchor)}"'
             if block:
                 self.texts.append(plain)
