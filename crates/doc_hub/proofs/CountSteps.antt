@@ -16,9 +16,10 @@ use Rattle.doc_store.specs.declared.store.EditError.{EditError}
 use Rattle.doc_store.specs.declared.store.EditError.TheVariants as edit_errors
 use Rattle.doc_store.specs.declared.store.Put.{Put}
 use Rattle.doc_store.proofs.StoreSteps.{taken_out}
-use Rattle.doc_hub.specs.Counts.{Counted, CountsFor, RendersPuts, moves_by, moves_in, ran_out}
+use Rattle.doc_hub.specs.Counts.{Counted, CountsFor, moves_by, moves_in, ran_out}
+use Rattle.doc_hub_replies.specs.Counts.{RendersPuts}
 use Rattle.doc_hub.specs.Events.{Said, connecting, moving, outcome_of, pushing, putting, setting}
-use Rattle.doc_hub.specs.Replies.{Renders}
+use Rattle.doc_hub_replies.specs.Replies.{Renders}
 use Rattle.doc_hub.specs.Runs.{Happens}
 use Rattle.doc_hub.specs.Worlds.{World, connected, last_id, store_of, with_store, world_pushed, world_reader_set}
 use Rattle.doc_hub.specs.declared.event.ConnId.{ConnId}

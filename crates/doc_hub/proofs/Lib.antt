@@ -1,5 +1,3 @@
-mod AnswerEdits
-mod AnswerSteps
 mod ConnectionSteps
 mod CountSteps
 mod CutLaws
@@ -11,12 +9,9 @@ mod MadeLaws
 mod MadeSites
 mod NextLaws
 mod NumberSteps
-mod OwnerSteps
 mod PushLaws
 mod PutCounts
-mod PutSteps
 mod ReachedLaws
-mod ReadingSteps
 mod ReplyExamples
 mod RunLaws
 mod RunSteps

@@ -26,7 +26,7 @@ use Rattle.doc_hub.specs.Connections.{Connections, backlog_limit, new_connection
 use Rattle.doc_hub.specs.Events.{putting, moving, connecting, pushing}
 use Rattle.doc_hub.specs.FreshLaws.{only_reader}
 use Rattle.doc_hub.specs.MadeLaws.{FreshIsMade, IsMaking, makings}
-use Rattle.doc_hub.specs.Replies.{Renders}
+use Rattle.doc_hub_replies.specs.Replies.{Renders}
 use Rattle.doc_hub.specs.Runs.{Happened, Leaves, Runs, nothing}
 use Rattle.doc_hub.specs.StepLaws.{open_with}
 use Rattle.doc_hub.specs.Worlds.{World, last_id, new_world, store_of, with_store}

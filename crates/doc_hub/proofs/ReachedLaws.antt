@@ -21,11 +21,11 @@ use Rattle.doc_http.specs.Bearers.{bearer_of}
 use Rattle.doc_http.specs.declared.request.Next.{Next}
 use Rattle.doc_http.specs.declared.request.Next.TheVariants as nexts
 use Rattle.doc_hub.specs.Connections.{Connections, backlog_limit, finished, new_connection, pushed_at, with_pushed}
-use Rattle.doc_hub.specs.Edits.{CanBeMade, store_after}
+use Rattle.doc_hub_replies.specs.Edits.{CanBeMade, store_after}
 use Rattle.doc_hub.specs.Events.{Said}
 use Rattle.doc_hub.specs.FreshLaws.{SendsAsFreshAlways}
 use Rattle.doc_hub.specs.MadeLaws.{IsWithin, MadeReplies, SendsAsMade, makings}
-use Rattle.doc_hub.specs.Replies.{Renders}
+use Rattle.doc_hub_replies.specs.Replies.{Renders}
 use Rattle.doc_hub.specs.Runs.{Happens, Happened, Runs, nothing, first}
 use Rattle.doc_hub.specs.StepLaws.{open_with, site_seen}
 use Rattle.doc_hub.specs.Worlds.{World, Answers, Stays, StepsAt, answer_in, connected, disconnected, last_id, new_world, reader_of}
@@ -42,9 +42,9 @@ use Rattle.doc_hub.specs.declared.refusal.PushError.{PushError}
 use Rattle.doc_hub.specs.declared.refusal.PushError.TheVariants as push_errors
 use Rattle.doc_hub.specs.declared.refusal.StepError.{StepError}
 use Rattle.doc_hub.specs.declared.refusal.StepError.TheVariants as step_errors
-use Rattle.doc_hub.specs.declared.response.Edit.{Edit}
-use Rattle.doc_hub.specs.declared.response.Edit.TheVariants as edits
-use Rattle.doc_hub.proofs.AnswerEdits.{answer_can_be_made}
+use Rattle.doc_hub_replies.specs.declared.response.Edit.{Edit}
+use Rattle.doc_hub_replies.specs.declared.response.Edit.TheVariants as edits
+use Rattle.doc_hub_replies.proofs.AnswerEdits.{answer_can_be_made}
 use Rattle.doc_hub.proofs.FreshLaws.{new_replies_as_fresh}
 use Rattle.doc_hub.proofs.MadeLaws.{fresh_is_made}
 use Rattle.doc_hub.proofs.StoredSteps.{Stored, cut_within, move_stored, nothing_stored, put_stored, remove_stored}

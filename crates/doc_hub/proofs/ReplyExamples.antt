@@ -31,20 +31,20 @@ use Rattle.doc_resolve.specs.WrittenPaths.{path_written as target_path_written}
 use Rattle.doc_links.specs.Links.{backlinks, broken, contents}
 use Rattle.doc_listings.specs.Listings.{backlinks_text, entry_lines, heading_line, report_text}
 use Rattle.doc_hub.specs.Connections.{pushed_onto, finished, backlog_limit}
-use Rattle.doc_hub.specs.Edits.{puts_left}
-use Rattle.doc_hub.specs.Replies.{Renders, answer_of, fault_bytes}
+use Rattle.doc_hub_replies.specs.Edits.{puts_left}
+use Rattle.doc_hub_replies.specs.Replies.{Renders, answer_of, fault_bytes}
 use Rattle.doc_hub.specs.StepEdits.{edit_of_step, told_edit}
 use Rattle.doc_hub.specs.Worlds.{World, reader_of}
 use Rattle.doc_http_targets.specs.Queries.{value_of}
 use Rattle.doc_http_targets.specs.Targets.{origin_form, route_of}
 use Rattle.doc_http_targets.specs.WrittenPaths.{path_written}
-use Rattle.doc_hub.specs.declared.answer.Answer.{Answer}
+use Rattle.doc_hub_replies.specs.declared.answer.Answer.{Answer}
 use Rattle.doc_hub.specs.declared.connection.Connection.{Connection}
 use Rattle.doc_hub.specs.declared.edited.Edited.{Edited}
 use Rattle.doc_hub.specs.declared.edited.Edited.TheVariants.{Put, Removed}
 use Rattle.doc_hub.specs.declared.refusal.PushError.TheVariants.{Closed}
-use Rattle.doc_hub.specs.declared.response.Edit.{Edit}
-use Rattle.doc_hub.specs.declared.response.Edit.TheVariants as edits
+use Rattle.doc_hub_replies.specs.declared.response.Edit.{Edit}
+use Rattle.doc_hub_replies.specs.declared.response.Edit.TheVariants as edits
 
 -- one name to unfold where an example computes
 unfoldable computing : Unit {0}

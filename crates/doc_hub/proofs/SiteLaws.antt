@@ -16,9 +16,9 @@ use Rattle.doc_http.specs.Requests.{IsNext}
 use Rattle.doc_http.specs.declared.request.Next.{Next}
 use Rattle.doc_http.specs.declared.request.Next.TheVariants as nexts
 use Rattle.doc_hub.specs.EditLaws.{SiteIsOfEdits, Makes, StepMakes, edit_by, removed_if, site_after, site_after_all, site_edit}
-use Rattle.doc_hub.specs.Edits.{CanBeMade, store_after}
+use Rattle.doc_hub_replies.specs.Edits.{CanBeMade, store_after}
 use Rattle.doc_hub.specs.Events.{Said, moving, outcome_of, putting, stepping}
-use Rattle.doc_hub.specs.Replies.{Renders}
+use Rattle.doc_hub_replies.specs.Replies.{Renders}
 use Rattle.doc_hub.specs.Runs.{Happens, Leaves, nothing, first}
 use Rattle.doc_hub.specs.Worlds.{World, Answers, Stays, StepsAt, answer_in, connected, last_id, reader_of, stepped_by, store_of}
 use Rattle.doc_hub.specs.Worlds.{world_moved, world_pushed, world_put, world_reader_set}
@@ -34,9 +34,9 @@ use Rattle.doc_hub.specs.declared.refusal.ConnectError.TheVariants as connect_er
 use Rattle.doc_hub.specs.declared.refusal.PushError.TheVariants as push_errors
 use Rattle.doc_hub.specs.declared.refusal.StepError.{StepError}
 use Rattle.doc_hub.specs.declared.refusal.StepError.TheVariants as step_errors
-use Rattle.doc_hub.specs.declared.response.Edit.{Edit}
-use Rattle.doc_hub.specs.declared.response.Edit.TheVariants as edits
-use Rattle.doc_hub.proofs.AnswerEdits.{answer_can_be_made}
+use Rattle.doc_hub_replies.specs.declared.response.Edit.{Edit}
+use Rattle.doc_hub_replies.specs.declared.response.Edit.TheVariants as edits
+use Rattle.doc_hub_replies.proofs.AnswerEdits.{answer_can_be_made}
 
 err_ok : {X E : Type 0} (e : E) (x : X) → ◌≡◌ {A = Result X E} (Err e) (Ok x) → ⊥
 err_ok e x is = cc

@@ -12,15 +12,15 @@ use Rattle.doc_http.proofs.LawLemmas.{read_in_one_way}
 use Rattle.doc_http.specs.Replies.{reply_bytes}
 use Rattle.doc_http_targets.specs.Targets.{Route, route_of}
 use Rattle.doc_http_targets.specs.Targets as routes
-use Rattle.doc_hub.specs.declared.answer.Answer.{Answer}
+use Rattle.doc_hub_replies.specs.declared.answer.Answer.{Answer}
 use Rattle.doc_hub.specs.declared.connection.Connection.{Connection}
 use Rattle.doc_hub.specs.declared.event.Step.{Step}
-use Rattle.doc_hub.specs.declared.method.Method.{Method}
-use Rattle.doc_hub.specs.declared.method.Method.TheVariants.{Get, Head, Put, Delete, Other}
+use Rattle.doc_hub_replies.specs.declared.method.Method.{Method}
+use Rattle.doc_hub_replies.specs.declared.method.Method.TheVariants.{Get, Head, Put, Delete, Other}
 use Rattle.doc_hub.specs.declared.refusal.StepError.{StepError}
-use Rattle.doc_hub.specs.Edits.{puts_left}
-use Rattle.doc_hub.specs.Replies.{Renders, Response, answer_of, at_route, edit_at, edit_page, method_of, on_route, only_reply, put_by}
-use Rattle.doc_hub.specs.Replies.{reads, refused, reply_at, response_to}
+use Rattle.doc_hub_replies.specs.Edits.{puts_left}
+use Rattle.doc_hub_replies.specs.Replies.{Renders, Response, answer_of, at_route, edit_at, edit_page, method_of, on_route, only_reply, put_by}
+use Rattle.doc_hub_replies.specs.Replies.{reads, refused, reply_at, response_to}
 use Rattle.doc_hub.specs.StepLaws.{AgreeOn, AnswersAlike, StepsAlike, connection, is_owners_put, open_with}
 use Rattle.doc_hub.specs.Worlds.{World, Steps, StepsAt, reader_of, stepped_by, step_said}
 

@@ -1,5 +1,6 @@
 -- How often texts are rendered: once for each put that is accepted, and for nothing else, where memory suffices.
 use Rattle.std.specs.Prelude.{◌≡◌, ℕ, ◌+◌, List, [], ◌∷◌, Bool, true, false}
+use Rattle.doc_hub_replies.specs.Counts.{RendersPuts}
 use Rattle.doc_shelf.specs.Shelves.{rendered_for}
 use Rattle.doc_store.specs.Store.{fits_in}
 use Rattle.doc_hub.specs.Events.{Said, stepping}
@@ -9,11 +10,6 @@ use Rattle.doc_hub.specs.declared.event.Event.TheVariants as events
 use Rattle.doc_hub.specs.declared.outcome.Outcome.{Outcome}
 use Rattle.doc_hub.specs.declared.outcome.Outcome.TheVariants as outcomes
 use Rattle.doc_hub.specs.declared.refusal.Refusal.TheVariants as refusals
-
--- Between two counts of renderings and two counts of accepted puts and moves, so many of them moves: as many texts were rendered as puts
--- were accepted.
-abbrev pub RendersPuts : ℕ → ℕ → ℕ → ℕ → ℕ → Type 0
-RendersPuts rendered accepted rendered' accepted' moves = rendered' + moves + accepted ≡ rendered + accepted'
 
 -- how many moves an outcome tells
 abbrev pub moves_by : Outcome → ℕ

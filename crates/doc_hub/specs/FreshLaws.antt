@@ -15,8 +15,8 @@ use Rattle.doc_hub.specs.declared.event.Step.{Step}
 use Rattle.doc_hub.specs.declared.outcome.Outcome.TheVariants as outcomes
 use Rattle.doc_hub.specs.declared.refusal.StepError.{StepError}
 use Rattle.doc_hub.specs.declared.refusal.StepError.TheVariants as step_errors
-use Rattle.doc_hub.specs.Edits.{puts_left}
-use Rattle.doc_hub.specs.Replies.{Renders}
+use Rattle.doc_hub_replies.specs.Edits.{puts_left}
+use Rattle.doc_hub_replies.specs.Replies.{Renders}
 use Rattle.doc_hub.specs.Runs.{Happens, Happened, Runs}
 use Rattle.doc_hub.specs.StepLaws.{connection, is_owners_put, open_with, site_seen}
 use Rattle.doc_hub.specs.Worlds.{World, new_world, reader_of}

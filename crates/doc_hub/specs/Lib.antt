@@ -1,14 +1,11 @@
-pub mod AnswerSteps
 pub mod ConnectionLaws
 pub mod Connections
 pub mod Counts
 pub mod CutLaws
 pub mod EditLaws
-pub mod Edits
 pub mod Events
 pub mod FreshLaws
 pub mod MadeLaws
-pub mod Replies
 pub mod RunLaws
 pub mod Runs
 pub mod StepEdits

@@ -10,9 +10,9 @@ use Rattle.doc_http.specs.Bearers.{bearer_of}
 use Rattle.doc_http.specs.declared.request.Request.{Request}
 use Rattle.doc_http.specs.declared.request.Next.TheVariants as nexts
 use Rattle.doc_hub.specs.Connections.{backlog_limit}
-use Rattle.doc_hub.specs.Edits.{puts_left}
+use Rattle.doc_hub_replies.specs.Edits.{puts_left}
 use Rattle.doc_hub.specs.FreshLaws.{IsAnswered, StepSays, first_connection, fresh, fresh_for, only_reader}
-use Rattle.doc_hub.specs.Replies.{Renders}
+use Rattle.doc_hub_replies.specs.Replies.{Renders}
 use Rattle.doc_hub.specs.Runs.{Happened, Runs}
 use Rattle.doc_hub.specs.StepLaws.{site_seen}
 use Rattle.doc_hub.specs.Worlds.{World, new_world, reader_of}

@@ -14,7 +14,8 @@ ghost use Rattle.std.specs.Prelude.{◌≡◌, ◌+◌, false, IfOk, option_map}
 ghost use Rattle.std.specs.FinMap as map;
 ghost use Rattle.std.specs.List.{list_any};
 ghost use Rattle.doc_page.specs.Refusals.{Gives, IsAnswer};
-ghost use Rattle.doc_hub.specs.Counts.{Counted, RendersPuts, moves_in, ran_out};
+ghost use Rattle.doc_hub.specs.Counts.{Counted, moves_in, ran_out};
+ghost use Rattle.doc_hub_replies.specs.Counts.{RendersPuts};
 ghost use Rattle.doc_hub.specs.Events.{stepping};
 ghost use Rattle.doc_hub.specs.Runs.{Happens, Leaves, GivesRun};
 ghost use Rattle.doc_hub.specs.StepEdits.{StepTells, step_in};
@@ -22,18 +23,19 @@ ghost use Rattle.doc_hub.specs.Worlds.{hub_made, report_in, store_of};
 ghost use Rattle.doc_shelf.specs.Shelves.{rendered_for};
 ghost use Rattle.doc_store.specs.Store.{fits_in};
 
-use crate::answer::answer_to_fault;
 use crate::connection::Connection;
 use crate::connections::Connections;
 use crate::edited::Edited;
 use crate::event::{ConnId, Event, Step};
 use crate::outcome::Outcome;
 use crate::refusal::{ConnectError, HubError, PushError, StepError};
-use crate::serving::Serving;
+use crate::telling::step_of;
 use doc_heap::{Heap, Vec};
 use doc_http::request::Next;
 use doc_http::unread::Unread;
 use doc_http_targets::routes::Routes;
+use doc_hub_replies::answer::answer_to_fault;
+use doc_hub_replies::serving::Serving;
 use doc_page::failure::Memory;
 use doc_page::list::List;
 use doc_page::path::Path;
@@ -210,7 +212,7 @@ impl<R: Renderer + Drop> Hub<R> {
                 };
                 let answer = serving.answer(&mut self.shelf, &request)?;
                 self.connections.finish(id.0, used, answer.closes);
-                Ok(answer.into_step())
+                Ok(step_of(answer))
             }
         }
     }

@@ -9,3 +9,10 @@ mod Stops
 mod Unread
 mod WorkedExamples
 mod UnreadSteps
+mod ReportSteps
+mod SiteSteps
+mod EventSteps
+mod ReplayExamples
+mod ReplaySteps
+mod ScriptSteps
+mod StopSteps

@@ -5,3 +5,9 @@ pub mod EntityTables
 pub mod ExampleSteps
 pub mod Examples
 pub mod Rendering
+pub mod Checks
+pub mod Sites
+pub mod ReplaySteps
+pub mod Replays
+pub mod ScriptSteps
+pub mod Scripts

@@ -2,6 +2,7 @@
 //! streams, links and rounds, a configuration, and a script of events.
 #![tactic(auto)]
 
+pub mod check;
 pub mod count;
 pub mod demo;
 pub mod demo_site;
@@ -9,11 +10,12 @@ pub mod entity_table;
 mod example_reader;
 pub mod examples;
 pub mod rendering;
+pub mod replay;
+pub mod script;
+pub mod site;
 
 pub use doc_server_config::{config, page_row};
 pub use doc_server_input::{fault, input, output};
-pub use doc_server_links::{memory_stream, stream, tcp_link};
-pub use doc_server_replay::replay;
+pub use doc_server_streams::{memory_stream, stream, tcp_link};
 pub use doc_server_rounds::{link, round};
-pub use doc_server_serving::serving;
-pub use doc_server_sites::{check, site};
+pub use doc_server_rounds::serving;

@@ -1,1 +1,4 @@
 mod Examples
+mod ListeningExamples
+mod KeySteps
+mod FolderPageSteps

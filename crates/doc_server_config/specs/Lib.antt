@@ -1,3 +1,9 @@
 pub mod Configurations
 pub mod PageRows
 pub mod Settings
+pub mod Bounds
+pub mod FileNames
+pub mod Folders
+pub mod Keys
+pub mod Listenings
+pub mod FolderPages

@@ -4,7 +4,7 @@ use Rattle.std.proofs.lemmas.Grind.{flat_map-append}
 use Rattle.std.specs.Prelude.{Option, Some, None, Result, option_map, option_to_list}
 use Rattle.doc_store.specs.Store.{Edit as SiteEdit}
 use Rattle.doc_hub.specs.Events.{stepping}
-use Rattle.doc_hub.specs.Replies.{Renders}
+use Rattle.doc_hub_replies.specs.Replies.{Renders}
 use Rattle.doc_hub.specs.Runs.{Happened, Runs, nothing, first}
 use Rattle.doc_hub.specs.Worlds.{World}
 use Rattle.doc_hub.specs.declared.event.ConnId.{ConnId}
@@ -13,7 +13,7 @@ use Rattle.doc_hub.specs.declared.event.Event.TheVariants as events
 use Rattle.doc_hub.specs.declared.event.Step.{Step}
 use Rattle.doc_hub.specs.declared.outcome.Outcome.{Outcome}
 use Rattle.doc_hub.specs.declared.refusal.StepError.{StepError}
-use Rattle.doc_server_compact.specs.Lines.{line_of, lines_of}
+use Rattle.doc_server_script.specs.PageLines.{line_of, lines_of}
 use Rattle.doc_server_listen.specs.Edits.{Kept, MakesIn, left_by, AreMade, accepted, Adds, Records, IsQuiet, AreQuiet}
 use Rattle.doc_server_listen.specs.Peers.{Peer}
 use Rattle.doc_server_listen.specs.Served.{Serves}

@@ -5,7 +5,7 @@ use Rattle.std.specs.Prelude.{Contains, Option, Some, None}
 use Rattle.std.specs.Io.KnownBytes.{Consumes, IsAtEnd}
 use Rattle.std.proofs.KnownBytes.{Appends-nil, Consumes-nil, Consumes-trans}
 use Rattle.std.proofs.lemmas.List.Elements.{filter-append, All-append, All-head, All-tail, Contains-append_left, Contains-append_right}
-use Rattle.doc_hub.specs.Replies.{Renders}
+use Rattle.doc_hub_replies.specs.Replies.{Renders}
 use Rattle.doc_hub.specs.Runs.{Happened, Runs, is_on, is_on_by, events_on, sent_by, sent_on}
 use Rattle.doc_hub.specs.StepLaws.{connection}
 use Rattle.doc_hub.specs.Worlds.{World}
@@ -14,7 +14,7 @@ use Rattle.doc_hub.specs.declared.event.Event.TheVariants as events
 use Rattle.doc_hub.specs.declared.outcome.Outcome.{Outcome}
 use Rattle.doc_server_rounds.specs.Served.{served_by, AreOf, Gave, pushed_by, pushed_on}
 use Rattle.doc_server_rounds.proofs.Elsewhere.{AreElsewhere, kept_elsewhere}
-use Rattle.doc_server_rounds.proofs.Serving.{runs_join, pushed_join, sent_join}
+use Rattle.doc_server_rounds.proofs.RoundLaws.{runs_join, pushed_join, sent_join}
 use Rattle.doc_server_listen.specs.Peers.{Peer, most_pending}
 use Rattle.doc_server_listen.specs.Served.{HandsOver, GivesOut, TakesIn, KeepsBound, IsEnding, Closes, Served, Serves}
 use Rattle.doc_server_listen.proofs.HandingOver.{hands_join, hands_before}

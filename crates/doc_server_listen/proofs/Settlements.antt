@@ -2,7 +2,7 @@
 use Rattle.std.proofs.Common.{◌≡◌, inl, inr, ℕ, zero, suc, List, [], ◌∷◌, ◌++◌, length, Bool, true, T, refl, sym, ap, ◌∙◌, subst, arith, length-append}
 use Rattle.std.specs.Prelude.{Option, Some, None, option_map, IfSome, slice_index_or, slice_set, Result, Ok, Err, IsErr, OnErr, OnOk}
 use Rattle.doc_store.specs.Store.{Edit as SiteEdit}
-use Rattle.doc_server_compact.specs.Lines.{lines_of}
+use Rattle.doc_server_script.specs.PageLines.{lines_of}
 use Rattle.doc_server_journal.specs.Devices.{LeavesFile, LeavesOnly}
 use Rattle.doc_server_journal.specs.Journals.{IsOpen, IsBeforeOrAfter}
 use Rattle.doc_server_journal.specs.Records.{seed, last_digest, length_bytes, digest_behind, record_bytes, journal_bytes, AreWithin}

@@ -4,7 +4,7 @@ use Rattle.std.specs.FinMap as map
 use Rattle.std.specs.List.{flat_map}
 use Rattle.doc_store.specs.Store.{Edit as SiteEdit, set_page, remove_page}
 use Rattle.doc_hub.specs.EditLaws.{Makes}
-use Rattle.doc_hub.specs.Replies.{Renders}
+use Rattle.doc_hub_replies.specs.Replies.{Renders}
 use Rattle.doc_hub.specs.Runs.{Happened}
 use Rattle.doc_hub.specs.StepEdits.{StepTells}
 use Rattle.doc_hub.specs.Worlds.{World}
@@ -14,7 +14,7 @@ use Rattle.doc_hub.specs.declared.event.Event.{Event}
 use Rattle.doc_hub.specs.declared.event.Event.TheVariants as events
 use Rattle.doc_hub.specs.declared.outcome.Outcome.{Outcome}
 use Rattle.doc_hub.specs.declared.outcome.Outcome.TheVariants as outcomes
-use Rattle.doc_server_compact.specs.Lines.{lines_of}
+use Rattle.doc_server_script.specs.PageLines.{lines_of}
 
 -- the lines of edits, where they are kept, and whether none is missing
 pub record Kept : Type 0 where

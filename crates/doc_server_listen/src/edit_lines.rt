@@ -6,7 +6,7 @@ ghost use Rattle.doc_store.specs.Store.{set_page};
 ghost use Rattle.doc_hub.specs.Events.{stepping};
 ghost use Rattle.doc_hub.specs.Runs.{Happens};
 ghost use Rattle.doc_hub.specs.declared.event.Event.TheVariants as events;
-ghost use Rattle.doc_server_compact.specs.Lines.{line_of, lines_of};
+ghost use Rattle.doc_server_script.specs.PageLines.{line_of, lines_of};
 ghost use Rattle.doc_server_listen.specs.Edits.{Adds, MakesIn, edit_at};
 
 use doc_heap::{Heap, String};
@@ -17,7 +17,7 @@ use doc_hub::refusal::StepError;
 use doc_page::failure::Memory;
 use doc_page::path::Path;
 use doc_page::renderer::Renderer;
-use doc_server_compact::lines::push_remove_line;
+use doc_server_script::page_lines::push_remove_line;
 use doc_server_journal::record::TEXT_LIMIT;
 use doc_server_script::edit::push_put;
 use doc_store::page::Page;

@@ -3,13 +3,13 @@ use Rattle.std.proofs.Common.{◌≡◌, ℕ, List, [], ◌∷◌, ◌++◌, ref
 use Rattle.std.specs.Prelude.{Contains, Option, Some, None}
 use Rattle.std.proofs.lemmas.List.Elements.{All-nil, All-append, All-cons, All-weaker}
 use Rattle.doc_hub.specs.Events.{Said, outcome_of}
-use Rattle.doc_hub.specs.Replies.{Renders}
+use Rattle.doc_hub_replies.specs.Replies.{Renders}
 use Rattle.doc_hub.specs.Runs.{Happened, Happens, Runs, nothing, first}
 use Rattle.doc_hub.specs.Worlds.{World}
 use Rattle.doc_hub.specs.declared.event.Event.{Event}
 use Rattle.doc_hub.specs.declared.event.Event.TheVariants as events
 use Rattle.doc_server_rounds.specs.Served.{served_by}
-use Rattle.doc_server_rounds.proofs.Serving.{runs_join}
+use Rattle.doc_server_rounds.proofs.RoundLaws.{runs_join}
 use Rattle.doc_server_listen.specs.Peers.{Peer}
 use Rattle.doc_server_listen.specs.Turns.{ServesAll, ids_of}
 use Rattle.doc_server_poll.specs.Servers.{IsOfPeers, Leads}

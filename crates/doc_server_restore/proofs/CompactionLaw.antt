@@ -4,11 +4,11 @@ use Rattle.std.specs.Prelude.{map as mapped, Option, Some, None, option_map, Ok,
 use Rattle.std.specs.FinMap as map
 use Rattle.std.specs.Option.{ok_or}
 use Rattle.doc_store.specs.Store.{Edit, set_page, remove_page, move_page, StoreState, effect_of}
-use Rattle.doc_server_compact.proofs.ReplayLaw.{replay_gives_the_site}
-use Rattle.doc_server_compact.specs.Compactions.{compacted}
-use Rattle.doc_server_compact.specs.Lines.{lines_of}
-use Rattle.doc_server_compact.specs.Replays.{edited, replayed}
-use Rattle.doc_server_compacting.specs.Written.{joined}
+use Rattle.doc_server_script.proofs.ReplayLaw.{replay_gives_the_site}
+use Rattle.doc_server_script.specs.Compactions.{compacted}
+use Rattle.doc_server_script.specs.PageLines.{lines_of}
+use Rattle.doc_server_script.specs.Replays.{edited, replayed}
+use Rattle.doc_server_restore.specs.Written.{joined}
 use Rattle.doc_server_restore.specs.declared.fault.RestoreFault.TheVariants as faults
 use Rattle.doc_server_restore.specs.Laws.{AreEdits, CompactionIsRestored}
 use Rattle.doc_server_restore.specs.Restores.{after_record, all_made, made, restored, restored_from, unstamped}

@@ -9,8 +9,8 @@ use Rattle.doc_store.specs.Store.{Edit, set_page, remove_page, move_page, StoreS
 use Rattle.doc_store.specs.declared.moving.MoveError.{MoveError}
 use Rattle.doc_store.specs.declared.store.EditError.{EditError}
 use Rattle.doc_hub.specs.declared.event.Event.{Event}
-use Rattle.doc_server_compact.specs.Compactions.{effects}
-use Rattle.doc_server_compact.specs.Replays.{unless_refused}
+use Rattle.doc_server_script.specs.Compactions.{effects}
+use Rattle.doc_server_script.specs.Replays.{unless_refused}
 use Rattle.doc_server_restore.specs.declared.fault.RestoreFault.{RestoreFault}
 use Rattle.doc_server_restore.specs.declared.fault.RestoreFault.TheVariants as faults
 use Rattle.doc_server_restore.specs.Restores.{HaveEffect, after_record, all_in_front, all_made, edit_in, edits_in, edits_of, edits_of_all}

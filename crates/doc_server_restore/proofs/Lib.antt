@@ -3,3 +3,5 @@ mod Effects
 mod LineLaws
 mod MadeSteps
 mod RecordSteps
+mod SameSteps
+mod WriterLaws

@@ -9,7 +9,7 @@ use Rattle.doc_store.specs.Store.{effect_of, moved_in, moved_by, may_move}
 use Rattle.doc_store.specs.declared.moving.MoveError.{MoveError}
 use Rattle.doc_store.specs.declared.store.EditError.{EditError}
 use Rattle.doc_hub.specs.Worlds.{World, store_of, with_store, world_removed}
-use Rattle.doc_server_compact.specs.Replays.{unless_refused}
+use Rattle.doc_server_script.specs.Replays.{unless_refused}
 use Rattle.doc_server_restore.specs.Restores.{made, unstamped}
 use Rattle.doc_server_restore.specs.RestoreSteps.{Tells}
 

@@ -4,10 +4,10 @@ use Rattle.doc_store.specs.Groups.{IsGroups}
 use Rattle.doc_store.specs.Sites.{Site, IsSite}
 use Rattle.doc_store.specs.Store.{Edit, set_page, remove_page, move_page, StoreState}
 use Rattle.doc_server_script.specs.Laws.{IsText, IsPathText}
-use Rattle.doc_server_compact.specs.Compactions.{compacted}
-use Rattle.doc_server_compact.specs.Lines.{lines_of}
-use Rattle.doc_server_compact.specs.Replays.{HasRoom}
-use Rattle.doc_server_compacting.specs.Written.{AreLines}
+use Rattle.doc_server_script.specs.Compactions.{compacted}
+use Rattle.doc_server_script.specs.PageLines.{lines_of}
+use Rattle.doc_server_script.specs.Replays.{HasRoom}
+use Rattle.doc_server_restore.specs.Written.{AreLines}
 use Rattle.doc_server_restore.specs.Restores.{edits_of, restored, unstamped}
 
 -- an edit of paths, groups and a text as every call takes them

@@ -8,9 +8,9 @@ use Rattle.std.specs.Str.{is_utf8}
 use Rattle.doc_store.specs.Store.{Edit, set_page, remove_page, move_page, StoreState}
 use Rattle.doc_hub.specs.declared.event.Event.{Event}
 use Rattle.doc_hub.specs.declared.event.Event.TheVariants as events
-use Rattle.doc_server_replay.specs.Scripts.{events_of}
-use Rattle.doc_server_compact.specs.Compactions.{effects}
-use Rattle.doc_server_compact.specs.Replays.{edited}
+use Rattle.doc_server.specs.Scripts.{events_of}
+use Rattle.doc_server_script.specs.Compactions.{effects}
+use Rattle.doc_server_script.specs.Replays.{edited}
 use Rattle.doc_server_restore.specs.declared.fault.RestoreFault.{RestoreFault}
 use Rattle.doc_server_restore.specs.declared.fault.RestoreFault.TheVariants as faults
 

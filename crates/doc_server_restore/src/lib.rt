@@ -1,8 +1,11 @@
 //! What a server that keeps its edits does at its start: the edits of its journal happen again.
 #![tactic(auto)]
 
+pub mod compact;
+pub mod compact_fault;
 pub mod edits;
 pub mod fault;
 pub mod laws;
 pub mod record;
 pub mod restore;
+mod writer;

@@ -3,7 +3,7 @@
 ghost use Rattle.std.specs.Prelude.{◌≡◌, IfOk, None, option_and_then};
 ghost use Rattle.std.specs.List.{list_all};
 ghost use Rattle.std.specs.Result.{result_ok};
-ghost use Rattle.doc_server_replay.specs.Scripts.{events_of};
+ghost use Rattle.doc_server.specs.Scripts.{events_of};
 ghost use Rattle.doc_server_restore.specs.Restores.{edit_in, edits_in, edits_of};
 ghost use Rattle.doc_server_restore.specs.RestoreSteps.{Reads, is_edit};
 
@@ -12,7 +12,7 @@ use doc_hub::event::Event;
 use doc_page::failure::Memory;
 use doc_page::list::List;
 use doc_server_input::fault::Fault;
-use doc_server_replay::script::events_of;
+use doc_server::script::events_of;
 use std::str;
 
 /// The edits of a record's text, as events. `None` says that it isn't UTF-8, or that a line of it is no edit.

@@ -2,5 +2,10 @@ mod Connections
 pub mod Elsewhere
 mod Pieces
 mod RoundSteps
-pub mod Serving
+pub mod RoundLaws
 mod Written
+mod Among
+mod Drops
+mod Given
+mod Making
+mod Together

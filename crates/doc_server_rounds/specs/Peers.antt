@@ -1,6 +1,6 @@
 -- What contracts see of a link.
 use Rattle.std.specs.Prelude.{◌≡◌, ◌≤◌, ℕ, List, Bool, true, false, Option, length, ⊤}
-use Rattle.doc_server_links.specs.Moves.{IsDry}
+use Rattle.doc_server_streams.specs.Moves.{IsDry}
 use Rattle.doc_server_rounds.specs.declared.phase.Phase.{Phase}
 use Rattle.doc_server_rounds.specs.declared.phase.Phase.TheVariants as phases
 

@@ -12,7 +12,7 @@ use doc_hub::event::{ConnId, Step};
 use doc_hub::hub::Hub;
 use doc_hub::refusal::{ConnectError, PushError, StepError};
 use doc_page::renderer::Renderer;
-use doc_server_links::stream::Stream;
+use doc_server_streams::stream::Stream;
 use std::marker::Model;
 
 /// How many bytes are read at once.

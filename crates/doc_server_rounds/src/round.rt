@@ -9,7 +9,7 @@ use doc_hub::hub::Hub;
 use doc_page::failure::Memory;
 use doc_page::list::List;
 use doc_page::renderer::Renderer;
-use doc_server_links::stream::Stream;
+use doc_server_streams::stream::Stream;
 
 /// What a round did.
 #[derive(Debug, Drop)]

@@ -3,7 +3,7 @@
 ghost use Rattle.std.specs.Prelude.{◌≡◌, MatchBool};
 ghost use Rattle.doc_server_rounds.specs.Sending.{IsSent, IsCutOff};
 
-use doc_server_links::stream::Stream;
+use doc_server_streams::stream::Stream;
 
 /// Writes until all is written. False: a write failed, or took no byte.
 pub fn write_all<S: Stream>(stream: &mut S, bytes: &[u8]) -> bool

@@ -5,3 +5,8 @@ mod Examples
 mod FieldSteps
 mod GroupLaws
 pub mod ReadLaws
+mod CompactionExamples
+pub mod CompactionLaw
+pub mod MadeSteps
+pub mod ReplayLaw
+pub mod Without

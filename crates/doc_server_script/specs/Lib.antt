@@ -4,3 +4,7 @@ pub mod Fields
 pub mod Laws
 pub mod Lines
 pub mod Outcomes
+pub mod Compactions
+pub mod CompactionLaws
+pub mod PageLines
+pub mod Replays

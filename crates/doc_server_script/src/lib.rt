@@ -13,10 +13,12 @@
 #![tactic(auto)]
 
 mod command;
+pub mod compaction_laws;
 pub mod edit;
 mod escaping;
 mod fields;
 pub mod laws;
 pub mod line;
 pub mod outcome;
+pub mod page_lines;
 mod unescaping;

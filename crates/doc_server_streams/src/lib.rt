@@ -4,7 +4,10 @@
 
 pub mod fault;
 pub mod input;
+pub mod memory_stream;
 pub mod output;
 pub mod read_from;
 pub mod sending;
+pub mod stream;
+pub mod tcp_link;
 pub mod write_to;

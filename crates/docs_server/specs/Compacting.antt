@@ -5,7 +5,7 @@ use Rattle.doc_store.specs.Store.{StoreState, set_page}
 use Rattle.doc_server_config.specs.declared.page_row.PageRow.{PageRow}
 use Rattle.doc_server_input.specs.declared.fault.Fault.{Fault}
 use Rattle.doc_server_restore.specs.Restores.{made}
-use Rattle.doc_server_sites.specs.Sites.{text_of, texts_behind}
+use Rattle.doc_server.specs.Sites.{text_of, texts_behind}
 
 -- the store after the put of a page, where it has a text and the put is accepted
 abbrev pub stored_page : StoreState → PageRow → Option (List ℕ) → Option StoreState

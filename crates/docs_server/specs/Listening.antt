@@ -1,7 +1,7 @@
 -- What the command `listen` is of, and what stops it.
 use Rattle.doc_server_config.specs.declared.page_row.PageRow.{PageRow}
 use Rattle.doc_server_config.specs.declared.page_row.Source.TheVariants as sources
-use Rattle.doc_server_folders.specs.declared.folder.FolderPage.{FolderPage}
+use Rattle.doc_server_config.specs.declared.folder_pages.FolderPage.{FolderPage}
 use Rattle.doc_server_input.specs.declared.fault.Fault.{Fault}
 use Rattle.doc_server_input.specs.declared.fault.Fault.TheVariants as faults
 use Rattle.doc_server_poll.specs.declared.fault.PollFault.{PollFault}

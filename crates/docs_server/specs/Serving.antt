@@ -1,8 +1,8 @@
 -- What stops the command `serve`.
 use Rattle.doc_server_input.specs.declared.fault.Fault.{Fault}
 use Rattle.doc_server_input.specs.declared.fault.Fault.TheVariants as faults
-use Rattle.doc_server_serving.specs.declared.fault.ServeFault.{ServeFault}
-use Rattle.doc_server_serving.specs.declared.fault.ServeFault.TheVariants as serve_faults
+use Rattle.doc_server_rounds.specs.declared.fault.ServeFault.{ServeFault}
+use Rattle.doc_server_rounds.specs.declared.fault.ServeFault.TheVariants as serve_faults
 
 -- where peers are not served
 abbrev pub fault_of : ServeFault → Fault

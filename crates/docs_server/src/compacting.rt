@@ -9,7 +9,7 @@ use crate::listen_fault::ListenFault;
 use crate::site_store::site_store;
 use crate::status::status_of;
 use doc_heap::{Heap, heap};
-use doc_server_compacting::compact::compact;
+use doc_server_restore::compact::compact;
 use doc_server_files::file_device::FileDevice;
 use doc_server_files::names::Replacement;
 use doc_server_journal::journal::Journal;

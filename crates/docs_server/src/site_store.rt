@@ -3,7 +3,7 @@
 ghost use Rattle.std.specs.Prelude.{◌≡◌, ◌≢◌, Some, None, Ok, Err, IfOk, IfErr, OnOk};
 ghost use Rattle.doc_hub.specs.Worlds.{is_capacity};
 ghost use Rattle.doc_server_restore.specs.Restores.{unstamped};
-ghost use Rattle.doc_server_sites.specs.Sites.{site_world, text_of, texts_behind};
+ghost use Rattle.doc_server.specs.Sites.{site_world, text_of, texts_behind};
 ghost use Rattle.docs_server.specs.Compacting.{store_in, stored_page, stored_pages};
 
 use doc_heap::Heap;

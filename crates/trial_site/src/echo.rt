@@ -5,8 +5,8 @@ ghost use Rattle.std.specs.Prelude.{◌≡◌};
 use crate::streams::Streamed;
 use doc_heap::{Heap, String};
 use doc_page::failure::Memory;
-use doc_server_links::memory_stream::MemoryStream;
-use doc_server_links::stream::Stream;
+use doc_server_streams::memory_stream::MemoryStream;
+use doc_server_streams::stream::Stream;
 use std::str::from_utf8;
 use trial::answer::no_call;
 

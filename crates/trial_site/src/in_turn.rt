@@ -5,7 +5,7 @@ use crate::scripts::played;
 use crate::world::Heaps;
 use doc_heap::{Heap, String};
 use doc_page::failure::Memory;
-use doc_server_links::memory_stream::MemoryStream;
+use doc_server_streams::memory_stream::MemoryStream;
 use doc_server_rounds::link::Link;
 use trial::answer::no_call;
 

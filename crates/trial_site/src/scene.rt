@@ -8,7 +8,7 @@ use doc_hub::hub::Hub;
 use doc_hub::refusal::ConnectError;
 use doc_page::failure::Memory;
 use doc_page::renderer::Renderer;
-use doc_server_links::memory_stream::MemoryStream;
+use doc_server_streams::memory_stream::MemoryStream;
 use doc_server_rounds::link::Link;
 use doc_server_rounds::round::{Round, serve_round};
 use std::str::from_utf8;

@@ -1,12 +1,12 @@
 //! Streams over memory, as a line writes them.
 
 ghost use Rattle.std.specs.Prelude.{◌≡◌, IfOk};
-ghost use Rattle.doc_server_links.specs.MemoryStreams.{failures_of};
+ghost use Rattle.doc_server_streams.specs.MemoryStreams.{failures_of};
 
 use doc_heap::Heap;
 use doc_page::bytes::Bytes;
 use doc_page::failure::Memory;
-use doc_server_links::memory_stream::MemoryStream;
+use doc_server_streams::memory_stream::MemoryStream;
 
 /// What a stream is made of.
 #[derive(Clone, Copy)]

@@ -1,5 +1,5 @@
 use Rattle.std.proofs.Common.{◌∙◌, sym, subst}
-use Rattle.doc_server_compact.specs.Lines.{lines_of}
+use Rattle.doc_server_script.specs.PageLines.{lines_of}
 use Rattle.doc_server_listen.specs.Edits.{accepted}
 use Rattle.doc_server_listen.specs.Settling.{GiveFronts, IsKept}
 use Rattle.doc_server_listen.proofs.EditSteps.{all_keeping_join, all_quiet_keeps}

@@ -41,4 +41,4 @@ returns-in_ok-answer-in-Request-clause-world g c =
     hub.shelf.1 c.answer.new.shelf.1 c.args.self.now.1 (λ i. (c.self.view_is i).1) c.args.id.0 connection c.in-Some.ensures
     c.if-connection.false c.in-Request.used c.in-Request.request begins answer
     c.in_ok-answer-in-Request.ensures.answer.0 c.in_ok-answer-in-Request.ensures.answer.1 set
-    (g.R.Renderer.page c.args.self.now.0) (λ i. g.R.Renderer.page (c.self.view_is i).0) c.into_step.result.0 c.into_step.ensures.step
+    (g.R.Renderer.page c.args.self.now.0) (λ i. g.R.Renderer.page (c.self.view_is i).0) c.step_of.result.0 c.step_of.ensures.step

@@ -1,6 +1,6 @@
 use Rattle.std.proofs.Common.{refl, ◌∙◌}
 use Rattle.doc_server_rounds.proofs.Pieces.{nothing_done}
-use Rattle.doc_server_rounds.proofs.Serving.{serves_join}
+use Rattle.doc_server_rounds.proofs.RoundLaws.{serves_join}
 use Rattle.doc_server_rounds.proofs.link.Link.answer.Goals as goal
 
 pub steps-init : goal.steps-init

@@ -1,5 +1,5 @@
 use Rattle.std.proofs.Common.{◌∙◌}
-use Rattle.doc_server_rounds.proofs.Serving.{serves_join}
+use Rattle.doc_server_rounds.proofs.RoundLaws.{serves_join}
 use Rattle.doc_server_rounds.proofs.link.Link.pass.Goals as goal
 
 pub returns-then-not-is_open-2-clause-serves : goal.returns-then-not-is_open-2-clause-serves

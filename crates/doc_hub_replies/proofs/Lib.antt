@@ -1,0 +1,5 @@
+pub mod AnswerEdits
+mod AnswerSteps
+pub mod OwnerSteps
+mod PutSteps
+mod ReadingSteps

@@ -1,4 +1,0 @@
-pub mod Compactions
-pub mod Laws
-pub mod Lines
-pub mod Replays

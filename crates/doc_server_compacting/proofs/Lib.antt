@@ -1,2 +1,0 @@
-mod SameSteps
-mod WriterLaws

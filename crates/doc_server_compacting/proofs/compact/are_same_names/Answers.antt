@@ -1,6 +1,0 @@
-use Rattle.std.proofs.Common.{◌∙◌}
-use Rattle.doc_server_compacting.proofs.SameSteps.{texts_alike}
-use Rattle.doc_server_compacting.proofs.compact.are_same_names.Goals as goal
-
-pub returns : goal.returns
-returns c = c.eq.ensures ∙ texts_alike c.args.names.now c.args.others.now

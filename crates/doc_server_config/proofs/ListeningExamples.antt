@@ -1,0 +1,116 @@
+-- The definitions on worked examples.
+use Rattle.std.proofs.Common.{◌≡◌, [], ◌∷◌, codes, refl}
+use Rattle.std.specs.Prelude.{Some, None, Ok, Err}
+use Rattle.std.specs.Str.{chars}
+use Rattle.toml.proofs.OnLiterals.{toml_on_literals}
+use Rattle.doc_page.specs.declared.path.PathError.TheVariants.{BadPath}
+use Rattle.doc_page.specs.Paths.{is_path}
+use Rattle.doc_store.specs.Groups.{groups_of_names}
+use Rattle.doc_server_config.specs.declared.folder.FolderFault.TheVariants.{OtherKey, BadFile, BadPrefix, BadGroups}
+use Rattle.doc_server_config.specs.declared.listening.ListeningError.TheVariants.{BadToml, BadListen, BadConnections, BadIdleSeconds}
+use Rattle.doc_server_config.specs.declared.listening.ListeningError.TheVariants.{BadFolders, BadFolder}
+use Rattle.doc_server_config.specs.FileNames.{path_in_folder}
+use Rattle.doc_server_config.specs.Listenings.{listening_of}
+
+-- ---- what is read
+
+-- nothing is said, or nothing that is `listen`'s concern: 1,024 connections, 30 seconds, no folder
+empty_text : listening_of (codes "") ≡ Ok (record { connections = 1024; idle_seconds = 30; folders = [] })
+unfolding toml_on_literals
+empty_text = refl
+
+other_keys_of_the_document : listening_of (codes "cache = 0\npage = 1\n[listen]\n")
+    ≡ Ok (record { connections = 1024; idle_seconds = 30; folders = [] })
+unfolding toml_on_literals
+other_keys_of_the_document = refl
+
+all_keys : listening_of (codes "[[folder]]\npath = \"../d\"\nprefix = \"g/h\"\ngroups = [\"b\", \"a\"]\n[[folder]]\npath = \"\"\n[listen]\nconnections = 1\nidle_seconds = 86400\n")
+    ≡ Ok (record {
+      connections = 1;
+      idle_seconds = 86400;
+      folders = record { file = codes "../d"; prefix = codes "g/h"; groups = codes "a" ∷ codes "b" ∷ [] }
+          ∷ record { file = []; prefix = []; groups = [] } ∷ [];
+    })
+unfolding toml_on_literals is_path chars groups_of_names
+all_keys = refl
+
+-- ---- what is refused, in this order
+
+no_toml : listening_of (codes "listen = ") ≡ Err BadToml
+unfolding toml_on_literals
+no_toml = refl
+
+no_table : listening_of (codes "listen = 1") ≡ Err BadListen
+unfolding toml_on_literals
+no_table = refl
+
+unknown_key : listening_of (codes "[listen]\nconnections = 0\nidle = 1\n") ≡ Err BadListen
+unfolding toml_on_literals
+unknown_key = refl
+
+no_connections : listening_of (codes "listen = { connections = 0, idle_seconds = 0 }") ≡ Err BadConnections
+unfolding toml_on_literals
+no_connections = refl
+
+too_many_connections : listening_of (codes "listen.connections = 65536") ≡ Err BadConnections
+unfolding toml_on_literals
+too_many_connections = refl
+
+a_string_is_no_number : listening_of (codes "listen.connections = \"9\"") ≡ Err BadConnections
+unfolding toml_on_literals
+a_string_is_no_number = refl
+
+less_than_a_second : listening_of (codes "folder = 1\nlisten.idle_seconds = -1") ≡ Err BadIdleSeconds
+unfolding toml_on_literals
+less_than_a_second = refl
+
+more_than_a_day : listening_of (codes "listen.idle_seconds = 86401") ≡ Err BadIdleSeconds
+unfolding toml_on_literals
+more_than_a_day = refl
+
+no_array : listening_of (codes "[folder]\npath = \"d\"\n") ≡ Err BadFolders
+unfolding toml_on_literals
+no_array = refl
+
+unknown_key_of_a_folder : listening_of (codes "[[folder]]\npath = \"d\"\n[[folder]]\nfile = \"d\"\n") ≡ Err (BadFolder 2 OtherKey)
+unfolding toml_on_literals
+unknown_key_of_a_folder = refl
+
+no_file : listening_of (codes "[[folder]]\nprefix = \"/\"\n") ≡ Err (BadFolder 1 BadFile)
+unfolding toml_on_literals is_path chars
+no_file = refl
+
+-- a prefix ends where the slash stands: it has none of its own
+bad_prefix : listening_of (codes "[[folder]]\npath = \"d\"\nprefix = \"g/\"\ngroups = 1\n") ≡ Err (BadFolder 1 BadPrefix)
+unfolding toml_on_literals is_path chars
+bad_prefix = refl
+
+bad_groups : listening_of (codes "[[folder]]\npath = \"d\"\ngroups = [\"A\"]\n") ≡ Err (BadFolder 1 BadGroups)
+unfolding toml_on_literals groups_of_names
+bad_groups = refl
+
+-- ---- the paths of files
+
+in_a_folder : path_in_folder (codes "g") (codes "a/b.md") ≡ Ok (Some (codes "g/a/b.md"))
+unfolding is_path chars
+in_a_folder = refl
+
+without_a_prefix : path_in_folder [] (codes "b.md") ≡ Ok (Some (codes "b.md"))
+unfolding is_path chars
+without_a_prefix = refl
+
+other_ending : path_in_folder [] (codes "a.md.txt") ≡ Ok None
+other_ending = refl
+
+upper_case_ending : path_in_folder [] (codes "a.MD") ≡ Ok None
+upper_case_ending = refl
+
+hidden_file : path_in_folder [] (codes "a/.md") ≡ Ok None
+hidden_file = refl
+
+hidden_folder : path_in_folder [] (codes ".git/a.md") ≡ Ok None
+hidden_folder = refl
+
+no_path_of_a_page : path_in_folder [] (codes "what?.md") ≡ Err BadPath
+unfolding is_path chars
+no_path_of_a_page = refl

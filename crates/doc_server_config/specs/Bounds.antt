@@ -1,0 +1,51 @@
+-- The table `listen` of a configuration, a TOML 1.1 document. Its keys and bounds are this project's choice.
+use Rattle.std.specs.Prelude.{ℕ, ℤ, pos, negsuc, [], ◌∷◌, ◌&&◌, nat_le, codes, Option, Some, None, option_and_then, Result, Ok, Err}
+use Rattle.std.specs.Prelude.{if◌then◌else◌}
+use Rattle.toml.specs.Data.{Data, Members, get_member, as_integer, as_table}
+use Rattle.doc_server_config.specs.declared.bounds.Bounds.{Bounds}
+use Rattle.doc_server_config.specs.declared.listening.ListeningError.{ListeningError}
+use Rattle.doc_server_config.specs.declared.listening.ListeningError.TheVariants.{BadListen, BadConnections, BadIdleSeconds}
+use Rattle.doc_server_config.specs.Keys.{has_only}
+
+-- a number from 1 to a bound
+abbrev pub within : ℕ → ℤ → Option ℕ
+within most (pos n) = if nat_le 1 n && nat_le n most then Some n else None
+within most (negsuc n) = None
+
+-- how many connections stand at most: what the key holds, where that is an integer from 1 to 65,535; without the key 1,024
+abbrev pub connections_at : Option Data → Option ℕ
+connections_at None = Some 1024
+connections_at (Some value) = option_and_then (within 65535) (as_integer value)
+
+-- after how many seconds without a byte a connection ends: the same from 1 to 86,400; without the key 30
+abbrev pub idle_seconds_at : Option Data → Option ℕ
+idle_seconds_at None = Some 30
+idle_seconds_at (Some value) = option_and_then (within 86400) (as_integer value)
+
+-- bounds of these parts, the first of which comes first where both are bad
+abbrev pub bounds_with : Option ℕ → Option ℕ → Result Bounds ListeningError
+bounds_with None idle_seconds = Err BadConnections
+bounds_with (Some connections) None = Err BadIdleSeconds
+bounds_with (Some connections) (Some idle_seconds) = Ok (record { connections = connections; idle_seconds = idle_seconds })
+
+-- the bounds that a table is, which has these two keys alone
+abbrev pub bounds_of : Members → Result Bounds ListeningError
+bounds_of table =
+    if has_only (codes "connections" ∷ codes "idle_seconds" ∷ []) table
+    then bounds_with (connections_at (get_member (codes "connections") table))
+    (idle_seconds_at (get_member (codes "idle_seconds") table))
+    else Err BadListen
+
+-- the bounds of what should be a table
+abbrev pub bounds_of_table : Option Members → Result Bounds ListeningError
+bounds_of_table None = Err BadListen
+bounds_of_table (Some table) = bounds_of table
+
+-- the bounds of what the key `listen` holds; without the key all is as without those of the table
+abbrev pub bounds_at : Option Data → Result Bounds ListeningError
+bounds_at None = Ok (record { connections = 1024; idle_seconds = 30 })
+bounds_at (Some value) = bounds_of_table (as_table value)
+
+-- the bounds of a document
+abbrev pub bounds_in : Members → Result Bounds ListeningError
+bounds_in document = bounds_at (get_member (codes "listen") document)

@@ -1,0 +1,80 @@
+//! The paths of pages that stand in files of a folder.
+
+ghost use Rattle.std.specs.Prelude.{◌≡◌, ◌≢◌, ◌==◌, Ok, Err, IfOk, IfErr, codes, string_bytes};
+ghost use Rattle.std.specs.List.{ends_with};
+ghost use Rattle.doc_server_config.specs.FileNames.{is_page_name, is_prefix, is_shown, is_shown_part, joined, path_in_folder};
+
+use doc_heap::{Heap, String};
+use doc_page::failure::Memory;
+use doc_page::path::{Path, PathError};
+
+/// The path of the page in a file of a folder, of the folder's prefix and of the file's name in it, with `/` between a folder in the
+/// folder and what stands there. `None` says that the file is passed over: a part of its name begins with `.`, or the name doesn't
+/// end in `.md`. `BadPath` says that the name makes no path of a page; `Memory` may be answered before that is found.
+pub fn path_in_folder(heap: Heap, prefix: &str, name: &str) -> Result<Option<Path>, PathError>
+    ensures read { IfOk result (λ path. path_in_folder prefix.now name.now ≡ Ok path) }
+    ensures refused { IfErr result
+        (λ e. e ≢ PathError.Memory → path_in_folder prefix.now name.now ≡ Err e) }
+{
+    if !is_page_name(name) {
+        return Ok(None);
+    }
+    let text = joined(heap, prefix, name)?;
+    Ok(Some(Path::new(heap, text.as_str())?))
+}
+
+/// Whether a text can stand before names of files: with a slash and the shortest name it makes a path of a page.
+pub fn is_prefix(heap: Heap, text: &str) -> Result<bool, Memory>
+    ensures { IfOk result (λ good. good ≡ is_prefix text.now) }
+{
+    let path = joined(heap, text, "a.md")?;
+    match Path::new(heap, path.as_str()) {
+        Ok(_path) => Ok(true),
+        Err(PathError::BadPath) => Ok(false),
+        Err(PathError::Memory) => Err(Memory),
+    }
+}
+
+/// A name behind a prefix and a slash, or alone where the prefix is empty.
+fn joined(heap: Heap, prefix: &str, name: &str) -> Result<String, Memory>
+    ensures { IfOk result (λ text. string_bytes text ≡ joined prefix.now name.now) }
+{
+    let mut text = String::new(heap);
+    if prefix.is_empty() {
+        text.push_str(name)?;
+        return Ok(text);
+    }
+    text.push_str(prefix)?;
+    text.push_str("/")?;
+    text.push_str(name)?;
+    Ok(text)
+}
+
+/// Whether a file of this name is a page.
+fn is_page_name(name: &str) -> bool
+    ensures { result ≡ is_page_name name.now }
+{
+    is_shown(name) && has_page_ending(name)
+}
+
+/// Whether neither the file nor a folder that it stands in is hidden.
+fn is_shown(name: &str) -> bool
+    ensures { result ≡ is_shown name.now }
+{
+    name.split('/').all(|part| is_shown_part(part))
+}
+
+fn is_shown_part(part: &str) -> bool
+    ensures { result ≡ is_shown_part part.now }
+{
+    match part.as_bytes() {
+        [first, ..] => *first != b'.',
+        [] => true,
+    }
+}
+
+fn has_page_ending(name: &str) -> bool
+    ensures { result ≡ ends_with ◌==◌ name.now (codes ".md") }
+{
+    name.as_bytes().ends_with(b".md")
+}

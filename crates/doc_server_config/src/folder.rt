@@ -1,0 +1,128 @@
+//! The folders of a configuration.
+
+ghost use Rattle.std.specs.Prelude.{◌≡◌, ◌≢◌, [], Ok, Err, IfOk, IfErr, codes};
+ghost use Rattle.toml.specs.Data.{get};
+ghost use Rattle.toml.specs.View.{items_view, view};
+ghost use Rattle.doc_server_config.specs.Folders.{file_at, folder_of, folders_from, has_other_key, prefix_at};
+
+use crate::file_name::is_prefix;
+use crate::listening::ListeningError;
+use crate::table::has_only;
+use doc_heap::{Heap, String, Vec};
+use doc_page::failure::Memory;
+use doc_page::list::List;
+use doc_page::text::Text;
+use doc_store::groups::Groups;
+use doc_store::tables::groups_in;
+use std::fmt;
+use toml::Value;
+
+/// Why a table is no folder.
+#[derive(Clone, Copy, Debug, PartialEq, Eq)]
+pub enum FolderFault {
+    /// It has a key other than `path`, `prefix` and `groups`.
+    OtherKey,
+    /// `path` isn't there, or no string.
+    BadFile,
+    /// `prefix` is no string, or none that makes a path of a page.
+    BadPrefix,
+    /// `groups` is no array of names of groups, or has too many.
+    BadGroups,
+}
+
+impl fmt::Display for FolderFault {
+    fn fmt<W: fmt::Write>(&self, f: &mut fmt::Formatter<W>) -> fmt::Result {
+        match self {
+            FolderFault::OtherKey => write!(f, "a key is unknown"),
+            FolderFault::BadFile => write!(f, "`path` is bad"),
+            FolderFault::BadPrefix => write!(f, "`prefix` is bad"),
+            FolderFault::BadGroups => write!(f, "`groups` is bad"),
+        }
+    }
+}
+
+/// A folder whose files are pages.
+#[derive(Debug, Drop)]
+pub struct Folder {
+    /// The name of the folder, as it is to be opened.
+    pub file: Text,
+    /// What stands before the slash in front of the name of each file; empty where the names alone are paths.
+    pub prefix: Text,
+    /// The groups whose readers see the pages.
+    pub groups: Groups,
+}
+
+/// The folders of tables, or the first table that is none, counted from 1.
+pub fn folders_of(heap: Heap, tables: &[Value]) -> Result<List<Folder>, ListeningError>
+    ensures read { IfOk result (λ folders. folders_from [] 1 (items_view tables.now) ≡ Ok folders) }
+    ensures refused { IfErr result (λ e. e ≢ ListeningError.Memory
+        → folders_from [] 1 (items_view tables.now) ≡ Err e) }
+{
+    let mut folders = Vec::with_capacity(heap, tables.len()).map_err(Memory::from)?;
+    for (index, table) in tables.iter().enumerate() {
+        match folder_of(heap, table)? {
+            Ok(folder) => folders.push(folder).map_err(Memory::from)?,
+            Err(fault) => return Err(ListeningError::BadFolder(index + 1, fault)),
+        }
+    }
+    Ok(List::new(folders))
+}
+
+/// The folder that a table is, or its first fault.
+fn folder_of(heap: Heap, table: &Value) -> Result<Result<Folder, FolderFault>, Memory>
+    ensures { IfOk result (λ folder. folder ≡ folder_of (view table.now)) }
+{
+    if has_other_key(table) {
+        return Ok(Err(FolderFault::OtherKey));
+    }
+    let Some(file) = file_in(heap, table)? else {
+        return Ok(Err(FolderFault::BadFile));
+    };
+    let Some(prefix) = prefix_in(heap, table)? else {
+        return Ok(Err(FolderFault::BadPrefix));
+    };
+    let Some(groups) = groups_in(heap, table)? else {
+        return Ok(Err(FolderFault::BadGroups));
+    };
+    Ok(Ok(Folder {
+        file,
+        prefix,
+        groups,
+    }))
+}
+
+fn has_other_key(table: &Value) -> bool
+    ensures { result ≡ has_other_key (view table.now) }
+{
+    match table.as_table() {
+        Some(table) => !has_only(table, &["groups", "path", "prefix"]),
+        None => false,
+    }
+}
+
+fn file_in(heap: Heap, table: &Value) -> Result<Option<Text>, Memory>
+    ensures { IfOk result (λ file. file ≡ file_at (get (codes "path") (view table.now))) }
+{
+    let Some(value) = table.get("path") else {
+        return Ok(None);
+    };
+    let Some(text) = value.as_str() else {
+        return Ok(None);
+    };
+    Ok(Some(Text::copy_of(heap, text)?))
+}
+
+fn prefix_in(heap: Heap, table: &Value) -> Result<Option<Text>, Memory>
+    ensures { IfOk result (λ prefix. prefix ≡ prefix_at (get (codes "prefix") (view table.now))) }
+{
+    let Some(value) = table.get("prefix") else {
+        return Ok(Some(Text::new(String::new(heap))));
+    };
+    let Some(text) = value.as_str() else {
+        return Ok(None);
+    };
+    if !is_prefix(heap, text)? {
+        return Ok(None);
+    }
+    Ok(Some(Text::copy_of(heap, text)?))
+}

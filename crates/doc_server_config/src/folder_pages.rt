@@ -1,0 +1,144 @@
+//! The pages of a folder.
+
+ghost use Rattle.std.specs.Prelude.{◌≡◌, ◌≤◌, ◌++◌, ◌∷◌, [], Ok, Some, IfOk, OnOk, length};
+ghost use Rattle.std.specs.List.{All};
+ghost use Rattle.doc_store.specs.Store.{text_limit};
+ghost use Rattle.doc_server_config.specs.FileNames.{path_in_folder};
+ghost use Rattle.doc_server_config.specs.FolderPages.{IsPageOf};
+
+use crate::walk::{files_in, joined};
+use doc_heap::{Heap, String, Vec};
+use doc_page::failure::Memory;
+use doc_page::list::List;
+use doc_page::path::{Path, PathError};
+use doc_page::text::Text;
+use doc_server_input::fault::Fault;
+use doc_server_input::input::{cannot_read, read_whole};
+use crate::file_name::path_in_folder;
+use crate::folder::Folder;
+use doc_server_streams::read_from::ReadFrom;
+use doc_store::groups::Groups;
+use std::alloc::AllocGlobal;
+use std::fs::File;
+use std::rt::Files;
+
+/// How many bytes the text of a page may have.
+const TEXT_LIMIT: usize = 1_048_576;
+
+/// A page of a folder.
+#[derive(Debug, Drop)]
+pub struct FolderPage {
+    pub path: Path,
+    pub groups: Groups,
+    pub text: Text,
+}
+
+/// The pages of a folder, in the order of their paths: each regular file in it and below whose name ends in `.md`. Names that begin
+/// with `.`, and links, are passed over. `CannotRead` names a folder that can't be read, or a file that can't, whose text isn't UTF-8
+/// or too long for a page, or whose name makes no path of one.
+pub fn read_folder<R: AllocGlobal + Files + Clone + Drop>(
+    rt: &R,
+    heap: Heap,
+    folder: &Folder,
+) -> Result<List<FolderPage>, Fault>
+    ensures { IfOk result (λ pages. All (IsPageOf folder.now) pages) }
+{
+    let files = files_in(rt, heap, folder.file.get())?;
+    read_files(rt, heap, folder, files.as_slice())
+}
+
+/// The pages of these files.
+fn read_files<R: AllocGlobal + Files + Clone + Drop>(
+    rt: &R,
+    heap: Heap,
+    folder: &Folder,
+    files: &[String],
+) -> Result<List<FolderPage>, Fault>
+    ensures { IfOk result (λ pages. All (IsPageOf folder.now) pages) }
+{
+    let mut pages = Vec::new(heap);
+    for file in files {
+        add_page(rt, heap, folder, file.as_str(), &mut pages)?;
+    }
+    Ok(List::new(pages))
+}
+
+/// Adds the page in a file, where it isn't passed over.
+fn add_page<R: AllocGlobal + Files + Clone + Drop>(
+    rt: &R,
+    heap: Heap,
+    folder: &Folder,
+    file: &str,
+    pages: &mut Vec<FolderPage>,
+) -> Result<(), Fault>
+    ensures { All (IsPageOf folder.now) pages.old.items
+        → OnOk result (All (IsPageOf folder.now) pages.new.items) }
+{
+    let Some(path) = path_of(heap, folder, file)? else {
+        return Ok(());
+    };
+    let page = read_page(rt, heap, folder, path, file)?;
+    Ok(push(pages, page)?)
+}
+
+fn push(pages: &mut Vec<FolderPage>, page: FolderPage) -> Result<(), Memory>
+    ensures { OnOk result (pages.new.items ≡ pages.old.items ++ page ∷ []) }
+{
+    pages.push(page)?;
+    Ok(())
+}
+
+/// The path of the page in a file; none where the file is passed over.
+fn path_of(heap: Heap, folder: &Folder, file: &str) -> Result<Option<Path>, Fault>
+    ensures { IfOk result (λ path. path_in_folder folder.now.prefix file.now ≡ Ok path) }
+{
+    match path_in_folder(heap, folder.prefix.get(), file) {
+        Ok(path) => Ok(path),
+        Err(PathError::Memory) => Err(Fault::Memory),
+        Err(PathError::BadPath) => Err(no_page(heap, folder, file)),
+    }
+}
+
+/// What stops the program where the name of a file makes no path of a page.
+fn no_page(heap: Heap, folder: &Folder, file: &str) -> Fault {
+    match joined(heap, folder.file.get(), file) {
+        Ok(name) => cannot_read(heap, name.as_str()),
+        Err(_) => Fault::Memory,
+    }
+}
+
+/// The page in a file.
+fn read_page<R: AllocGlobal + Files + Clone + Drop>(
+    rt: &R,
+    heap: Heap,
+    folder: &Folder,
+    path: Path,
+    file: &str,
+) -> Result<FolderPage, Fault>
+    requires { path_in_folder folder.now.prefix file.now ≡ Ok (Some path) }
+    ensures { IfOk result (IsPageOf folder.now) }
+{
+    let name = joined(heap, folder.file.get(), file)?;
+    let text = read_file(rt, heap, name.as_str())?;
+    let groups = folder.groups.copy(heap)?;
+    Ok(FolderPage { path, groups, text })
+}
+
+/// The text of a file.
+#[tactic(auto, unfolding(doc_store::specs::Store::text_limit))]
+fn read_file<R: AllocGlobal + Files>(rt: &R, heap: Heap, name: &str) -> Result<Text, Fault>
+    ensures { IfOk result (λ text. length text ≤ text_limit) }
+{
+    let Ok(file) = File::open(rt, name) else {
+        return Err(cannot_read(heap, name));
+    };
+    let bytes = match read_whole(heap, name, &mut ReadFrom::new(file), TEXT_LIMIT) {
+        Ok(bytes) => bytes,
+        Err(Fault::Refused) => return Err(cannot_read(heap, name)),
+        Err(fault) => return Err(fault),
+    };
+    match String::from_utf8(bytes) {
+        Ok(text) => Ok(Text::new(text)),
+        Err(_) => Err(cannot_read(heap, name)),
+    }
+}

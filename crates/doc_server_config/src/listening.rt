@@ -1,0 +1,117 @@
+//! What `listen` reads of a configuration.
+
+ghost use Rattle.std.specs.Prelude.{◌≡◌, ◌≢◌, Ok, Err, IfOk, IfErr};
+ghost use Rattle.toml.specs.View.{table_view};
+ghost use Rattle.doc_server_config.specs.Listenings.{listening_of, listening_of_document, listening_with};
+
+use crate::bounds::{Bounds, bounds_in};
+use crate::folder::{Folder, FolderFault, folders_of};
+use doc_heap::Heap;
+use doc_page::failure::Memory;
+use doc_page::list::List;
+use doc_store::readers::ReadersError;
+use doc_store::tables::{document_of, tables_at};
+use std::error::Error;
+use std::fmt;
+use toml::Table;
+
+/// Why a text says nothing that `listen` could go by. Folders are counted from 1.
+#[derive(Clone, Copy, Debug, PartialEq, Eq)]
+pub enum ListeningError {
+    /// The text is no TOML document.
+    BadToml,
+    /// `listen` is no table, or has a key other than `connections` and `idle_seconds`.
+    BadListen,
+    /// `connections` is no integer from 1 to 65,535.
+    BadConnections,
+    /// `idle_seconds` is no integer from 1 to 86,400.
+    BadIdleSeconds,
+    /// `folder` is no array of tables.
+    BadFolders,
+    /// The first folder that is none, and its first fault.
+    BadFolder(usize, FolderFault),
+    Memory,
+}
+
+impl fmt::Display for ListeningError {
+    fn fmt<W: fmt::Write>(&self, f: &mut fmt::Formatter<W>) -> fmt::Result {
+        match self {
+            ListeningError::BadToml => write!(f, "no TOML"),
+            ListeningError::BadListen => write!(f, "`listen` is bad"),
+            ListeningError::BadConnections => write!(f, "`connections` is bad"),
+            ListeningError::BadIdleSeconds => write!(f, "`idle_seconds` is bad"),
+            ListeningError::BadFolders => write!(f, "`folder` is bad"),
+            ListeningError::BadFolder(n, fault) => write!(f, "folder {n}: {fault}"),
+            ListeningError::Memory => write!(f, "{Memory}"),
+        }
+    }
+}
+
+impl Error for ListeningError {}
+
+impl From<Memory> for ListeningError {
+    ghost use Rattle.std.specs.Prelude.{◌≡◌};
+    ghost use Rattle.doc_server_config.specs.declared.listening.ListeningError.TheVariants as refusals;
+
+    ghost from_gives = { λ _ e. e ≡ refusals.Memory };
+
+    fn from(_e: Memory) -> ListeningError {
+        ListeningError::Memory
+    }
+}
+
+/// What `listen` goes by.
+#[derive(Debug, Drop)]
+pub struct Listening {
+    /// How many connections stand at most, 1 to 65,535.
+    pub connections: usize,
+    /// After how many seconds without a byte a connection ends, 1 to 86,400.
+    pub idle_seconds: u64,
+    /// The folders in their order.
+    pub folders: List<Folder>,
+}
+
+impl Listening {
+    /// What `listen` goes by, of a TOML 1.1 document: its table `listen` with `connections` (1 to 65,535,
+    /// else 1,024) and `idle_seconds` (1 to 86,400, else 30), and its array `folder`, each with a `path`,
+    /// a `prefix` (else none) and `groups` (an array of names, else none). These tables have no other
+    /// keys; those of the document are not its concern. Refusals come in the order of
+    /// [`ListeningError`], but that `Memory` may be answered before another one is found.
+    pub fn from_toml(heap: Heap, text: &str) -> Result<Listening, ListeningError>
+        ensures read { IfOk result (λ listening. listening_of text.now ≡ Ok listening) }
+        ensures refused { IfErr result
+            (λ e. e ≢ ListeningError.Memory → listening_of text.now ≡ Err e) }
+    {
+        let document = match document_of(heap, text) {
+            Ok(document) => document,
+            Err(ReadersError::Memory) => return Err(ListeningError::Memory),
+            Err(_) => return Err(ListeningError::BadToml),
+        };
+        Listening::from_document(heap, &document)
+    }
+
+    /// The same of a document.
+    fn from_document(heap: Heap, document: &Table) -> Result<Listening, ListeningError>
+        ensures read { IfOk result (λ listening.
+            listening_of_document (table_view document.now) ≡ Ok listening) }
+        ensures refused { IfErr result (λ e. e ≢ ListeningError.Memory
+            → listening_of_document (table_view document.now) ≡ Err e) }
+    {
+        let bounds = bounds_in(document)?;
+        let Some(tables) = tables_at(document, "folder") else {
+            return Err(ListeningError::BadFolders);
+        };
+        let folders = folders_of(heap, tables)?;
+        Ok(Listening::of_parts(bounds, folders))
+    }
+
+    fn of_parts(bounds: Bounds, folders: List<Folder>) -> Listening
+        ensures { result ≡ listening_with bounds folders }
+    {
+        Listening {
+            connections: bounds.connections,
+            idle_seconds: bounds.idle_seconds,
+            folders,
+        }
+    }
+}

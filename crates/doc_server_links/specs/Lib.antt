@@ -1,3 +1,0 @@
-pub mod MemoryStreams
-pub mod Moves
-pub mod TcpLinks

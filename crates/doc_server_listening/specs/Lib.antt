@@ -1,5 +1,0 @@
-pub mod Bounds
-pub mod FileNames
-pub mod Folders
-pub mod Keys
-pub mod Listenings

@@ -1,5 +1,0 @@
-mod EventSteps
-mod Examples
-mod ReplaySteps
-mod ScriptSteps
-mod StopSteps

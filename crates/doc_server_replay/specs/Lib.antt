@@ -1,4 +1,0 @@
-pub mod ReplaySteps
-pub mod Replays
-pub mod ScriptSteps
-pub mod Scripts

@@ -1,0 +1,47 @@
+-- Words in which the steps of a writer are stated.
+use Rattle.std.specs.Prelude.{◌≡◌, ◌++◌, ◌≤◌, ℕ, List, [], length, map as mapped, Bool, Option, string_bytes, if◌then◌else◌}
+use Rattle.doc_store.specs.Pages.{Page}
+use Rattle.doc_store.specs.Sites.{Site}
+use Rattle.doc_store.specs.Store.{Edit, remove_page}
+use Rattle.doc_server_journal.specs.Journals.{IsOpen}
+use Rattle.doc_server_journal.specs.Records.{text_limit}
+use Rattle.doc_server_script.specs.Compactions.{same_at}
+use Rattle.doc_server_restore.specs.declared.writer.EditWriter.{EditWriter}
+use Rattle.doc_server_script.specs.PageLines.{lines_of}
+use Rattle.doc_server_restore.specs.Written.{AreLines}
+
+-- the removals of some pages
+abbrev pub removals : List (List ℕ × Page) → List Edit
+removals entries = mapped (λ entry. remove_page entry.0) entries
+
+-- some edits, unless two sites have the same page under a path, with the same aliases
+abbrev pub unless_same : Site → Site → List ℕ → List Edit → List Edit
+unless_same config site path edits = if same_at config site path then [] else edits
+
+-- What was written so far: the first of the edits in records, and the lines of the others.
+pub record HasWritten {D : Type 0} (seen : D → Option (List ℕ)) (may_leave : D → List ℕ → Type 0) (failed : D → Bool)
+    (writer : EditWriter D) (edits : List Edit) : Type 0 where
+  pub records : List (List ℕ)
+  pub first : List Edit
+  pub others : List Edit
+  pub is_open : IsOpen seen may_leave failed writer.journal records
+  pub lines : AreLines records first
+  pub text : string_bytes writer.text ≡ lines_of others
+  pub within : length (string_bytes writer.text) ≤ text_limit
+  pub all : first ++ others ≡ edits
+
+-- a writer that has written some edits
+abbrev pub IsWriter : {D : Type 0} → (D → Option (List ℕ)) → (D → List ℕ → Type 0) → (D → Bool) → EditWriter D → Type 0
+IsWriter seen may_leave failed writer = (edits : List Edit) × HasWritten seen may_leave failed writer edits
+
+-- a writer, once it has written these edits more
+abbrev pub Wrote : {D : Type 0} → (D → Option (List ℕ)) → (D → List ℕ → Type 0) → (D → Bool) → EditWriter D → EditWriter D → List Edit
+    → Type 0
+Wrote seen may_leave failed old new more =
+    (edits : List Edit) → HasWritten seen may_leave failed old edits → HasWritten seen may_leave failed new (edits ++ more)
+
+-- a writer, once it has written all of some edits but those that are left
+abbrev pub WroteUpTo : {D : Type 0} → (D → Option (List ℕ)) → (D → List ℕ → Type 0) → (D → Bool) → EditWriter D → EditWriter D
+    → List Edit → List Edit → Type 0
+WroteUpTo seen may_leave failed old new all left =
+    (done : List Edit) × Wrote seen may_leave failed old new done × (all ≡ done ++ left)

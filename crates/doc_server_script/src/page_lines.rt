@@ -1,0 +1,81 @@
+//! The lines of edits, each with its line feed. After a refusal part of them may stand at the end of the buffer.
+
+ghost use Rattle.std.specs.Prelude.{◌≡◌, ◌++◌, string_bytes, OnOk, OnErr};
+ghost use Rattle.std.specs.Io.{StartsWith};
+ghost use Rattle.doc_store.specs.Groups.{texts_of};
+ghost use Rattle.doc_store.specs.Store.{set_page, remove_page, move_page};
+ghost use Rattle.doc_server_script.specs.Compactions.{made_along, moves};
+ghost use Rattle.doc_server_script.specs.PageLines.{line_of, lines_of};
+
+use doc_heap::String;
+use doc_page::failure::Memory;
+use doc_page::path::Path;
+use crate::edit::{push_move, push_put, push_remove};
+use doc_store::page::Page;
+
+/// Writes the edits that make a page along its names: a put under the first of them, and a move from each to the next.
+#[tactic(auto, using(doc_page::proofs::BufferSteps::front_same, doc_page::proofs::BufferSteps::front_more))]
+pub fn push_made_along(out: &mut String, page: &Page, names: &[&Path]) -> Result<(), Memory>
+    ensures ok { OnOk result (string_bytes out.new
+        ≡ string_bytes out.old ++ lines_of (made_along page.now.page (texts_of names.now))) }
+    ensures err { OnErr result (StartsWith (string_bytes out.new) (string_bytes out.old)) }
+{
+    match names {
+        [] => Ok(()),
+        [first, others @ ..] => {
+            push_put_line(out, first, page)?;
+            push_moves(out, first, others)
+        }
+    }
+}
+
+/// Writes the edit that puts a page.
+#[tactic(auto, using(doc_page::proofs::BufferSteps::front_same, doc_page::proofs::BufferSteps::front_more))]
+pub fn push_put_line(out: &mut String, path: &Path, page: &Page) -> Result<(), Memory>
+    ensures ok { OnOk result (string_bytes out.new
+        ≡ string_bytes out.old ++ line_of (set_page path.now page.now.page)) }
+    ensures err { OnErr result (StartsWith (string_bytes out.new) (string_bytes out.old)) }
+{
+    push_put(out, path, page.groups(), page.text())?;
+    out.push_str("\n")?;
+    Ok(())
+}
+
+/// Writes the edit that removes a page.
+#[tactic(auto, using(doc_page::proofs::BufferSteps::front_same, doc_page::proofs::BufferSteps::front_more))]
+pub fn push_remove_line(out: &mut String, path: &Path) -> Result<(), Memory>
+    ensures ok { OnOk result (string_bytes out.new
+        ≡ string_bytes out.old ++ line_of (remove_page path.now)) }
+    ensures err { OnErr result (StartsWith (string_bytes out.new) (string_bytes out.old)) }
+{
+    push_remove(out, path)?;
+    out.push_str("\n")?;
+    Ok(())
+}
+
+/// Writes the edit that moves a page.
+#[tactic(auto, using(doc_page::proofs::BufferSteps::front_same, doc_page::proofs::BufferSteps::front_more))]
+pub fn push_move_line(out: &mut String, from: &Path, to: &Path) -> Result<(), Memory>
+    ensures ok { OnOk result (string_bytes out.new
+        ≡ string_bytes out.old ++ line_of (move_page from.now to.now)) }
+    ensures err { OnErr result (StartsWith (string_bytes out.new) (string_bytes out.old)) }
+{
+    push_move(out, from, to)?;
+    out.push_str("\n")?;
+    Ok(())
+}
+
+/// Writes a move from each name to the next.
+#[tactic(auto, using(doc_page::proofs::BufferSteps::front_same, doc_page::proofs::BufferSteps::front_more))]
+fn push_moves(out: &mut String, from: &Path, names: &[&Path]) -> Result<(), Memory>
+    ensures ok { OnOk result (string_bytes out.new
+        ≡ string_bytes out.old ++ lines_of (moves from.now (texts_of names.now))) }
+    ensures err { OnErr result (StartsWith (string_bytes out.new) (string_bytes out.old)) }
+{
+    let mut last = from;
+    for name in names {
+        push_move_line(out, last, name)?;
+        last = *name;
+    }
+    Ok(())
+}

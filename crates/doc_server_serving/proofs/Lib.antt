@@ -1,5 +1,0 @@
-mod Among
-mod Drops
-mod Given
-mod Making
-mod Together

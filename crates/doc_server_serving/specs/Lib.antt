@@ -1,4 +1,0 @@
-pub mod Dropped
-pub mod Faults
-pub mod Made
-pub mod Servings

@@ -1,2 +1,0 @@
-mod ReportSteps
-mod SiteSteps
