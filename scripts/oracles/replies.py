@@ -1,4 +1,5 @@
-"""What a hub answers, as whole bytes: an outside expectation for `doc_hub` and `doc_shelf`, over pages with links and headings.
+"""What a hub answers, as whole bytes: an outside expectation for `doc_hub`, `doc_hub_replies` and `doc_shelf`, over pages with links and
+headings.
 
 The model keeps a map of pages, and makes each reply anew of the pages that its reader sees: lists by listings.py, pages of paragraphs
 and ATX headings with inline links (CommonMark 0.31.2, sections 4.2, 4.8 and 6.3), by the rules of docs/SITE.md and docs/HTTP.md. It
