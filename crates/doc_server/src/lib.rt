@@ -16,6 +16,5 @@ pub mod site;
 
 pub use doc_server_config::{config, page_row};
 pub use doc_server_input::{fault, input, output};
+pub use doc_server_rounds::{link, round, serving};
 pub use doc_server_streams::{memory_stream, stream, tcp_link};
-pub use doc_server_rounds::{link, round};
-pub use doc_server_rounds::serving;

@@ -9,6 +9,7 @@ ghost use Rattle.doc_server.specs.Replays.{outcome_lines, Replays, RunTells, Sto
 ghost use Rattle.doc_server.specs.ReplaySteps.{StopsScript};
 
 use crate::script::events_of;
+use crate::site::site_hub;
 use doc_heap::{Heap, String};
 use doc_hub::hub::Hub;
 use doc_hub::outcome::Outcome;
@@ -20,7 +21,6 @@ use doc_server_input::fault::Fault;
 use doc_server_input::input::read_text;
 use doc_server_input::output::{flush, send};
 use doc_server_script::outcome::push_outcome;
-use crate::site::site_hub;
 use doc_server_streams::input::Input;
 use doc_server_streams::output::Output;
 

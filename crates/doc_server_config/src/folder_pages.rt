@@ -6,6 +6,8 @@ ghost use Rattle.doc_store.specs.Store.{text_limit};
 ghost use Rattle.doc_server_config.specs.FileNames.{path_in_folder};
 ghost use Rattle.doc_server_config.specs.FolderPages.{IsPageOf};
 
+use crate::file_name::path_in_folder;
+use crate::folder::Folder;
 use crate::walk::{files_in, joined};
 use doc_heap::{Heap, String, Vec};
 use doc_page::failure::Memory;
@@ -14,8 +16,6 @@ use doc_page::path::{Path, PathError};
 use doc_page::text::Text;
 use doc_server_input::fault::Fault;
 use doc_server_input::input::{cannot_read, read_whole};
-use crate::file_name::path_in_folder;
-use crate::folder::Folder;
 use doc_server_streams::read_from::ReadFrom;
 use doc_store::groups::Groups;
 use std::alloc::AllocGlobal;

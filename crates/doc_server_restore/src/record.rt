@@ -11,8 +11,8 @@ use doc_heap::Heap;
 use doc_hub::event::Event;
 use doc_page::failure::Memory;
 use doc_page::list::List;
-use doc_server_input::fault::Fault;
 use doc_server::script::events_of;
+use doc_server_input::fault::Fault;
 use std::str;
 
 /// The edits of a record's text, as events. `None` says that it isn't UTF-8, or that a line of it is no edit.

@@ -11,9 +11,9 @@ ghost use Rattle.doc_server_restore.specs.WriterSteps.{IsWriter, Wrote};
 use crate::compact_fault::CompactFault;
 use doc_heap::{Heap, String};
 use doc_page::path::Path;
-use doc_server_script::page_lines::{push_move_line, push_put_line, push_remove_line};
 use doc_server_journal::device::Device;
 use doc_server_journal::journal::Journal;
+use doc_server_script::page_lines::{push_move_line, push_put_line, push_remove_line};
 use doc_store::page::Page;
 
 /// How many bytes the text of a record may have.

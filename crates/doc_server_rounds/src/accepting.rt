@@ -5,12 +5,12 @@ ghost use Rattle.doc_server_rounds.specs.Faults.{Explains, IsRefusal};
 ghost use Rattle.doc_server_rounds.specs.Made.{Makes, MakesOne};
 
 use crate::fault::ServeFault;
+use crate::link::Link;
 use doc_heap::Vec;
 use doc_hub::hub::Hub;
 use doc_page::failure::Memory;
 use doc_page::renderer::Renderer;
 use doc_server_streams::tcp_link::TcpLink;
-use crate::link::Link;
 use std::net::TcpListener;
 
 /// Accepts the connections of so many peers, and makes a link of each. Where one is refused, the links before it stand.

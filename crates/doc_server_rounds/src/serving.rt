@@ -6,12 +6,12 @@ ghost use Rattle.doc_server_rounds.specs.Servings.{Clears, Refuses, Rounds, Serv
 use crate::accepting::accept_links;
 use crate::dropping::disconnect_all;
 use crate::fault::ServeFault;
+use crate::link::Link;
+use crate::round::{Round, serve_round};
 use doc_heap::{Heap, Vec};
 use doc_hub::hub::Hub;
 use doc_page::renderer::Renderer;
 use doc_server_streams::tcp_link::TcpLink;
-use crate::link::Link;
-use crate::round::{Round, serve_round};
 use std::net::TcpListener;
 
 /// Accepts the connections of so many peers, serves them in one round of at most so many passes, and drops them. No peer is

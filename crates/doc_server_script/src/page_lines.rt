@@ -7,10 +7,10 @@ ghost use Rattle.doc_store.specs.Store.{set_page, remove_page, move_page};
 ghost use Rattle.doc_server_script.specs.Compactions.{made_along, moves};
 ghost use Rattle.doc_server_script.specs.PageLines.{line_of, lines_of};
 
+use crate::edit::{push_move, push_put, push_remove};
 use doc_heap::String;
 use doc_page::failure::Memory;
 use doc_page::path::Path;
-use crate::edit::{push_move, push_put, push_remove};
 use doc_store::page::Page;
 
 /// Writes the edits that make a page along its names: a put under the first of them, and a move from each to the next.

@@ -4,10 +4,10 @@ ghost use Rattle.std.specs.Prelude.{◌≡◌, ◌==◌, [], Some};
 ghost use Rattle.doc_server_streams.specs.Streams.{one_more};
 ghost use Rattle.doc_server_streams.specs.MemoryStreams.{unread_in, written_to, failures_of, is_stalled};
 
+use crate::fault::StreamFault;
 use crate::stream::Stream;
 use doc_heap::{Heap, Vec};
 use doc_page::bytes::Bytes;
-use crate::fault::StreamFault;
 
 /// Bytes that are read, and those that were written. A call moves one piece at most.
 #[derive(Drop)]

@@ -8,13 +8,13 @@ use crate::listen_fault::ListenFault;
 use doc_heap::{Heap, Vec, heap};
 use doc_page::failure::Memory;
 use doc_page::list::List;
-use doc_server_config::config::SiteConfig;
-use doc_server_config::page_row::{PageRow, Source};
-use doc_server_config::folder_pages::{FolderPage, read_folder};
-use doc_server_input::fault::Fault;
 use doc_server_config::bounds::Bounds;
+use doc_server_config::config::SiteConfig;
 use doc_server_config::folder::Folder;
+use doc_server_config::folder_pages::{FolderPage, read_folder};
 use doc_server_config::listening::{Listening, ListeningError};
+use doc_server_config::page_row::{PageRow, Source};
+use doc_server_input::fault::Fault;
 use std::rt::Files;
 
 /// A configured site with the bounds of a server that runs.

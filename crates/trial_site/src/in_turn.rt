@@ -5,8 +5,8 @@ use crate::scripts::played;
 use crate::world::Heaps;
 use doc_heap::{Heap, String};
 use doc_page::failure::Memory;
-use doc_server_streams::memory_stream::MemoryStream;
 use doc_server_rounds::link::Link;
+use doc_server_streams::memory_stream::MemoryStream;
 use trial::answer::no_call;
 
 /// More calls of a stream, and more growths, than a script has here.

@@ -8,9 +8,9 @@ use doc_hub::hub::Hub;
 use doc_hub::refusal::ConnectError;
 use doc_page::failure::Memory;
 use doc_page::renderer::Renderer;
-use doc_server_streams::memory_stream::MemoryStream;
 use doc_server_rounds::link::Link;
 use doc_server_rounds::round::{Round, serve_round};
+use doc_server_streams::memory_stream::MemoryStream;
 use std::str::from_utf8;
 
 /// Links, and what came of the rounds over them.
