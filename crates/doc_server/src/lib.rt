@@ -1,5 +1,8 @@
 //! The program as a library: its commands, each a function over an input and an output, and under this one name what serves a site:
 //! streams, links and rounds, a configuration, and a script of events.
+//!
+//! A site's configuration names files, which the program reads: their texts are given beside it. A command makes the site first, and
+//! writes nothing before it is sure of all that it was given.
 #![tactic(auto)]
 
 pub mod check;

@@ -1,4 +1,9 @@
 //! The configuration of a site: its settings, its readers and its pages, as a TOML document has them.
+//!
+//! Of it `listen` alone reads its bounds, and the folders whose files are pages.
+//!
+//! What a folder holds no contract can say. What is trusted: that the system names each file of a folder, and tells files from folders
+//! and links.
 #![tactic(auto)]
 
 pub mod bounds;

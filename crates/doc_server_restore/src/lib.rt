@@ -1,4 +1,6 @@
 //! What a server that keeps its edits does at its start: the edits of its journal happen again.
+//!
+//! A compaction writes a journal of the edits that lead from one site to another; restored, it gives that site.
 #![tactic(auto)]
 
 pub mod compact;

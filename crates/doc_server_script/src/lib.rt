@@ -10,6 +10,8 @@
 //! The last field takes the rest of the line; it may be empty, but the space before it stands. ID is the digits of a number below
 //! 2^64. GROUPS are names joined by commas, or `-` for none. In BYTES, PATH, FROM, TO and TEXT a backslash begins an escape: `\r`, `\n`,
 //! `\\`, or `\x` and two hexadecimal digits. A TOKEN stands as it is.
+//!
+//! Compaction stands on these lines: the edits that lead from one site to another.
 #![tactic(auto)]
 
 mod command;

@@ -1,5 +1,8 @@
 //! Bytes that come in and go out, with what contracts see of them: what is left to read, what was written and flushed, and how many
 //! calls failed. So a contract can say that a command gives up only where a call failed.
+//!
+//! Beside inputs and outputs stand streams of a peer: one that is read and written, over memory and over TCP. Contracts see what is left
+//! to read, what was written, and how many calls failed.
 #![tactic(auto)]
 
 pub mod fault;
