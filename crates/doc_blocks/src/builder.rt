@@ -6,16 +6,15 @@
 //! paragraph, and the containers round it stay open. `put_text` decides it, where it asks whether any paragraph is open and not whether
 //! that stands at `depth`. `met` tells both apart for those that care: an underline is never lazy, and an item that may not interrupt a
 //! paragraph of its own containers does begin where the paragraph is open further in.
-ghost use Rattle.std.specs.Prelude.{◌≡◌, ◌+◌, ◌-◌, ℕ, true, false, not, OnOk, IfOk, vec_len};
+ghost use Rattle.std.specs.Prelude.{◌≡◌, ◌+◌, ◌-◌, ℕ, true, false, not, None, OnOk, IfOk, vec_len};
 ghost use Rattle.std.specs.FinMap as finite;
-ghost use Rattle.doc_rules.specs.Columns.{is_blank_line};
-ghost use Rattle.doc_rules.specs.ContainerStarts.{item_start};
+ghost use Rattle.doc_rules.specs.ContainerStarts.{quote_start, item_start};
 ghost use Rattle.doc_rules.specs.Trees as rules;
 ghost use Rattle.doc_blocks_pass.specs.Leaves.{NoLeaf, NotTaken, taken};
 ghost use Rattle.doc_blocks_pass.specs.OpenBlocks.{leaf_begun, leaf_step, text_put, start_step};
 ghost use Rattle.doc_lines.specs.Cursors.{left_of};
-ghost use Rattle.doc_blocks_starts.specs.Lines.{line_of};
-ghost use Rattle.doc_blocks_starts.specs.Items.{item_of_start, kind_of};
+ghost use Rattle.doc_blocks_starts.specs.Lines.{inside_of};
+ghost use Rattle.doc_blocks_starts.specs.Items.{item_taken, kind_of};
 ghost use Rattle.doc_blocks_leaves.specs.Starts.{situation_of, start_shown, leaf_lines};
 ghost use Rattle.doc_blocks.specs.StackSteps.{empty_stack};
 ghost use Rattle.doc_blocks.specs.StateSteps.{below, met, shown, reached, leaf_done, all_closed, quote_opened, item_opened, lines_opened, item_met, StepsTo, after_line};
@@ -29,8 +28,8 @@ use doc_blocks_leaves::leaf::{LineTaken, OpenLeaf};
 use doc_blocks_leaves::line::is_indented;
 use doc_blocks_leaves::start::{LeafStart, NewLeaf, Situation, leaf_start};
 use doc_blocks_starts::indentation::is_blank_line;
-use doc_blocks_starts::item::{ItemStart, item_start};
-use doc_blocks_starts::quote::quote_start;
+use doc_blocks_starts::item::{Item, take_item};
+use doc_blocks_starts::quote::take_quote;
 use doc_heap::Heap;
 use doc_lines::cursor::Cursor;
 use doc_lines::entities::Entities;
@@ -114,19 +113,20 @@ impl Builder {
         heap: Heap,
         entities: &Entities,
         depth: usize,
-        item: &ItemStart,
+        item: Item,
+        is_empty: bool,
     ) -> Result<(), Memory>
         requires { IsReady self.old depth }
         ensures state { OnOk result (state_of self.new
-            ≡ item_opened entities.now depth (state_of self.old) (kind_of item.now.kind)
-            item.now.start item.now.columns (is_blank_line (left_of item.now.first))) }
+            ≡ item_opened entities.now depth (state_of self.old) (kind_of item.kind)
+            item.start item.columns is_empty) }
         ensures ready { OnOk result (IsReady self.new (depth + 1)) }
     {
         self.close_to(heap, entities, depth)?;
         self.levels.begin_item(item.kind, item.start)?;
         self.levels.open(Container::Item {
             columns: item.columns,
-            is_empty: is_blank_line(&item.first),
+            is_empty,
         })?;
         Ok(())
     }
@@ -299,69 +299,93 @@ impl Builder {
         }
     }
 
-    /// One step of what a line begins: where a container began, the answer is the line inside it.
-    fn begin_one<'a>(
+    /// One step of what a line begins. Answers whether a container began; then the line is inside it.
+    fn begin_one(
         &mut self,
         heap: Heap,
         entities: &Entities,
         depth: usize,
-        line: &Cursor<'a>,
-    ) -> Result<Option<Cursor<'a>>, Memory>
+        line: &mut Cursor,
+    ) -> Result<bool, Memory>
         requires { IsReady self.old depth }
-        ensures steps { IfOk result (λ rest. (room : ℕ)
-            → StepsTo entities.now room depth (state_of self.old) (left_of line.now)
-            (state_of self.new) (line_of rest)) }
-        ensures ready { IfOk result (λ rest. IsBegun self.new (depth + 1) (line_of rest)) }
+        ensures steps { IfOk result (λ inside. (room : ℕ)
+            → StepsTo entities.now room depth (state_of self.old) (left_of line.old)
+            (state_of self.new) (inside_of inside line.new)) }
+        ensures ready { IfOk result
+            (λ inside. IsBegun self.new (depth + 1) (inside_of inside line.new)) }
     {
         if begins_nothing(line) {
             self.put_text(heap, entities, depth, line)?;
-            return Ok(None);
+            return Ok(false);
         }
-        if let Some(rest) = quote_start(line) {
+        if take_quote(line) {
             self.begin_quote(heap, entities, depth)?;
-            return Ok(Some(rest));
+            return Ok(true);
         }
         if let Some(start) = leaf_start(heap, self.met(depth), line, entities)? {
             self.begin_leaf(heap, entities, depth, line, start)?;
-            return Ok(None);
+            return Ok(false);
         }
-        let item = match self.item_met(depth, line) {
-            Some(item) => item,
-            None => {
-                self.put_text(heap, entities, depth, line)?;
-                return Ok(None);
-            }
-        };
-        self.begin_item(heap, entities, depth, &item)?;
-        if is_blank_line(&item.first) {
-            return Ok(None);
-        }
-        Ok(Some(item.first))
+        let inside = self.begin_item_or_text(heap, entities, depth, line)?;
+        Ok(inside)
     }
 
-    /// The item that a line may begin: some may not interrupt a paragraph of their own containers.
-    fn item_met<'a>(&self, depth: usize, line: &Cursor<'a>) -> Option<ItemStart<'a>>
-        requires { IsReady self.now depth }
-        ensures { item_of_start result ≡ item_met (met depth (state_of self.now))
-            (item_start (left_of line.now)) }
+    /// The same for a line that begins an item, or nothing.
+    fn begin_item_or_text(
+        &mut self,
+        heap: Heap,
+        entities: &Entities,
+        depth: usize,
+        line: &mut Cursor,
+    ) -> Result<bool, Memory>
+        requires ready { IsReady self.old depth }
+        requires quote { quote_start (left_of line.old) ≡ None }
+        requires leaf { rules.leaf_begins entities.now (met depth (state_of self.old))
+            (left_of line.old) ≡ None }
+        ensures steps { IfOk result (λ inside. (room : ℕ)
+            → StepsTo entities.now room depth (state_of self.old) (left_of line.old)
+            (state_of self.new) (inside_of inside line.new)) }
+        ensures ready { IfOk result
+            (λ inside. IsBegun self.new (depth + 1) (inside_of inside line.new)) }
     {
-        let item = item_start(line)?;
+        let mut inside = line.copy();
+        let Some(item) = self.take_item(depth, &mut inside) else {
+            self.put_text(heap, entities, depth, line)?;
+            return Ok(false);
+        };
+        *line = inside;
+        if is_blank_line(line) {
+            self.begin_item(heap, entities, depth, item, true)?;
+            return Ok(false);
+        }
+        self.begin_item(heap, entities, depth, item, false)?;
+        Ok(true)
+    }
+
+    /// Takes the marker of the item that a line may begin: some may not interrupt a paragraph of their own containers. Where no item
+    /// begins, the line is left anywhere.
+    fn take_item(&self, depth: usize, line: &mut Cursor) -> Option<Item>
+        requires { IsReady self.now depth }
+        ensures { item_taken result line.new ≡ item_met (met depth (state_of self.now))
+            (item_start (left_of line.old)) }
+    {
+        let item = take_item(line)?;
         if !self.is_in_paragraph(depth) {
             return Some(item);
         }
-        if !item.may_interrupt() {
+        if !item.may_interrupt(line) {
             return None;
         }
         Some(item)
     }
 
     /// What a line begins inside the first so many containers, which it goes on with.
-    fn begin<'a>(
+    fn begin(
         &mut self,
         heap: Heap,
         entities: &Entities,
         from: usize,
-        line: &mut Cursor<'a>,
+        line: &mut Cursor,
     ) -> Result<(), Memory>
         requires { IsReady self.old from }
         ensures reached { OnOk result
@@ -372,11 +396,9 @@ impl Builder {
     {
         let mut depth = from;
         'containers: while depth < MOST {
-            let inside = match self.begin_one(heap, entities, depth, line)? {
-                Some(inside) => inside,
-                None => return Ok(()),
-            };
-            *line = inside;
+            if !self.begin_one(heap, entities, depth, line)? {
+                return Ok(());
+            }
             depth += 1;
         }
         self.put_leaf(heap, entities, depth, line)?;

@@ -2,12 +2,13 @@
 //! its marker, with an item by its columns or by being blank, but for the second line of an item that started blank.
 ghost use Rattle.std.specs.Prelude.{◌≡◌, nat_le, false, ◌&&◌, ◌||◌, not};
 ghost use Rattle.doc_rules.specs.Columns.{indent, is_blank_line};
-ghost use Rattle.doc_blocks_pass.specs.Paths.{OpenItem, OpenQuote, matched_open, gone_on};
+ghost use Rattle.doc_blocks_pass.specs.Paths.{OpenItem, matched_open, gone_on};
 ghost use Rattle.doc_lines.specs.Cursors.{left_of};
-ghost use Rattle.doc_blocks.specs.Containers.{container_shown, inside_of};
+ghost use Rattle.doc_blocks_starts.specs.Lines.{inside_of};
+ghost use Rattle.doc_blocks.specs.Containers.{container_shown};
 
 use doc_blocks_starts::indentation::{indent_up_to, is_blank_line};
-use doc_blocks_starts::quote::quote_start;
+use doc_blocks_starts::quote::take_quote;
 use doc_lines::cursor::Cursor;
 
 /// An open quote, or an open item with the columns before its content. An item is empty while it started blank and no line went on
@@ -20,13 +21,14 @@ pub(crate) enum Container {
 
 impl Container {
     /// Whether a line goes on with the container (CommonMark 0.31.2, sections 5.1 and 5.2). Where it does, it is inside then.
-    pub(crate) fn matched<'a>(self, line: &mut Cursor<'a>) -> bool
+    #[tactic(auto, unfolding(doc_blocks_pass::specs::Paths::matched_open))]
+    pub(crate) fn matched(self, line: &mut Cursor) -> bool
         ensures inside { inside_of result line.new
             ≡ matched_open (container_shown self) (left_of line.old) }
         ensures stays { result ≡ false → line.new ≡ line.old }
     {
         match self {
-            Container::Quote => matched_quote(line),
+            Container::Quote => take_quote(line),
             Container::Item { columns, is_empty } => matched_item(line, columns, is_empty),
         }
     }
@@ -43,19 +45,6 @@ impl Container {
             },
         }
     }
-}
-
-/// The same for a quote.
-#[tactic(auto, unfolding(doc_blocks_pass::specs::Paths::matched_open))]
-fn matched_quote<'a>(line: &mut Cursor<'a>) -> bool
-    ensures inside { inside_of result line.new ≡ matched_open OpenQuote (left_of line.old) }
-    ensures stays { result ≡ false → line.new ≡ line.old }
-{
-    let Some(inside) = quote_start(line) else {
-        return false;
-    };
-    *line = inside;
-    true
 }
 
 /// The same for an item.

@@ -22,7 +22,8 @@ ghost use Rattle.doc_blocks_leaves.specs.Views.{with_block, blocks_shown};
 ghost use Rattle.doc_blocks.specs.StackSteps.{empty_stack, with_inner_blocks, block_begun, item_begun, container_opened, quote_put, item_put, IsNotOf, ClosesLast};
 ghost use Rattle.doc_blocks.specs.PathSteps.{gone_on_at, closed_to, GoesDown, MatchesAt};
 ghost use Rattle.doc_lines.specs.Cursors.{left_of};
-ghost use Rattle.doc_blocks.specs.Containers.{container_shown, inside_of};
+ghost use Rattle.doc_blocks_starts.specs.Lines.{inside_of};
+ghost use Rattle.doc_blocks.specs.Containers.{container_shown};
 ghost use Rattle.doc_blocks.specs.LevelSteps.{stack_of, IsSound, Leaves};
 
 use crate::container::Container;

@@ -1,18 +1,24 @@
 -- Markers of block quotes and list items, a character at a time.
 use Rattle.std.proofs.Common.{◌≡◌, ℕ, zero, suc, ◌+◌, ◌-◌, ◌*◌, ◌<◌, ◌≤◌, Bool, true, false, ◌==◌, [], ◌∷◌, drop, length, refl, ap, sym}
 use Rattle.std.proofs.Common.{◌∙◌, Option, Some, None, arith, ne_eqb}
-use Rattle.std.specs.Prelude.{fold, codes}
+use Rattle.std.specs.Prelude.{fold, codes, map, min, not, nat_le, option_map, option_and_then, if◌then◌else◌}
+use Rattle.std.specs.Option.{is_some}
 use Rattle.std.specs.Char.{is_ascii_digit, digit_value}
+use Rattle.std.proofs.lemmas.Bool.{eqb-true, not-true, not-false}
 use Rattle.std.proofs.lemmas.Bool.Decides.{nat_tests}
+use Rattle.std.proofs.lemmas.Int.{clamps}
 use Rattle.doc_rules.specs.Characters.{Text, one_of}
-use Rattle.doc_rules.specs.Columns.{Line, Cell, width_at, skip}
-use Rattle.doc_rules.specs.ContainerStarts.{ListKind, Bullet, Ordered, ListMarker, behind_quote_marker, digits_of, bullet_marker}
-use Rattle.doc_rules.specs.ContainerStarts.{ordered_marker}
+use Rattle.doc_rules.specs.Columns.{Line, Cell, width_at, columns_from, cell_of, cells_from, text_of, skip, indent, after_indent}
+use Rattle.doc_rules.specs.Columns.{is_blank_line}
+use Rattle.doc_rules.specs.ContainerStarts.{ListKind, Bullet, Ordered, ListMarker, ItemStart, behind_quote_marker, quote_start, digits_of}
+use Rattle.doc_rules.specs.ContainerStarts.{bullet_marker, ordered_marker, list_marker, marker_end, item_at, item_of, item_start}
+use Rattle.doc_rules.specs.LeafStarts.{marker_text}
+use Rattle.doc_rules.specs.Parsers.{is}
 use Rattle.doc_rules.specs.Escapes.{number}
 use Rattle.doc_lines.specs.Cursors.{Position, first, after_next, left_of}
-use Rattle.doc_blocks_starts.specs.Lines.{IsPlain}
-use Rattle.doc_blocks_starts.specs.ItemSteps.{TakesDigit}
-use Rattle.doc_blocks_starts.proofs.CellLaws.{front_end, front_cell}
+use Rattle.doc_blocks_starts.specs.Lines.{is_quoted, IsPlain}
+use Rattle.doc_blocks_starts.specs.ItemSteps.{TakesDigit, content_columns}
+use Rattle.doc_blocks_starts.proofs.CellLaws.{front_is_plain, front_end, front_cell}
 
 -- ---- block quotes
 
@@ -37,6 +43,119 @@ pub quote_marked : (from next after : Position) (c : ℕ) → IsPlain from → S
     Some (left_of after) ≡ behind_quote_marker (left_of from)
 quote_marked from next after c plain e f same g = ap Some g
     ∙ sym (quote_at from next c plain e f ∙ ap (λ k. if_quoted (left_of next) (k == 62)) same)
+
+-- no marker of a quote stands behind the indentation
+no_quote_in : (cells : Line) → is_some (is 62 (text_of cells)) ≡ false → None ≡ behind_quote_marker cells
+unfolding text_of behind_quote_marker
+no_quote_in [] e = refl
+no_quote_in (cell ∷ more) e = at (cell.char == 62) e
+  where
+    at : (b : Bool) → is_some (elim b as (λ _. Option Text) [ true ↦ Some (map (λ cell. cell.char) more) | false ↦ None ]) ≡ false
+        → None ≡ if_quoted more b
+    at true e = absurd cc
+    at false e = refl
+
+pub no_quote : (line : Line) → is_quoted (marker_text line) ≡ false → None ≡ quote_start line
+unfolding marker_text quote_start
+no_quote line e = at (nat_le (indent line) 3) e
+  where
+    at : (b : Bool) → is_quoted (elim b as (λ _. Option Text) [ true ↦ Some (text_of (after_indent line)) | false ↦ None ]) ≡ false
+        → None ≡ elim b as (λ _. Option Line) [ false ↦ None | true ↦ behind_quote_marker (after_indent line) ]
+    at true e = no_quote_in (after_indent line) e
+    at false e = refl
+
+-- the marker of a quote is the next character
+quote_next : (text : Text) (at : ℕ) → is_some (is 62 (text_of (cells_from at text))) ≡ true → Some 62 ≡ first text
+unfolding text_of columns_from cell_of
+quote_next [] at e = absurd cc
+quote_next (c ∷ text) at e = by (c == 62) refl e
+  where
+    by : (b : Bool) → (c == 62) ≡ b
+        → is_some (elim b as (λ _. Option Text) [ true ↦ Some (text_of (cells_from (at + width_at c at) text)) | false ↦ None ]) ≡ true → Some 62 ≡ Some c
+    by true same e = ap Some (sym (eqb-true c 62 same))
+    by false same e = absurd cc
+
+-- it is taken, and one column behind it
+pub quote_taken : (line : Line) (from next after : Position) → is_quoted (marker_text line) ≡ true → left_of from ≡ after_indent line
+    → next ≡ after_next from → left_of after ≡ skip 1 (left_of next) →
+    Some (left_of after) ≡ quote_start line
+unfolding marker_text quote_start
+quote_taken line from next after e f g h = at (nat_le (indent line) 3) e
+  where
+    at : (b : Bool) → is_quoted (elim b as (λ _. Option Text) [ true ↦ Some (text_of (after_indent line)) | false ↦ None ]) ≡ true
+        → Some (left_of after) ≡ elim b as (λ _. Option Line) [ false ↦ None | true ↦ behind_quote_marker (after_indent line) ]
+    at false e = absurd cc
+    at true e =
+        let plain : IsPlain from = front_is_plain line from f in
+        let here : is_some (is 62 (text_of (cells_from from.column from.rest))) ≡ true
+        = ap (λ (l : Line). is_some (is 62 (text_of l))) (sym plain ∙ f) ∙ e in
+        quote_marked from next after 62 plain (quote_next from.rest from.column here) g refl h ∙ ap behind_quote_marker f
+
+-- ---- items
+
+pub no_item_so_far_in : (line : Line) → not (nat_le (indent line) 3) ≡ true → None ≡ item_start line
+unfolding item_start
+no_item_so_far_in line e =
+    ap (λ (b : Bool). elim b [ false ↦ None | true ↦ option_and_then (item_of line) (list_marker (after_indent line)) ])
+    (sym (not-true (nat_le (indent line) 3) e))
+
+-- the item of a line is the one of its marker
+pub item_by_marker : (line : Line) (marker : Option ListMarker) → not (nat_le (indent line) 3) ≡ false
+    → marker ≡ list_marker (after_indent line) → option_and_then (item_of line) marker ≡ item_start line
+unfolding item_start
+item_by_marker line marker e f =
+    ap (option_and_then (item_of line)) f
+    ∙ ap (λ (b : Bool). elim b [ false ↦ None | true ↦ option_and_then (item_of line) (list_marker (after_indent line)) ])
+    (sym (not-false (nat_le (indent line) 3) e))
+
+-- the item of a marker, by the columns of its content
+pub item_by_columns : (line : Line) (marker : ListMarker) → option_map (item_at line marker) (content_columns marker.behind) ≡ item_of line marker
+unfolding item_of content_columns
+item_by_columns line marker = at (is_blank_line marker.behind) (indent marker.behind == 0)
+  where
+    at : (blank none : Bool)
+        → option_map (item_at line marker) (elim blank [
+          | true ↦ Some 1
+          | false ↦ elim none [ true ↦ None | false ↦ Some (if nat_le (indent marker.behind) 4 then indent marker.behind else 1) ]
+        ])
+        ≡ elim blank [
+          | true ↦ Some (item_at line marker 1)
+          | false ↦ elim none [
+            | true ↦ None
+            | false ↦ Some (item_at line marker (if nat_le (indent marker.behind) 4 then indent marker.behind else 1))
+          ]
+        ]
+    at true none = refl
+    at false true = refl
+    at false false = refl
+
+abbrev made : ListMarker → (columns : ℕ) → (first : Line) → ItemStart
+made marker columns first = record { kind = marker.kind; start = marker.start; columns = columns; first = first }
+
+-- the columns before its content are taken
+pub content_taken : (line : Line) (marker : ListMarker) (n columns : ℕ) (first : Line) → Some n ≡ content_columns marker.behind
+    → columns ≡ marker_end line marker + n → first ≡ skip n marker.behind → Some (made marker columns first) ≡ item_of line marker
+unfolding item_at
+content_taken line marker n columns first e f g =
+    ap (λ (k : ℕ). Some (made marker k first)) f
+    ∙ (ap (λ (l : Line). Some (made marker (marker_end line marker + n) l)) g
+    ∙ (ap (option_map (item_at line marker)) e ∙ item_by_columns line marker))
+
+pub no_content : (line : Line) (marker : ListMarker) → None ≡ content_columns marker.behind → None ≡ item_of line marker
+no_content line marker e = ap (option_map (item_at line marker)) e ∙ item_by_columns line marker
+
+-- the columns up to a marker's content
+pub end_is : (line : Line) (marker : ListMarker) (margin size n : ℕ) → margin ≡ indent line
+    → size + length marker.behind ≡ length (after_indent line) → margin + size + n ≡ marker_end line marker + n
+unfolding marker_end
+end_is line marker margin size n e f = omega (arith, e, f)
+
+-- the columns before a marker
+pub margin_is : (line : Line) (margin : ℕ) → margin ≡ min 3 (indent line) → not (nat_le (indent line) 3) ≡ false
+    → (margin ≡ indent line) × (margin ≤ 3)
+margin_is line margin e f =
+    let near : indent line ≤ 3 = grind (arith, nat_tests) in
+    (omega (arith, clamps, e), omega (arith, clamps, e))
 
 -- ---- bullets, and delimiters behind numbers
 

@@ -1,20 +1,29 @@
 -- What reading a marker of a list item takes of a line (CommonMark 0.31.2, section 5.2).
-use Rattle.std.specs.Prelude.{◌≡◌, ℕ, ◌+◌, ◌≤◌, true, [], ◌∷◌, drop, length, Option, Some, None}
+use Rattle.std.specs.Prelude.{◌≡◌, ◌==◌, ℕ, ◌+◌, ◌≤◌, nat_le, true, false, [], ◌∷◌, drop, length, Option, Some, None, if◌then◌else◌}
 use Rattle.std.specs.Char.{is_ascii_digit, digit_value}
-use Rattle.doc_rules.specs.Columns.{Line, Cell, indent, after_indent}
+use Rattle.doc_rules.specs.Columns.{Line, Cell, indent, after_indent, is_blank_line}
 use Rattle.doc_rules.specs.ContainerStarts as rules
 use Rattle.doc_rules.specs.Escapes.{number}
-use Rattle.doc_lines.specs.Cursors.{left_of}
+use Rattle.doc_lines.specs.Cursors.{Position, left_of}
 use Rattle.doc_blocks_starts.specs.Items.{kind_of}
 use Rattle.doc_blocks_starts.specs.declared.item.marker.Digits.{Digits}
 use Rattle.doc_blocks_starts.specs.declared.item.marker.Marker.{Marker}
 
-abbrev pub marker_shown : Marker → rules.ListMarker
-marker_shown m = record { kind = kind_of m.kind; start = m.start; behind = left_of m.behind }
+-- a marker that this place is behind
+abbrev pub marker_shown : Marker → Position → rules.ListMarker
+marker_shown m behind = record { kind = kind_of m.kind; start = m.start; behind = left_of behind }
 
-abbrev pub marker_of : Option Marker → Option rules.ListMarker
-marker_of None = None
-marker_of (Some m) = Some (marker_shown m)
+abbrev pub marker_taken : Option Marker → Position → Option rules.ListMarker
+marker_taken None behind = None
+marker_taken (Some m) behind = Some (marker_shown m behind)
+
+-- the columns of an item's content behind its marker, in front of this
+unfoldable pub content_columns : Line → Option ℕ
+content_columns behind =
+    elim (is_blank_line behind) [
+      | true ↦ Some 1
+      | false ↦ elim (indent behind == 0) [ true ↦ None | false ↦ Some (if nat_le (indent behind) 4 then indent behind else 1) ]
+    ]
 
 -- this digit was taken off the front of a line
 pub record TakesDigit (line rest : Line) (value : ℕ) : Type 0 where
@@ -36,8 +45,9 @@ pub record AreDigits (line rest : Line) (digits : Digits) : Type 0 where
   pub split : rest ≡ drop digits.length line
   pub size : digits.length + length rest ≡ length line
 
--- this marker stands on a line, at most 3 columns in
-pub record IsMarkerOf (line : Line) (marker : Marker) : Type 0 where
-  pub margin : indent line ≤ 3
-  pub size : marker.length + length (left_of marker.behind) ≡ length (after_indent line)
+-- this marker stands on a line with this indentation, and this place is behind it
+pub record IsMarkerOf (line : Line) (margin : ℕ) (marker : Marker) (behind : Position) : Type 0 where
+  pub indented : margin ≡ indent line
+  pub near : margin ≤ 3
+  pub size : marker.length + length (left_of behind) ≡ length (after_indent line)
   pub few : marker.length ≤ 10

@@ -1,16 +1,20 @@
 -- A line from a place on.
-use Rattle.std.specs.Prelude.{◌≡◌, nat_le, true, false, Option, Some, None}
-use Rattle.doc_rules.specs.Columns.{Line, cells_from, indent, after_indent}
+use Rattle.std.specs.Prelude.{◌≡◌, Bool, true, false, Option, Some, None}
+use Rattle.std.specs.Option.{is_some}
+use Rattle.doc_rules.specs.Characters.{Text}
+use Rattle.doc_rules.specs.Parsers.{is}
+use Rattle.doc_rules.specs.Columns.{Line, cells_from}
 use Rattle.doc_lines.specs.Cursors.{Position, left_of}
 
--- what is left of the line at this place, if there is one
-abbrev pub line_of : Option Position → Option Line
-line_of None = None
-line_of (Some place) = Some (left_of place)
+-- the line inside a container, of which a cursor stands at this place where the container begins or goes on there
+abbrev pub inside_of : Bool → Position → Option Line
+inside_of true place = Some (left_of place)
+inside_of false place = None
 
--- the line behind its indentation, where that is at most 3 columns
-abbrev pub marker_line : Line → Option Line
-marker_line line = elim (nat_le (indent line) 3) [ true ↦ Some (after_indent line) | false ↦ None ]
+-- the text behind a line's indentation, where a marker may stand, begins with the one of a quote
+abbrev pub is_quoted : Option Text → Bool
+is_quoted None = false
+is_quoted (Some text) = is_some (is 62 text)
 
 -- what is left at this place begins with a whole character: the place is not inside a tab
 abbrev pub IsPlain : Position → Type 0

@@ -1,10 +1,9 @@
 //! The indentation of a line (CommonMark 0.31.2, section 2.2).
-ghost use Rattle.std.specs.Prelude.{◌≡◌, min, chars, not, nat_le, IfSome};
+ghost use Rattle.std.specs.Prelude.{◌≡◌, min, chars, not, nat_le};
 ghost use Rattle.doc_rules.specs.Columns.{indent, after_indent, is_blank_line, text_of};
 ghost use Rattle.doc_rules.specs.LeafStarts.{marker_text};
 ghost use Rattle.doc_lines.specs.Cursors.{left_of};
 ghost use Rattle.doc_lines.specs.RestSteps.{rest_of};
-ghost use Rattle.doc_blocks_starts.specs.Lines.{line_of, marker_line, IsPlain};
 
 use doc_lines::cursor::Cursor;
 
@@ -43,29 +42,9 @@ pub fn marker_text<'a>(line: &Cursor<'a>) -> Option<&'a str>
     Some(after_indent(line))
 }
 
-/// The place of that text.
-pub(crate) fn marker_place<'a>(line: &Cursor<'a>) -> Option<Cursor<'a>>
-    ensures line { line_of result ≡ marker_line (left_of line.now) }
-    ensures plain { IfSome result IsPlain }
-{
-    if is_too_far_in(line) {
-        return None;
-    }
-    Some(behind_indent(line))
-}
-
-fn is_too_far_in(line: &Cursor) -> bool
+/// Whether the indentation has more columns than that.
+pub(crate) fn is_too_far_in(line: &Cursor) -> bool
     ensures { result ≡ not (nat_le (indent (left_of line.now)) 3) }
 {
     indent_up_to(line, MOST + 1) > MOST
-}
-
-/// The place behind the indentation.
-fn behind_indent<'a>(line: &Cursor<'a>) -> Cursor<'a>
-    ensures line { left_of result ≡ after_indent (left_of line.now) }
-    ensures plain { IsPlain result }
-{
-    let mut ahead = line.copy();
-    ahead.pass_indent();
-    ahead
 }

@@ -2,41 +2,43 @@
 mod kind;
 mod marker;
 
-ghost use Rattle.std.specs.Prelude.{◌≡◌, ◌+◌, ◌≤◌, length};
-ghost use Rattle.doc_rules.specs.Columns.{indent, after_indent};
+ghost use Rattle.std.specs.Prelude.{◌≡◌, ◌≤◌, IfSome};
+ghost use Rattle.doc_rules.specs.Columns.{Line};
 ghost use Rattle.doc_rules.specs.ContainerStarts as rules;
-ghost use Rattle.doc_lines.specs.Cursors.{left_of};
-ghost use Rattle.doc_blocks_starts.specs.Items.{item_shown, item_of_start};
-ghost use Rattle.doc_blocks_starts.specs.ItemSteps.{marker_shown, IsMarkerOf};
+ghost use Rattle.doc_lines.specs.Cursors.{Position, left_of};
+ghost use Rattle.doc_blocks_starts.specs.Items.{item_shown, item_taken};
+ghost use Rattle.doc_blocks_starts.specs.ItemSteps.{marker_shown, content_columns, IsMarkerOf};
 
-use crate::indentation::{indent_up_to, is_blank_line, marker_place};
+use crate::indentation::is_too_far_in;
 use doc_lines::cursor::Cursor;
 pub use kind::ListKind;
-use marker::{Marker, list_marker};
+use marker::{Marker, take_marker};
 
-/// An item: its number, which is 0 for a bullet and 999,999,999 at most, the columns from the front of the line to its content, and
-/// what stands of its content on this line.
-#[derive(Drop)]
-pub struct ItemStart<'a> {
+/// How many columns a marker may have before it.
+const MOST_BEFORE: usize = 3;
+
+/// An item: its number, which is 0 for a bullet and 999,999,999 at most, and the columns from the front of the line to its content.
+#[derive(Clone, Copy)]
+pub struct Item {
     pub kind: ListKind,
     pub start: u32,
     pub columns: usize,
-    pub first: Cursor<'a>,
 }
 
-impl<'a> ItemStart<'a> {
-    /// Whether the item may interrupt a paragraph.
+impl Item {
+    /// Whether the item may interrupt a paragraph, where this is left of its line.
     #[tactic(auto, unfolding(doc_rules::specs::ContainerStarts::item_may_interrupt, doc_rules::specs::ContainerStarts::begins_a_list))]
-    pub fn may_interrupt(&self) -> bool
-        ensures { result ≡ rules.item_may_interrupt (item_shown self.now) }
+    pub fn may_interrupt(self, line: &Cursor) -> bool
+        ensures { result ≡ rules.item_may_interrupt (item_shown self line.now) }
     {
-        !is_blank_line(&self.first) && self.begins_a_list()
+        !line.is_blank() && self.begins_a_list()
     }
 
     /// A bullet, or the number 1.
     #[tactic(auto, unfolding(doc_rules::specs::ContainerStarts::begins_a_list))]
-    fn begins_a_list(&self) -> bool
-        ensures { result ≡ rules.begins_a_list (item_shown self.now) (item_shown self.now).kind }
+    fn begins_a_list(self) -> bool
+        ensures { (place : Position) → result ≡ rules.begins_a_list (item_shown self place)
+            (item_shown self place).kind }
     {
         match self.kind {
             ListKind::Bullet(_) => true,
@@ -45,46 +47,49 @@ impl<'a> ItemStart<'a> {
     }
 }
 
-/// The item that a line begins. A line such as `* * *` has a marker too: where it is a thematic break, it is no item.
+/// Takes the marker of the item that a line begins, and the columns before its content. A line such as `* * *` has a marker too: where it
+/// is a thematic break, it is no item. Where no item begins, the line is left anywhere.
 #[tactic(auto, unfolding(doc_rules::specs::ContainerStarts::item_start))]
-pub fn item_start<'a>(line: &Cursor<'a>) -> Option<ItemStart<'a>>
-    ensures { item_of_start result ≡ rules.item_start (left_of line.now) }
+pub fn take_item(line: &mut Cursor) -> Option<Item>
+    ensures { item_taken result line.new ≡ rules.item_start (left_of line.old) }
 {
-    let marker = list_marker(marker_place(line)?)?;
-    item_of(line, marker)
+    if is_too_far_in(line) {
+        return None;
+    }
+    let margin = line.indent_up_to(MOST_BEFORE);
+    line.pass_indent();
+    let marker = take_marker(line)?;
+    take_content(line, margin, marker)
 }
 
-/// The item of a marker. Its content begins 1 to 4 columns behind it, or 1 where more columns follow or nothing does.
-#[tactic(auto, unfolding(doc_rules::specs::ContainerStarts::item_of))]
-fn item_of<'a>(line: &Cursor<'a>, marker: Marker<'a>) -> Option<ItemStart<'a>>
-    requires { IsMarkerOf (left_of line.now) marker }
-    ensures { item_of_start result ≡ rules.item_of (left_of line.now) (marker_shown marker.entry) }
+/// Takes the columns between a marker and the content of its item. The marker stands behind this margin.
+fn take_content(behind: &mut Cursor, margin: usize, marker: Marker) -> Option<Item>
+    requires near { margin ≤ 3 }
+    requires few { marker.length ≤ 10 }
+    ensures { (line : Line) → IsMarkerOf line margin marker behind.old
+        → item_taken result behind.new ≡ rules.item_of line (marker_shown marker behind.old) }
 {
-    if is_blank_line(&marker.behind) {
-        return Some(item_at(line, marker, 1));
-    }
-    let columns = indent_up_to(&marker.behind, 5);
-    match columns {
-        0 => None,
-        1..=4 => Some(item_at(line, marker, columns)),
-        _ => Some(item_at(line, marker, 1)),
-    }
-}
-
-/// The item whose content begins so many columns behind its marker.
-#[tactic(auto, unfolding(doc_rules::specs::ContainerStarts::item_at, doc_rules::specs::ContainerStarts::marker_end))]
-fn item_at<'a>(line: &Cursor<'a>, marker: Marker<'a>, columns: usize) -> ItemStart<'a>
-    requires marker { IsMarkerOf (left_of line.now) marker }
-    requires columns { columns ≤ 4 }
-    ensures { item_shown result ≡ rules.item_at (left_of line.now) (marker_shown marker.entry)
-        columns }
-{
-    let mut first = marker.behind;
-    let _ = first.skip(columns);
-    ItemStart {
+    let columns = content_columns(behind)?;
+    let _ = behind.skip(columns);
+    Some(Item {
         kind: marker.kind,
         start: marker.start,
-        columns: indent_up_to(line, 3) + marker.length + columns,
-        first,
+        columns: margin + marker.length + columns,
+    })
+}
+
+/// The columns behind a marker at which content begins, 1 to 4, or 1 where more columns follow or nothing does.
+#[tactic(auto, unfolding(crate::specs::ItemSteps::content_columns))]
+fn content_columns(behind: &Cursor) -> Option<usize>
+    ensures columns { result ≡ content_columns (left_of behind.now) }
+    ensures few { IfSome result (λ columns. columns ≤ 4) }
+{
+    if behind.is_blank() {
+        return Some(1);
+    }
+    match behind.indent_up_to(5) {
+        0 => None,
+        5 => Some(1),
+        columns => Some(columns),
     }
 }

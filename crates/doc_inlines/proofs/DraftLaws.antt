@@ -5,6 +5,7 @@ use denote.Ref.{Bor}
 use Rattle.std.specs.Prelude.{nat_le}
 use Rattle.std.proofs.lemmas.Bool.{le-leb}
 use Rattle.std.proofs.lemmas.List.{map-append, length-map, length-replicate, length-reverse, reverse-append}
+use Rattle.std.proofs.Math.Bool.{or-true}
 use Rattle.doc_rules.specs.Inlines.{Inline, Delimiters, Open, literals, onto}
 use Rattle.doc_rules.specs.Characters.{Text}
 use Rattle.doc_inlines_pass.specs.Marks.{Placed, ArePlaced, IsFinal}
@@ -185,7 +186,7 @@ bracket_made items next runs new brackets more dead b text h l e f t g k m =
     let number : length (brackets_shown brackets) ≡ length brackets = length-reverse (map bracket_in brackets)
     ∙ length-map brackets bracket_in in
     let live : (b.image || nat_le dead (length (brackets_shown brackets))) ≡ true = ap (λ n. b.image || nat_le dead n) number
-    ∙ (ap (λ v. b.image || v) (le-leb dead (length brackets) l) ∙ or_true b.image) in
+    ∙ (ap (λ v. b.image || v) (le-leb dead (length brackets) l) ∙ or-true b.image) in
     ap (λ those. made_by those new more dead) g
     ∙ (ap (λ those. made_by grown those more dead) k
     ∙ (ap₂ (λ n those. made_below (marks_shown grown) n dead runs those) (one_longer items (mark.Text text)) (ap brackets_shown m
@@ -193,10 +194,6 @@ bracket_made items next runs new brackets more dead b text h l e f t g k m =
     ∙ (made_bracket (marks_shown items) (marks_shown grown) (length items) dead runs (bracket_in b) (brackets_shown brackets) h.stand
     (agree_grown items (mark.Text text ∷ [])) e f
     ∙ ap (λ v. Open (record { image = b.image; live = v; behind = chars b.behind.now }) ∷ made_by items runs brackets dead) live)))
-  where
-    or_true : (v : Bool) → (v || true) ≡ true
-    or_true true = refl
-    or_true false = refl
 
 pub bracket_open : (items next : List Mark) (runs new : List Placed) (brackets more : List Bracket) (b : Bracket) (text : Bor Text)
     → AreOpen items runs brackets →

@@ -5,6 +5,7 @@ use denote.Ref.{Bor}
 use Rattle.std.specs.Prelude.{IfSome}
 use Rattle.std.specs.List.{list_all}
 use Rattle.std.specs.Char.{is_ascii_alphabetic}
+use Rattle.std.proofs.Math.Bool.{or-true}
 use Rattle.doc_rules.specs.Characters.{Text}
 use Rattle.doc_rules.specs.Parsers.{one, is, word, many, ◌then◌, ◌or◌, maybe, repeated, through, spacing, before}
 use Rattle.doc_rules.specs.Tags.{tag_name, attribute, open_tag, closing_tag, html_tag, comment, instruction, declaration, cdata, raw_html}
@@ -155,11 +156,7 @@ code_made code made new e = e
 
 cut_where_uncut : (text : Text) → list_all is_uncut text ≡ true → is_cut text ≡ true
 unfolding is_cut
-cut_where_uncut text e = ap (λ b. (length text == 1) || b) e ∙ or_true (length text == 1)
-  where
-    or_true : (b : Bool) → (b || true) ≡ true
-    or_true true = refl
-    or_true false = refl
+cut_where_uncut text e = ap (λ b. (length text == 1) || b) e ∙ or-true (length text == 1)
 
 many_front : (class : ℕ → Bool) (text rest : Text) → many class text ≡ Some rest
     → (front : Text) × ((text ≡ front ++ rest) × (list_all class front ≡ true))

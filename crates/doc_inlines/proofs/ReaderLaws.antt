@@ -7,6 +7,7 @@ use Rattle.doc_lines.proofs.Ends.{empty_chars}
 use Rattle.std.specs.List.{list_all}
 use Rattle.std.proofs.lemmas.List.Folds.{list_all-append}
 use Rattle.std.proofs.lemmas.List.{map-append}
+use Rattle.std.proofs.Math.Bool.{or-true}
 use Rattle.doc_rules.specs.Characters.{Text}
 use Rattle.doc_rules.specs.Parsers.{before}
 use Rattle.doc_rules.specs.Inlines.{Inline, literals, onto}
@@ -99,11 +100,7 @@ none_slices whole plain rest text items h g e f s =
 
 uncut_is_cut : (text : Text) → list_all is_uncut text ≡ true → is_cut text ≡ true
 unfolding is_cut
-uncut_is_cut text e = ap (λ b. (length text == 1) || b) e ∙ or_true (length text == 1)
-  where
-    or_true : (b : Bool) → (b || true) ≡ true
-    or_true true = refl
-    or_true false = refl
+uncut_is_cut text e = ap (λ b. (length text == 1) || b) e ∙ or-true (length text == 1)
 
 pub flushed_cut : (plain rest : Text) (items next : List Mark) (text : Bor Text) → chars text.now ≡ before rest plain
     → next ≡ items ++ (mark.Text text ∷ []) → list_all is_uncut (before rest plain) ≡ true → AreCut items → AreCut next

@@ -147,7 +147,6 @@ impl<'t> Draft<'t> {
         ensures sound { OnOk result (IsDraft self.new) }
     {
         let copy = copy_target(heap, &target)?;
-        let all = self.marks.place();
         let behind = Place {
             marks: bracket.place.marks + 1,
             runs: bracket.place.runs,

@@ -6,8 +6,8 @@ use doc_blocks_starts::fence::{Fence, opening_fence};
 use doc_blocks_starts::heading::{atx_heading, underline_level};
 use doc_blocks_starts::html::{HtmlKind, html_start};
 use doc_blocks_starts::indentation::{after_indent, indent_up_to, is_blank_line, marker_text};
-use doc_blocks_starts::item::{ListKind, item_start};
-use doc_blocks_starts::quote::quote_start;
+use doc_blocks_starts::item::{ListKind, take_item};
+use doc_blocks_starts::quote::take_quote;
 use doc_blocks_starts::thematic_break::is_thematic_break;
 use doc_heap::String;
 use doc_lines::cursor::Cursor;
@@ -115,37 +115,49 @@ fn indent(given: &str) -> Option<usize> {
     Some(indent_up_to(&Cursor::new(line), most))
 }
 
+fn inside<'a>(line: &Cursor<'a>) -> Option<Cursor<'a>> {
+    let mut inside = line.copy();
+    if take_quote(&mut inside) {
+        Some(inside)
+    } else {
+        None
+    }
+}
+
 fn quoted<'a>(line: &Cursor<'a>) -> Option<Quoted<'a>> {
-    let behind = quote_start(line)?;
+    let behind = inside(line)?;
     Some((indent_up_to(&behind, 9), after_indent(&behind)))
 }
 
 fn quoted_twice<'a>(line: &Cursor<'a>) -> Option<Quoted<'a>> {
-    quoted(&quote_start(line)?)
+    quoted(&inside(line)?)
 }
 
 fn item<'a>(line: &Cursor<'a>) -> Option<Item<'a>> {
-    let item = item_start(line)?;
-    let columns = indent_up_to(&item.first, 9);
+    let mut first = line.copy();
+    let item = take_item(&mut first)?;
+    let columns = indent_up_to(&first, 9);
     Some((
         item.kind,
         item.start,
         item.columns,
         columns,
-        after_indent(&item.first),
+        after_indent(&first),
     ))
 }
 
 fn item_in_quote<'a>(line: &Cursor<'a>) -> Option<Item<'a>> {
-    item(&quote_start(line)?)
+    item(&inside(line)?)
 }
 
 fn item_in_two_quotes<'a>(line: &Cursor<'a>) -> Option<Item<'a>> {
-    item_in_quote(&quote_start(line)?)
+    item_in_quote(&inside(line)?)
 }
 
 fn may_interrupt(line: &Cursor) -> Option<bool> {
-    Some(item_start(line)?.may_interrupt())
+    let mut first = line.copy();
+    let item = take_item(&mut first)?;
+    Some(item.may_interrupt(&first))
 }
 
 /// `KIND C KIND C`.

@@ -4,7 +4,7 @@ ghost use Rattle.doc_rules.specs.Characters.{one_of};
 ghost use Rattle.doc_rules.specs.ContainerStarts.{digits_of, bullet_marker, ordered_marker, list_marker};
 ghost use Rattle.doc_lines.specs.Cursors.{left_of};
 ghost use Rattle.doc_blocks_starts.specs.Lines.{IsPlain};
-ghost use Rattle.doc_blocks_starts.specs.ItemSteps.{marker_of, AreDigits, IsDigitTaken};
+ghost use Rattle.doc_blocks_starts.specs.ItemSteps.{marker_taken, AreDigits, IsDigitTaken};
 
 use super::kind::ListKind;
 use doc_lines::cursor::Cursor;
@@ -12,13 +12,12 @@ use doc_lines::cursor::Cursor;
 /// How many digits a marker may have.
 const MOST_DIGITS: usize = 9;
 
-/// A marker: its number (0 for a bullet), how many characters it has, and the place behind it.
-#[derive(Drop)]
-pub(super) struct Marker<'a> {
+/// A marker: its number (0 for a bullet), and how many characters it has.
+#[derive(Clone, Copy)]
+pub(super) struct Marker {
     pub kind: ListKind,
     pub start: u32,
     pub length: usize,
-    pub behind: Cursor<'a>,
 }
 
 /// Digits at the front of a line: the number that they write, and how many they are.
@@ -28,33 +27,31 @@ struct Digits {
     length: usize,
 }
 
-/// The marker at the front of a line.
+/// Takes the marker at the front of a line.
 #[tactic(auto, unfolding(doc_rules::specs::ContainerStarts::list_marker))]
-pub(super) fn list_marker<'a>(front: Cursor<'a>) -> Option<Marker<'a>>
-    requires { IsPlain front }
-    ensures marker { marker_of result ≡ list_marker (left_of front.entry) }
-    ensures length { IfSome result (λ m. m.length + length (left_of m.behind)
-        ≡ length (left_of front.entry)) }
+pub(super) fn take_marker(line: &mut Cursor) -> Option<Marker>
+    requires { IsPlain line.old }
+    ensures marker { marker_taken result line.new ≡ list_marker (left_of line.old) }
+    ensures length { IfSome result (λ m. m.length + length (left_of line.new)
+        ≡ length (left_of line.old)) }
     ensures few { IfSome result (λ m. m.length ≤ 10) }
 {
-    let mut line = front;
-    let digits = take_digits(&mut line)?;
+    let digits = take_digits(line)?;
     if digits.length == 0 {
-        bullet_marker(line)
+        take_bullet(line)
     } else {
-        ordered_marker(digits, line)
+        take_delimiter(digits, line)
     }
 }
 
-/// `-`, `+` or `*`.
-fn bullet_marker<'a>(front: Cursor<'a>) -> Option<Marker<'a>>
-    requires { IsPlain front }
-    ensures marker { marker_of result ≡ bullet_marker (left_of front.entry) }
-    ensures length { IfSome result (λ m. m.length + length (left_of m.behind)
-        ≡ length (left_of front.entry)) }
+/// Takes `-`, `+` or `*`.
+fn take_bullet(line: &mut Cursor) -> Option<Marker>
+    requires { IsPlain line.old }
+    ensures marker { marker_taken result line.new ≡ bullet_marker (left_of line.old) }
+    ensures length { IfSome result (λ m. m.length + length (left_of line.new)
+        ≡ length (left_of line.old)) }
     ensures few { IfSome result (λ m. m.length ≤ 10) }
 {
-    let mut line = front;
     let c = line.next()?;
     if !is_bullet(c) {
         return None;
@@ -63,20 +60,19 @@ fn bullet_marker<'a>(front: Cursor<'a>) -> Option<Marker<'a>>
         kind: ListKind::Bullet(c),
         start: 0,
         length: 1,
-        behind: line,
     })
 }
 
-/// The `.` or `)` behind these digits.
-fn ordered_marker<'a>(digits: Digits, front: Cursor<'a>) -> Option<Marker<'a>>
-    requires plain { IsPlain front }
+/// Takes the `.` or `)` behind these digits.
+fn take_delimiter(digits: Digits, line: &mut Cursor) -> Option<Marker>
+    requires plain { IsPlain line.old }
     requires few { digits.length ≤ 9 }
-    ensures marker { marker_of result ≡ ordered_marker digits.number (left_of front.entry) }
-    ensures length { IfSome result (λ m. m.length + length (left_of m.behind)
-        ≡ digits.length + length (left_of front.entry)) }
+    ensures marker { marker_taken result line.new
+        ≡ ordered_marker digits.number (left_of line.old) }
+    ensures length { IfSome result (λ m. m.length + length (left_of line.new)
+        ≡ digits.length + length (left_of line.old)) }
     ensures few { IfSome result (λ m. m.length ≤ 10) }
 {
-    let mut line = front;
     let c = line.next()?;
     if !is_delimiter(c) {
         return None;
@@ -85,7 +81,6 @@ fn ordered_marker<'a>(digits: Digits, front: Cursor<'a>) -> Option<Marker<'a>>
         kind: ListKind::Ordered(c),
         start: digits.number,
         length: digits.length + 1,
-        behind: line,
     })
 }
 

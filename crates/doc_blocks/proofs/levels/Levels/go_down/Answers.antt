@@ -2,7 +2,7 @@ use Rattle.std.proofs.Common.{Bool, take, drop, ◌≤◌, ◌∙◌, ap, sym, a
 use Rattle.doc_blocks.specs.LevelSteps.{stack_of}
 use Rattle.doc_blocks.specs.StackSteps.{Outer, Stack}
 use Rattle.doc_blocks.specs.PathSteps.{Descent}
-use Rattle.doc_blocks.specs.Containers.{inside_of}
+use Rattle.doc_blocks_starts.specs.Lines.{inside_of}
 use Rattle.std.specs.Prelude.{List}
 use Rattle.doc_lines.specs.Cursors.{Position, left_of}
 use Rattle.doc_blocks.proofs.LevelLemmas.{length_outers}
