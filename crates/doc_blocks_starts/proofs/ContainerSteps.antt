@@ -71,7 +71,8 @@ quote_next [] at e = absurd cc
 quote_next (c ∷ text) at e = by (c == 62) refl e
   where
     by : (b : Bool) → (c == 62) ≡ b
-        → is_some (elim b as (λ _. Option Text) [ true ↦ Some (text_of (cells_from (at + width_at c at) text)) | false ↦ None ]) ≡ true → Some 62 ≡ Some c
+        → is_some (elim b as (λ _. Option Text) [ true ↦ Some (text_of (cells_from (at + width_at c at) text)) | false ↦ None ]) ≡ true
+        → Some 62 ≡ Some c
     by true same e = ap Some (sym (eqb-true c 62 same))
     by false same e = absurd cc
 
@@ -109,7 +110,8 @@ item_by_marker line marker e f =
     (sym (not-false (nat_le (indent line) 3) e))
 
 -- the item of a marker, by the columns of its content
-pub item_by_columns : (line : Line) (marker : ListMarker) → option_map (item_at line marker) (content_columns marker.behind) ≡ item_of line marker
+pub item_by_columns : (line : Line) (marker : ListMarker)
+    → option_map (item_at line marker) (content_columns marker.behind) ≡ item_of line marker
 unfolding item_of content_columns
 item_by_columns line marker = at (is_blank_line marker.behind) (indent marker.behind == 0)
   where
