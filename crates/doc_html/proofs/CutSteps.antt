@@ -10,10 +10,10 @@ use Rattle.doc_rules.specs.Characters.{one_of}
 use Rattle.doc_rules.specs.Characters as rules
 use Rattle.doc_rules.specs.Escaping.{escaped_char, html_escape}
 use Rattle.doc_inlines_marks.specs.Slices.{is_cut, IsCut, AreCut}
-use Rattle.doc_inlines_marks.specs.declared.mark.Mark.{Mark}
+use Rattle.doc_inlines_marks.specs.declared.mark_ref.MarkRef.{MarkRef}
 use Rattle.doc_html.proofs.PlainLinkSteps.{no_mark, one_byte}
 
-pub cut_mark : (marks : List Mark) (i : ℕ) (mark : Mark) → AreCut marks → i < length marks → mark ≡ get_or marks i mark → IsCut mark
+pub cut_mark : (marks : List MarkRef) (i : ℕ) (mark : MarkRef) → AreCut marks → i < length marks → mark ≡ get_or marks i mark → IsCut mark
 cut_mark [] i mark h l e = absurd (omega arith)
 cut_mark (first ∷ more) zero mark h l e = subst IsCut (sym e) h.0
 cut_mark (first ∷ more) (suc i) mark h l e = cut_mark more i mark h.1 (omega arith) e

@@ -9,9 +9,9 @@ use Rattle.doc_rules.specs.Inlines.{Inline, literals}
 use Rattle.doc_rules.specs.Html.{characters, inline_html, images_after, html_among, inlines_html}
 use Rattle.doc_rules.specs.PlainTexts.{plain}
 use Rattle.doc_inlines_marks.specs.Views.{span_shown, inlines_in, inlines_shown}
-use Rattle.doc_inlines_marks.specs.declared.mark.Span.TheVariants as span
-use Rattle.doc_inlines_marks.specs.declared.mark.Mark.{Mark}
-use Rattle.doc_inlines_marks.specs.declared.mark.Mark.TheVariants.{Text, Code, Soft, Hard, Raw, Reference, Start, End}
+use Rattle.doc_inlines_marks.specs.declared.mark_ref.SpanRef.TheVariants as span
+use Rattle.doc_inlines_marks.specs.declared.mark_ref.MarkRef.{MarkRef}
+use Rattle.doc_inlines_marks.specs.declared.mark_ref.MarkRef.TheVariants.{Text, Code, Soft, Hard, Raw, Reference, Start, End}
 use Rattle.doc_html.specs.InlineSteps.{images_along, images_behind, mark_html, mark_plain}
 use Rattle.doc_html.proofs.WriterSteps.{characters_append}
 
@@ -41,14 +41,14 @@ literals_along (suc n) (c ∷ rest) = literals_along (suc n) rest
 
 -- ---- one mark
 
-outside_0 : (mark : Mark) → inlines_html 0 (inlines_in mark) ≡ mark_html mark
+outside_0 : (mark : MarkRef) → inlines_html 0 (inlines_in mark) ≡ mark_html mark
 unfolding inlines_in inlines_html html_among images_after inline_html span_shown
 outside_0 (Text text) = literals_html (chars text.now)
 outside_0 (Code text) = append-nil _
 outside_0 Soft = append-nil _
 outside_0 Hard = append-nil _
 outside_0 (Raw text) = append-nil _
-outside_0 (Reference source text) = append-nil _
+outside_0 (Reference source those) = append-nil _
 outside_0 (Start span.Emphasis) = append-nil _
 outside_0 (Start span.Strong) = append-nil _
 outside_0 (Start (span.Link target)) = append-nil _
@@ -58,7 +58,7 @@ outside_0 (End span.Strong) = append-nil _
 outside_0 (End (span.Link target)) = append-nil _
 outside_0 (End (span.Image target)) = append-nil _
 
-inside : (n : ℕ) (mark : Mark) → 0 < images_behind (suc n) mark
+inside : (n : ℕ) (mark : MarkRef) → 0 < images_behind (suc n) mark
     → inlines_html (suc n) (inlines_in mark) ≡ characters (html_escape (mark_plain mark))
 unfolding inlines_in inlines_html html_among images_after plain span_shown html_escape characters
 inside n (Text text) h = literals_inside n (chars text.now)
@@ -66,7 +66,7 @@ inside n (Code text) h = append-nil _
 inside n Soft h = append-nil _
 inside n Hard h = append-nil _
 inside n (Raw text) h = refl
-inside n (Reference source text) h = append-nil _
+inside n (Reference source those) h = append-nil _
 inside n (Start span.Emphasis) h = refl
 inside n (Start span.Strong) h = refl
 inside n (Start (span.Link target)) h = refl
@@ -77,14 +77,14 @@ inside n (End (span.Link target)) h = refl
 inside zero (End (span.Image target)) h = absurd (omega arith)
 inside (suc n) (End (span.Image target)) h = refl
 
-last : (n : ℕ) (mark : Mark) → images_behind (suc n) mark ≡ 0 → inlines_html (suc n) (inlines_in mark) ≡ mark_html mark
+last : (n : ℕ) (mark : MarkRef) → images_behind (suc n) mark ≡ 0 → inlines_html (suc n) (inlines_in mark) ≡ mark_html mark
 unfolding inlines_in inlines_html html_among images_after inline_html span_shown
 last n (Text text) h = absurd (omega arith)
 last n (Code text) h = absurd (omega arith)
 last n Soft h = absurd (omega arith)
 last n Hard h = absurd (omega arith)
 last n (Raw text) h = absurd (omega arith)
-last n (Reference source text) h = absurd (omega arith)
+last n (Reference source those) h = absurd (omega arith)
 last n (Start span.Emphasis) h = absurd (omega arith)
 last n (Start span.Strong) h = absurd (omega arith)
 last n (Start (span.Link target)) h = absurd (omega arith)
@@ -95,17 +95,17 @@ last n (End (span.Link target)) h = absurd (omega arith)
 last zero (End (span.Image target)) h = append-nil _
 last (suc n) (End (span.Image target)) h = absurd (omega arith)
 
-pub is_inside : (n after : ℕ) (mark : Mark) → after ≡ images_behind n mark → 0 < n → 0 < after
+pub is_inside : (n after : ℕ) (mark : MarkRef) → after ≡ images_behind n mark → 0 < n → 0 < after
     → characters (html_escape (mark_plain mark)) ≡ inlines_html n (inlines_in mark)
 is_inside zero after mark e h g = absurd (omega arith)
 is_inside (suc n) after mark e h g = sym (inside n mark (subst (λ k. 0 < k) e g))
 
-pub is_outside : (n after : ℕ) (mark : Mark) → after ≡ images_behind n mark → (0 < n → after ≡ 0)
+pub is_outside : (n after : ℕ) (mark : MarkRef) → after ≡ images_behind n mark → (0 < n → after ≡ 0)
     → mark_html mark ≡ inlines_html n (inlines_in mark)
 is_outside zero after mark e h = sym (outside_0 mark)
 is_outside (suc n) after mark e h = sym (last n mark (sym e ∙ h (omega arith)))
 
-along : (n : ℕ) (mark : Mark) → images_along n (inlines_in mark) ≡ images_behind n mark
+along : (n : ℕ) (mark : MarkRef) → images_along n (inlines_in mark) ≡ images_behind n mark
 unfolding inlines_in images_along images_after span_shown
 along n (Text text) = literals_along n (chars text.now)
 along zero (Code text) = refl
@@ -116,8 +116,8 @@ along zero Hard = refl
 along (suc n) Hard = refl
 along zero (Raw text) = refl
 along (suc n) (Raw text) = refl
-along zero (Reference source text) = refl
-along (suc n) (Reference source text) = refl
+along zero (Reference source those) = refl
+along (suc n) (Reference source those) = refl
 along zero (Start span.Emphasis) = refl
 along (suc n) (Start span.Emphasis) = refl
 along zero (Start span.Strong) = refl
@@ -149,14 +149,14 @@ unfolding images_along
 along_append n [] ys = refl
 along_append n (x ∷ xs) ys = along_append (images_after n x) xs ys
 
-pub shown_more : (marks : List Mark) (i : ℕ) (d : Mark) → i < length marks
+pub shown_more : (marks : List MarkRef) (i : ℕ) (d : MarkRef) → i < length marks
     → inlines_shown (take (i + 1) marks) ≡ inlines_shown (take i marks) ++ inlines_in (get_or marks i d)
 shown_more marks i d h =
     ap inlines_shown (take_more marks i d h)
     ∙ (flat_map-append inlines_in (take i marks) (get_or marks i d ∷ [])
     ∙ ap (λ t. inlines_shown (take i marks) ++ t) (append-nil (inlines_in (get_or marks i d))))
 
-pub along_more : (marks : List Mark) (i : ℕ) (mark : Mark) (n m : ℕ) → i < length marks → mark ≡ get_or marks i mark
+pub along_more : (marks : List MarkRef) (i : ℕ) (mark : MarkRef) (n m : ℕ) → i < length marks → mark ≡ get_or marks i mark
     → n ≡ images_along 0 (inlines_shown (take i marks)) →
     m ≡ images_behind n mark → m ≡ images_along 0 (inlines_shown (take (i + 1) marks))
 along_more marks i mark n m h e f g =
@@ -164,7 +164,7 @@ along_more marks i mark n m h e f g =
     ∙ (sym (along_append 0 (inlines_shown (take i marks)) (inlines_in mark))
     ∙ ap (images_along 0) (ap (λ x. inlines_shown (take i marks) ++ inlines_in x) e ∙ sym (shown_more marks i mark h)))))
 
-pub html_more : (marks : List Mark) (i : ℕ) (mark : Mark) (n : ℕ) → i < length marks → mark ≡ get_or marks i mark
+pub html_more : (marks : List MarkRef) (i : ℕ) (mark : MarkRef) (n : ℕ) → i < length marks → mark ≡ get_or marks i mark
     → n ≡ images_along 0 (inlines_shown (take i marks)) →
     inlines_html 0 (inlines_shown (take i marks)) ++ inlines_html n (inlines_in mark) ≡ inlines_html 0 (inlines_shown (take (i + 1) marks))
 html_more marks i mark n h e f =
@@ -173,13 +173,13 @@ html_more marks i mark n h e f =
     ∙ ap (inlines_html 0) (ap (λ x. inlines_shown (take i marks) ++ inlines_in x) e ∙ sym (shown_more marks i mark h)))
 
 -- one image more at most
-pub few_more : (n : ℕ) (mark : Mark) → images_behind n mark ≤ n + 1
+pub few_more : (n : ℕ) (mark : MarkRef) → images_behind n mark ≤ n + 1
 few_more n (Text text) = omega arith
 few_more n (Code text) = omega arith
 few_more n Soft = omega arith
 few_more n Hard = omega arith
 few_more n (Raw text) = omega arith
-few_more n (Reference source text) = omega arith
+few_more n (Reference source those) = omega arith
 few_more n (Start span.Emphasis) = omega arith
 few_more n (Start span.Strong) = omega arith
 few_more n (Start (span.Link target)) = omega arith

@@ -1,6 +1,6 @@
 -- What a writer of pages holds behind what is written.
 use Rattle.std.proofs.Common.{◌≡◌, ℕ, Bool, true, false, List, [], ◌∷◌, ◌++◌, map, refl, ap, sym, ◌∙◌, subst}
-use Rattle.std.specs.Prelude.{encode_utf8_all, Option, Some, None, option_map, codes}
+use Rattle.std.specs.Prelude.{encode_utf8_all, Option, Some, option_map, codes}
 use Rattle.std.specs.Char.{encode_utf8}
 use Rattle.std.specs.Str.{chars, IsUtf8}
 use Rattle.std.proofs.lemmas.List.{map-append}
@@ -20,7 +20,7 @@ use Rattle.doc_rules.specs.Pages.{LinkPiece, pieces_of, encoded_piece, encoded_h
 use Rattle.doc_rules.proofs.EscapingLaws.{escaping_is_by_bytes}
 use Rattle.doc_html_anchors.specs.Uses.{Uses}
 use Rattle.doc_html.specs.ProgressSteps.{Progress, begun, told, on_new_line, text_met, anchored, heading_met, heading_met_at}
-use Rattle.doc_html.specs.WrittenSteps.{fresh_behind, read_again}
+use Rattle.doc_html.specs.WrittenSteps.{fresh_behind}
 use Rattle.doc_html.specs.WrittenPageSteps.{HoldsPage, page_told}
 use Rattle.doc_html.proofs.PieceSteps.{html_piece, split_begins, split_text, split_link, split_ends, encoded_end, encoded_link}
 use Rattle.doc_html.proofs.WrittenSteps.{fresh_text, fresh_append, tag_last}
@@ -102,15 +102,8 @@ holds_link pieces cut_off new old html fresh after anchors headings texts p link
   texts_are = h.texts_are;
 }
 
-pub no_title : (title copy : Option (List ℕ)) → title ≡ None → copy ≡ None → copy ≡ read_again title
-no_title title copy e f = f ∙ ap read_again (sym e)
-
-pub some_title : (title : Option (List ℕ)) (text copy : List ℕ) → title ≡ Some text → copy ≡ encode_utf8_all (chars text)
-    → Some copy ≡ read_again title
-some_title title text copy e f = ap Some f ∙ ap read_again (sym e)
-
-pub same_bytes : (copy got text : List ℕ) → copy ≡ got → got ≡ text → IsUtf8 got → copy ≡ encode_utf8_all (chars text)
-same_bytes copy got text e f u = e ∙ (sym (encodes-chars got u) ∙ ap (λ t. encode_utf8_all (chars t)) f)
+pub same_bytes : (got text : List ℕ) → got ≡ text → IsUtf8 got → encode_utf8_all (chars text) ≡ text
+same_bytes got text e u = ap (λ t. encode_utf8_all (chars t)) (sym e) ∙ (encodes-chars got u ∙ e)
 
 pub spot_is : (target : Target) (dest : List ℕ) (title : Option (List ℕ)) → dest ≡ encode_utf8_all target.dest
     → title ≡ option_map encode_utf8_all target.title →

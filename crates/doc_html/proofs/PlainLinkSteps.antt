@@ -27,7 +27,7 @@ use Rattle.doc_rules.specs.Pages.{encoded_shown}
 use Rattle.doc_rules.specs.Laws.{ShowsAlike}
 use Rattle.doc_html.specs.InlineSteps.{is_ascii}
 use Rattle.doc_html.specs.PlainLinks.{url_byte, plain_shown}
-use Rattle.doc_html.proofs.WriterSteps.{ascii_chars}
+use Rattle.doc_html.proofs.WriterSteps.{ascii_chars, ascii_bytes}
 
 pub no_mark : (set : Text) (c : ℕ) → is_ascii set ≡ true → 128 ≤ c → one_of set c ≡ false
 no_mark [] c h g = refl
@@ -154,11 +154,10 @@ url_characters url dest u small e =
     ∙ ascii_chars (flat_map url_byte dest) (bytes_are_ascii dest small)
     ∙ ap (flat_map url_byte) (sym (encodes-chars dest u)) ∙ sym (url_by_bytes (chars dest))
 
-pub url_is_shown : (url dest : List ℕ) → IsUtf8 url → IsUtf8 dest → chars url ≡ url_escape (chars dest)
-    → url ≡ encode_utf8_all (flat_map url_byte dest)
-url_is_shown url dest u v e =
-    sym (encodes-chars url u) ∙ (ap encode_utf8_all (e ∙ url_by_bytes (chars dest))
-    ∙ ap (λ b. encode_utf8_all (flat_map url_byte b)) (encodes-chars dest v))
+pub url_written : (dest : List ℕ) → IsBytes dest → escaped (destination dest) ≡ encode_utf8_all (flat_map url_byte dest)
+url_written dest small =
+    destinations_by_bytes dest
+    ∙ (bytes_agree dest small ∙ sym (ascii_bytes (flat_map url_byte dest) (bytes_are_ascii dest small)))
 
 -- ---- plain links
 

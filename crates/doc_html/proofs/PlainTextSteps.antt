@@ -9,8 +9,8 @@ use Rattle.doc_rules.specs.CodeSpans.{spaced}
 use Rattle.doc_rules.specs.Inlines.{literals}
 use Rattle.doc_rules.specs.PlainTexts.{plain, plain_text}
 use Rattle.doc_inlines_marks.specs.Views.{inlines_in, inlines_shown}
-use Rattle.doc_inlines_marks.specs.declared.mark.Mark.{Mark}
-use Rattle.doc_inlines_marks.specs.declared.mark.Mark.TheVariants.{Text, Code, Soft, Hard, Raw, Reference, Start, End}
+use Rattle.doc_inlines_marks.specs.declared.mark_ref.MarkRef.{MarkRef}
+use Rattle.doc_inlines_marks.specs.declared.mark_ref.MarkRef.TheVariants.{Text, Code, Soft, Hard, Raw, Reference, Start, End}
 use Rattle.doc_html.specs.InlineSteps.{mark_plain}
 use Rattle.doc_html.proofs.InlineLaws.{shown_more}
 
@@ -19,14 +19,14 @@ unfolding plain_text plain
 plain_literals [] = refl
 plain_literals (c ∷ rest) = ap (λ t. c ∷ t) (plain_literals rest)
 
-plain_of : (mark : Mark) → plain_text (inlines_in mark) ≡ mark_plain mark
+plain_of : (mark : MarkRef) → plain_text (inlines_in mark) ≡ mark_plain mark
 unfolding inlines_in plain_text plain
 plain_of (Text text) = plain_literals (chars text.now)
 plain_of (Code text) = append-nil _
 plain_of Soft = refl
 plain_of Hard = refl
 plain_of (Raw text) = refl
-plain_of (Reference source text) = append-nil _
+plain_of (Reference source those) = append-nil _
 plain_of (Start span) = refl
 plain_of (End span) = refl
 
@@ -34,7 +34,7 @@ plain_append : (xs ys : List _) → plain_text (xs ++ ys) ≡ plain_text xs ++ p
 unfolding plain_text
 plain_append xs ys = flat_map-append plain xs ys
 
-plain_more : (marks : List Mark) (i : ℕ) (mark : Mark) → i < length marks → mark ≡ get_or marks i mark →
+plain_more : (marks : List MarkRef) (i : ℕ) (mark : MarkRef) → i < length marks → mark ≡ get_or marks i mark →
     plain_text (inlines_shown (take (i + 1) marks)) ≡ plain_text (inlines_shown (take i marks)) ++ mark_plain mark
 plain_more marks i mark h e =
     ap plain_text (shown_more marks i mark h)
@@ -45,7 +45,7 @@ pub plain_begins : (bytes : List ℕ) → bytes ≡ [] → bytes ≡ encode_utf8
 unfolding plain_text
 plain_begins bytes e = e
 
-pub plain_goes_on : (marks : List Mark) (i : ℕ) (mark : Mark) (old new : List ℕ) → i < length marks → mark ≡ get_or marks i mark →
+pub plain_goes_on : (marks : List MarkRef) (i : ℕ) (mark : MarkRef) (old new : List ℕ) → i < length marks → mark ≡ get_or marks i mark →
     old ≡ encode_utf8_all (plain_text (inlines_shown (take i marks))) → new ≡ old ++ encode_utf8_all (mark_plain mark) →
     new ≡ encode_utf8_all (plain_text (inlines_shown (take (i + 1) marks)))
 plain_goes_on marks i mark old new h e f g =
@@ -55,6 +55,12 @@ plain_goes_on marks i mark old new h e f g =
 
 pub text_pushed : (old new text : List ℕ) → IsUtf8 text → new ≡ old ++ text → new ≡ old ++ encode_utf8_all (chars text)
 text_pushed old new text u e = e ∙ ap (λ t. old ++ t) (sym (encodes-chars text u))
+
+pub both_pushed : (old new : List ℕ) (those : rules.Text) → IsUtf8 old → IsUtf8 new → chars new ≡ chars old ++ those
+    → new ≡ old ++ encode_utf8_all those
+both_pushed old new those u v e =
+    sym (encodes-chars new v)
+    ∙ (ap encode_utf8_all e ∙ (encodes-append (chars old) those ∙ ap (λ b. b ++ encode_utf8_all those) (encodes-chars old u)))
 
 -- ---- code
 

@@ -1,9 +1,9 @@
 -- Writers that go on: what they hold one step after another.
 use Rattle.std.proofs.Common.{◌≡◌, ℕ, zero, suc, ◌<◌, Bool, true, false, List, [], ◌∷◌, ◌++◌, refl, ap, sym, ◌∙◌, subst, append_assoc}
 use Rattle.std.proofs.Common.{append-nil, arith}
-use Rattle.std.specs.Prelude.{◌==◌, nat_lt, codes, Option, Some, None, option_map, if◌then◌else◌, slice_index}
+use Rattle.std.specs.Prelude.{◌==◌, encode_utf8_all, nat_lt, codes, Option, Some, None, option_map, if◌then◌else◌, slice_index}
 use Rattle.std.specs.Str.{chars}
-use Rattle.std.proofs.lemmas.Str.{chars-IsAscii}
+use Rattle.std.proofs.lemmas.Str.{chars-IsAscii, encodes-IsAscii}
 use Rattle.std.proofs.lemmas.List.{map-append}
 use Rattle.std.proofs.lemmas.List.Concat.{flat_map-append}
 use Rattle.std.proofs.lemmas.Bool.{ltb-true, and_parts}
@@ -60,6 +60,9 @@ each_ascii (b ∷ text) h (suc i) = each_ascii text (and_parts (nat_lt b 128) (i
 
 pub ascii_chars : (text : List ℕ) → is_ascii text ≡ true → chars text ≡ text
 ascii_chars text h = chars-IsAscii text (each_ascii text h)
+
+pub ascii_bytes : (text : List ℕ) → is_ascii text ≡ true → encode_utf8_all text ≡ text
+ascii_bytes text h = encodes-IsAscii text (each_ascii text h)
 
 -- ---- titles
 

@@ -140,14 +140,14 @@ pub spells_escape : (shown : List ℕ → Shown) (bytes : List ℕ) → IsUtf8 b
 spells_escape shown bytes u =
     ap escaped (sym (encodes-chars bytes u)) ∙ (sym (escaping_is_by_bytes (chars bytes)) ∙ spells shown (html_escape (chars bytes)))
 
-pub link_spells : (title : Option (List ℕ)) (dest got : List ℕ) (how : Shown) (shown : List ℕ → Shown) → how ≡ shown got
-    → got ≡ dest → IsUtf8 got →
-    opening_tag (read_again title) how
-    ≡ flat_map (written_bytes shown) (LinkTag (record { dest = chars dest; title = option_map chars title }) ∷ [])
+pub link_spells : (title : Option (List ℕ)) (got : List ℕ) (target : Target) (shown : List ℕ → Shown) → chars got ≡ target.dest
+    → option_map chars title ≡ target.title → IsUtf8 got →
+    opening_tag (read_again title) (shown got) ≡ flat_map (written_bytes shown) (LinkTag target ∷ [])
 unfolding written_bytes
-link_spells title dest got how shown e f u =
-    ap (opening_tag (read_again title)) (e ∙ ap shown (sym (encodes-chars got u) ∙ ap (λ d. encode_utf8_all (chars d)) f))
-    ∙ sym (append-nil (opening_tag (read_again title) (shown (encode_utf8_all (chars dest)))))
+link_spells title got target shown e f u =
+    ap (λ d. opening_tag (read_again title) (shown d)) (sym (encodes-chars got u) ∙ ap encode_utf8_all e)
+    ∙ (ap (λ t. opening_tag (option_map encode_utf8_all t) (shown (encode_utf8_all target.dest))) f
+    ∙ sym (append-nil (opening_tag (option_map encode_utf8_all target.title) (shown (encode_utf8_all target.dest)))))
 
 pub no_title : (title : Option (List ℕ)) → title ≡ None → read_again title ≡ title
 no_title title e = ap read_again e ∙ sym e

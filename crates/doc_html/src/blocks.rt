@@ -22,7 +22,7 @@ use doc_page::failure::Memory;
 /// Writes the blocks of a document.
 pub(crate) fn push_all<'d, W: Writer>(
     writer: &mut W,
-    source: &Source,
+    source: &Source<'d>,
     blocks: &'d [Block],
 ) -> Result<(), Memory>
     ensures { (definitions : List Definition) (p : Progress)
@@ -30,7 +30,7 @@ pub(crate) fn push_all<'d, W: Writer>(
         OnOk result (W.holds writer.new
         (blocks_told source.now.entities.now definitions false (blocks_shown blocks.now) p)) }
 {
-    let mut reader: Reader<'d> = Reader::new(source.heap);
+    let mut reader: Reader<'d, 'd> = Reader::new(source.heap);
     push_blocks(writer, source, &mut reader, blocks, false)?;
     Ok(())
 }
@@ -39,8 +39,8 @@ pub(crate) fn push_all<'d, W: Writer>(
 #[cycle(blocks)]
 pub(crate) fn push_blocks<'d, W: Writer>(
     writer: &mut W,
-    source: &Source,
-    reader: &mut Reader<'d>,
+    source: &Source<'d>,
+    reader: &mut Reader<'d, 'd>,
     blocks: &'d [Block],
     tight: bool,
 ) -> Result<(), Memory>
@@ -60,8 +60,8 @@ pub(crate) fn push_blocks<'d, W: Writer>(
 #[cycle(blocks)]
 fn push_block<'d, W: Writer>(
     writer: &mut W,
-    source: &Source,
-    reader: &mut Reader<'d>,
+    source: &Source<'d>,
+    reader: &mut Reader<'d, 'd>,
     block: &'d Block,
     tight: bool,
 ) -> Result<(), Memory>

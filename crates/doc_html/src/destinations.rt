@@ -1,5 +1,5 @@
 //! Destinations in HTML.
-ghost use Rattle.std.specs.Prelude.{◌≡◌, chars, encode_utf8_all, flat_map, IfOk};
+ghost use Rattle.std.specs.Prelude.{◌≡◌, ◌++◌, chars, encode_utf8_all, flat_map, string_bytes, IfOk, OnOk};
 ghost use Rattle.std.specs.List.{list_all};
 ghost use Rattle.doc_rules.specs.Escaping.{url_escape};
 ghost use Rattle.doc_html.specs.EscapeSteps.{stays};
@@ -15,13 +15,22 @@ pub(crate) fn url(heap: Heap, dest: &str) -> Result<Text, Memory>
     ensures characters { IfOk result (λ url. chars url ≡ url_escape (chars dest.now)) }
     ensures bytes { IfOk result (λ url. url ≡ encode_utf8_all (flat_map url_byte dest.now)) }
 {
-    if stays(dest) {
-        let copy = Text::copy_of(heap, dest)?;
-        return Ok(copy);
-    }
     let mut out = String::with_capacity(heap, dest.len())?;
-    push_destination(heap, &mut out, dest)?;
+    push_url(heap, &mut out, dest)?;
     Ok(Text::new(out))
+}
+
+/// Adds the destination as it is written in an attribute.
+pub(crate) fn push_url(heap: Heap, out: &mut String, dest: &str) -> Result<(), Memory>
+    ensures { OnOk result (string_bytes out.new ≡ string_bytes out.old
+        ++ encode_utf8_all (flat_map url_byte dest.now)) }
+{
+    if stays(dest) {
+        out.push_str(dest)?;
+        return Ok(());
+    }
+    push_destination(heap, out, dest)?;
+    Ok(())
 }
 
 /// Whether each byte of a destination is written as it is.

@@ -10,6 +10,7 @@ ghost use Rattle.doc_html.specs.HtmlBytes.{html_bytes};
 
 use crate::blocks::push_all;
 use crate::html_writer::HtmlWriter;
+use crate::links::{ByLinker, Links};
 use crate::reading::Source;
 use doc_blocks::Document;
 use doc_heap::Heap;
@@ -35,20 +36,20 @@ pub fn to_html<L: Linker>(
         (html_of entities.now rule []
         (record { blocks = blocks_shown document.now.blocks.items; refs = definitions }))) }
 {
-    let html = write_html(heap, document, entities, linker, 0)?;
+    let html = write_html(heap, document, entities, &ByLinker { linker }, 0)?;
     Ok(html)
 }
 
-/// The same, with room for so many bytes of HTML: a guess, on which nothing rests.
-pub(crate) fn write_html<L: Linker>(
+/// The document as HTML, its links as these are shown, with room for so many bytes: a guess, on which nothing rests.
+pub(crate) fn write_html<K: Links>(
     heap: Heap,
     document: &Document,
     entities: &Entities,
-    linker: &L,
+    links: &K,
     room: usize,
 ) -> Result<Text, Memory>
     ensures { (definitions : List Definition) → document.now.refs ≡ targets_of definitions →
-        IfOk result (λ html. html ≡ html_bytes entities.now (L.shown linker.now) []
+        IfOk result (λ html. html ≡ html_bytes entities.now (K.shown links.now) []
         (record { blocks = blocks_shown document.now.blocks.items; refs = definitions })) }
 {
     let source = Source {
@@ -56,7 +57,7 @@ pub(crate) fn write_html<L: Linker>(
         refs: &document.refs,
         entities,
     };
-    let mut writer = HtmlWriter::new(heap, linker, room)?;
+    let mut writer = HtmlWriter::new(heap, links, room)?;
     push_all(&mut writer, &source, document.blocks.as_slice())?;
     Ok(writer.into_text())
 }

@@ -1,40 +1,39 @@
-//! One buffer into which HTML is written, its links as a linker shows them.
+//! One buffer into which HTML is written.
 ghost use Rattle.std.specs.Prelude.{◌≡◌, string_bytes, IfOk};
 ghost use Rattle.doc_html.specs.ProgressSteps.{begun};
 ghost use Rattle.doc_html.specs.WrittenSteps.{HoldsHtml, read_again};
 
 use crate::escaping::push_escaped;
 use crate::fresh::fresh_behind;
+use crate::links::Links;
 use crate::writer::Writer;
 use doc_heap::{Heap, String};
-use doc_inlines_marks::mark::Mark;
+use doc_inlines_marks::mark_ref::MarkRef;
+use doc_inlines_marks::target_ref::TargetRef;
 use doc_page::failure::Memory;
-use doc_page::filling::push_opening_tag;
-use doc_page::linker::Linker;
 use doc_page::text::Text;
-use doc_refs::Target;
 
 /// HTML so far. It is fresh where nothing was written or a LF was written last.
 #[derive(Drop)]
-pub(crate) struct HtmlWriter<'l, L: Linker> {
+pub(crate) struct HtmlWriter<'l, K: Links> {
     heap: Heap,
     out: String,
     fresh: bool,
-    linker: &'l L,
+    links: &'l K,
 }
 
-impl<'l, L: Linker> HtmlWriter<'l, L> {
+impl<'l, K: Links> HtmlWriter<'l, K> {
     /// Nothing is written yet. There is room for so many bytes.
-    pub(crate) fn new(heap: Heap, linker: &'l L, room: usize) -> Result<Self, Memory>
-        ensures { IfOk result (λ writer. HoldsHtml (L.shown writer.linker.now)
-            (string_bytes writer.out) writer.fresh (begun (L.shown linker.now) None)) }
+    pub(crate) fn new(heap: Heap, links: &'l K, room: usize) -> Result<Self, Memory>
+        ensures { IfOk result (λ writer. HoldsHtml (K.shown writer.links.now)
+            (string_bytes writer.out) writer.fresh (begun (K.shown links.now) None)) }
     {
         let out = String::with_capacity(heap, room)?;
         Ok(HtmlWriter {
             heap,
             out,
             fresh: true,
-            linker,
+            links,
         })
     }
 
@@ -45,14 +44,14 @@ impl<'l, L: Linker> HtmlWriter<'l, L> {
             heap: _,
             out,
             fresh: _,
-            linker: _,
+            links: _,
         } = self;
         Text::new(out)
     }
 }
 
-impl<'l, L: Linker> Writer for HtmlWriter<'l, L> {
-    ghost holds = { λ w p. HoldsHtml (L.shown w.linker.now) (string_bytes w.out) w.fresh p };
+impl<'l, K: Links> Writer for HtmlWriter<'l, K> {
+    ghost holds = { λ w p. HoldsHtml (K.shown w.links.now) (string_bytes w.out) w.fresh p };
 
     fn text(&mut self, text: &str) -> Result<(), Memory> {
         self.out.push_str(text)?;
@@ -66,10 +65,12 @@ impl<'l, L: Linker> Writer for HtmlWriter<'l, L> {
         Ok(())
     }
 
-    fn link(&mut self, target: &Target) -> Result<(), Memory> {
-        let shown = self.linker.show(self.heap, target.dest.get())?;
-        title_is_text(&target.title);
-        push_opening_tag(&mut self.out, &target.title, &shown)?;
+    fn link(&mut self, target: TargetRef) -> Result<(), Memory> {
+        let dest = target.dest(self.heap)?;
+        let title = target.title(self.heap)?;
+        title_is_text(&title);
+        self.links
+            .push_tag(self.heap, &mut self.out, dest.get(), &title)?;
         self.fresh = false;
         Ok(())
     }
@@ -87,17 +88,17 @@ impl<'l, L: Linker> Writer for HtmlWriter<'l, L> {
         Ok(())
     }
 
-    fn meet_paragraph(&mut self, _marks: &[Mark]) -> Result<(), Memory> {
+    fn meet_paragraph(&mut self, _marks: &[MarkRef]) -> Result<(), Memory> {
         Ok(())
     }
 
-    fn meet_heading(&mut self, _level: u8, _marks: &[Mark]) -> Result<(), Memory> {
+    fn meet_heading(&mut self, _level: u8, _marks: &[MarkRef]) -> Result<(), Memory> {
         Ok(())
     }
 }
 
 /// A title's bytes are those of its characters, as of any text.
-fn title_is_text(title: &Option<Text>)
+pub(crate) fn title_is_text(title: &Option<Text>)
     ensures { read_again title.now ≡ title.now }
 {
     let Some(title) = title else {

@@ -4,8 +4,9 @@ ghost use Rattle.doc_rules.specs.Escaping.{html_escape};
 ghost use Rattle.doc_rules.specs.Inlines as rules;
 ghost use Rattle.doc_rules.specs.Html.{characters, inline_html, inlines_html, span_start, span_end};
 ghost use Rattle.doc_page.specs.Pages.{title_attribute};
-ghost use Rattle.doc_refs.specs.Targets.{target_shown};
+ghost use Rattle.doc_lines.specs.Entities.{characters as both};
 ghost use Rattle.doc_inlines_marks.specs.Slices.{AreCut, IsCut, is_cut};
+ghost use Rattle.doc_inlines_marks.specs.Targets.{named};
 ghost use Rattle.doc_inlines_marks.specs.Views.{inlines_in, inlines_shown, span_shown};
 ghost use Rattle.doc_html.specs.ProgressSteps.{Writes};
 ghost use Rattle.doc_html.specs.InlineSteps.{images_behind, mark_html, mark_plain};
@@ -13,17 +14,18 @@ ghost use Rattle.doc_html.specs.InlineSteps.{images_behind, mark_html, mark_plai
 use crate::code::{push_nothing, push_space, push_spaced};
 use crate::destinations::url;
 use crate::writer::{Writer, markup};
-use doc_heap::Heap;
-use doc_inlines_marks::mark::{Mark, Span};
+use doc_heap::{Heap, String};
+use doc_inlines_marks::mark_ref::{MarkRef, SpanRef};
+use doc_inlines_marks::target_ref::TargetRef;
+use doc_lines::pushing::push_characters;
 use doc_page::failure::Memory;
 use doc_page::text::Text;
-use doc_refs::Target;
 
 /// Writes inlines. Inside an image their plain text alone is written.
 pub(crate) fn push_marks<W: Writer>(
     writer: &mut W,
     heap: Heap,
-    marks: &[Mark],
+    marks: &[MarkRef],
 ) -> Result<(), Memory>
     requires { AreCut marks.now }
     ensures { OnOk result (Writes W.holds writer.old writer.new
@@ -40,7 +42,7 @@ pub(crate) fn push_marks<W: Writer>(
 fn push_mark<W: Writer>(
     writer: &mut W,
     heap: Heap,
-    mark: &Mark,
+    mark: &MarkRef,
     images: usize,
 ) -> Result<usize, Memory>
     requires few { images + 1 < 2 ^ 64 }
@@ -51,7 +53,7 @@ fn push_mark<W: Writer>(
 {
     let behind = images_behind(mark, images);
     if images > 0 && behind > 0 {
-        push_plain(writer, mark)?;
+        push_plain(writer, heap, mark)?;
         return Ok(behind);
     }
     push_whole(writer, heap, mark)?;
@@ -59,50 +61,65 @@ fn push_mark<W: Writer>(
 }
 
 /// How many images stand around what follows a mark.
-fn images_behind(mark: &Mark, images: usize) -> usize
+fn images_behind(mark: &MarkRef, images: usize) -> usize
     requires { images + 1 < 2 ^ 64 }
     ensures { result ≡ images_behind images mark.now }
 {
     match mark {
-        Mark::Start(Span::Image(_)) => images + 1,
-        Mark::End(Span::Image(_)) => images.saturating_sub(1),
+        MarkRef::Start(SpanRef::Image(_)) => images + 1,
+        MarkRef::End(SpanRef::Image(_)) => images.saturating_sub(1),
         _ => images,
     }
 }
 
 /// Writes the plain text of a mark.
-fn push_plain<W: Writer>(writer: &mut W, mark: &Mark) -> Result<(), Memory>
+fn push_plain<W: Writer>(writer: &mut W, heap: Heap, mark: &MarkRef) -> Result<(), Memory>
     requires { IsCut mark.now }
     ensures { OnOk result (Writes W.holds writer.old writer.new
         (characters (html_escape (mark_plain mark.now)))) }
 {
     match mark {
-        Mark::Text(text) => push_cut(writer, text),
-        Mark::Code(text) => push_spaced(writer, text),
-        Mark::Soft => push_space(writer),
-        Mark::Hard => push_space(writer),
-        Mark::Reference { source: _, text } => writer.escaped(text.get()),
-        Mark::Raw(_) => push_nothing(writer),
-        Mark::Start(_) => push_nothing(writer),
-        Mark::End(_) => push_nothing(writer),
+        MarkRef::Text(text) => push_cut(writer, text),
+        MarkRef::Code(text) => push_spaced(writer, text),
+        MarkRef::Soft => push_space(writer),
+        MarkRef::Hard => push_space(writer),
+        MarkRef::Reference { source: _, those } => push_reference(writer, heap, *those),
+        MarkRef::Raw(_) => push_nothing(writer),
+        MarkRef::Start(_) => push_nothing(writer),
+        MarkRef::End(_) => push_nothing(writer),
     }
 }
 
 /// Writes a mark that stands in no image.
-fn push_whole<W: Writer>(writer: &mut W, heap: Heap, mark: &Mark) -> Result<(), Memory>
+fn push_whole<W: Writer>(writer: &mut W, heap: Heap, mark: &MarkRef) -> Result<(), Memory>
     requires { IsCut mark.now }
     ensures { OnOk result (Writes W.holds writer.old writer.new (mark_html mark.now)) }
 {
     match mark {
-        Mark::Text(text) => push_cut(writer, text),
-        Mark::Code(text) => push_code(writer, text),
-        Mark::Soft => push_soft(writer),
-        Mark::Hard => push_hard(writer),
-        Mark::Raw(text) => writer.text(text),
-        Mark::Reference { source: _, text } => writer.escaped(text.get()),
-        Mark::Start(span) => push_start(writer, heap, span),
-        Mark::End(span) => push_end(writer, span),
+        MarkRef::Text(text) => push_cut(writer, text),
+        MarkRef::Code(text) => push_code(writer, text),
+        MarkRef::Soft => push_soft(writer),
+        MarkRef::Hard => push_hard(writer),
+        MarkRef::Raw(text) => writer.text(text),
+        MarkRef::Reference { source: _, those } => push_reference(writer, heap, *those),
+        MarkRef::Start(span) => push_start(writer, heap, span),
+        MarkRef::End(span) => push_end(writer, heap, span),
     }
+}
+
+/// Writes the one or two characters of a reference.
+fn push_reference<W: Writer>(
+    writer: &mut W,
+    heap: Heap,
+    those: (char, Option<char>),
+) -> Result<(), Memory>
+    ensures { OnOk result (Writes W.holds writer.old writer.new
+        (characters (html_escape (both those)))) }
+{
+    let mut text = String::new(heap);
+    push_characters(&mut text, those)?;
+    writer.escaped(text.as_str())?;
+    Ok(())
 }
 
 /// Writes a text of which each `&`, `<`, `>` and `"` is a text of its own, as it stands where it is longer than they are.
@@ -144,24 +161,25 @@ fn push_code<W: Writer>(writer: &mut W, text: &str) -> Result<(), Memory>
 
 /// Writes the start of a span.
 #[tactic(auto, unfolding(doc_rules::specs::Html::span_start, doc_inlines_marks::specs::Views::span_shown))]
-fn push_start<W: Writer>(writer: &mut W, heap: Heap, span: &Span) -> Result<(), Memory>
+fn push_start<W: Writer>(writer: &mut W, heap: Heap, span: &SpanRef) -> Result<(), Memory>
     ensures { OnOk result (Writes W.holds writer.old writer.new
         (span_start (span_shown span.now))) }
 {
     match span {
-        Span::Emphasis => markup(writer, "<em>"),
-        Span::Strong => markup(writer, "<strong>"),
-        Span::Link(target) => writer.link(target),
-        Span::Image(target) => push_image_start(writer, heap, target),
+        SpanRef::Emphasis => markup(writer, "<em>"),
+        SpanRef::Strong => markup(writer, "<strong>"),
+        SpanRef::Link(target) => writer.link(*target),
+        SpanRef::Image(target) => push_image_start(writer, heap, *target),
     }
 }
 
 /// Writes what stands before the text of an image.
-fn push_image_start<W: Writer>(writer: &mut W, heap: Heap, target: &Target) -> Result<(), Memory>
+fn push_image_start<W: Writer>(writer: &mut W, heap: Heap, target: TargetRef) -> Result<(), Memory>
     ensures { OnOk result (Writes W.holds writer.old writer.new
-        (span_start (rules.Image (target_shown target.now)))) }
+        (span_start (rules.Image (named target.entry)))) }
 {
-    let src = url(heap, target.dest.get())?;
+    let dest = target.dest(heap)?;
+    let src = url(heap, dest.get())?;
     markup(writer, "<img src=\"")?;
     writer.text(src.get())?;
     markup(writer, "\" alt=\"")?;
@@ -170,25 +188,26 @@ fn push_image_start<W: Writer>(writer: &mut W, heap: Heap, target: &Target) -> R
 
 /// Writes the end of a span.
 #[tactic(auto, unfolding(doc_rules::specs::Html::span_end, doc_inlines_marks::specs::Views::span_shown))]
-fn push_end<W: Writer>(writer: &mut W, span: &Span) -> Result<(), Memory>
+fn push_end<W: Writer>(writer: &mut W, heap: Heap, span: &SpanRef) -> Result<(), Memory>
     ensures { OnOk result (Writes W.holds writer.old writer.new
         (characters (span_end (span_shown span.now)))) }
 {
     match span {
-        Span::Emphasis => markup(writer, "</em>"),
-        Span::Strong => markup(writer, "</strong>"),
-        Span::Link(_) => markup(writer, "</a>"),
-        Span::Image(target) => push_image_end(writer, target),
+        SpanRef::Emphasis => markup(writer, "</em>"),
+        SpanRef::Strong => markup(writer, "</strong>"),
+        SpanRef::Link(_) => markup(writer, "</a>"),
+        SpanRef::Image(target) => push_image_end(writer, heap, *target),
     }
 }
 
 /// Writes what stands behind the text of an image.
-fn push_image_end<W: Writer>(writer: &mut W, target: &Target) -> Result<(), Memory>
+fn push_image_end<W: Writer>(writer: &mut W, heap: Heap, target: TargetRef) -> Result<(), Memory>
     ensures { OnOk result (Writes W.holds writer.old writer.new
-        (characters (span_end (rules.Image (target_shown target.now))))) }
+        (characters (span_end (rules.Image (named target.entry))))) }
 {
     markup(writer, "\"")?;
-    push_title(writer, &target.title)?;
+    let title = target.title(heap)?;
+    push_title(writer, &title)?;
     markup(writer, " />")?;
     Ok(())
 }

@@ -24,8 +24,8 @@ use doc_page::failure::Memory;
 /// Writes a paragraph. Directly in an item of a tight list it is its inlines alone (section 5.3).
 pub(crate) fn push_paragraph<'d, W: Writer>(
     writer: &mut W,
-    source: &Source,
-    reader: &mut Reader<'d>,
+    source: &Source<'d>,
+    reader: &mut Reader<'d, 'd>,
     text: &'d str,
     tight: bool,
 ) -> Result<(), Memory>
@@ -50,8 +50,8 @@ pub(crate) fn push_paragraph<'d, W: Writer>(
 /// Writes a heading.
 pub(crate) fn push_heading<'d, W: Writer>(
     writer: &mut W,
-    source: &Source,
-    reader: &mut Reader<'d>,
+    source: &Source<'d>,
+    reader: &mut Reader<'d, 'd>,
     level: u8,
     text: &'d str,
 ) -> Result<(), Memory>

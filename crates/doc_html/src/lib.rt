@@ -12,6 +12,7 @@ mod html_writer;
 mod inlines;
 pub mod laws;
 mod leaves;
+mod links;
 mod page_writer;
 mod pages;
 mod plain_linker;

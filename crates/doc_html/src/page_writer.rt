@@ -5,24 +5,24 @@ ghost use Rattle.doc_page.specs.Plain.{html_pieces};
 ghost use Rattle.doc_page.specs.declared.linker.Shown.{Shown};
 ghost use Rattle.doc_page.specs.declared.rendered.Piece.TheVariants.{Link};
 ghost use Rattle.doc_rules.specs.Pages.{LinkPiece, encoded_piece};
-ghost use Rattle.doc_refs.specs.Targets.{target_shown};
+ghost use Rattle.doc_inlines_marks.specs.Targets.{named};
 ghost use Rattle.doc_html.specs.PlainLinks.{plain_shown};
 ghost use Rattle.doc_html.specs.ProgressSteps.{Progress, begun};
-ghost use Rattle.doc_html.specs.WrittenSteps.{read_again};
 ghost use Rattle.doc_html.specs.WrittenPageSteps.{HoldsPage, page_told};
 
 use crate::escaping::push_escaped;
 use crate::fresh::fresh_behind;
+use crate::html_writer::title_is_text;
 use crate::plain_text::plain_text;
 use crate::writer::Writer;
 use doc_heap::{Heap, String, Vec};
 use doc_html_anchors::Anchors;
-use doc_inlines_marks::mark::Mark;
+use doc_inlines_marks::mark_ref::MarkRef;
+use doc_inlines_marks::target_ref::TargetRef;
 use doc_page::failure::Memory;
 use doc_page::list::List;
 use doc_page::rendered::{Heading, LinkSpot, Piece, Rendered};
 use doc_page::text::Text;
-use doc_refs::Target;
 
 /// A page so far: its pieces, the HTML behind the last link, the anchors that are used, its headings and its texts. It is fresh where
 /// nothing was written or a LF was written last.
@@ -94,7 +94,7 @@ impl Writer for PageWriter {
         Ok(())
     }
 
-    fn link(&mut self, target: &Target) -> Result<(), Memory> {
+    fn link(&mut self, target: TargetRef) -> Result<(), Memory> {
         let spot = spot_of(self.heap, target)?;
         cut(self.heap, &mut self.pieces, &mut self.html)?;
         self.pieces.push(Piece::Link(spot))?;
@@ -117,13 +117,13 @@ impl Writer for PageWriter {
         Ok(())
     }
 
-    fn meet_paragraph(&mut self, marks: &[Mark]) -> Result<(), Memory> {
+    fn meet_paragraph(&mut self, marks: &[MarkRef]) -> Result<(), Memory> {
         let text = plain_text(self.heap, marks)?;
         self.texts.push(text)?;
         Ok(())
     }
 
-    fn meet_heading(&mut self, level: u8, marks: &[Mark]) -> Result<(), Memory> {
+    fn meet_heading(&mut self, level: u8, marks: &[MarkRef]) -> Result<(), Memory> {
         let text = plain_text(self.heap, marks)?;
         let anchor = self.anchors.next(self.heap, text.get())?;
         push_id(&mut self.html, anchor.get())?;
@@ -167,31 +167,22 @@ fn push_last(pieces: &mut Vec<Piece>, html: String) -> Result<(), Memory>
 }
 
 /// The place of a link's opening tag.
-fn spot_of(heap: Heap, target: &Target) -> Result<LinkSpot, Memory>
+fn spot_of(heap: Heap, target: TargetRef) -> Result<LinkSpot, Memory>
     ensures { IfOk result (λ spot. Link spot
-        ≡ encoded_piece (LinkPiece (target_shown target.now))) }
+        ≡ encoded_piece (LinkPiece (named target.entry))) }
 {
-    let dest = copy_of(heap, &target.dest)?;
-    let title = title_of(heap, &target.title)?;
+    let dest = target.dest(heap)?.into_text(heap)?;
+    let title = target.title(heap)?;
+    dest_is_text(&dest);
+    title_is_text(&title);
     Ok(LinkSpot { dest, title })
 }
 
-fn title_of(heap: Heap, title: &Option<Text>) -> Result<Option<Text>, Memory>
-    ensures { IfOk result (λ copy. copy ≡ read_again title.now) }
+/// A destination's bytes are those of its characters, as of any text.
+fn dest_is_text(dest: &Text)
+    ensures { encode_utf8_all (chars dest.now) ≡ dest.now }
 {
-    let Some(title) = title else {
-        return Ok(None);
-    };
-    let copy = copy_of(heap, title)?;
-    Ok(Some(copy))
-}
-
-/// The text, its bytes read as characters.
-fn copy_of(heap: Heap, text: &Text) -> Result<Text, Memory>
-    ensures { IfOk result (λ copy. copy ≡ encode_utf8_all (chars text.now)) }
-{
-    let copy = Text::copy_of(heap, text.get())?;
-    Ok(copy)
+    let _text = dest.get();
 }
 
 /// Adds the attribute with an anchor.

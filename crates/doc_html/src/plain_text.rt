@@ -2,17 +2,19 @@
 ghost use Rattle.std.specs.Prelude.{◌≡◌, [], ◌∷◌, ◌++◌, chars, encode_utf8_all, string_bytes, IfOk, OnOk};
 ghost use Rattle.doc_rules.specs.CodeSpans.{spaced};
 ghost use Rattle.doc_rules.specs.PlainTexts.{plain_text};
+ghost use Rattle.doc_lines.specs.Entities.{characters};
 ghost use Rattle.doc_inlines_marks.specs.Views.{inlines_shown};
 ghost use Rattle.doc_html.specs.InlineSteps.{mark_plain};
 
 use crate::code::first_line;
 use doc_heap::{Heap, String};
-use doc_inlines_marks::mark::Mark;
+use doc_inlines_marks::mark_ref::MarkRef;
+use doc_lines::pushing::push_characters;
 use doc_page::failure::Memory;
 use doc_page::text::Text;
 
 /// The plain texts of inlines, joined: texts and code as they are, a line break as one space, raw HTML as nothing.
-pub(crate) fn plain_text(heap: Heap, marks: &[Mark]) -> Result<Text, Memory>
+pub(crate) fn plain_text(heap: Heap, marks: &[MarkRef]) -> Result<Text, Memory>
     ensures { IfOk result (λ text. text ≡ encode_utf8_all (plain_text (inlines_shown marks.now))) }
 {
     let mut out = String::with_capacity(heap, room_of(marks))?;
@@ -23,7 +25,7 @@ pub(crate) fn plain_text(heap: Heap, marks: &[Mark]) -> Result<Text, Memory>
 }
 
 /// How many bytes the plain text of marks takes: a guess, on which nothing rests.
-fn room_of(marks: &[Mark]) -> usize {
+fn room_of(marks: &[MarkRef]) -> usize {
     let mut room: usize = 0;
     for mark in marks {
         room = room.saturating_add(room_of_mark(mark));
@@ -31,30 +33,30 @@ fn room_of(marks: &[Mark]) -> usize {
     room
 }
 
-fn room_of_mark(mark: &Mark) -> usize {
+fn room_of_mark(mark: &MarkRef) -> usize {
     match mark {
-        Mark::Text(text) => text.len(),
-        Mark::Code(text) => text.len(),
-        Mark::Reference { source: _, text } => text.get().len(),
-        Mark::Soft | Mark::Hard => 1,
-        Mark::Raw(_) | Mark::Start(_) | Mark::End(_) => 0,
+        MarkRef::Text(text) => text.len(),
+        MarkRef::Code(text) => text.len(),
+        MarkRef::Reference { source, those: _ } => source.len(),
+        MarkRef::Soft | MarkRef::Hard => 1,
+        MarkRef::Raw(_) | MarkRef::Start(_) | MarkRef::End(_) => 0,
     }
 }
 
 /// Adds the plain text of a mark.
-fn push_mark(out: &mut String, mark: &Mark) -> Result<(), Memory>
+fn push_mark(out: &mut String, mark: &MarkRef) -> Result<(), Memory>
     ensures { OnOk result (string_bytes out.new ≡ string_bytes out.old
         ++ encode_utf8_all (mark_plain mark.now)) }
 {
     match mark {
-        Mark::Text(text) => push_str(out, text),
-        Mark::Code(text) => push_spaced(out, text),
-        Mark::Soft => push_space(out),
-        Mark::Hard => push_space(out),
-        Mark::Reference { source: _, text } => push_str(out, text.get()),
-        Mark::Raw(_) => Ok(()),
-        Mark::Start(_) => Ok(()),
-        Mark::End(_) => Ok(()),
+        MarkRef::Text(text) => push_str(out, text),
+        MarkRef::Code(text) => push_spaced(out, text),
+        MarkRef::Soft => push_space(out),
+        MarkRef::Hard => push_space(out),
+        MarkRef::Reference { source: _, those } => push_both(out, *those),
+        MarkRef::Raw(_) => Ok(()),
+        MarkRef::Start(_) => Ok(()),
+        MarkRef::End(_) => Ok(()),
     }
 }
 
@@ -64,6 +66,15 @@ fn push_str(out: &mut String, text: &str) -> Result<(), Memory>
         ++ encode_utf8_all (chars text.now)) }
 {
     out.push_str(text)?;
+    Ok(())
+}
+
+/// Adds one or two characters.
+fn push_both(out: &mut String, those: (char, Option<char>)) -> Result<(), Memory>
+    ensures { OnOk result (string_bytes out.new ≡ string_bytes out.old
+        ++ encode_utf8_all (characters those)) }
+{
+    push_characters(out, those)?;
     Ok(())
 }
 

@@ -5,8 +5,8 @@ use doc_refs::RefMap;
 
 /// What the inlines of a document are read with.
 #[derive(Drop)]
-pub(crate) struct Source<'r, 'e> {
+pub(crate) struct Source<'d> {
     pub(crate) heap: Heap,
-    pub(crate) refs: &'r RefMap,
-    pub(crate) entities: &'e Entities,
+    pub(crate) refs: &'d RefMap,
+    pub(crate) entities: &'d Entities,
 }

@@ -3,7 +3,7 @@ ghost use Rattle.std.specs.Prelude.{◌≡◌, chars, encode_utf8_all, IfOk};
 ghost use Rattle.doc_rules.specs.Html.{rendered_plain};
 
 use crate::document::write_html;
-use crate::plain_linker::PlainLinker;
+use crate::links::AsTheyStand;
 use doc_blocks::blocks;
 use doc_heap::Heap;
 use doc_lines::entities::Entities;
@@ -16,8 +16,7 @@ pub fn render_plain(heap: Heap, text: &str, entities: &Entities) -> Result<Text,
         (rendered_plain entities.now (chars text.now))) }
 {
     let document = blocks(heap, text, entities)?;
-    let linker = PlainLinker;
-    let html = write_html(heap, &document, entities, &linker, room_of(text))?;
+    let html = write_html(heap, &document, entities, &AsTheyStand, room_of(text))?;
     Ok(html)
 }
 

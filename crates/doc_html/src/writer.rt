@@ -3,14 +3,14 @@ ghost use Rattle.std.specs.Prelude.{◌≡◌, [], ◌∷◌, true, chars, OnOk}
 ghost use Rattle.doc_rules.specs.Escaping.{html_escape};
 ghost use Rattle.doc_rules.specs.Html.{characters, LinkTag};
 ghost use Rattle.doc_rules.specs.PlainTexts.{plain_text};
-ghost use Rattle.doc_refs.specs.Targets.{target_shown};
+ghost use Rattle.doc_inlines_marks.specs.Targets.{named};
 ghost use Rattle.doc_inlines_marks.specs.Views.{inlines_shown};
 ghost use Rattle.doc_html.specs.ProgressSteps.{Progress, Goes, Writes, on_new_line, text_met, heading_met};
 ghost use Rattle.doc_html.specs.InlineSteps.{is_ascii};
 
-use doc_inlines_marks::mark::Mark;
+use doc_inlines_marks::mark_ref::MarkRef;
+use doc_inlines_marks::target_ref::TargetRef;
 use doc_page::failure::Memory;
-use doc_refs::Target;
 
 /// What HTML is written into. It answers only where memory runs out.
 pub(crate) trait Writer {
@@ -27,9 +27,9 @@ pub(crate) trait Writer {
             (characters (html_escape (chars text.now)))) };
 
     /// Writes the opening tag of a link.
-    fn link(&mut self, target: &Target) -> Result<(), Memory>
+    fn link(&mut self, target: TargetRef) -> Result<(), Memory>
         ensures { OnOk result (Writes holds self.old self.new
-            (LinkTag (target_shown target.now) ∷ [])) };
+            (LinkTag (named target.entry) ∷ [])) };
 
     /// Begins a line, where something stands on this one.
     fn new_line(&mut self) -> Result<(), Memory>
@@ -40,12 +40,12 @@ pub(crate) trait Writer {
         ensures { OnOk result (Goes holds self.old self.new (text_met (chars text.now))) };
 
     /// A paragraph with these inlines is met.
-    fn meet_paragraph(&mut self, marks: &[Mark]) -> Result<(), Memory>
+    fn meet_paragraph(&mut self, marks: &[MarkRef]) -> Result<(), Memory>
         ensures { OnOk result (Goes holds self.old self.new
             (text_met (plain_text (inlines_shown marks.now)))) };
 
     /// A heading with these inlines is met, and its anchor written where headings get anchors.
-    fn meet_heading(&mut self, level: u8, marks: &[Mark]) -> Result<(), Memory>
+    fn meet_heading(&mut self, level: u8, marks: &[MarkRef]) -> Result<(), Memory>
         ensures { OnOk result (Goes holds self.old self.new
             (heading_met level (plain_text (inlines_shown marks.now)))) };
 }

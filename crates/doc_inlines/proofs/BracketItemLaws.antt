@@ -15,8 +15,8 @@ use Rattle.doc_rules.specs.Rests.{IsRest}
 use Rattle.doc_rules.proofs.ParserLaws.{is_all}
 use Rattle.doc_refs.specs.Targets.{Targets, targets_of}
 use Rattle.doc_inlines_pass.specs.Marks.{Placed}
-use Rattle.doc_inlines_marks.specs.declared.mark.Mark.{Mark}
-use Rattle.doc_inlines_marks.specs.declared.mark.Mark.TheVariants as mark
+use Rattle.doc_inlines_marks.specs.declared.mark_ref.MarkRef.{MarkRef}
+use Rattle.doc_inlines_marks.specs.declared.mark_ref.MarkRef.TheVariants as mark
 use Rattle.doc_inlines_marks.specs.Slices.{AreSlices, is_cut, IsCut, AreCut}
 use Rattle.doc_inlines_emphasis.specs.Views.{marks_shown, items_of}
 use Rattle.doc_inlines.specs.declared.bracket.Bracket.{Bracket}
@@ -184,7 +184,7 @@ nothing_long : (brackets : List Bracket) → length brackets ≡ 0 → brackets 
 nothing_long [] e = refl
 nothing_long (b ∷ brackets) e = absurd (omega (arith, e))
 
-none_then_nothing : (items : List Mark) (runs : List Placed) (brackets : List Bracket) (dead : ℕ)
+none_then_nothing : (items : List MarkRef) (runs : List Placed) (brackets : List Bracket) (dead : ℕ)
     → last_bracket [] (made_by items runs brackets dead) ≡ None → brackets ≡ []
 unfolding made_by
 none_then_nothing items runs brackets dead e = at (brackets_shown brackets) refl e
@@ -281,7 +281,7 @@ taken (Some one) old flushed next those b e f g k h = taken_one old flushed next
 
 -- ---- a link
 
-pub longer_slices : (whole plain rest next : Text) (items those : List Mark) → IsRest plain whole → plain ≡ rest → IsRest next rest
+pub longer_slices : (whole plain rest next : Text) (items those : List MarkRef) → IsRest plain whole → plain ≡ rest → IsRest next rest
     → AreSlices (before plain whole) items →
     ((text : Text) → AreSlices text items → AreSlices text those) → AreSlices (before next whole) those
 longer_slices whole plain rest next items those h e g s k =

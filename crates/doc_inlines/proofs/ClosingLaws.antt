@@ -13,9 +13,9 @@ use Rattle.doc_rules.specs.Destinations.{Target}
 use Rattle.doc_inlines_pass.specs.Marks.{Placed, ArePlaced, seen, stretch}
 use Rattle.doc_inlines_pass.proofs.Stretches.{Agree, placed_same, placed_until}
 use Rattle.doc_inlines_pass.proofs.Growing.{stretch_all}
-use Rattle.doc_inlines_marks.specs.declared.mark.Mark.{Mark}
-use Rattle.doc_inlines_marks.specs.declared.mark.Mark.TheVariants as mark
-use Rattle.doc_inlines_marks.specs.declared.mark.Span as spans
+use Rattle.doc_inlines_marks.specs.declared.mark_ref.MarkRef.{MarkRef}
+use Rattle.doc_inlines_marks.specs.declared.mark_ref.MarkRef.TheVariants as mark
+use Rattle.doc_inlines_marks.specs.declared.mark_ref.SpanRef as spans
 use Rattle.doc_inlines_marks.specs.Views.{inlines_in, inlines_shown, span_shown}
 use Rattle.doc_inlines_emphasis.specs.declared.marks.Place.{Place}
 use Rattle.doc_inlines_emphasis.specs.Views.{marks_shown, StandsApart}
@@ -26,20 +26,20 @@ use Rattle.doc_inlines.proofs.MadeLaws.{onto_both, made_same, brackets_mark, mad
 use Rattle.doc_inlines.proofs.LinkLaws.{last_is, last_is_none, unlinked_is, brackets_popped, made_dead, made_alive, emphasis_of_made}
 use Rattle.doc_inlines.proofs.DraftLaws.{items_final, shown_more}
 
-abbrev lower_of : List Mark → List Placed → List Bracket → ℕ → Bracket → List Inline
+abbrev lower_of : List MarkRef → List Placed → List Bracket → ℕ → Bracket → List Inline
 lower_of items runs brackets dead b = made_below (marks_shown items) b.place.marks dead (take b.place.runs runs) (brackets_shown brackets)
 
-abbrev upper_of : List Mark → List Placed → Bracket → List Inline
+abbrev upper_of : List MarkRef → List Placed → Bracket → List Inline
 upper_of items runs b = seen (marks_shown items) (suc b.place.marks) (length items) (drop b.place.runs runs)
 
 pub shown_length : (brackets : List Bracket) → length (brackets_shown brackets) ≡ length brackets
 shown_length brackets = length-reverse (map bracket_in brackets) ∙ length-map brackets bracket_in
 
 -- the brackets with the last one first
-abbrev StandUnder : List Mark → List Placed → List Bracket → Bracket → Type 0
+abbrev StandUnder : List MarkRef → List Placed → List Bracket → Bracket → Type 0
 StandUnder items runs brackets b = AreBrackets (marks_shown items) (length items) runs (bracket_in b ∷ brackets_shown brackets)
 
-pub stand_under : (items : List Mark) (runs : List Placed) (brackets : List Bracket) (b : Bracket)
+pub stand_under : (items : List MarkRef) (runs : List Placed) (brackets : List Bracket) (b : Bracket)
     → AreOpen items runs (brackets ++ (b ∷ [])) → StandUnder items runs brackets b
 stand_under items runs brackets b h = subst (λ those. AreBrackets (marks_shown items) (length items) runs those) (shown_more brackets b)
     h.stand
@@ -50,7 +50,7 @@ live_shown : (image : Bool) (dead number : ℕ) (brackets : List Bracket) → nu
     → (image || nat_le dead (length (brackets_shown brackets))) ≡ (image || nat_le dead number)
 live_shown image dead number brackets e = ap (λ n. image || nat_le dead n) (shown_length brackets ∙ sym e)
 
-lower_alive : (items : List Mark) (runs : List Placed) (brackets : List Bracket) (b : Bracket) (dead new : ℕ)
+lower_alive : (items : List MarkRef) (runs : List Placed) (brackets : List Bracket) (b : Bracket) (dead new : ℕ)
     → new ≡ min dead (length brackets) →
     lower_of items runs brackets dead b ≡ lower_of items runs brackets new b
 lower_alive items runs brackets b dead new e = at (nat_le (length brackets) dead) refl
@@ -66,7 +66,7 @@ lower_alive items runs brackets b dead new e = at (nat_le (length brackets) dead
         let same : dead ≡ new = omega arith in
         ap (λ k. lower_of items runs brackets k b) same
 
-pub popped_last : (items : List Mark) (runs : List Placed) (old brackets : List Bracket) (b : Bracket) (dead new : ℕ)
+pub popped_last : (items : List MarkRef) (runs : List Placed) (old brackets : List Bracket) (b : Bracket) (dead new : ℕ)
     → old ≡ brackets ++ (b ∷ []) → new ≡ min dead (length brackets) →
     last_bracket [] (made_by items runs old dead) ≡ Some (record {
       since = upper_of items runs b;
@@ -85,7 +85,7 @@ popped_last items runs old brackets b dead new e g =
     }))
     (live_shown b.image dead (length brackets) brackets refl) (lower_alive items runs brackets b dead new g))
 
-pub popped_text : (items : List Mark) (runs : List Placed) (old brackets : List Bracket) (b : Bracket) (new : ℕ)
+pub popped_text : (items : List MarkRef) (runs : List Placed) (old brackets : List Bracket) (b : Bracket) (new : ℕ)
     → old ≡ brackets ++ (b ∷ []) → AreOpen items runs old →
     made_by items runs brackets new ≡ onto (upper_of items runs b) (onto (text_of_bracket b.image) (lower_of items runs brackets new b))
 unfolding made_by
@@ -93,7 +93,7 @@ popped_text items runs old brackets b new e h =
     unlinked_is (marks_shown items) (length items) new runs (bracket_in b) (brackets_shown brackets)
     (stand_under items runs brackets b (subst (λ those. AreOpen items runs those) e h))
 
-pub popped_open : (items : List Mark) (runs : List Placed) (old brackets : List Bracket) (b : Bracket) → old ≡ brackets ++ (b ∷ [])
+pub popped_open : (items : List MarkRef) (runs : List Placed) (old brackets : List Bracket) (b : Bracket) → old ≡ brackets ++ (b ∷ [])
     → AreOpen items runs old → AreOpen items runs brackets
 popped_open items runs old brackets b e h =
     record {
@@ -101,7 +101,7 @@ popped_open items runs old brackets b e h =
           (stand_under items runs brackets b (subst (λ those. AreOpen items runs those) e h));
     }
 
-pub none_open : (items : List Mark) (runs : List Placed) (brackets : List Bracket) (dead : ℕ) → brackets ≡ []
+pub none_open : (items : List MarkRef) (runs : List Placed) (brackets : List Bracket) (dead : ℕ) → brackets ≡ []
     → last_bracket [] (made_by items runs brackets dead) ≡ None
 unfolding made_by
 none_open items runs brackets dead e =
@@ -110,14 +110,14 @@ none_open items runs brackets dead e =
 
 -- ---- a link
 
-agree_front : (m : ℕ) (items next : List Mark) → take m next ≡ take m items → Agree (marks_shown items) (marks_shown next) 0 m
+agree_front : (m : ℕ) (items next : List MarkRef) → take m next ≡ take m items → Agree (marks_shown items) (marks_shown next) 0 m
 agree_front m items next e i l h =
     let f : take m (marks_shown next) ≡ take m (marks_shown items) = take-map inlines_in m next
     ∙ (ap (map inlines_in) e ∙ sym (take-map inlines_in m items)) in
     sym (get_or-take m (marks_shown items) i [] h) ∙ (ap (λ xs. get_or xs i []) (sym f) ∙ get_or-take m (marks_shown next) i [] h)
 
 -- what stands under the bracket stays
-pub open_under : (items next : List Mark) (runs : List Placed) (brackets : List Bracket) (b : Bracket) → StandUnder items runs brackets b
+pub open_under : (items next : List MarkRef) (runs : List Placed) (brackets : List Bracket) (b : Bracket) → StandUnder items runs brackets b
     → take b.place.marks next ≡ take b.place.marks items →
     b.place.marks ≤ length next → AreOpen next (take b.place.runs runs) brackets
 open_under items next runs brackets b h e l = record {
@@ -125,11 +125,11 @@ open_under items next runs brackets b h e l = record {
       (brackets_shown brackets) h.3 (agree_front b.place.marks items next e) l;
 }
 
-identity_map : (xs : List Mark) → flat_map (λ x. x) (marks_shown xs) ≡ inlines_shown xs
+identity_map : (xs : List MarkRef) → flat_map (λ x. x) (marks_shown xs) ≡ inlines_shown xs
 identity_map [] = refl
 identity_map (x ∷ xs) = ap (λ t. inlines_in x ++ t) (identity_map xs)
 
-seen_rest : (items : List Mark) (m : ℕ) → m ≤ length items → seen (marks_shown items) m (length items) [] ≡ inlines_shown (drop m items)
+seen_rest : (items : List MarkRef) (m : ℕ) → m ≤ length items → seen (marks_shown items) m (length items) [] ≡ inlines_shown (drop m items)
 unfolding seen
 seen_rest items m l =
     let n : length (marks_shown items) ≡ length items = length-map items inlines_in in
@@ -138,7 +138,7 @@ seen_rest items m l =
     ∙ (ap (flat_map (λ x. x)) (drop-map inlines_in m items) ∙ identity_map (drop m items)))
 
 -- all that is behind the marks under a bracket comes onto what was made of them
-made_onto : (items next : List Mark) (runs : List Placed) (brackets : List Bracket) (b : Bracket) (dead : ℕ)
+made_onto : (items next : List MarkRef) (runs : List Placed) (brackets : List Bracket) (b : Bracket) (dead : ℕ)
     → StandUnder items runs brackets b → take b.place.marks next ≡ take b.place.marks items →
     b.place.marks ≤ length next → made_by next (take b.place.runs runs) brackets dead
     ≡ onto (inlines_shown (drop b.place.marks next)) (lower_of items runs brackets dead b)
@@ -158,7 +158,7 @@ pub record IsDeadBehind (image : Bool) (old new : ℕ) (brackets : List Bracket)
   pub kept : image ≡ true → new ≡ old
   pub all : image ≡ false → new ≡ length brackets
 
-lower_linked : (items : List Mark) (runs : List Placed) (brackets : List Bracket) (b : Bracket) (image : Bool) (dead new : ℕ)
+lower_linked : (items : List MarkRef) (runs : List Placed) (brackets : List Bracket) (b : Bracket) (image : Bool) (dead new : ℕ)
     → IsDeadBehind image dead new brackets →
     lower_of items runs brackets new b ≡ (if image then lower_of items runs brackets dead b else map without_links
     (lower_of items runs brackets dead b))
@@ -173,11 +173,11 @@ lower_linked items runs brackets b false dead new d =
 abbrev pub link_over : Span → List Inline → List Inline → List Inline
 link_over span since lower = End span ∷ onto (emphasis_of since) (Start span ∷ lower)
 
-shown_append : (xs ys : List Mark) → inlines_shown (xs ++ ys) ≡ inlines_shown xs ++ inlines_shown ys
+shown_append : (xs ys : List MarkRef) → inlines_shown (xs ++ ys) ≡ inlines_shown xs ++ inlines_shown ys
 shown_append xs ys = flat_map-append inlines_in xs ys
 
 -- the marks behind those under the bracket, when it is a link
-linked_marks : (m : ℕ) (wrapped next : List Mark) (start end : spans.Span) → m < length wrapped
+linked_marks : (m : ℕ) (wrapped next : List MarkRef) (start end : spans.SpanRef) → m < length wrapped
     → next ≡ set wrapped m (mark.Start start) ++ (mark.End end ∷ []) →
     inlines_shown (drop m next) ≡ Start (span_shown start) ∷ (inlines_shown (drop (suc m) wrapped) ++ (End (span_shown end) ∷ []))
 unfolding inlines_in
@@ -194,7 +194,7 @@ onto_link : (a b : Inline) (since made : List Inline) → onto (a ∷ (since ++ 
 onto_link a b since made = onto_both (a ∷ since) (b ∷ []) made ∙ ap (λ t. b ∷ t) (onto_both (a ∷ []) since made)
 
 -- the marks before the bracket stay
-pub kept_marks : (m : ℕ) (items wrapped turned next : List Mark) (start end : Mark) → take (suc m) wrapped ≡ take (suc m) items
+pub kept_marks : (m : ℕ) (items wrapped turned next : List MarkRef) (start end : MarkRef) → take (suc m) wrapped ≡ take (suc m) items
     → length wrapped ≡ length items → m < length items →
     turned ≡ set wrapped m start → (take m turned ≡ take m items) × (length turned ≡ length items)
 kept_marks m items wrapped turned next start end e n l f = (
@@ -203,7 +203,7 @@ kept_marks m items wrapped turned next start end e n l f = (
   ap length f ∙ (length-set wrapped m start ∙ n),
 )
 
-pub kept_more : (m : ℕ) (items turned next : List Mark) (end : Mark) → take m turned ≡ take m items → length turned ≡ length items
+pub kept_more : (m : ℕ) (items turned next : List MarkRef) (end : MarkRef) → take m turned ≡ take m items → length turned ≡ length items
     → m < length items → next ≡ turned ++ (end ∷ []) →
     (take m next ≡ take m items) × (m ≤ length next)
 kept_more m items turned next end e n l f =
@@ -211,8 +211,8 @@ kept_more m items turned next end e n l f =
     let j : length (turned ++ (end ∷ [])) ≡ length turned + 1 = length-append turned (end ∷ []) in
     (ap (take m) f ∙ (take-append-le m turned (end ∷ []) (omega arith) ∙ e), omega arith)
 
-pub link_made : (items wrapped turned next : List Mark) (runs runs1 runs2 runs3 : List Placed) (brackets : List Bracket) (b : Bracket)
-    (start end : spans.Span) (target : Target) (dead new : ℕ) (live : Bool) →
+pub link_made : (items wrapped turned next : List MarkRef) (runs runs1 runs2 runs3 : List Placed) (brackets : List Bracket) (b : Bracket)
+    (start end : spans.SpanRef) (target : Target) (dead new : ℕ) (live : Bool) →
     AreOpen items runs (brackets ++ (b ∷ [])) → length wrapped ≡ length items
     → take (suc b.place.marks) wrapped ≡ take (suc b.place.marks) items →
     inlines_shown (drop (suc b.place.marks) wrapped) ≡ emphasis_of (upper_of items runs b) → runs1 ≡ take b.place.runs runs →
@@ -246,19 +246,19 @@ link_made items wrapped turned next runs runs1 runs2 runs3 brackets b start end 
     ∙ ap (λ s. End span ∷ onto s (Start span ∷ (if b.image then lower_of items runs brackets dead b else map without_links
     (lower_of items runs brackets dead b)))) em))))
 
-pub link_open : (items next : List Mark) (runs those : List Placed) (brackets : List Bracket) (b : Bracket)
+pub link_open : (items next : List MarkRef) (runs those : List Placed) (brackets : List Bracket) (b : Bracket)
     → AreOpen items runs (brackets ++ (b ∷ [])) → take b.place.marks next ≡ take b.place.marks items →
     b.place.marks ≤ length next → those ≡ take b.place.runs runs → AreOpen next those brackets
 link_open items next runs those brackets b h e l r = subst (λ xs. AreOpen next xs brackets) (sym r)
     (open_under items next runs brackets b (stand_under items runs brackets b h) e l)
 
 -- the runs stand among the marks
-pub open_placed : (items : List Mark) (runs : List Placed) (brackets : List Bracket) → AreOpen items runs brackets
+pub open_placed : (items : List MarkRef) (runs : List Placed) (brackets : List Bracket) → AreOpen items runs brackets
     → ArePlaced (marks_shown items) 0 (length items) runs
 open_placed items runs brackets h = brackets_placed (marks_shown items) (length items) runs (brackets_shown brackets) h.stand
 
 -- and those before the bracket before its mark
-pub lower_placed : (items next : List Mark) (runs those : List Placed) (brackets : List Bracket) (b : Bracket)
+pub lower_placed : (items next : List MarkRef) (runs those : List Placed) (brackets : List Bracket) (b : Bracket)
     → AreOpen items runs (brackets ++ (b ∷ [])) → take b.place.marks next ≡ take b.place.marks items →
     those ≡ take b.place.runs runs → ArePlaced (marks_shown next) 0 b.place.marks those
 lower_placed items next runs those brackets b h e r =
@@ -268,12 +268,12 @@ lower_placed items next runs those brackets b h e r =
     (brackets_placed (marks_shown items) b.place.marks (take b.place.runs runs) (brackets_shown brackets) under.3)
     (agree_front b.place.marks items next e))
 
-pub bracket_below : (items : List Mark) (runs : List Placed) (brackets : List Bracket) (b : Bracket)
+pub bracket_below : (items : List MarkRef) (runs : List Placed) (brackets : List Bracket) (b : Bracket)
     → AreOpen items runs (brackets ++ (b ∷ [])) → suc b.place.marks ≤ length items
 bracket_below items runs brackets b h = brackets_order (marks_shown items) (length items) runs (bracket_in b) (brackets_shown brackets)
     (stand_under items runs brackets b h)
 
-pub place_behind : (items : List Mark) (runs : List Placed) (brackets : List Bracket) (b : Bracket) (place : Place)
+pub place_behind : (items : List MarkRef) (runs : List Placed) (brackets : List Bracket) (b : Bracket) (place : Place)
     → AreOpen items runs (brackets ++ (b ∷ [])) → place.marks ≡ suc b.place.marks → place.runs ≡ b.place.runs →
     StandsApart items runs place
 place_behind items runs brackets b place h e f =
@@ -293,7 +293,7 @@ place_behind items runs brackets b place h e f =
 
 -- ---- when all is read
 
-pub first_place : (items : List Mark) (runs : List Placed) (brackets : List Bracket) (place : Place) → AreOpen items runs brackets
+pub first_place : (items : List MarkRef) (runs : List Placed) (brackets : List Bracket) (place : Place) → AreOpen items runs brackets
     → place.marks ≡ 0 → place.runs ≡ 0 → StandsApart items runs place
 first_place items runs brackets place o e f =
     let h : ArePlaced (marks_shown items) 0 (length items) runs = open_placed items runs brackets o in
@@ -305,7 +305,7 @@ first_place items runs brackets place o e f =
           (subst (λ n. ArePlaced (marks_shown items) 0 (length items) (drop n runs)) (sym f) h);
     }
 
-pub finished : (items next : List Mark) (runs : List Placed) (brackets : List Bracket) (dead : ℕ) → AreOpen items runs brackets
+pub finished : (items next : List MarkRef) (runs : List Placed) (brackets : List Bracket) (dead : ℕ) → AreOpen items runs brackets
     → inlines_shown next ≡ emphasis_of (seen (marks_shown items) 0 (length items) runs) →
     inlines_shown next ≡ emphasis_of (reverse (made_by items runs brackets dead))
 unfolding made_by
@@ -317,8 +317,8 @@ finished items next runs brackets dead h e = e
 pub one_more : (n : ℕ) → n + 1 ≡ suc n
 one_more n = omega arith
 
-pub link_made_at : (items wrapped turned next : List Mark) (runs runs1 runs2 runs3 : List Placed) (brackets : List Bracket) (b : Bracket)
-    (start end : spans.Span) (target : Target) (dead new : ℕ) (live : Bool) →
+pub link_made_at : (items wrapped turned next : List MarkRef) (runs runs1 runs2 runs3 : List Placed) (brackets : List Bracket) (b : Bracket)
+    (start end : spans.SpanRef) (target : Target) (dead new : ℕ) (live : Bool) →
     AreOpen items runs (brackets ++ (b ∷ [])) → length wrapped ≡ length items
     → take (b.place.marks + 1) wrapped ≡ take (b.place.marks + 1) items →
     inlines_shown (drop (b.place.marks + 1) wrapped) ≡ emphasis_of
@@ -339,13 +339,13 @@ link_made_at items wrapped turned next runs runs1 runs2 runs3 brackets b start e
     (one_more b.place.marks) em)
     r t r2 p r3 ss se (record { kept = d; all = f })
 
-pub turned_marks : (m : ℕ) (items wrapped turned : List Mark) (start : Mark) → take (m + 1) wrapped ≡ take (m + 1) items
+pub turned_marks : (m : ℕ) (items wrapped turned : List MarkRef) (start : MarkRef) → take (m + 1) wrapped ≡ take (m + 1) items
     → length wrapped ≡ length items → m < length items → turned ≡ set wrapped m start →
     (take m turned ≡ take m items) × (length turned ≡ length items)
 turned_marks m items wrapped turned start e n l f = kept_marks m items wrapped turned turned start start
     (subst (λ k. take k wrapped ≡ take k items) (one_more m) e) n l f
 
-pub wrapped_marks : (m : ℕ) (items wrapped : List Mark) → take (m + 1) wrapped ≡ take (m + 1) items → take m wrapped ≡ take m items
+pub wrapped_marks : (m : ℕ) (items wrapped : List MarkRef) → take (m + 1) wrapped ≡ take (m + 1) items → take m wrapped ≡ take m items
 wrapped_marks m items wrapped e = sym (take-take m (m + 1) wrapped (omega arith))
     ∙ (ap (take m) e ∙ take-take m (m + 1) items (omega arith))
 
@@ -356,11 +356,7 @@ pub dead_within : (image : Bool) (dead new n : ℕ) → dead ≤ n → (image �
 dead_within true dead new n l f g = let e : new ≡ dead = f refl in omega arith
 dead_within false dead new n l f g = let e : new ≡ n = g refl in omega arith
 
-pub same_span : (image : Bool) (s : Span) (one other : Target) → one ≡ other → s ≡ (if image then Image one else Link one)
-    → s ≡ (if image then Image other else Link other)
-same_span image s one other e h = h ∙ ap (λ t. if image then Image t else Link t) e
-
-pub popped_live : (items : List Mark) (runs : List Placed) (old brackets : List Bracket) (b : Bracket) (dead new : ℕ) (live : Bool)
+pub popped_live : (items : List MarkRef) (runs : List Placed) (old brackets : List Bracket) (b : Bracket) (dead new : ℕ) (live : Bool)
     → old ≡ brackets ++ (b ∷ []) → new ≡ min dead (length brackets) →
     live ≡ (b.image || nat_le dead (length brackets)) →
     last_bracket [] (made_by items runs old dead) ≡ Some (record {
@@ -376,6 +372,6 @@ popped_live items runs old brackets b dead new live e g f =
       before = lower_of items runs brackets new b;
     })) (sym f)
 
-pub popped_stood : (items : List Mark) (runs : List Placed) (old brackets : List Bracket) (b : Bracket) → old ≡ brackets ++ (b ∷ [])
+pub popped_stood : (items : List MarkRef) (runs : List Placed) (old brackets : List Bracket) (b : Bracket) → old ≡ brackets ++ (b ∷ [])
     → AreOpen items runs old → AreOpen items runs (brackets ++ (b ∷ []))
 popped_stood items runs old brackets b e h = subst (λ those. AreOpen items runs those) e h

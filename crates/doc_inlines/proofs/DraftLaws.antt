@@ -12,8 +12,8 @@ use Rattle.doc_inlines_pass.specs.Marks.{Placed, ArePlaced, IsFinal}
 use Rattle.doc_inlines_pass.proofs.Stretches.{Agree, placed_at}
 use Rattle.doc_inlines_pass.proofs.Growing.{seen_none}
 use Rattle.doc_inlines_pass.proofs.Finals.{AreFinal, final_marks}
-use Rattle.doc_inlines_marks.specs.declared.mark.Mark.{Mark}
-use Rattle.doc_inlines_marks.specs.declared.mark.Mark.TheVariants as mark
+use Rattle.doc_inlines_marks.specs.declared.mark_ref.MarkRef.{MarkRef}
+use Rattle.doc_inlines_marks.specs.declared.mark_ref.MarkRef.TheVariants as mark
 use Rattle.doc_inlines_marks.specs.Views.{inlines_in}
 use Rattle.doc_inlines_emphasis.specs.Views.{marks_shown}
 use Rattle.doc_inlines_emphasis.specs.RunSteps.{delimiter}
@@ -29,30 +29,30 @@ final_literals : (text : Text) → IsFinal (literals text)
 final_literals [] = tt
 final_literals (c ∷ text) = final_literals text
 
-final_mark : (m : Mark) → IsFinal (inlines_in m)
+final_mark : (m : MarkRef) → IsFinal (inlines_in m)
 unfolding inlines_in
 final_mark (mark.Text text) = final_literals (chars text.now)
 final_mark (mark.Code text) = tt
 final_mark mark.Soft = tt
 final_mark mark.Hard = tt
 final_mark (mark.Raw text) = tt
-final_mark (mark.Reference source text) = tt
+final_mark (mark.Reference source those) = tt
 final_mark (mark.Start span) = tt
 final_mark (mark.End span) = tt
 
-pub items_final : (items : List Mark) → AreFinal (marks_shown items)
+pub items_final : (items : List MarkRef) → AreFinal (marks_shown items)
 items_final items = final_marks inlines_in final_mark items
 
 -- ---- an empty draft
 
-pub nothing_made : (items : List Mark) (runs : List Placed) (brackets : List Bracket) → items ≡ [] → runs ≡ [] → brackets ≡ []
+pub nothing_made : (items : List MarkRef) (runs : List Placed) (brackets : List Bracket) → items ≡ [] → runs ≡ [] → brackets ≡ []
     → made_by items runs brackets 0 ≡ []
 unfolding made_by made_below
 nothing_made items runs brackets e f g =
     ap (λ those. made_by those runs brackets 0) e ∙ (ap (λ those. made_by [] those brackets 0) f
     ∙ (ap (λ those. made_by [] [] those 0) g ∙ ap reverse (seen_none [] 0)))
 
-pub nothing_open : (items : List Mark) (runs : List Placed) (brackets : List Bracket) → items ≡ [] → runs ≡ [] → brackets ≡ []
+pub nothing_open : (items : List MarkRef) (runs : List Placed) (brackets : List Bracket) → items ≡ [] → runs ≡ [] → brackets ≡ []
     → AreOpen items runs brackets
 nothing_open items runs brackets e f g =
     subst (λ those. AreOpen those runs brackets) (sym e)
@@ -69,22 +69,22 @@ at_end : (xs : List (List Inline)) (y : List Inline) (ys : List (List Inline)) �
 at_end [] y ys = refl
 at_end (x ∷ xs) y ys = at_end xs y ys
 
-pub agree_grown : (items added : List Mark) → Agree (marks_shown items) (marks_shown (items ++ added)) 0 (length items)
+pub agree_grown : (items added : List MarkRef) → Agree (marks_shown items) (marks_shown (items ++ added)) 0 (length items)
 agree_grown items added =
     subst (λ next. Agree (marks_shown items) next 0 (length items)) (sym (map-append inlines_in items added))
     (subst (λ n. Agree (marks_shown items) (marks_shown items ++ marks_shown added) 0 n) (length-map items inlines_in)
     (agree_appended (marks_shown items) (marks_shown added)))
 
-pub mark_at_end : (items : List Mark) (m : Mark) → get_or (marks_shown (items ++ (m ∷ []))) (length items) [] ≡ inlines_in m
+pub mark_at_end : (items : List MarkRef) (m : MarkRef) → get_or (marks_shown (items ++ (m ∷ []))) (length items) [] ≡ inlines_in m
 mark_at_end items m =
     ap (λ next. get_or next (length items) []) (map-append inlines_in items (m ∷ []))
     ∙ (ap (λ n. get_or (marks_shown items ++ (inlines_in m ∷ [])) n []) (sym (length-map items inlines_in))
     ∙ at_end (marks_shown items) (inlines_in m) [])
 
-one_longer : (items : List Mark) (m : Mark) → length (items ++ (m ∷ [])) ≡ suc (length items)
+one_longer : (items : List MarkRef) (m : MarkRef) → length (items ++ (m ∷ [])) ≡ suc (length items)
 one_longer items m = let n : length (items ++ (m ∷ [])) ≡ length items + 1 = length-append items (m ∷ []) in omega arith
 
-pub put_made : (items next : List Mark) (runs new : List Placed) (brackets : List Bracket) (dead : ℕ) (m : Mark)
+pub put_made : (items next : List MarkRef) (runs new : List Placed) (brackets : List Bracket) (dead : ℕ) (m : MarkRef)
     → AreOpen items runs brackets → next ≡ items ++ (m ∷ []) → new ≡ runs →
     made_by next new brackets dead ≡ onto (inlines_in m) (made_by items runs brackets dead)
 unfolding made_by
@@ -96,7 +96,7 @@ put_made items next runs new brackets dead m h e f =
     (agree_grown items (m ∷ []))
     ∙ ap (λ x. onto x (made_by items runs brackets dead)) (mark_at_end items m))))
 
-pub put_open : (items next : List Mark) (runs new : List Placed) (brackets : List Bracket) (m : Mark) → AreOpen items runs brackets
+pub put_open : (items next : List MarkRef) (runs new : List Placed) (brackets : List Bracket) (m : MarkRef) → AreOpen items runs brackets
     → next ≡ items ++ (m ∷ []) → new ≡ runs → AreOpen next new brackets
 put_open items next runs new brackets m h e f =
     subst (λ those. AreOpen those new brackets) (sym e)
@@ -109,7 +109,7 @@ put_open items next runs new brackets m h e f =
 
 -- ---- a run behind all
 
-each_length : (added : List Mark) (text : Text) → AreEach added text → length added ≡ length text
+each_length : (added : List MarkRef) (text : Text) → AreEach added text → length added ≡ length text
 each_length [] [] h = refl
 each_length [] (c ∷ text) h = absurd h
 each_length (m ∷ added) [] h = absurd h
@@ -118,7 +118,7 @@ each_length (m ∷ added) (c ∷ text) h = ap (λ n. suc n) (each_length added t
 pub run_of : (text : Text) → (r : IsRunText text) → IsRunOf r.more (delimiter r.star) text
 run_of text r = record { same = r.is }
 
-run_end : (items next : List Mark) (n c : ℕ) (text : Text) → IsRunOf n c text → AddsEach items next text
+run_end : (items next : List MarkRef) (n c : ℕ) (text : Text) → IsRunOf n c text → AddsEach items next text
     → length next ≡ length items + suc n
 run_end items next n c text r a =
     let l : length next ≡ length (items ++ a.added) = ap length a.behind in
@@ -126,12 +126,12 @@ run_end items next n c text r a =
     let k : length a.added ≡ suc n = each_length a.added text a.each ∙ (ap length r.same ∙ length-replicate (suc n) c) in
     omega arith
 
-agree_each : (items next : List Mark) (text : Text) → AddsEach items next text
+agree_each : (items next : List MarkRef) (text : Text) → AddsEach items next text
     → Agree (marks_shown items) (marks_shown next) 0 (length items)
 agree_each items next text a = subst (λ those. Agree (marks_shown items) (marks_shown those) 0 (length items)) (sym a.behind)
     (agree_grown items a.added)
 
-pub run_made : (items next : List Mark) (runs new : List Placed) (brackets : List Bracket) (dead n c : ℕ) (opens closes : Bool)
+pub run_made : (items next : List MarkRef) (runs new : List Placed) (brackets : List Bracket) (dead n c : ℕ) (opens closes : Bool)
     (text : Text) → AreOpen items runs brackets →
     IsRunOf n c text → AddsEach items next text → new ≡ runs ++ (fresh_run (length items) c (suc n) opens closes ∷ [])
     → ArePlaced (marks_shown next) 0 (length next) new →
@@ -148,7 +148,7 @@ run_made items next runs new brackets dead n c opens closes text h r a e placed 
     (agree_each items next text a) refl (omega arith)
     (placed_at (marks_shown next) 0 (length next) runs p [] own).1)
 
-pub run_open : (items next : List Mark) (runs new : List Placed) (brackets : List Bracket) (n c : ℕ) (opens closes : Bool) (text : Text)
+pub run_open : (items next : List MarkRef) (runs new : List Placed) (brackets : List Bracket) (n c : ℕ) (opens closes : Bool) (text : Text)
     → AreOpen items runs brackets →
     IsRunOf n c text → AddsEach items next text → new ≡ runs ++ (fresh_run (length items) c (suc n) opens closes ∷ [])
     → ArePlaced (marks_shown next) 0 (length next) new → AreOpen next new brackets
@@ -174,7 +174,7 @@ text_of_codes false = refl
 pub shown_more : (brackets : List Bracket) (b : Bracket) → brackets_shown (brackets ++ (b ∷ [])) ≡ bracket_in b ∷ brackets_shown brackets
 shown_more brackets b = ap reverse (map-append bracket_in brackets (b ∷ [])) ∙ reverse-append (map bracket_in brackets) (bracket_in b ∷ [])
 
-pub bracket_made : (items next : List Mark) (runs new : List Placed) (brackets more : List Bracket) (dead : ℕ) (b : Bracket)
+pub bracket_made : (items next : List MarkRef) (runs new : List Placed) (brackets more : List Bracket) (dead : ℕ) (b : Bracket)
     (text : Bor Text) → AreOpen items runs brackets → dead ≤ length brackets →
     b.place.marks ≡ length items → b.place.runs ≡ length runs → chars text.now ≡ codes_of_bracket b.image
     → next ≡ items ++ (mark.Text text ∷ []) → new ≡ runs → more ≡ brackets ++ (b ∷ []) →
@@ -182,7 +182,7 @@ pub bracket_made : (items next : List Mark) (runs new : List Placed) (brackets m
     dead
 unfolding made_by
 bracket_made items next runs new brackets more dead b text h l e f t g k m =
-    let grown : List Mark = items ++ (mark.Text text ∷ []) in
+    let grown : List MarkRef = items ++ (mark.Text text ∷ []) in
     let number : length (brackets_shown brackets) ≡ length brackets = length-reverse (map bracket_in brackets)
     ∙ length-map brackets bracket_in in
     let live : (b.image || nat_le dead (length (brackets_shown brackets))) ≡ true = ap (λ n. b.image || nat_le dead n) number
@@ -195,14 +195,14 @@ bracket_made items next runs new brackets more dead b text h l e f t g k m =
     (agree_grown items (mark.Text text ∷ [])) e f
     ∙ ap (λ v. Open (record { image = b.image; live = v; behind = chars b.behind.now }) ∷ made_by items runs brackets dead) live)))
 
-pub bracket_open : (items next : List Mark) (runs new : List Placed) (brackets more : List Bracket) (b : Bracket) (text : Bor Text)
+pub bracket_open : (items next : List MarkRef) (runs new : List Placed) (brackets more : List Bracket) (b : Bracket) (text : Bor Text)
     → AreOpen items runs brackets →
     b.place.marks ≡ length items → b.place.runs ≡ length runs → chars text.now ≡ codes_of_bracket b.image
     → next ≡ items ++ (mark.Text text ∷ []) → new ≡ runs → more ≡ brackets ++ (b ∷ []) →
     AreOpen next new more
 unfolding inlines_in
 bracket_open items next runs new brackets more b text h e f t g k m =
-    let grown : List Mark = items ++ (mark.Text text ∷ []) in
+    let grown : List MarkRef = items ++ (mark.Text text ∷ []) in
     let own : get_or (marks_shown grown) (length items) [] ≡ text_of_bracket b.image = mark_at_end items (mark.Text text)
     ∙ (ap literals t ∙ text_of_codes b.image) in
     subst (λ those. AreOpen those new more) (sym g)

@@ -20,9 +20,9 @@ use Rattle.doc_rules.proofs.ParserLaws.{Takes, is_rest_again, rest_is_shorter, o
 use Rattle.doc_rules.proofs.ParserLaws.{maybe_leaves, repeated_leaves, through_leaves, spacing_leaves}
 use Rattle.doc_rules.proofs.GrammarLaws.{is_leaves, is_takes, tag_name_leaves, attribute_leaves, raw_html_leaves, uri_leaves, mail_leaves}
 use Rattle.doc_refs.specs.Targets.{Targets}
-use Rattle.doc_inlines_marks.specs.declared.mark.Mark.{Mark}
-use Rattle.doc_inlines_marks.specs.declared.mark.Mark.TheVariants as mark
-use Rattle.doc_inlines_marks.specs.declared.mark.Span.{Span}
+use Rattle.doc_inlines_marks.specs.declared.mark_ref.MarkRef.{MarkRef}
+use Rattle.doc_inlines_marks.specs.declared.mark_ref.MarkRef.TheVariants as mark
+use Rattle.doc_inlines_marks.specs.declared.mark_ref.SpanRef.{SpanRef}
 use Rattle.doc_inlines_marks.specs.Slices.{slice_in, AreSlices, is_cut, AreCut}
 use Rattle.doc_inlines_marks.specs.Views.{inlines_in, span_shown}
 use Rattle.doc_inlines_enclosed.specs.declared.backticks.Backticks.{Backticks}
@@ -197,7 +197,7 @@ cut_piece c text more e =
 
 -- ---- a text that is put into marks piece by piece
 
-pub piece_added : (items mid new : List Mark) (text rest next : Text) (own : Bor Text) → IsRest rest text → IsPiece rest next
+pub piece_added : (items mid new : List MarkRef) (text rest next : Text) (own : Bor Text) → IsRest rest text → IsPiece rest next
     → chars own.now ≡ before next rest → AddsText items mid (before rest text) →
     new ≡ mid ++ (mark.Text own ∷ []) → AddsText items new (before next text)
 piece_added items mid new text rest next own h p e a f = record {
@@ -221,17 +221,17 @@ piece_made made mid new text rest next own h g e m f =
 
 -- ---- a link over an address
 
-link_slices : (address : Text) (added : List Mark) (start end : Span) → AreSlices address added
+link_slices : (address : Text) (added : List MarkRef) (start end : SpanRef) → AreSlices address added
     → AreSlices address ((mark.Start start ∷ added) ++ (mark.End end ∷ []))
 unfolding slice_in
 link_slices address added start end h = slices_with address (mark.Start start ∷ added) ((mark.Start start ∷ added) ++ (mark.End end ∷ []))
     (mark.End end) refl refl h
 
-pub link_added : (items one two three : List Mark) (address next rest : Text) (start end : Span) → StandsBefore address next rest
+pub link_added : (items one two three : List MarkRef) (address next rest : Text) (start end : SpanRef) → StandsBefore address next rest
     → one ≡ items ++ (mark.Start start ∷ []) → AddsText one two address →
     three ≡ two ++ (mark.End end ∷ []) → AddsText items three (before next rest)
 link_added items one two three address next rest start end s e a f =
-    let those : List Mark = (mark.Start start ∷ a.added) ++ (mark.End end ∷ []) in
+    let those : List MarkRef = (mark.Start start ∷ a.added) ++ (mark.End end ∷ []) in
     let second : two ≡ items ++ (mark.Start start ∷ a.added) = a.behind
     ∙ (ap (λ front. front ++ a.added) e ∙ append_assoc items (mark.Start start ∷ []) a.added) in
     let wide : AreSlices (address ++ s.between) those =
@@ -245,7 +245,7 @@ link_added items one two three address next rest start end s e a f =
       cut = cut_both (mark.Start start ∷ a.added) (mark.End end ∷ []) (tt, a.cut) (tt, tt);
     }
 
-link_made : (made one two three : List Inline) (dest address : Text) (start end : Span) → one ≡ onto (inlines_in (mark.Start start)) made
+link_made : (made one two three : List Inline) (dest address : Text) (start end : SpanRef) → one ≡ onto (inlines_in (mark.Start start)) made
     → two ≡ onto (literals address) one → three ≡ onto (inlines_in (mark.End end)) two →
     span_shown start ≡ autolink_span dest → span_shown end ≡ autolink_span dest → three ≡ autolink dest address made
 unfolding inlines_in autolink
@@ -255,7 +255,7 @@ link_made made one two three dest address start end e f g h k =
     ∙ ap (λ those. inline.End (autolink_span dest) ∷ those) (f
     ∙ ap (onto (literals address)) (e ∙ ap (λ span. inline.Start span ∷ made) h)))
 
-pub link_put : (made one two three before_it : List Inline) (dest address plain rest next : Text) (start end : Span) → plain ≡ rest
+pub link_put : (made one two three before_it : List Inline) (dest address plain rest next : Text) (start end : SpanRef) → plain ≡ rest
     → one ≡ onto (inlines_in (mark.Start start)) made → two ≡ onto (literals address) one →
     three ≡ onto (inlines_in (mark.End end)) two → span_shown start ≡ autolink_span dest → span_shown end ≡ autolink_span dest
     → made_before made plain rest ≡ before_it →
@@ -265,7 +265,7 @@ link_put made one two three before_it dest address plain rest next start end p e
     ∙ (link_made made one two three dest address start end e f g h k
     ∙ ap (autolink dest address) (sym (nothing_pending made rest) ∙ (ap (λ t. made_before made t rest) (sym p) ∙ b)))
 
-pub added_slices : (whole plain rest next : Text) (items those : List Mark) → IsRest plain whole → plain ≡ rest → IsRest next rest
+pub added_slices : (whole plain rest next : Text) (items those : List MarkRef) → IsRest plain whole → plain ≡ rest → IsRest next rest
     → AddsText items those (before next rest) → AreSlices (before plain whole) items →
     AreSlices (before next whole) those
 added_slices whole plain rest next items those h e g a s =
@@ -273,7 +273,7 @@ added_slices whole plain rest next items those h e g a s =
     (subst (λ t. AreSlices t (items ++ a.added)) (sym (before_both whole rest next (subst (λ t. IsRest t whole) e h) g))
     (slices_both (before rest whole) (before next rest) items a.added (subst (λ t. AreSlices (before t whole) items) e s) a.slices))
 
-pub added_cut : (text : Text) (items those : List Mark) → AddsText items those text → AreCut items → AreCut those
+pub added_cut : (text : Text) (items those : List MarkRef) → AddsText items those text → AreCut items → AreCut those
 added_cut text items those a h = subst AreCut (sym a.behind) (cut_both items a.added h a.cut)
 
 -- ---- what a '<' encloses

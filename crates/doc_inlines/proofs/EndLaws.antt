@@ -9,7 +9,7 @@ use Rattle.doc_rules.specs.Emphasis.{emphasis_of}
 use Rattle.doc_rules.specs.Reading.{read, inlines_of}
 use Rattle.doc_rules.specs.Rests.{IsRest}
 use Rattle.doc_rules.proofs.ParserLaws.{before_rest}
-use Rattle.doc_inlines_marks.specs.declared.mark.Mark.{Mark}
+use Rattle.doc_inlines_marks.specs.declared.mark_ref.MarkRef.{MarkRef}
 use Rattle.doc_inlines_marks.specs.Slices.{AreSlices}
 use Rattle.doc_inlines.specs.declared.reader.Reader.{Reader}
 use Rattle.doc_inlines.specs.ReadingSteps.{reading}
@@ -48,11 +48,12 @@ read_whole table refs text b r f shown e g m n o p q s =
     ∙ (q ∙ (sym (ends_at table refs r n) ∙ (o ∙ begins_at table refs text b e g m)))) in
     s ∙ ap (λ made. emphasis_of (reverse made)) own
 
-slices_in_front : (front rest : Text) (items : List Mark) → AreSlices front items → AreSlices (front ++ rest) items
+slices_in_front : (front rest : Text) (items : List MarkRef) → AreSlices front items → AreSlices (front ++ rest) items
 slices_in_front front rest items h = subst (λ those. AreSlices (front ++ rest) those) (append-nil items)
     (slices_both front rest items [] h tt)
 
-pub whole_slices : (whole plain text : Text) (items : List Mark) → whole ≡ text → IsRest plain whole → AreSlices (before plain whole) items
+pub whole_slices : (whole plain text : Text) (items : List MarkRef) → whole ≡ text → IsRest plain whole
+    → AreSlices (before plain whole) items
     → AreSlices text items
 whole_slices whole plain text items e h s =
     subst (λ t. AreSlices t items) e (subst (λ t. AreSlices t items) (sym (before_rest plain whole h))

@@ -1,10 +1,10 @@
 -- Escapes, character references, and what takes no slice.
 use Rattle.std.proofs.Common.{◌≡◌, Bool, true, false, ◌||◌, ◌&&◌, ◌==◌, chars, ℕ, suc, ◌-◌, ◌≤◌, List, [], ◌∷◌, ◌++◌, length, take, refl}
-use Rattle.std.proofs.Common.{ap, ap₂, sym, ◌∙◌, arith, Some, None, append-nil}
+use Rattle.std.proofs.Common.{ap, sym, ◌∙◌, arith, Option, Some, None, append-nil}
 use denote.Ref.{Bor}
 use Rattle.std.specs.List.{list_all}
 use Rattle.std.specs.Char.{is_ascii_punctuation}
-use Rattle.doc_lines.proofs.Ends.{empty_chars}
+use Rattle.doc_lines.specs.Entities.{characters as both}
 use Rattle.doc_rules.specs.Characters.{Text}
 use Rattle.doc_rules.specs.Parsers.{before, many, run_length}
 use Rattle.doc_rules.specs.Entities.{Table}
@@ -14,7 +14,7 @@ use Rattle.doc_rules.specs.Inlines.{Inline, Literal, Reference, HardBreak, liter
 use Rattle.doc_rules.specs.Reading.{kinds, kind_in, item_of_kind, read_item, backslash, ampersand, Step}
 use Rattle.doc_rules.specs.Rests.{IsRest}
 use Rattle.doc_rules.proofs.ParserLaws.{before_rest, is_rest_again, rest_is_shorter}
-use Rattle.doc_inlines_marks.specs.declared.mark.Mark.TheVariants as mark
+use Rattle.doc_inlines_marks.specs.declared.mark_ref.MarkRef.TheVariants as mark
 use Rattle.doc_inlines_marks.specs.Slices.{slice_in, is_cut}
 use Rattle.doc_inlines_marks.specs.Views.{inlines_in}
 use Rattle.doc_inlines.specs.ReaderSteps.{is_uncut, MarkStands}
@@ -138,21 +138,19 @@ pub before_behind : (c : ℕ) (rest more next : Text) → rest ≡ c ∷ more �
 before_behind c rest more next e g =
     ap (before next) (e ∙ ap (λ t. c ∷ t) (before_rest next more g)) ∙ before_is (c ∷ before next more) next
 
-pub reference_stands : (rest next : Text) (source : Bor Text) (text : Text) → IsRest next rest → chars source.now ≡ before next rest
-    → MarkStands (mark.Reference source text) rest next
+pub reference_stands : (rest next : Text) (source : Bor Text) (those : ℕ × Option ℕ) → IsRest next rest
+    → chars source.now ≡ before next rest
+    → MarkStands (mark.Reference source those) rest next
 unfolding slice_in
-reference_stands rest next source text g e = record {
+reference_stands rest next source those g e = record {
   behind = g;
   slices = ([], [], (sym e ∙ sym (append-nil (chars source.now)), tt));
   cut = tt;
 }
 
-pub reference_made : (rest more next characters : Text) (source : Bor Text) (text : Text) (made new : List Inline) → rest ≡ 38 ∷ more
-    → IsRest next more → chars source.now ≡ before next rest → chars text ≡ characters →
-    new ≡ onto (inlines_in (mark.Reference source text)) made → new ≡ Reference (38 ∷ before next more) characters ∷ made
+pub reference_made : (rest more next : Text) (source : Bor Text) (those : ℕ × Option ℕ) (made new : List Inline) → rest ≡ 38 ∷ more
+    → IsRest next more → chars source.now ≡ before next rest →
+    new ≡ onto (inlines_in (mark.Reference source those)) made → new ≡ Reference (38 ∷ before next more) (both those) ∷ made
 unfolding inlines_in
-reference_made rest more next characters source text made new e g f h k =
-    k ∙ ap₂ (λ a b. Reference a b ∷ made) (f ∙ before_behind 38 rest more next e g) h
-
-pub text_made : (result after old those : Text) → result ≡ after → chars after ≡ chars old ++ those → old ≡ [] → chars result ≡ those
-text_made result after old those e f g = ap chars e ∙ (f ∙ (ap (λ t. chars t ++ those) g ∙ ap (λ t. t ++ those) (empty_chars [] refl)))
+reference_made rest more next source those made new e g f k =
+    k ∙ ap (λ a. Reference a (both those) ∷ made) (f ∙ before_behind 38 rest more next e g)

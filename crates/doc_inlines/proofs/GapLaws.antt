@@ -12,8 +12,8 @@ use Rattle.doc_rules.specs.Inlines.{Inline, SoftBreak, HardBreak, onto}
 use Rattle.doc_rules.specs.Reading.{read_item}
 use Rattle.doc_rules.specs.Rests.{IsRest}
 use Rattle.doc_rules.proofs.ParserLaws.{rest_is_shorter}
-use Rattle.doc_inlines_marks.specs.declared.mark.Mark.{Mark}
-use Rattle.doc_inlines_marks.specs.declared.mark.Mark.TheVariants as mark
+use Rattle.doc_inlines_marks.specs.declared.mark_ref.MarkRef.{MarkRef}
+use Rattle.doc_inlines_marks.specs.declared.mark_ref.MarkRef.TheVariants as mark
 use Rattle.doc_inlines_marks.specs.Slices.{slice_in, StandIn, IsCut}
 use Rattle.doc_inlines_marks.specs.Views.{inlines_in}
 use Rattle.doc_inlines.specs.ReadingSteps.{is_plain, breaks}
@@ -27,7 +27,7 @@ use Rattle.doc_inlines.proofs.EscapeLaws.{spaces_taken}
 
 -- ---- a mark without a slice
 
-pub bare_stands : (m : Mark) (rest next : Text) → slice_in m ≡ [] → IsCut m → IsRest next rest → MarkStands m rest next
+pub bare_stands : (m : MarkRef) (rest next : Text) → slice_in m ≡ [] → IsCut m → IsRest next rest → MarkStands m rest next
 bare_stands m rest next e f g = record {
   behind = g;
   slices = subst (λ own. StandIn (before next rest) (own ++ [])) (sym e) tt;
@@ -42,7 +42,8 @@ pub soft_made : (made new : List Inline) → new ≡ onto (inlines_in mark.Soft)
 unfolding inlines_in
 soft_made made new e = e
 
-pub break_made : (m : Mark) (x : Inline) (made new : List Inline) → inlines_in m ≡ x ∷ [] → new ≡ onto (inlines_in m) made → new ≡ x ∷ made
+pub break_made : (m : MarkRef) (x : Inline) (made new : List Inline) → inlines_in m ≡ x ∷ [] → new ≡ onto (inlines_in m) made
+    → new ≡ x ∷ made
 break_made m x made new e f = f ∙ ap (λ those. onto those made) e
 
 -- ---- a line ending

@@ -11,6 +11,7 @@ pub mod ItemLaws
 pub mod BracketItemLaws
 pub mod RunLaws
 pub mod EscapeLaws
+pub mod OwnedLaws
 pub mod GapLaws
 pub mod EnclosedLaws
 pub mod ClassLaws

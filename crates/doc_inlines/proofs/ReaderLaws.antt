@@ -1,5 +1,5 @@
 -- A reader whose rest and marks move on.
-use Rattle.std.proofs.Common.{◌≡◌, Bool, true, false, ◌&&◌, ◌||◌, ◌==◌, chars, ℕ, List, [], ◌∷◌, ◌++◌, length, refl, ap, ap₂, sym, ◌∙◌}
+use Rattle.std.proofs.Common.{◌≡◌, Bool, true, ◌&&◌, ◌||◌, ◌==◌, chars, ℕ, List, [], ◌∷◌, ◌++◌, length, refl, ap, ap₂, sym, ◌∙◌}
 use Rattle.std.proofs.Common.{subst, append_assoc, append-nil}
 use denote.Ref.{Bor}
 use Rattle.std.proofs.lemmas.Bool.{eqb-true}
@@ -13,8 +13,8 @@ use Rattle.doc_rules.specs.Parsers.{before}
 use Rattle.doc_rules.specs.Inlines.{Inline, literals, onto}
 use Rattle.doc_rules.specs.Rests.{IsRest}
 use Rattle.doc_rules.proofs.ParserLaws.{before_rest, is_rest_again}
-use Rattle.doc_inlines_marks.specs.declared.mark.Mark.{Mark}
-use Rattle.doc_inlines_marks.specs.declared.mark.Mark.TheVariants as mark
+use Rattle.doc_inlines_marks.specs.declared.mark_ref.MarkRef.{MarkRef}
+use Rattle.doc_inlines_marks.specs.declared.mark_ref.MarkRef.TheVariants as mark
 use Rattle.doc_inlines_marks.specs.Slices.{slice_in, AreSlices, is_cut, IsCut, AreCut}
 use Rattle.doc_inlines_marks.specs.Views.{inlines_in}
 use Rattle.doc_inlines.specs.declared.bracket.Bracket.{Bracket}
@@ -82,7 +82,7 @@ pub own_slice : (text : Bor Text) → AreSlices (chars text.now) (mark.Text text
 unfolding slice_in
 own_slice text = ([], [], (sym (append-nil (chars text.now)), tt))
 
-pub flushed_slices : (whole plain rest : Text) (items next : List Mark) (text : Bor Text) → IsRest plain whole → IsRest rest plain
+pub flushed_slices : (whole plain rest : Text) (items next : List MarkRef) (text : Bor Text) → IsRest plain whole → IsRest rest plain
     → chars text.now ≡ before rest plain → next ≡ items ++ (mark.Text text ∷ []) →
     AreSlices (before plain whole) items → AreSlices (before rest whole) next
 flushed_slices whole plain rest items next text h g e f s =
@@ -91,7 +91,7 @@ flushed_slices whole plain rest items next text h g e f s =
     ∙ ap (λ t. before plain whole ++ t) (sym e)))
     (slices_both (before plain whole) (chars text.now) items (mark.Text text ∷ []) s (own_slice text)))
 
-pub none_slices : (whole plain rest text : Text) (items : List Mark) → IsRest plain whole → IsRest rest plain → text ≡ before rest plain
+pub none_slices : (whole plain rest text : Text) (items : List MarkRef) → IsRest plain whole → IsRest rest plain → text ≡ before rest plain
     → text ≡ [] →
     AreSlices (before plain whole) items → AreSlices (before rest whole) items
 none_slices whole plain rest text items h g e f s =
@@ -102,7 +102,7 @@ uncut_is_cut : (text : Text) → list_all is_uncut text ≡ true → is_cut text
 unfolding is_cut
 uncut_is_cut text e = ap (λ b. (length text == 1) || b) e ∙ or-true (length text == 1)
 
-pub flushed_cut : (plain rest : Text) (items next : List Mark) (text : Bor Text) → chars text.now ≡ before rest plain
+pub flushed_cut : (plain rest : Text) (items next : List MarkRef) (text : Bor Text) → chars text.now ≡ before rest plain
     → next ≡ items ++ (mark.Text text ∷ []) → list_all is_uncut (before rest plain) ≡ true → AreCut items → AreCut next
 flushed_cut plain rest items next text e f u h =
     subst AreCut (sym f) (cut_both items (mark.Text text ∷ []) h (uncut_is_cut (chars text.now) (ap (list_all is_uncut) e ∙ u), tt))
@@ -112,7 +112,7 @@ none_uncut rest = ap (list_all is_uncut) (before_all rest)
 
 -- ---- a mark between two rests
 
-pub put_slices : (whole rest next : Text) (items those : List Mark) (m : Mark) → IsRest rest whole → IsRest next rest
+pub put_slices : (whole rest next : Text) (items those : List MarkRef) (m : MarkRef) → IsRest rest whole → IsRest next rest
     → those ≡ items ++ (m ∷ []) → AreSlices (before rest whole) items → AreSlices (before next rest) (m ∷ []) →
     AreSlices (before next whole) those
 put_slices whole rest next items those m h g f s t =
@@ -120,10 +120,10 @@ put_slices whole rest next items those m h g f s t =
     (subst (λ x. AreSlices x (items ++ (m ∷ []))) (sym (before_both whole rest next h g))
     (slices_both (before rest whole) (before next rest) items (m ∷ []) s t))
 
-pub put_cut : (items those : List Mark) (m : Mark) → those ≡ items ++ (m ∷ []) → AreCut items → IsCut m → AreCut those
+pub put_cut : (items those : List MarkRef) (m : MarkRef) → those ≡ items ++ (m ∷ []) → AreCut items → IsCut m → AreCut those
 put_cut items those m f h g = subst AreCut (sym f) (cut_both items (m ∷ []) h (g, tt))
 
-pub put_made : (made new : List Inline) (plain rest next : Text) (m : Mark) (before_it : List Inline) → plain ≡ rest
+pub put_made : (made new : List Inline) (plain rest next : Text) (m : MarkRef) (before_it : List Inline) → plain ≡ rest
     → new ≡ onto (inlines_in m) made → made_before made plain rest ≡ before_it →
     made_before new next next ≡ onto (inlines_in m) before_it
 put_made made new plain rest next m before_it e f g =
@@ -135,7 +135,7 @@ put_made made new plain rest next m before_it e f g =
 pub plain_moved : (whole plain rest next : Text) → IsRest plain whole → plain ≡ rest → IsRest next rest → IsRest next whole
 plain_moved whole plain rest next h e g = is_rest_again whole rest next g (subst (λ t. IsRest t whole) e h)
 
-pub moved_slices : (whole plain rest next : Text) (items those : List Mark) (m : Mark) → IsRest plain whole → plain ≡ rest
+pub moved_slices : (whole plain rest next : Text) (items those : List MarkRef) (m : MarkRef) → IsRest plain whole → plain ≡ rest
     → IsRest next rest → those ≡ items ++ (m ∷ []) → AreSlices (before plain whole) items →
     AreSlices (before next rest) (m ∷ []) → AreSlices (before next whole) those
 moved_slices whole plain rest next items those m h e g f s t =

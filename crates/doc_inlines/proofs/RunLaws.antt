@@ -11,7 +11,7 @@ use Rattle.doc_rules.specs.Emphasis.{run_between}
 use Rattle.doc_rules.specs.Reading.{Step, delimiters, kinds, kind_in, item_of_kind, read_item}
 use Rattle.doc_rules.specs.Rests.{IsRest}
 use Rattle.doc_rules.proofs.ParserLaws.{is_rest_again}
-use Rattle.doc_inlines_marks.specs.declared.mark.Mark.{Mark}
+use Rattle.doc_inlines_marks.specs.declared.mark_ref.MarkRef.{MarkRef}
 use Rattle.doc_inlines_marks.specs.Slices.{StandIn, AreSlices, AreCut}
 use Rattle.doc_inlines_emphasis.specs.Texts.{IsRunText, AddsEach}
 use Rattle.doc_inlines_emphasis.proofs.MarkLaws.{each_slices, each_cut}
@@ -150,7 +150,7 @@ stand_each : (text : Text) → StandIn text (map (λ c. c ∷ []) text)
 stand_each [] = tt
 stand_each (c ∷ rest) = ([], rest, (refl, stand_each rest))
 
-pub run_slices : (whole plain rest next run : Text) (items those : List Mark) → IsRest plain whole → plain ≡ rest → IsRest next rest
+pub run_slices : (whole plain rest next run : Text) (items those : List MarkRef) → IsRest plain whole → plain ≡ rest → IsRest next rest
     → run ≡ before next rest → AddsEach items those run → AreSlices (before plain whole) items →
     AreSlices (before next whole) those
 run_slices whole plain rest next run items those h e g f a s =
@@ -160,5 +160,5 @@ run_slices whole plain rest next run items those h e g f a s =
     (slices_both (before rest whole) (before next rest) items a.added (subst (λ t. AreSlices (before t whole) items) e s)
     (subst (λ t. AreSlices t a.added) f own)))
 
-pub run_cut : (run : Text) (items those : List Mark) → AddsEach items those run → AreCut items → AreCut those
+pub run_cut : (run : Text) (items those : List MarkRef) → AddsEach items those run → AreCut items → AreCut those
 run_cut run items those a h = subst AreCut (sym a.behind) (cut_both items a.added h (each_cut a.added run a.each))

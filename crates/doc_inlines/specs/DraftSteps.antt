@@ -5,7 +5,7 @@ use Rattle.doc_rules.specs.Characters.{Text}
 use Rattle.doc_rules.specs.Inlines.{Inline, onto}
 use Rattle.doc_rules.specs.Links.{LastBracket, last_bracket}
 use Rattle.doc_inlines_pass.specs.Marks.{Placed, seen}
-use Rattle.doc_inlines_marks.specs.declared.mark.Mark.{Mark}
+use Rattle.doc_inlines_marks.specs.declared.mark_ref.MarkRef.{MarkRef}
 use Rattle.doc_inlines_emphasis.specs.Views.{items_of, marks_in, marks_shown, runs_in, IsSound}
 use Rattle.doc_inlines.specs.declared.bracket.Bracket.{Bracket}
 use Rattle.doc_inlines.specs.declared.draft.Draft.{Draft}
@@ -25,14 +25,14 @@ abbrev pub brackets_shown : List Bracket → List OpenBracket
 brackets_shown brackets = reverse (map bracket_in brackets)
 
 -- what was made by these marks, runs and brackets, the nearest first
-unfoldable pub made_by : List Mark → List Placed → List Bracket → ℕ → List Inline
+unfoldable pub made_by : List MarkRef → List Placed → List Bracket → ℕ → List Inline
 made_by items runs brackets dead = made_below (marks_shown items) (length items) dead runs (brackets_shown brackets)
 
 abbrev pub made_of : Draft → List Inline
 made_of draft = made_by (items_of draft.marks) (runs_in draft.marks) draft.brackets.items draft.dead
 
 -- the brackets stand among these marks and runs
-pub record AreOpen (items : List Mark) (runs : List Placed) (brackets : List Bracket) : Type 0 where
+pub record AreOpen (items : List MarkRef) (runs : List Placed) (brackets : List Bracket) : Type 0 where
   pub stand : AreBrackets (marks_shown items) (length items) runs (brackets_shown brackets)
 
 pub record IsDraft (draft : Draft) : Type 0 where

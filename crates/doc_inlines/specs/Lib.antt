@@ -1,5 +1,6 @@
 pub mod ReadingSteps
 pub mod MadeSteps
+pub mod Marks
 pub mod DraftSteps
 pub mod ReaderSteps
 pub mod PieceSteps

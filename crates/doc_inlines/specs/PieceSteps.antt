@@ -3,12 +3,12 @@ use Rattle.std.specs.Prelude.{◌≡◌, ◌<◌, true, List, ◌++◌, length}
 use Rattle.doc_rules.specs.Characters.{Text}
 use Rattle.doc_rules.specs.Parsers.{before}
 use Rattle.doc_rules.specs.Rests.{IsRest}
-use Rattle.doc_inlines_marks.specs.declared.mark.Mark.{Mark}
+use Rattle.doc_inlines_marks.specs.declared.mark_ref.MarkRef.{MarkRef}
 use Rattle.doc_inlines_marks.specs.Slices.{AreSlices, is_cut, AreCut}
 
 -- marks come behind the others, whose slices stand in this text one after another, and which are cut
-pub record AddsText (old new : List Mark) (text : Text) : Type 0 where
-  pub added : List Mark
+pub record AddsText (old new : List MarkRef) (text : Text) : Type 0 where
+  pub added : List MarkRef
   pub behind : new ≡ old ++ added
   pub slices : AreSlices text added
   pub cut : AreCut added

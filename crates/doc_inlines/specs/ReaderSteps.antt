@@ -9,7 +9,7 @@ use Rattle.doc_rules.specs.Inlines.{Inline, literals, onto}
 use Rattle.doc_rules.specs.Reading.{read_item}
 use Rattle.doc_rules.specs.Rests.{IsRest}
 use Rattle.doc_refs.specs.Targets.{Targets, targets_of}
-use Rattle.doc_inlines_marks.specs.declared.mark.Mark.{Mark}
+use Rattle.doc_inlines_marks.specs.declared.mark_ref.MarkRef.{MarkRef}
 use Rattle.doc_inlines_marks.specs.Slices.{AreSlices, IsCut, AreCut}
 use Rattle.doc_inlines_emphasis.specs.Views.{items_of}
 use Rattle.doc_inlines_enclosed.specs.ToldSteps.{TellsOfRuns, TellsOfEnds}
@@ -19,7 +19,7 @@ use Rattle.doc_inlines.specs.DraftSteps.{IsDraft, made_of}
 use Rattle.doc_inlines.specs.ReadingSteps.{reading, is_plain, Quiet}
 
 -- the marks that were made
-abbrev pub marks_of : Reader → List Mark
+abbrev pub marks_of : Reader → List MarkRef
 marks_of reader = items_of reader.draft.marks
 
 -- a character that HTML writes as it is
@@ -72,7 +72,7 @@ pub record ReadsOn (table : Table) (targets : Targets) (old new : Reader) : Type
   pub no_longer : length (chars new.rest.now) ≤ length (chars old.rest.now)
 
 -- a mark for the text between two rests: its slice, if it has one, stands there, and it is cut
-pub record MarkStands (mark : Mark) (rest next : Text) : Type 0 where
+pub record MarkStands (mark : MarkRef) (rest next : Text) : Type 0 where
   pub behind : IsRest next rest
   pub slices : AreSlices (before next rest) (mark ∷ [])
   pub cut : IsCut mark

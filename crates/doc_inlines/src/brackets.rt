@@ -6,7 +6,8 @@ ghost use Rattle.doc_rules.specs.Parsers.{before};
 ghost use Rattle.doc_rules.specs.Inlines.{Open};
 ghost use Rattle.doc_rules.specs.Links.{linked};
 ghost use Rattle.doc_rules.specs.Rests.{IsRest};
-ghost use Rattle.doc_refs.specs.Targets.{Targets, target_shown, targets_of};
+ghost use Rattle.doc_refs.specs.Targets.{Targets, targets_of};
+ghost use Rattle.doc_inlines_marks.specs.Targets.{named};
 ghost use Rattle.doc_inlines_tails.specs.TailSteps.{tail_shown};
 ghost use Rattle.doc_inlines_emphasis.specs.Views.{items_of, runs_in};
 ghost use Rattle.doc_inlines.specs.DraftSteps.{AreOpen, codes_of_bracket, last_of};
@@ -16,14 +17,15 @@ ghost use Rattle.doc_inlines.specs.ClosingSteps.{tail_where, IsTaken, HasNoBrack
 use crate::bracket::Bracket;
 use crate::reader::Reader;
 use doc_heap::Heap;
+use doc_inlines_marks::target_ref::TargetRef;
 use doc_inlines_tails::link_tail;
 use doc_lines::entities::Entities;
 use doc_lines::scan::character::is;
 use doc_lines::scan::front::front;
 use doc_page::failure::Memory;
-use doc_refs::{RefMap, Target};
+use doc_refs::RefMap;
 
-impl<'t> Reader<'t> {
+impl<'t, 'r> Reader<'t, 'r> {
     /// A `[` opens a bracket.
     pub(crate) fn left_bracket(&mut self, behind: &'t str) -> Result<(), Memory>
         requires sound { IsReader self.old }
@@ -54,8 +56,8 @@ impl<'t> Reader<'t> {
     pub(crate) fn right_bracket(
         &mut self,
         heap: Heap,
-        entities: &Entities,
-        refs: &RefMap,
+        entities: &'r Entities,
+        refs: &'r RefMap,
         behind: &'t str,
     ) -> Result<(), Memory>
         requires sound { IsReader self.old }
@@ -70,7 +72,7 @@ impl<'t> Reader<'t> {
             self.pass(behind);
             return Ok(());
         };
-        self.link(heap, bracket, target, after)?;
+        self.link(bracket, target, after)?;
         Ok(())
     }
 
@@ -111,12 +113,12 @@ impl<'t> Reader<'t> {
     fn tail(
         &self,
         heap: Heap,
-        entities: &Entities,
-        refs: &RefMap,
+        entities: &'r Entities,
+        refs: &'r RefMap,
         bracket: Bracket<'t>,
         live: bool,
         behind: &'t str,
-    ) -> Result<Option<(Target, &'t str)>, Memory>
+    ) -> Result<Option<(TargetRef<'t, 'r>, &'t str)>, Memory>
         requires { IsRest (chars self.now.rest.now) (chars bracket.behind.now) }
         ensures value { (definitions : List Definition) → refs.now ≡ targets_of definitions
             → IfOk result (λ found. tail_shown found
@@ -136,9 +138,8 @@ impl<'t> Reader<'t> {
     /// A link or an image from the bracket, which was just taken, up to the text `after` its tail.
     fn link(
         &mut self,
-        heap: Heap,
         bracket: Bracket<'t>,
-        target: Target,
+        target: TargetRef<'t, 'r>,
         after: &'t str,
     ) -> Result<(), Memory>
         requires sound { IsReader self.old }
@@ -150,10 +151,10 @@ impl<'t> Reader<'t> {
         ensures rest { OnOk result (self.new.rest ≡ after.entry) }
         ensures made { (live : Bool)
             → OnOk result (state_made self.new
-            ≡ linked (last_of self.old.draft bracket.entry live) (target_shown target)) }
+            ≡ linked (last_of self.old.draft bracket.entry live) (named target.entry)) }
         ensures sound { OnOk result (IsReader self.new) }
     {
-        self.draft.link(heap, bracket, target)?;
+        self.draft.link(bracket, target)?;
         self.rest = after;
         self.plain = after;
         Ok(())

@@ -8,10 +8,10 @@ ghost use Rattle.doc_rules.specs.Inlines as images;
 ghost use Rattle.doc_rules.specs.Characters as rules;
 ghost use Rattle.doc_rules.specs.Links.{linked};
 ghost use Rattle.doc_rules.specs.Emphasis.{emphasis_of};
-ghost use Rattle.doc_refs.specs.Targets.{target_shown};
 ghost use Rattle.doc_inlines_marks.specs.Slices.{AreSlices, AreCut};
+ghost use Rattle.doc_inlines_marks.specs.Targets.{named};
 ghost use Rattle.doc_inlines_marks.specs.Views.{inlines_in, inlines_shown, span_shown};
-ghost use Rattle.doc_inlines_marks.specs.declared.mark.Mark.TheVariants.{Text};
+ghost use Rattle.doc_inlines_marks.specs.declared.mark_ref.MarkRef.TheVariants.{Text};
 ghost use Rattle.doc_inlines_emphasis.specs.Views.{items_of, runs_in};
 ghost use Rattle.doc_inlines_emphasis.specs.Texts.{IsRunText, AddsEach};
 ghost use Rattle.doc_inlines.specs.DraftSteps.{IsDraft, made_of, AreOpen, IsRunOf, codes_of_bracket, AddsBracket, IsPopped, last_of};
@@ -19,20 +19,20 @@ ghost use Rattle.doc_inlines.specs.DraftSteps.{IsDraft, made_of, AreOpen, IsRunO
 use crate::bracket::Bracket;
 use doc_heap::{Heap, Vec};
 use doc_inlines_emphasis::{Marks, Place};
-use doc_inlines_marks::mark::{Mark, Span};
+use doc_inlines_marks::mark_ref::{MarkRef, SpanRef};
+use doc_inlines_marks::target_ref::TargetRef;
 use doc_page::failure::Memory;
-use doc_refs::Target;
 
 /// The marks that were made of a text so far, and the brackets among them that are open. Of the brackets the first `dead` begin no
 /// link, unless they are images'.
 #[derive(Drop)]
-pub(crate) struct Draft<'t> {
-    pub(crate) marks: Marks<'t>,
+pub(crate) struct Draft<'t, 'r> {
+    pub(crate) marks: Marks<'t, 'r>,
     pub(crate) brackets: Vec<Bracket<'t>>,
     pub(crate) dead: usize,
 }
 
-impl<'t> Draft<'t> {
+impl<'t, 'r> Draft<'t, 'r> {
     /// Nothing is made yet. Takes no memory.
     pub(crate) fn new(heap: Heap) -> Self
         ensures items { items_of result.marks ≡ [] }
@@ -60,7 +60,7 @@ impl<'t> Draft<'t> {
     }
 
     /// A mark behind all.
-    pub(crate) fn put(&mut self, mark: Mark<'t>) -> Result<(), Memory>
+    pub(crate) fn put(&mut self, mark: MarkRef<'t, 'r>) -> Result<(), Memory>
         requires { IsDraft self.old }
         ensures items { OnOk result (items_of self.new.marks ≡ items_of self.old.marks
             ++ (mark.entry ∷ [])) }
@@ -109,7 +109,7 @@ impl<'t> Draft<'t> {
             image,
             behind,
         })?;
-        self.marks.push(Mark::Text(text))?;
+        self.marks.push(MarkRef::Text(text))?;
         Ok(())
     }
 
@@ -129,16 +129,15 @@ impl<'t> Draft<'t> {
     /// Turns all since the bracket, which was just closed, into a link or an image. Links hold no links.
     pub(crate) fn link(
         &mut self,
-        heap: Heap,
         bracket: Bracket<'t>,
-        target: Target,
+        target: TargetRef<'t, 'r>,
     ) -> Result<(), Memory>
         requires sound { IsDraft self.old }
         requires stood { AreOpen (items_of self.old.marks) (runs_in self.old.marks)
             (self.old.brackets.items ++ (bracket ∷ [])) }
         ensures made { (live : Bool)
             → OnOk result (made_of self.new
-            ≡ linked (last_of self.old bracket.entry live) (target_shown target)) }
+            ≡ linked (last_of self.old bracket.entry live) (named target.entry)) }
         ensures brackets { OnOk result (self.new.brackets.items ≡ self.old.brackets.items) }
         ensures slices { OnOk result ((text : rules.Text)
             → AreSlices text (items_of self.old.marks) → AreSlices text (items_of self.new.marks)) }
@@ -146,17 +145,14 @@ impl<'t> Draft<'t> {
             → AreCut (items_of self.new.marks)) }
         ensures sound { OnOk result (IsDraft self.new) }
     {
-        let copy = copy_target(heap, &target)?;
+        let span: SpanRef<'t, 'r> = span(bracket.image, target);
         let behind = Place {
             marks: bracket.place.marks + 1,
             runs: bracket.place.runs,
         };
         self.marks.wrap(behind)?;
-        self.marks.turn(
-            bracket.place.marks,
-            Mark::Start(span(bracket.image, target)),
-        );
-        self.marks.push(Mark::End(span(bracket.image, copy)))?;
+        self.marks.turn(bracket.place.marks, MarkRef::Start(span));
+        self.marks.push(MarkRef::End(span))?;
         self.dead = dead_behind(bracket.image, self.dead, self.brackets.as_slice().len());
         Ok(())
     }
@@ -178,15 +174,14 @@ impl<'t> Draft<'t> {
 
 /// A link, or an image.
 #[tactic(auto, unfolding(doc_inlines_marks::specs::Views::span_shown))]
-fn span(image: bool, target: Target) -> Span
+fn span<'t, 'r>(image: bool, target: TargetRef<'t, 'r>) -> SpanRef<'t, 'r>
     ensures { span_shown result
-        ≡ (if image then images.Image (target_shown target) else images.Link
-        (target_shown target)) }
+        ≡ (if image then images.Image (named target.entry) else images.Link (named target.entry)) }
 {
     if image {
-        Span::Image(target)
+        SpanRef::Image(target)
     } else {
-        Span::Link(target)
+        SpanRef::Link(target)
     }
 }
 
@@ -203,16 +198,4 @@ fn dead_behind(image: bool, dead: usize, count: usize) -> usize
     ensures link { image ≡ false → result ≡ count }
 {
     if image { dead } else { count }
-}
-
-/// The same destination and title again.
-fn copy_target(heap: Heap, target: &Target) -> Result<Target, Memory>
-    ensures { IfOk result (λ copy. target_shown copy ≡ target_shown target.now) }
-{
-    let dest = target.dest.copy(heap)?;
-    let title = match &target.title {
-        Some(title) => Some(title.copy(heap)?),
-        None => None,
-    };
-    Ok(Target { dest, title })
 }

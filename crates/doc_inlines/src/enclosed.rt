@@ -19,18 +19,15 @@ ghost use Rattle.doc_inlines.specs.PieceSteps.{AddsText, IsPiece};
 
 use crate::draft::Draft;
 use crate::reader::Reader;
-use doc_heap::{Heap, String};
 use doc_inlines_enclosed::Enclosed;
-use doc_inlines_marks::mark::{Mark, Span};
-use doc_lines::pushing::push_text;
+use doc_inlines_marks::mark_ref::{MarkRef, SpanRef};
+use doc_inlines_marks::target_ref::TargetRef;
 use doc_lines::scan::character::next_char;
 use doc_lines::scan::front::front;
 use doc_lines::scan::run::many;
 use doc_page::failure::Memory;
-use doc_page::text::Text;
-use doc_refs::Target;
 
-impl<'t> Reader<'t> {
+impl<'t, 'r> Reader<'t, 'r> {
     /// A code span, or a run of backticks without an end, which is text.
     pub(crate) fn backticks(&mut self, behind: &'t str) -> Result<(), Memory>
         requires sound { IsReader self.old }
@@ -41,7 +38,7 @@ impl<'t> Reader<'t> {
         let (found, next) = self.backticks.code_span(behind)?;
         match found {
             Some(code) => {
-                self.put(Mark::Code(code), next)?;
+                self.put(MarkRef::Code(code), next)?;
                 Ok(())
             }
             None => {
@@ -52,7 +49,7 @@ impl<'t> Reader<'t> {
     }
 
     /// An autolink, raw HTML, or a `<` that is text.
-    pub(crate) fn left_angle(&mut self, heap: Heap, behind: &'t str) -> Result<(), Memory>
+    pub(crate) fn left_angle(&mut self, behind: &'t str) -> Result<(), Memory>
         requires sound { IsReader self.old }
         requires first { chars self.old.rest.now ≡ 60 ∷ chars behind.now }
         ensures { OnOk result ((table : Table) (targets : Targets)
@@ -60,7 +57,7 @@ impl<'t> Reader<'t> {
     {
         match self.missing.enclosed(self.rest) {
             Some((found, next)) => {
-                self.put_enclosed(heap, found, next)?;
+                self.put_enclosed(found, next)?;
                 Ok(())
             }
             None => {
@@ -71,7 +68,7 @@ impl<'t> Reader<'t> {
     }
 
     /// What a `<` encloses, which stands in front of this rest.
-    fn put_enclosed(&mut self, heap: Heap, found: Enclosed<'t>, rest: &'t str) -> Result<(), Memory>
+    fn put_enclosed(&mut self, found: Enclosed<'t>, rest: &'t str) -> Result<(), Memory>
         requires sound { IsReader self.old }
         requires behind { IsRest (chars rest.now) (chars self.old.rest.now) }
         requires stands { StandsBefore (slice_of found) (chars rest.now) (chars self.old.rest.now) }
@@ -83,15 +80,15 @@ impl<'t> Reader<'t> {
     {
         match found {
             Enclosed::Raw(html) => {
-                self.put(Mark::Raw(html), rest)?;
+                self.put(MarkRef::Raw(html), rest)?;
                 Ok(())
             }
             Enclosed::Uri(address) => {
-                self.put_autolink(heap, "", address, rest)?;
+                self.put_autolink("", address, rest)?;
                 Ok(())
             }
             Enclosed::Mail(address) => {
-                self.put_autolink(heap, "mailto:", address, rest)?;
+                self.put_autolink("mailto:", address, rest)?;
                 Ok(())
             }
         }
@@ -100,8 +97,7 @@ impl<'t> Reader<'t> {
     /// A link over an address, which stands in front of this rest. Its destination is the address behind this scheme.
     fn put_autolink(
         &mut self,
-        heap: Heap,
-        scheme: &str,
+        scheme: &'static str,
         address: &'t str,
         rest: &'t str,
     ) -> Result<(), Memory>
@@ -116,19 +112,18 @@ impl<'t> Reader<'t> {
             (state_made self.old)) }
         ensures sound { OnOk result (IsReader self.new) }
     {
-        let start = autolink_span(heap, scheme, address)?;
-        let end = autolink_span(heap, scheme, address)?;
+        let span: SpanRef<'t, 'r> = autolink_span(scheme, address);
         self.flush()?;
-        self.draft.put(Mark::Start(start))?;
+        self.draft.put(MarkRef::Start(span))?;
         self.draft.put_text(address)?;
-        self.draft.put(Mark::End(end))?;
+        self.draft.put(MarkRef::End(span))?;
         self.rest = rest;
         self.plain = rest;
         Ok(())
     }
 }
 
-impl<'t> Draft<'t> {
+impl<'t, 'r> Draft<'t, 'r> {
     /// A text behind all. What HTML writes otherwise has a mark of its own.
     fn put_text(&mut self, text: &'t str) -> Result<(), Memory>
         requires { IsDraft self.old }
@@ -142,7 +137,7 @@ impl<'t> Draft<'t> {
         let mut rest = text;
         'pieces: while let Some(next) = behind_piece(rest) {
             let piece = front(rest, next);
-            self.put(Mark::Text(piece))?;
+            self.put(MarkRef::Text(piece))?;
             rest = next;
         }
         Ok(())
@@ -178,15 +173,9 @@ fn is_uncut(c: char) -> bool
 }
 
 /// A link to this scheme with this address behind it.
-#[tactic(auto, unfolding(doc_inlines_marks::specs::Views::span_shown))]
-fn autolink_span(heap: Heap, scheme: &str, address: &str) -> Result<Span, Memory>
-    ensures { IfOk result (λ span. span_shown span
-        ≡ rules.autolink_span (chars scheme.now ++ chars address.now)) }
+#[tactic(auto, unfolding(doc_inlines_marks::specs::Views::span_shown, doc_inlines_marks::specs::Targets::named))]
+fn autolink_span<'t, 'r>(scheme: &'static str, address: &'t str) -> SpanRef<'t, 'r>
+    ensures { span_shown result ≡ rules.autolink_span (chars scheme.now ++ chars address.now) }
 {
-    let mut dest = String::from_str(heap, scheme)?;
-    push_text(&mut dest, address)?;
-    Ok(Span::Link(Target {
-        dest: Text::new(dest),
-        title: None,
-    }))
+    SpanRef::Link(TargetRef::Address { scheme, address })
 }

@@ -11,11 +11,11 @@ ghost use Rattle.doc_inlines.specs.ReaderSteps.{IsReader, GoesOn};
 use crate::plain::behind_plain;
 use crate::reader::Reader;
 use crate::runs::behind_run;
-use doc_inlines_marks::mark::Mark;
+use doc_inlines_marks::mark_ref::MarkRef;
 use doc_lines::scan::character::{is, next_char};
 use doc_page::failure::Memory;
 
-impl<'t> Reader<'t> {
+impl<'t, 'r> Reader<'t, 'r> {
     /// A line ending with no space before it. The spaces behind it go.
     pub(crate) fn line_ending(&mut self, behind: &'t str) -> Result<(), Memory>
         requires sound { IsReader self.old }
@@ -23,7 +23,7 @@ impl<'t> Reader<'t> {
         ensures { OnOk result ((table : Table) (targets : Targets)
             → GoesOn table targets self.old self.new) }
     {
-        self.put(Mark::Soft, behind_run(behind, ' '))?;
+        self.put(MarkRef::Soft, behind_run(behind, ' '))?;
         Ok(())
     }
 
@@ -40,7 +40,7 @@ impl<'t> Reader<'t> {
             self.pass_plain(behind_plain(rest));
             return Ok(());
         };
-        let mark = break_mark(begins_with_space(behind));
+        let mark: MarkRef<'t, 'r> = break_mark(begins_with_space(behind));
         self.put(mark, behind_run(after, ' '))?;
         Ok(())
     }
@@ -59,10 +59,10 @@ fn begins_with_space(text: &str) -> bool
 
 /// A line break.
 #[tactic(auto, unfolding(doc_inlines_marks::specs::Views::inlines_in, doc_inlines_marks::specs::Slices::slice_in))]
-fn break_mark<'t>(hard: bool) -> Mark<'t>
+fn break_mark<'t, 'r>(hard: bool) -> MarkRef<'t, 'r>
     ensures shown { inlines_in result ≡ (if hard then HardBreak else SoftBreak) ∷ [] }
     ensures slice { slice_in result ≡ [] }
     ensures cut { IsCut result }
 {
-    if hard { Mark::Hard } else { Mark::Soft }
+    if hard { MarkRef::Hard } else { MarkRef::Soft }
 }

@@ -19,8 +19,7 @@ ghost use Rattle.std.specs.Prelude.{◌≡◌, List, chars, IfOk};
 ghost use Rattle.doc_rules.specs.Definitions.{Definition};
 ghost use Rattle.doc_rules.specs.Reading.{inlines_of};
 ghost use Rattle.doc_refs.specs.Targets.{targets_of};
-ghost use Rattle.doc_inlines_marks.specs.Slices.{AreSlices, AreCut};
-ghost use Rattle.doc_inlines_marks.specs.Views.{inlines_shown};
+ghost use Rattle.doc_inlines.specs.Marks.{inlines_shown, AreSlices, AreCut};
 
 mod bracket;
 mod brackets;
@@ -29,15 +28,17 @@ mod draft;
 mod enclosed;
 mod escapes;
 mod gaps;
+mod mark;
 mod plain;
 mod reader;
 mod runs;
 
 use doc_heap::{Heap, Vec};
-pub use doc_inlines_marks::mark::{Mark, Span};
 use doc_lines::entities::Entities;
 use doc_page::failure::Memory;
 use doc_refs::RefMap;
+use mark::owned;
+pub use mark::{Mark, Span};
 pub use reader::Reader;
 
 /// The inlines of a text. The slices of the marks stand in the text one after another, and each `&`, `<`, `>` and `"` is a text of
@@ -70,8 +71,30 @@ pub fn inlines_counted<'t>(
     ensures slices { IfOk result (λ marks. AreSlices (chars text.now) marks.0.items) }
     ensures cut { IfOk result (λ marks. AreCut marks.0.items) }
 {
-    let mut reader = Reader::new(heap);
+    read_whole(heap, text, refs, entities)
+}
+
+/// The same: what the reader's marks borrow beside the text has one lifetime.
+fn read_whole<'t, 'r>(
+    heap: Heap,
+    text: &'t str,
+    refs: &'r RefMap,
+    entities: &'r Entities,
+) -> Result<(Vec<Mark<'t>>, u64), Memory>
+    ensures inlines { (definitions : List Definition) → refs.now ≡ targets_of definitions
+        → IfOk result (λ marks. inlines_shown marks.0.items
+        ≡ inlines_of entities.now definitions (chars text.now)) }
+    ensures slices { IfOk result (λ marks. AreSlices (chars text.now) marks.0.items) }
+    ensures cut { IfOk result (λ marks. AreCut marks.0.items) }
+{
+    let mut reader = reader_of(heap, text, refs);
     reader.read(heap, entities, refs, text)?;
-    let looked = reader.looked();
-    Ok((reader.into_marks(), looked))
+    let marks = owned(heap, reader.marks())?;
+    Ok((marks, reader.looked()))
+}
+
+/// A reader of texts that live as long as this one, whose marks name what lives as long as this map: the prover's borrow checker takes
+/// the two lifetimes from arguments alone.
+fn reader_of<'t, 'r>(heap: Heap, _text: &'t str, _refs: &'r RefMap) -> Reader<'t, 'r> {
+    Reader::new(heap)
 }

@@ -12,13 +12,13 @@ ghost use Rattle.doc_inlines.specs.PlainSteps.{IsPlainEnd, IsPlainStop, IsWithou
 ghost use Rattle.doc_inlines.specs.ReaderSteps.{IsReader, GoesOn, IsPlainRun, ReadsAs, is_uncut, state_made};
 
 use crate::reader::Reader;
-use doc_inlines_marks::mark::Mark;
+use doc_inlines_marks::mark_ref::MarkRef;
 use doc_lines::scan::character::{is, last_char};
 use doc_lines::scan::front::front;
 use doc_lines::scan::until::until;
 use doc_page::failure::Memory;
 
-impl<'t> Reader<'t> {
+impl<'t, 'r> Reader<'t, 'r> {
     /// The first character, which is text, in a mark of its own.
     pub(crate) fn alone(&mut self, c: char, behind: &'t str) -> Result<(), Memory>
         requires sound { IsReader self.old }
@@ -28,7 +28,7 @@ impl<'t> Reader<'t> {
             0 → GoesOn table targets self.old self.new) }
     {
         let own = front(self.rest, behind);
-        self.put(Mark::Text(own), behind)?;
+        self.put(MarkRef::Text(own), behind)?;
         Ok(())
     }
 

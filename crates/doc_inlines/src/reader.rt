@@ -17,9 +17,9 @@ ghost use Rattle.doc_inlines.specs.ReaderSteps.{IsReader, GoesOn, ReadsOn, Reads
 
 use crate::draft::Draft;
 use crate::plain::behind_plain;
-use doc_heap::{Heap, Vec};
+use doc_heap::Heap;
 use doc_inlines_enclosed::{Backticks, MissingEnds};
-use doc_inlines_marks::mark::Mark;
+use doc_inlines_marks::mark_ref::MarkRef;
 use doc_lines::entities::Entities;
 use doc_lines::scan::character::next_char;
 use doc_lines::scan::front::front;
@@ -28,19 +28,19 @@ use doc_refs::RefMap;
 
 /// A reader of texts. It keeps its room from one text to the next, and the marks of the last text that it read.
 #[derive(Drop)]
-pub struct Reader<'t> {
+pub struct Reader<'t, 'r> {
     /// The whole text.
     pub(crate) text: &'t str,
     /// The text from where no mark has it yet.
     pub(crate) plain: &'t str,
     /// The text that is still to be read.
     pub(crate) rest: &'t str,
-    pub(crate) draft: Draft<'t>,
+    pub(crate) draft: Draft<'t, 'r>,
     pub(crate) backticks: Backticks,
     pub(crate) missing: MissingEnds,
 }
 
-impl<'t> Reader<'t> {
+impl<'t, 'r> Reader<'t, 'r> {
     /// A reader that has read nothing. Takes no memory.
     pub fn new(heap: Heap) -> Self
         ensures { marks_of result ≡ [] }
@@ -60,8 +60,8 @@ impl<'t> Reader<'t> {
     pub fn read(
         &mut self,
         heap: Heap,
-        entities: &Entities,
-        refs: &RefMap,
+        entities: &'r Entities,
+        refs: &'r RefMap,
         text: &'t str,
     ) -> Result<(), Memory>
         ensures inlines { (definitions : List Definition) → refs.now ≡ targets_of definitions
@@ -93,7 +93,12 @@ impl<'t> Reader<'t> {
     }
 
     /// Reads all items.
-    fn read_items(&mut self, heap: Heap, entities: &Entities, refs: &RefMap) -> Result<(), Memory>
+    fn read_items(
+        &mut self,
+        heap: Heap,
+        entities: &'r Entities,
+        refs: &'r RefMap,
+    ) -> Result<(), Memory>
         requires { IsReader self.old }
         ensures { OnOk result (ReadsAll entities.now refs.now self.old self.new) }
     {
@@ -116,8 +121,8 @@ impl<'t> Reader<'t> {
     fn item(
         &mut self,
         heap: Heap,
-        entities: &Entities,
-        refs: &RefMap,
+        entities: &'r Entities,
+        refs: &'r RefMap,
         c: char,
         behind: &'t str,
     ) -> Result<(), Memory>
@@ -129,9 +134,9 @@ impl<'t> Reader<'t> {
             ' ' => self.spaces(behind),
             '\n' => self.line_ending(behind),
             '\\' => self.backslash(behind),
-            '&' => self.ampersand(heap, entities, behind),
+            '&' => self.ampersand(entities, behind),
             '`' => self.backticks(behind),
-            '<' => self.left_angle(heap, behind),
+            '<' => self.left_angle(behind),
             '*' => self.delimiters('*', behind),
             '_' => self.delimiters('_', behind),
             '[' => self.left_bracket(behind),
@@ -147,19 +152,10 @@ impl<'t> Reader<'t> {
     }
 
     /// The marks of the text that was read last.
-    pub fn marks(&self) -> &[Mark<'t>]
+    pub fn marks(&self) -> &[MarkRef<'t, 'r>]
         ensures { result.now ≡ marks_of self.now }
     {
         self.draft.marks.as_slice()
-    }
-
-    /// The marks of the text that was read last, for good.
-    pub(crate) fn into_marks(self) -> Vec<Mark<'t>>
-        ensures { result.items ≡ marks_of self.entry }
-    {
-        let Reader { draft, .. } = self;
-        let Draft { marks, .. } = draft;
-        marks.into_marks()
     }
 
     /// How many delimiter runs the searches for an opener looked at, in all texts so far.
@@ -197,12 +193,12 @@ impl<'t> Reader<'t> {
         if pending.is_empty() {
             return Ok(());
         }
-        self.draft.put(Mark::Text(pending))?;
+        self.draft.put(MarkRef::Text(pending))?;
         Ok(())
     }
 
     /// A mark for the text up to this rest.
-    pub(crate) fn put(&mut self, mark: Mark<'t>, rest: &'t str) -> Result<(), Memory>
+    pub(crate) fn put(&mut self, mark: MarkRef<'t, 'r>, rest: &'t str) -> Result<(), Memory>
         requires sound { IsReader self.old }
         requires stands { MarkStands mark (chars self.old.rest.now) (chars rest.now) }
         ensures text { OnOk result (self.new.text ≡ self.old.text) }

@@ -19,7 +19,7 @@ use doc_lines::scan::front::front;
 use doc_lines::scan::run::many;
 use doc_page::failure::Memory;
 
-impl<'t> Reader<'t> {
+impl<'t, 'r> Reader<'t, 'r> {
     /// A run of `*` or `_`: each delimiter has a mark of its own.
     pub(crate) fn delimiters(&mut self, c: char, behind: &'t str) -> Result<(), Memory>
         requires sound { IsReader self.old }

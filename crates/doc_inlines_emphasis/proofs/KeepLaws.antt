@@ -12,9 +12,9 @@ use Rattle.doc_rules.specs.Emphasis.{span_of}
 use Rattle.doc_inlines_pass.specs.Marks as delimiters
 use Rattle.doc_inlines_pass.specs.InPlace.{paired}
 use Rattle.doc_inlines_pass.specs.PassSteps.{OneOrTwo}
-use Rattle.doc_inlines_marks.specs.declared.mark.Span.{Span}
-use Rattle.doc_inlines_marks.specs.declared.mark.Mark.{Mark}
-use Rattle.doc_inlines_marks.specs.declared.mark.Mark.TheVariants.{Text, Start, End}
+use Rattle.doc_inlines_marks.specs.declared.mark_ref.SpanRef.{SpanRef}
+use Rattle.doc_inlines_marks.specs.declared.mark_ref.MarkRef.{MarkRef}
+use Rattle.doc_inlines_marks.specs.declared.mark_ref.MarkRef.TheVariants.{Text, Start, End}
 use Rattle.doc_inlines_marks.specs.Slices.{slice_in, StandIn, AreSlices, is_cut, IsCut, AreCut}
 use Rattle.doc_inlines_marks.specs.Views.{span_shown, inlines_in}
 use Rattle.doc_inlines_emphasis.specs.Steps.{Keeps}
@@ -45,7 +45,7 @@ stand_map text [] ys zs f h = f text h
 stand_map text (x ∷ xs) ys zs f h = (h.0, h.1, (h.2.0, stand_map h.1 xs ys zs f h.2.1))
 
 -- a mark without a text, or with an empty one
-pub record IsBare (mark : Mark) : Type 0 where
+pub record IsBare (mark : MarkRef) : Type 0 where
   pub slice : (slice_in mark ≡ []) ⊎ (slice_in mark ≡ [] ∷ [])
   pub cut : IsCut mark
 
@@ -53,7 +53,7 @@ stand_bare : (text : rules.Text) (own ys : List rules.Text) → (own ≡ []) ⊎
 stand_bare text own ys (inl e) h = subst (λ xs. StandIn text (xs ++ ys)) (sym e) h
 stand_bare text own ys (inr e) h = subst (λ xs. StandIn text (xs ++ ys)) (sym e) ([], text, (refl, h))
 
-pub slices_set : (marks : List Mark) (i : ℕ) (mark : Mark) → IsBare mark → (text : rules.Text) → AreSlices text marks
+pub slices_set : (marks : List MarkRef) (i : ℕ) (mark : MarkRef) → IsBare mark → (text : rules.Text) → AreSlices text marks
     → AreSlices text (set marks i mark)
 slices_set [] i mark b text h = h
 slices_set (x ∷ xs) zero mark b text h = stand_bare text (slice_in mark) (flat_map slice_in xs) b.slice
@@ -61,25 +61,25 @@ slices_set (x ∷ xs) zero mark b text h = stand_bare text (slice_in mark) (flat
 slices_set (x ∷ xs) (suc i) mark b text h =
     stand_map text (slice_in x) (flat_map slice_in xs) (flat_map slice_in (set xs i mark)) (λ t k. slices_set xs i mark b t k) h
 
-pub cut_set : (marks : List Mark) (i : ℕ) (mark : Mark) → IsBare mark → AreCut marks → AreCut (set marks i mark)
+pub cut_set : (marks : List MarkRef) (i : ℕ) (mark : MarkRef) → IsBare mark → AreCut marks → AreCut (set marks i mark)
 cut_set [] i mark b h = h
 cut_set (x ∷ xs) zero mark b h = (b.cut, h.1)
 cut_set (x ∷ xs) (suc i) mark b h = (h.0, cut_set xs i mark b h.1)
 
-pub start_is_bare : (span : Span) → IsBare (Start span)
+pub start_is_bare : (span : SpanRef) → IsBare (Start span)
 unfolding slice_in
 start_is_bare span = record { slice = inl refl; cut = tt }
 
-pub end_is_bare : (span : Span) → IsBare (End span)
+pub end_is_bare : (span : SpanRef) → IsBare (End span)
 unfolding slice_in
 end_is_bare span = record { slice = inl refl; cut = tt }
 
 -- ---- what is kept
 
-pub keeps_all : (place : ℕ) (marks : List Mark) → Keeps place marks marks
+pub keeps_all : (place : ℕ) (marks : List MarkRef) → Keeps place marks marks
 keeps_all place marks = record { size = refl; front = refl; slices = λ text h. h; cut = λ h. h }
 
-pub keeps_on : (place : ℕ) (marks next last : List Mark) → Keeps place marks next → Keeps place next last → Keeps place marks last
+pub keeps_on : (place : ℕ) (marks next last : List MarkRef) → Keeps place marks next → Keeps place next last → Keeps place marks last
 keeps_on place marks next last h g = record {
   size = g.size ∙ h.size;
   front = g.front ∙ h.front;
@@ -87,7 +87,7 @@ keeps_on place marks next last h g = record {
   cut = λ k. g.cut (h.cut k);
 }
 
-pub keeps_set : (place : ℕ) (marks : List Mark) (i : ℕ) (mark : Mark) → IsBare mark → place ≤ i → Keeps place marks (set marks i mark)
+pub keeps_set : (place : ℕ) (marks : List MarkRef) (i : ℕ) (mark : MarkRef) → IsBare mark → place ≤ i → Keeps place marks (set marks i mark)
 keeps_set place marks i mark b h = record {
   size = length-set marks i mark;
   front = take-set-le place marks i mark h;
@@ -98,18 +98,18 @@ keeps_set place marks i mark b h = record {
 -- ---- a pair of marks
 
 -- a mark that stands for nothing
-pub record IsEmpty (mark : Mark) : Type 0 where
+pub record IsEmpty (mark : MarkRef) : Type 0 where
   pub bare : IsBare mark
   pub shows : inlines_in mark ≡ []
 
-one_set : (marks : List Mark) (xs : delimiters.Marks) (i : ℕ) (mark : Mark) (x : List Inline) → marks_shown marks ≡ xs
+one_set : (marks : List MarkRef) (xs : delimiters.Marks) (i : ℕ) (mark : MarkRef) (x : List Inline) → marks_shown marks ≡ xs
     → inlines_in mark ≡ x → marks_shown (set marks i mark) ≡ set xs i x
 one_set marks xs i mark x h g = map-set inlines_in marks i mark ∙ ap₂ (λ ys y. set ys i y) h g
 
-abbrev two_ends : List Mark → ℕ → ℕ → Span → Span → List Mark
+abbrev two_ends : List MarkRef → ℕ → ℕ → SpanRef → SpanRef → List MarkRef
 two_ends marks o c s e = set (set marks o (Start s)) c (End e)
 
-ends_shown : (marks : List Mark) (o c n : ℕ) (s e : Span) → span_shown s ≡ span_of n → span_shown e ≡ span_of n →
+ends_shown : (marks : List MarkRef) (o c n : ℕ) (s e : SpanRef) → span_shown s ≡ span_of n → span_shown e ≡ span_of n →
     marks_shown (two_ends marks o c s e) ≡ set (set (marks_shown marks) o (inlines.Start (span_of n) ∷ [])) c (inlines.End (span_of n) ∷ [])
 unfolding inlines_in
 ends_shown marks o c n s e h g =
@@ -117,7 +117,8 @@ ends_shown marks o c n s e h g =
     (one_set marks (marks_shown marks) o (Start s) (inlines.Start (span_of n) ∷ []) refl (ap (λ x. inlines.Start x ∷ []) h))
     (ap (λ x. inlines.End x ∷ []) g)
 
-pub one_shown : (marks : List Mark) (o c n : ℕ) (s e : Span) → span_shown s ≡ span_of n → span_shown e ≡ span_of n → (n == 2) ≡ false →
+pub one_shown : (marks : List MarkRef) (o c n : ℕ) (s e : SpanRef) → span_shown s ≡ span_of n → span_shown e ≡ span_of n
+    → (n == 2) ≡ false →
     marks_shown (two_ends marks o c s e) ≡ paired (marks_shown marks) o c n
 unfolding paired
 one_shown marks o c n s e h g f =
@@ -125,7 +126,7 @@ one_shown marks o c n s e h g f =
     ends_shown marks o c n s e h g
     ∙ sym (ap (λ m. elim m as (λ _. delimiters.Marks) [ true ↦ set (set ends (suc o) []) (suc c) [] | false ↦ ends ]) f)
 
-pub two_shown : (marks : List Mark) (o c n p q : ℕ) (s e : Span) (t u : Mark) → span_shown s ≡ span_of n → span_shown e ≡ span_of n
+pub two_shown : (marks : List MarkRef) (o c n p q : ℕ) (s e : SpanRef) (t u : MarkRef) → span_shown s ≡ span_of n → span_shown e ≡ span_of n
     → (n == 2) ≡ true → p ≡ suc o → q ≡ suc c → IsEmpty t → IsEmpty u →
     marks_shown (set (set (two_ends marks o c s e) p t) q u) ≡ paired (marks_shown marks) o c n
 unfolding paired
@@ -136,12 +137,14 @@ two_shown marks o c n p q s e t u h g f i j a b =
     ∙ (ap₂ (λ x y. set (set ends x []) y []) i j
     ∙ sym (ap (λ m. elim m as (λ _. delimiters.Marks) [ true ↦ set (set ends (suc o) []) (suc c) [] | false ↦ ends ]) f))
 
-pub one_keeps : (marks : List Mark) (o c : ℕ) (s e : Span) (place : ℕ) → place ≤ o → o ≤ c → Keeps place marks (two_ends marks o c s e)
+pub one_keeps : (marks : List MarkRef) (o c : ℕ) (s e : SpanRef) (place : ℕ) → place ≤ o → o ≤ c
+    → Keeps place marks (two_ends marks o c s e)
 one_keeps marks o c s e place h g =
     keeps_on place marks (set marks o (Start s)) (two_ends marks o c s e) (keeps_set place marks o (Start s) (start_is_bare s) h)
     (keeps_set place (set marks o (Start s)) c (End e) (end_is_bare e) (omega arith))
 
-pub two_keeps : (marks : List Mark) (o c p q : ℕ) (s e : Span) (t u : Mark) → p ≡ suc o → q ≡ suc c → IsEmpty t → IsEmpty u → (place : ℕ)
+pub two_keeps : (marks : List MarkRef) (o c p q : ℕ) (s e : SpanRef) (t u : MarkRef) → p ≡ suc o → q ≡ suc c → IsEmpty t
+    → IsEmpty u → (place : ℕ)
     → place ≤ o → o ≤ c →
     Keeps place marks (set (set (two_ends marks o c s e) p t) q u)
 two_keeps marks o c p q s e t u i j a b place h g =

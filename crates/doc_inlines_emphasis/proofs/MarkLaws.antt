@@ -14,8 +14,8 @@ use Rattle.doc_inlines_pass.specs.Marks.{Placed, AreDelimiters, ArePlaced}
 use Rattle.doc_inlines_pass.specs.Marks as delimiters
 use Rattle.doc_inlines_pass.proofs.Stretches.{Agree, placed_order, placed_same, placed_until}
 use Rattle.doc_inlines_pass.proofs.Growing.{placed_run}
-use Rattle.doc_inlines_marks.specs.declared.mark.Mark.{Mark}
-use Rattle.doc_inlines_marks.specs.declared.mark.Mark.TheVariants.{Text, Code, Soft, Hard, Raw, Reference, Start, End}
+use Rattle.doc_inlines_marks.specs.declared.mark_ref.MarkRef.{MarkRef}
+use Rattle.doc_inlines_marks.specs.declared.mark_ref.MarkRef.TheVariants.{Text, Code, Soft, Hard, Raw, Reference, Start, End}
 use Rattle.doc_inlines_marks.specs.Slices.{slice_in, is_cut, IsCut, AreCut}
 use Rattle.doc_inlines_marks.specs.Views.{inlines_in}
 use Rattle.doc_inlines_emphasis.specs.declared.run.Run.{Run}
@@ -26,74 +26,74 @@ use Rattle.doc_inlines_emphasis.specs.Texts.{IsRunText, IsTextOf, AreEach, AddsE
 
 -- ---- texts of one character each
 
-text_shows : (c : ℕ) (mark : Mark) → IsTextOf c mark → inlines_in mark ≡ Literal c ∷ []
+text_shows : (c : ℕ) (mark : MarkRef) → IsTextOf c mark → inlines_in mark ≡ Literal c ∷ []
 unfolding inlines_in
 text_shows c (Text text) h = ap (map Literal) h
 text_shows c (Code text) h = absurd h
 text_shows c Soft h = absurd h
 text_shows c Hard h = absurd h
 text_shows c (Raw text) h = absurd h
-text_shows c (Reference source text) h = absurd h
+text_shows c (Reference source those) h = absurd h
 text_shows c (Start span) h = absurd h
 text_shows c (End span) h = absurd h
 
-text_slice : (c : ℕ) (mark : Mark) → IsTextOf c mark → slice_in mark ≡ (c ∷ []) ∷ []
+text_slice : (c : ℕ) (mark : MarkRef) → IsTextOf c mark → slice_in mark ≡ (c ∷ []) ∷ []
 unfolding slice_in
 text_slice c (Text text) h = ap (λ t. t ∷ []) h
 text_slice c (Code text) h = absurd h
 text_slice c Soft h = absurd h
 text_slice c Hard h = absurd h
 text_slice c (Raw text) h = absurd h
-text_slice c (Reference source text) h = absurd h
+text_slice c (Reference source those) h = absurd h
 text_slice c (Start span) h = absurd h
 text_slice c (End span) h = absurd h
 
-text_cut : (c : ℕ) (mark : Mark) → IsTextOf c mark → IsCut mark
+text_cut : (c : ℕ) (mark : MarkRef) → IsTextOf c mark → IsCut mark
 unfolding is_cut
 text_cut c (Text text) h = ap is_cut h
 text_cut c (Code text) h = absurd h
 text_cut c Soft h = absurd h
 text_cut c Hard h = absurd h
 text_cut c (Raw text) h = absurd h
-text_cut c (Reference source text) h = absurd h
+text_cut c (Reference source those) h = absurd h
 text_cut c (Start span) h = absurd h
 text_cut c (End span) h = absurd h
 
 -- what such texts stand for
-pub each_shown : (added : List Mark) (text : rules.Text) → AreEach added text → marks_shown added ≡ map (λ c. Literal c ∷ []) text
+pub each_shown : (added : List MarkRef) (text : rules.Text) → AreEach added text → marks_shown added ≡ map (λ c. Literal c ∷ []) text
 each_shown [] [] h = refl
 each_shown [] (c ∷ text) h = absurd h
 each_shown (mark ∷ added) [] h = absurd h
 each_shown (mark ∷ added) (c ∷ text) h = ap₂ (λ x xs. x ∷ xs) (text_shows c mark h.0) (each_shown added text h.1)
 
 -- their slices
-pub each_slices : (added : List Mark) (text : rules.Text) → AreEach added text → flat_map slice_in added ≡ map (λ c. c ∷ []) text
+pub each_slices : (added : List MarkRef) (text : rules.Text) → AreEach added text → flat_map slice_in added ≡ map (λ c. c ∷ []) text
 each_slices [] [] h = refl
 each_slices [] (c ∷ text) h = absurd h
 each_slices (mark ∷ added) [] h = absurd h
 each_slices (mark ∷ added) (c ∷ text) h = ap₂ (λ x xs. x ++ xs) (text_slice c mark h.0) (each_slices added text h.1)
 
-pub each_cut : (added : List Mark) (text : rules.Text) → AreEach added text → AreCut added
+pub each_cut : (added : List MarkRef) (text : rules.Text) → AreEach added text → AreCut added
 each_cut [] [] h = tt
 each_cut [] (c ∷ text) h = absurd h
 each_cut (mark ∷ added) [] h = absurd h
 each_cut (mark ∷ added) (c ∷ text) h = (text_cut c mark h.0, each_cut added text h.1)
 
-pub each_long : (added : List Mark) (text : rules.Text) → AreEach added text → length added ≡ length text
+pub each_long : (added : List MarkRef) (text : rules.Text) → AreEach added text → length added ≡ length text
 each_long added text h = sym (length-map added inlines_in) ∙ (ap length (each_shown added text h) ∙ length-map text (λ c. Literal c ∷ []))
 
 -- one more
-each_more : (added : List Mark) (n c : ℕ) (mark : Mark) → AreEach added (replicate n c) → IsTextOf c mark
+each_more : (added : List MarkRef) (n c : ℕ) (mark : MarkRef) → AreEach added (replicate n c) → IsTextOf c mark
     → AreEach (added ++ (mark ∷ [])) (replicate (suc n) c)
 each_more [] zero c mark h g = (g, tt)
 each_more [] (suc n) c mark h g = absurd h
 each_more (x ∷ added) zero c mark h g = absurd h
 each_more (x ∷ added) (suc n) c mark h g = (h.0, each_more added n c mark h.1 g)
 
-pub adds_none : (marks : List Mark) (c : ℕ) → AddsEach marks marks (replicate 0 c)
+pub adds_none : (marks : List MarkRef) (c : ℕ) → AddsEach marks marks (replicate 0 c)
 adds_none marks c = record { added = []; each = tt; behind = sym (append-nil marks) }
 
-pub adds_more : (old new last : List Mark) (n m c : ℕ) (mark : Mark) → AddsEach old new (replicate n c) → last ≡ new ++ (mark ∷ [])
+pub adds_more : (old new last : List MarkRef) (n m c : ℕ) (mark : MarkRef) → AddsEach old new (replicate n c) → last ≡ new ++ (mark ∷ [])
     → IsTextOf c mark → suc n ≡ m → AddsEach old last (replicate m c)
 adds_more old new last n m c mark h e g k =
     subst (λ j. AddsEach old last (replicate j c)) k
@@ -105,16 +105,16 @@ adds_more old new last n m c mark h e g k =
 
 -- ---- marks behind all
 
-pub agree_more : (items added : List Mark) (a b : ℕ) → b ≤ length items → Agree (marks_shown items) (marks_shown (items ++ added)) a b
+pub agree_more : (items added : List MarkRef) (a b : ℕ) → b ≤ length items → Agree (marks_shown items) (marks_shown (items ++ added)) a b
 agree_more items added a b h i low high =
     let long : length (marks_shown items) ≡ length items = length-map items inlines_in in
     sym (ap (λ t. get_or t i []) (map-append inlines_in items added)
     ∙ get_or_append_left (marks_shown items) (marks_shown added) [] i (omega arith))
 
-more_length : (items added : List Mark) → length items ≤ length (items ++ added)
+more_length : (items added : List MarkRef) → length items ≤ length (items ++ added)
 more_length items added = let e : length (items ++ added) ≡ length items + length added = length-append items added in omega arith
 
-pub placed_more : (items added : List Mark) (a : ℕ) (runs : List Placed) → ArePlaced (marks_shown items) a (length items) runs →
+pub placed_more : (items added : List MarkRef) (a : ℕ) (runs : List Placed) → ArePlaced (marks_shown items) a (length items) runs →
     ArePlaced (marks_shown (items ++ added)) a (length (items ++ added)) runs
 placed_more items added a runs h =
     placed_until (marks_shown (items ++ added)) a (length items) (length (items ++ added)) runs
@@ -122,7 +122,7 @@ placed_more items added a runs h =
     (agree_more items added a (length items) (omega arith))) (more_length items added)
 
 -- a place stays one
-pub place_more : (items added : List Mark) (runs : List Placed) (place : Place) → StandsApart items runs place
+pub place_more : (items added : List MarkRef) (runs : List Placed) (place : Place) → StandsApart items runs place
     → StandsApart (items ++ added) runs place
 place_more items added runs place h =
     let long : length items ≤ length (items ++ added) = more_length items added in
@@ -137,14 +137,14 @@ place_more items added runs place h =
 
 -- ---- a run behind all
 
-each_at : (added : List Mark) (n c j : ℕ) → AreEach added (replicate n c) → j < n → get_or (marks_shown added) j [] ≡ Literal c ∷ []
+each_at : (added : List MarkRef) (n c j : ℕ) → AreEach added (replicate n c) → j < n → get_or (marks_shown added) j [] ≡ Literal c ∷ []
 each_at [] zero c j h l = absurd (omega arith)
 each_at [] (suc n) c j h l = absurd h
 each_at (mark ∷ added) zero c j h l = absurd h
 each_at (mark ∷ added) (suc n) c zero h l = text_shows c mark h.0
 each_at (mark ∷ added) (suc n) c (suc j) h l = each_at added n c j h.1 (omega arith)
 
-pub run_delimiters : (items added : List Mark) (p : Placed) → AreEach added (replicate p.run.left p.run.char) → p.first ≡ length items
+pub run_delimiters : (items added : List MarkRef) (p : Placed) → AreEach added (replicate p.run.left p.run.char) → p.first ≡ length items
     → AreDelimiters (marks_shown (items ++ added)) p
 run_delimiters items added p h e i low high =
     let long : length (marks_shown items) ≡ length items = length-map items inlines_in in
@@ -153,7 +153,8 @@ run_delimiters items added p h e i low high =
     ∙ each_at added p.run.left p.run.char (i - length items) h (omega arith))
 
 -- the runs from a place on, with one more
-pub run_behind : (items added : List Mark) (a : ℕ) (runs : List Placed) (p : Placed) → ArePlaced (marks_shown items) a (length items) runs
+pub run_behind : (items added : List MarkRef) (a : ℕ) (runs : List Placed) (p : Placed)
+    → ArePlaced (marks_shown items) a (length items) runs
     → AreEach added (replicate p.run.left p.run.char) →
     p.first ≡ length items → 1 ≤ p.run.left → ArePlaced (marks_shown (items ++ added)) a (length (items ++ added)) (runs ++ (p ∷ []))
 run_behind items added a runs p h each e some =
@@ -165,7 +166,7 @@ run_behind items added a runs p h each e some =
     (placed_run (marks_shown items) (marks_shown (items ++ added)) a (length items) runs p h
     (agree_more items added a (length items) (omega arith)) e some (run_delimiters items added p each e))
 
-pub place_run : (items added : List Mark) (runs : List Placed) (p : Placed) (place : Place) → StandsApart items runs place
+pub place_run : (items added : List MarkRef) (runs : List Placed) (p : Placed) (place : Place) → StandsApart items runs place
     → AreEach added (replicate p.run.left p.run.char) →
     p.first ≡ length items → 1 ≤ p.run.left → StandsApart (items ++ added) (runs ++ (p ∷ [])) place
 place_run items added runs p place h each e some =
@@ -188,12 +189,13 @@ place_run items added runs p place h each e some =
 
 -- ---- a mark set behind all runs
 
-agree_set : (items : List Mark) (at : ℕ) (mark : Mark) (a b : ℕ) → b ≤ at → Agree (marks_shown items) (marks_shown (set items at mark)) a b
+agree_set : (items : List MarkRef) (at : ℕ) (mark : MarkRef) (a b : ℕ) → b ≤ at
+    → Agree (marks_shown items) (marks_shown (set items at mark)) a b
 agree_set items at mark a b h i low high =
     sym (ap (λ t. get_or t i []) (map-set inlines_in items at mark)
     ∙ get_or-set_other (marks_shown items) at i (inlines_in mark) [] (omega arith))
 
-pub placed_set : (items : List Mark) (at : ℕ) (mark : Mark) (runs : List Placed) → ArePlaced (marks_shown items) 0 at runs
+pub placed_set : (items : List MarkRef) (at : ℕ) (mark : MarkRef) (runs : List Placed) → ArePlaced (marks_shown items) 0 at runs
     → at < length items →
     ArePlaced (marks_shown (set items at mark)) 0 (length (set items at mark)) runs
 placed_set items at mark runs h l =
@@ -203,12 +205,12 @@ placed_set items at mark runs h l =
     (omega arith)
 
 -- what is written into a list of this length
-pub refilled : (n : ℕ) (items next : List Mark) → n ≡ length items → length next ≡ length items
+pub refilled : (n : ℕ) (items next : List MarkRef) → n ≡ length items → length next ≡ length items
     → take n (next ++ drop (length next) items) ≡ next
 refilled n items next e f =
     ap (λ t. take n (next ++ t)) (drop_of_length-le items (omega arith)) ∙ (ap (take n) (append-nil next) ∙ take_all n next (omega arith))
 
-pub turned_is : (n : ℕ) (items given next : List Mark) (at : ℕ) (mark : Mark) → n ≡ length items → given ≡ items
+pub turned_is : (n : ℕ) (items given next : List MarkRef) (at : ℕ) (mark : MarkRef) → n ≡ length items → given ≡ items
     → next ≡ set given at mark →
     take n (next ++ drop (length next) items) ≡ set items at mark
 turned_is n items given next at mark e f g =
@@ -254,7 +256,8 @@ placed_alike marks next a b c d (x ∷ xs) h g e =
       placed_alike marks next (x.first + x.run.left) b (x.first + x.run.left) d xs h.3 g.3 (λ i low high. e i (omega arith) high),
     )
 
-pub place_set : (items : List Mark) (at : ℕ) (mark : Mark) (runs : List Placed) (place : Place) → ArePlaced (marks_shown items) 0 at runs
+pub place_set : (items : List MarkRef) (at : ℕ) (mark : MarkRef) (runs : List Placed) (place : Place)
+    → ArePlaced (marks_shown items) 0 at runs
     → StandsApart items runs place →
     StandsApart (set items at mark) runs place
 place_set items at mark runs place h g =
@@ -275,7 +278,7 @@ place_set items at mark runs place h g =
 -- ---- between two places
 
 -- the runs between two places stand between them
-pub middle_placed : (items : List Mark) (runs : List Placed) (from place : Place) → StandsApart items runs from
+pub middle_placed : (items : List MarkRef) (runs : List Placed) (from place : Place) → StandsApart items runs from
     → StandsApart items runs place → place.marks ≤ from.marks → place.runs ≤ from.runs →
     ArePlaced (marks_shown items) place.marks from.marks (drop place.runs (take from.runs runs))
 middle_placed items runs from place g h low few =
@@ -288,7 +291,7 @@ middle_placed items runs from place g h low few =
     placed_both (marks_shown items) place.marks (length items) 0 from.marks (drop place.runs (take from.runs runs)) on
     (placed_drop (marks_shown items) 0 from.marks place.runs (take from.runs runs) g.before) low
 
-pub agree_front : (items next : List Mark) (n : ℕ) → take n next ≡ take n items → Agree (marks_shown items) (marks_shown next) 0 n
+pub agree_front : (items next : List MarkRef) (n : ℕ) → take n next ≡ take n items → Agree (marks_shown items) (marks_shown next) 0 n
 agree_front items next n e i low high =
     sym (get_or-take n (marks_shown items) i [] high)
     ∙ (ap (λ t. get_or t i []) (take-map inlines_in n items ∙ (ap marks_shown (sym e) ∙ sym (take-map inlines_in n next)))
@@ -296,7 +299,7 @@ agree_front items next n e i low high =
 
 -- ---- the place behind all
 
-pub place_behind : (items : List Mark) (runs : List Placed) (place : Place) → ArePlaced (marks_shown items) 0 (length items) runs
+pub place_behind : (items : List MarkRef) (runs : List Placed) (place : Place) → ArePlaced (marks_shown items) 0 (length items) runs
     → place.marks ≡ length items → place.runs ≡ length runs → StandsApart items runs place
 place_behind items runs place h e f =
     record {
@@ -358,7 +361,7 @@ one_char c h = chars-IsAscii (c ∷ []) (all_ascii 1 c h)
 
 -- ---- the marks and the run of a text
 
-pub adds_text : (items next : List Mark) (text bytes : List ℕ) → IsUtf8 text → IsRunText (chars text) → bytes ≡ text
+pub adds_text : (items next : List MarkRef) (text bytes : List ℕ) → IsUtf8 text → IsRunText (chars text) → bytes ≡ text
     → AddsEach items next (replicate (length text) (delimiter (get_or bytes 0 0 == 42))) →
     AddsEach items next (chars text)
 adds_text items next text bytes u h e a = subst (λ t. AddsEach items next t)
@@ -389,7 +392,7 @@ runs_text runs left first size text bytes opens closes u h e f g n c k =
     ap all_placed g ∙ (map-append placed_shown runs (run_made first text bytes opens closes ∷ [])
     ∙ ap (λ p. all_placed runs ++ (p ∷ [])) one)
 
-pub sound_run : (items next : List Mark) (runs left : List Run) (x : Run)
+pub sound_run : (items next : List MarkRef) (runs left : List Run) (x : Run)
     → ArePlaced (marks_shown items) 0 (length items) (all_placed runs) → AddsEach items next (replicate x.left (char_of x)) →
     left ≡ runs ++ (x ∷ []) → x.first ≡ length items → 1 ≤ x.left → ArePlaced (marks_shown next) 0 (length next) (all_placed left)
 sound_run items next runs left x h a e f some =
@@ -398,7 +401,7 @@ sound_run items next runs left x h a e f some =
     (sym (ap all_placed e ∙ map-append placed_shown runs (x ∷ [])))
     (run_behind items a.added 0 (all_placed runs) (placed_shown x) h a.each f some))
 
-pub places_run : (items next : List Mark) (runs left : List Run) (x : Run) (place : Place) → StandsApart items (all_placed runs) place
+pub places_run : (items next : List MarkRef) (runs left : List Run) (x : Run) (place : Place) → StandsApart items (all_placed runs) place
     → AddsEach items next (replicate x.left (char_of x)) →
     left ≡ runs ++ (x ∷ []) → x.first ≡ length items → 1 ≤ x.left → StandsApart next (all_placed left) place
 places_run items next runs left x place h a e f some =

@@ -15,7 +15,7 @@ use Rattle.doc_inlines_pass.proofs.Pairs.{strength_fits}
 use Rattle.doc_inlines_pass.proofs.InPlaceLaws.{paired_is}
 use Rattle.doc_inlines_pass.proofs.Numbers.{stack_split, pair_at}
 use Rattle.doc_inlines_pass.proofs.NumberLoops.{stacked_pair}
-use Rattle.doc_inlines_marks.specs.declared.mark.Mark.{Mark}
+use Rattle.doc_inlines_marks.specs.declared.mark_ref.MarkRef.{MarkRef}
 use Rattle.doc_inlines_marks.specs.Views.{inlines_in}
 use Rattle.doc_inlines_emphasis.specs.declared.run.Run.{Run}
 use Rattle.doc_inlines_emphasis.specs.RunSteps.{run_shown, placed_shown, all_placed}
@@ -86,7 +86,7 @@ opens_is runs openers bounds number place opener d k size l e =
     let ahead : opener < number = opens_at runs openers bounds number place opener k l e in
     ap (numbered (all_placed runs)) (sym (place_is openers place opener e l)) ∙ numbered_is runs opener d (omega arith)
 
-pub may_pair : (marks : List Mark) (runs : List Run) (openers bounds : List ℕ) (number place opener n : ℕ) (d e : Run)
+pub may_pair : (marks : List MarkRef) (runs : List Run) (openers bounds : List ℕ) (number place opener n : ℕ) (d e : Run)
     → StandAt marks runs openers number →
     Stacked (all_placed runs) openers bounds number → number < length runs → place < length openers
     → 1 ≤ (run_numbered (all_placed runs) number).left → opener ≡ get_or openers place opener →
@@ -109,7 +109,7 @@ may_pair marks runs openers bounds number place opener n d e s k size l left is 
 
 -- ---- what the code wrote
 
-pub record IsPairMade (marks next : List Mark) (runs left : List Run) (openers kept bounds : List ℕ) (number place n : ℕ) (x y : Run) :
+pub record IsPairMade (marks next : List MarkRef) (runs left : List Run) (openers kept bounds : List ℕ) (number place n : ℕ) (x y : Run) :
     Type 0 where
   pub stands : StandAt marks runs openers number
   pub stacked : Stacked (all_placed runs) openers bounds number
@@ -124,7 +124,7 @@ pub record IsPairMade (marks next : List Mark) (runs left : List Run) (openers k
   pub runs_are : all_placed left ≡ paired_runs (all_placed runs) (get_or openers place 0) number n
   pub kept_are : kept ≡ take (if nat_lt n x.left then place + 1 else place) openers
 
-module _ (marks next : List Mark) (runs left : List Run) (openers kept bounds : List ℕ) (number place n : ℕ) (x y : Run)
+module _ (marks next : List MarkRef) (runs left : List Run) (openers kept bounds : List ℕ) (number place n : ℕ) (x y : Run)
     (m : IsPairMade marks next runs left openers kept bounds number place n x y) where
   openers_are : kept ≡ paired_openers (all_placed runs) openers place n
   openers_are = m.kept_are ∙ (by (nat_lt n x.left)
@@ -226,7 +226,7 @@ module _ (marks next : List Mark) (runs left : List Run) (openers kept bounds : 
 -- ---- what goes on
 
 -- what goes on stands
-pub stands_on : (marks next : List Mark) (runs left : List Run) (openers kept : List ℕ) (number : ℕ) → StandAt marks runs openers number
+pub stands_on : (marks next : List MarkRef) (runs left : List Run) (openers kept : List ℕ) (number : ℕ) → StandAt marks runs openers number
     → GoesOn marks next runs left openers kept number →
     StandAt next left kept number
 stands_on marks next runs left openers kept number s g =

@@ -15,8 +15,8 @@ use Rattle.doc_inlines_pass.specs.PassSteps.{Stands, outcome, ClosesAt, Stacked,
 use Rattle.doc_inlines_pass.proofs.NumberLoops.{starts_at, stacked_first, comes_at, emptied_at, failed_at, not_closing_at}
 use Rattle.doc_inlines_pass.proofs.Growing.{stretch_all}
 use Rattle.doc_inlines_pass.proofs.Finals.{AreFinal, final_marks, final_plain, final_emphasis}
-use Rattle.doc_inlines_marks.specs.declared.mark.Mark.{Mark}
-use Rattle.doc_inlines_marks.specs.declared.mark.Mark.TheVariants.{Text, Code, Soft, Hard, Raw, Reference, Start, End}
+use Rattle.doc_inlines_marks.specs.declared.mark_ref.MarkRef.{MarkRef}
+use Rattle.doc_inlines_marks.specs.declared.mark_ref.MarkRef.TheVariants.{Text, Code, Soft, Hard, Raw, Reference, Start, End}
 use Rattle.doc_inlines_marks.specs.Views.{inlines_in, inlines_shown}
 use Rattle.doc_inlines_emphasis.specs.declared.run.Run.{Run}
 use Rattle.doc_inlines_emphasis.specs.RunSteps.{all_placed}
@@ -31,29 +31,30 @@ literals_final : (text : List ℕ) → IsFinal (rules.literals text)
 literals_final [] = tt
 literals_final (c ∷ text) = literals_final text
 
-pub mark_is_final : (mark : Mark) → IsFinal (inlines_in mark)
+pub mark_is_final : (mark : MarkRef) → IsFinal (inlines_in mark)
 unfolding inlines_in
 mark_is_final (Text text) = literals_final (chars text.now)
 mark_is_final (Code text) = tt
 mark_is_final Soft = tt
 mark_is_final Hard = tt
 mark_is_final (Raw text) = tt
-mark_is_final (Reference source text) = tt
+mark_is_final (Reference source those) = tt
 mark_is_final (Start span) = tt
 mark_is_final (End span) = tt
 
-pub are_final : (marks : List Mark) → AreFinal (marks_shown marks)
+pub are_final : (marks : List MarkRef) → AreFinal (marks_shown marks)
 are_final marks = final_marks inlines_in mark_is_final marks
 
-pub are_plain : (marks : List Mark) → ArePlain (marks_shown marks)
+pub are_plain : (marks : List MarkRef) → ArePlain (marks_shown marks)
 are_plain marks = final_plain (marks_shown marks) (are_final marks)
 
 -- ---- a run is closed as often as it has an opener
 
-pub goes_first : (marks : List Mark) (runs : List Run) (openers : List ℕ) (number : ℕ) → GoesOn marks marks runs runs openers openers number
+pub goes_first : (marks : List MarkRef) (runs : List Run) (openers : List ℕ) (number : ℕ)
+    → GoesOn marks marks runs runs openers openers number
 goes_first marks runs openers number a b goal fits h = (h, keeps_all a marks)
 
-pub goes_more : (marks next last : List Mark) (runs left fewer : List Run) (openers kept few : List ℕ) (number : ℕ)
+pub goes_more : (marks next last : List MarkRef) (runs left fewer : List Run) (openers kept few : List ℕ) (number : ℕ)
     → length next ≡ length marks → GoesOn marks next runs left openers kept number →
     GoesOn next last left fewer kept few number → GoesOn marks last runs fewer openers few number
 goes_more marks next last runs left fewer openers kept few number long h g a b goal fits k =
@@ -62,21 +63,21 @@ goes_more marks next last runs left fewer openers kept few number long h g a b g
     (then_.0, keeps_on a marks next last first.1 then_.1)
 
 -- as many marks are there
-pub goes_long : (marks next : List Mark) (runs left : List Run) (openers kept : List ℕ) (number : ℕ) → StandAt marks runs openers number
+pub goes_long : (marks next : List MarkRef) (runs left : List Run) (openers kept : List ℕ) (number : ℕ) → StandAt marks runs openers number
     → GoesOn marks next runs left openers kept number → length next ≡ length marks
 goes_long marks next runs left openers kept number s g =
     (g 0 (length marks) (outcome (marks_shown marks) 0 (length marks) (stack_of (all_placed runs) openers)
     (numbered (all_placed runs) number) (drop (suc number) (all_placed runs))) (omega arith)
     (record { stands = s; makes = refl })).1.size
 
-pub past_emptied : (marks next : List Mark) (runs left : List Run) (openers kept : List ℕ) (number : ℕ)
+pub past_emptied : (marks next : List MarkRef) (runs left : List Run) (openers kept : List ℕ) (number : ℕ)
     → GoesOn marks next runs left openers kept number → (run_numbered (all_placed left) number).left ≡ 0 →
     GoesPast marks next runs left openers kept number
 past_emptied marks next runs left openers kept number g e a b goal fits h =
     let k : ClosesAt (marks_shown next) a b (all_placed left) kept number goal × Keeps a marks next = g a b goal fits h in
     (emptied_at (marks_shown next) a b (all_placed left) kept number goal k.0 e, k.1)
 
-pub past_failed : (marks next : List Mark) (runs left : List Run) (openers kept : List ℕ) (number : ℕ)
+pub past_failed : (marks next : List MarkRef) (runs left : List Run) (openers kept : List ℕ) (number : ℕ)
     → GoesOn marks next runs left openers kept number →
     NearestIs (run_numbered (all_placed left)) kept (run_numbered (all_placed left) number) None
     → GoesPast marks next runs left openers kept number
@@ -84,7 +85,7 @@ past_failed marks next runs left openers kept number g e a b goal fits h =
     let k : ClosesAt (marks_shown next) a b (all_placed left) kept number goal × Keeps a marks next = g a b goal fits h in
     (failed_at (marks_shown next) a b (all_placed left) kept number goal k.0 e, k.1)
 
-pub past_not_closing : (marks : List Mark) (runs : List Run) (openers : List ℕ) (number : ℕ) (d : Run) → number < length runs
+pub past_not_closing : (marks : List MarkRef) (runs : List Run) (openers : List ℕ) (number : ℕ) (d : Run) → number < length runs
     → (get_or runs number d).closes ≡ false →
     GoesPast marks marks runs runs openers openers number
 past_not_closing marks runs openers number d size e a b goal fits h = (
@@ -95,19 +96,19 @@ past_not_closing marks runs openers number d size e a b goal fits h = (
 
 -- ---- the runs in turn
 
-pub walks_start : (marks : List Mark) (runs : List Run) → WalksOn marks marks runs runs [] 0
+pub walks_start : (marks : List MarkRef) (runs : List Run) → WalksOn marks marks runs runs [] 0
 walks_start marks runs a h = (starts_at (marks_shown marks) a (length marks) (all_placed runs) 0 (are_plain marks) h, keeps_all a marks)
 
 pub stacked_start : (runs : List Run) → Stacked (all_placed runs) [] (replicate 12 0) 0
 stacked_start runs = stacked_first (all_placed runs) (replicate 12 0) 0 (reach_first 12 0)
 
-pub walks_long : (marks next : List Mark) (runs left : List Run) (openers : List ℕ) (number : ℕ)
+pub walks_long : (marks next : List MarkRef) (runs left : List Run) (openers : List ℕ) (number : ℕ)
     → ArePlaced (marks_shown marks) 0 (length marks) (all_placed runs) →
     WalksOn marks next runs left openers number → length next ≡ length marks
 walks_long marks next runs left openers number p w = (w 0 p).1.size
 
 -- a run comes
-pub walks_stand : (marks next : List Mark) (runs left : List Run) (openers : List ℕ) (number : ℕ)
+pub walks_stand : (marks next : List MarkRef) (runs left : List Run) (openers : List ℕ) (number : ℕ)
     → ArePlaced (marks_shown marks) 0 (length marks) (all_placed runs) →
     WalksOn marks next runs left openers number → number < length left → StandAt next left openers number
 walks_stand marks next runs left openers number p w size =
@@ -120,7 +121,7 @@ walks_stand marks next runs left openers number p w size =
     (subst (λ m. number < m) (sym (as_many left)) size)).stands
 
 -- and is passed
-pub walks_past : (marks next last : List Mark) (runs left fewer : List Run) (openers kept : List ℕ) (number : ℕ)
+pub walks_past : (marks next last : List MarkRef) (runs left fewer : List Run) (openers kept : List ℕ) (number : ℕ)
     → ArePlaced (marks_shown marks) 0 (length marks) (all_placed runs) →
     WalksOn marks next runs left openers number → number < length left → GoesPast next last left fewer openers kept number →
     WalksOn marks last runs fewer (joined_openers (all_placed fewer) kept number) (suc number)
@@ -137,14 +138,14 @@ walks_past marks next last runs left fewer openers kept number p w size g a h =
 
 -- ---- the end
 
-pub shown_from : (marks : List Mark) (place : ℕ) → flat_map (λ (mark : List Inline). mark) (drop place (marks_shown marks))
+pub shown_from : (marks : List MarkRef) (place : ℕ) → flat_map (λ (mark : List Inline). mark) (drop place (marks_shown marks))
     ≡ inlines_shown (drop place marks)
 shown_from [] zero = refl
 shown_from [] (suc n) = refl
 shown_from (x ∷ xs) zero = ap (λ t. inlines_in x ++ t) (shown_from xs zero)
 shown_from (x ∷ xs) (suc n) = shown_from xs n
 
-pub wrapped_all : (marks next : List Mark) (runs left : List Run) (openers : List ℕ) (number : ℕ)
+pub wrapped_all : (marks next : List MarkRef) (runs left : List Run) (openers : List ℕ) (number : ℕ)
     → WalksOn marks next runs left openers number → length left ≤ number →
     (place : ℕ) → ArePlaced (marks_shown marks) place (length marks) (all_placed runs) → IsWrapped place marks next runs
 wrapped_all marks next runs left openers number w size place h =

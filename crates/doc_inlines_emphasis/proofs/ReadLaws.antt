@@ -11,7 +11,7 @@ use Rattle.doc_inlines_pass.specs.Marks.{Placed, ArePlaced, stretch, seen}
 use Rattle.doc_inlines_pass.specs.Marks as delimiters
 use Rattle.doc_inlines_pass.proofs.Stretches.{Agree, placed_same, seen_split, seen_until, seen_same}
 use Rattle.doc_inlines_pass.proofs.Growing.{seen_mark, seen_run, stretch_all}
-use Rattle.doc_inlines_marks.specs.declared.mark.Mark.{Mark}
+use Rattle.doc_inlines_marks.specs.declared.mark_ref.MarkRef.{MarkRef}
 use Rattle.doc_inlines_marks.specs.Slices.{slice_in, StandIn, AreSlices, AreCut}
 use Rattle.doc_inlines_marks.specs.Views.{inlines_in, inlines_shown}
 use Rattle.doc_inlines_emphasis.specs.declared.marks.Place.{Place}
@@ -21,11 +21,11 @@ use Rattle.doc_inlines_emphasis.proofs.PassLaws.{shown_from}
 use Rattle.doc_inlines_emphasis.proofs.MarkLaws.{agree_more, agree_front, each_long, each_slices, middle_placed}
 
 -- one mark more is seen behind all
-pub shown_push : (items : List Mark) (mark : Mark) (runs : List Placed) (place : Place) → StandsApart items runs place →
+pub shown_push : (items : List MarkRef) (mark : MarkRef) (runs : List Placed) (place : Place) → StandsApart items runs place →
     seen (marks_shown (items ++ (mark ∷ []))) place.marks (length (items ++ (mark ∷ []))) (drop place.runs runs)
     ≡ seen (marks_shown items) place.marks (length items) (drop place.runs runs) ++ inlines_in mark
 shown_push items mark runs place h =
-    let next : List Mark = items ++ (mark ∷ []) in
+    let next : List MarkRef = items ++ (mark ∷ []) in
     let many : length (items ++ (mark ∷ [])) ≡ length items + length (mark ∷ []) = length-append items (mark ∷ []) in
     let size : length (items ++ (mark ∷ [])) ≡ suc (length items) = omega arith in
     let last : get_or (marks_shown next) (length items) [] ≡ inlines_in mark =
@@ -38,7 +38,7 @@ shown_push items mark runs place h =
     ∙ ap (λ t. seen (marks_shown items) place.marks (length items) (drop place.runs runs) ++ t) last)
 
 -- and so is a run
-pub shown_run : (items next : List Mark) (runs : List Placed) (p : Placed) (place : Place) → StandsApart items runs place
+pub shown_run : (items next : List MarkRef) (runs : List Placed) (p : Placed) (place : Place) → StandsApart items runs place
     → AddsEach items next (replicate p.run.left p.run.char) → p.first ≡ length items →
     seen (marks_shown next) place.marks (length next) (drop place.runs runs ++ (p ∷ []))
     ≡ seen (marks_shown items) place.marks (length items) (drop place.runs runs) ++ (Delimiters p.run ∷ [])
@@ -65,7 +65,7 @@ seen_joined marks a b c xs (y ∷ ys) h g =
     ∙ append_assoc (seen marks a b xs) (stretch marks b (y.first - b)) (Delimiters y.run ∷ seen marks (y.first + y.run.left) c ys))
 
 -- before
-pub shown_split : (items : List Mark) (runs : List Placed) (from place : Place) → StandsApart items runs from
+pub shown_split : (items : List MarkRef) (runs : List Placed) (from place : Place) → StandsApart items runs from
     → StandsApart items runs place → place.marks ≤ from.marks → place.runs ≤ from.runs →
     seen (marks_shown items) place.marks (length items) (drop place.runs runs)
     ≡ seen (marks_shown items) place.marks from.marks (drop place.runs (take from.runs runs))
@@ -81,7 +81,7 @@ shown_split items runs from place g h low few =
     (middle_placed items runs from place g h low few) g.behind
 
 -- and behind
-pub shown_wrapped : (items next : List Mark) (runs : List Placed) (from place : Place) (made : List Inline) → StandsApart items runs from
+pub shown_wrapped : (items next : List MarkRef) (runs : List Placed) (from place : Place) (made : List Inline) → StandsApart items runs from
     → StandsApart items runs place → place.marks ≤ from.marks →
     place.runs ≤ from.runs → length next ≡ length items → take from.marks next ≡ take from.marks items
     → inlines_shown (drop from.marks next) ≡ made →
@@ -101,12 +101,12 @@ shown_wrapped items next runs from place made g h low few long front e =
     ∙ (stretch_all (marks_shown next) from.marks (omega arith) ∙ (shown_from next from.marks ∙ e)))
 
 -- no run stands behind a place with all runs before it
-pub all_before : (items : List Mark) (runs : List Placed) (place : Place) → StandsApart items runs place → length runs ≤ place.runs
+pub all_before : (items : List MarkRef) (runs : List Placed) (place : Place) → StandsApart items runs place → length runs ≤ place.runs
     → ArePlaced (marks_shown items) 0 place.marks runs
 all_before items runs place h l = subst (λ t. ArePlaced (marks_shown items) 0 place.marks t) (take_all place.runs runs l) h.before
 
 -- cut marks stay so
-pub cut_more : (items added : List Mark) → AreCut items → AreCut added → AreCut (items ++ added)
+pub cut_more : (items added : List MarkRef) → AreCut items → AreCut added → AreCut (items ++ added)
 cut_more [] added h g = g
 cut_more (x ∷ items) added h g = (h.0, cut_more items added h.1 g)
 
@@ -148,20 +148,21 @@ stand_each front (c ∷ text) slices h =
     (subst (λ t. StandIn ((front ++ (c ∷ [])) ++ text) t) (append_assoc slices ((c ∷ []) ∷ []) (map (λ x. x ∷ []) text))
     (stand_each (front ++ (c ∷ [])) text (slices ++ ((c ∷ []) ∷ [])) (stand_more front [] (c ∷ []) slices h)))
 
-pub slices_push : (front gap slice : rules.Text) (items : List Mark) (mark : Mark) → AreSlices front items → slice_in mark ≡ slice ∷ []
+pub slices_push : (front gap slice : rules.Text) (items : List MarkRef) (mark : MarkRef) → AreSlices front items
+    → slice_in mark ≡ slice ∷ []
     → AreSlices (front ++ (gap ++ slice)) (items ++ (mark ∷ []))
 slices_push front gap slice items mark h e =
     subst (λ t. StandIn (front ++ (gap ++ slice)) t) (sym (flat_map-append slice_in items (mark ∷ [])
     ∙ ap (λ t. flat_map slice_in items ++ (t ++ [])) e))
     (stand_more front gap slice (flat_map slice_in items) h)
 
-pub slices_bare : (front : rules.Text) (items : List Mark) (mark : Mark) → AreSlices front items → slice_in mark ≡ []
+pub slices_bare : (front : rules.Text) (items : List MarkRef) (mark : MarkRef) → AreSlices front items → slice_in mark ≡ []
     → AreSlices front (items ++ (mark ∷ []))
 slices_bare front items mark h e =
     subst (λ t. StandIn front t) (sym (flat_map-append slice_in items (mark ∷ [])
     ∙ (ap (λ t. flat_map slice_in items ++ (t ++ [])) e ∙ append-nil (flat_map slice_in items)))) h
 
-pub slices_each : (front text : rules.Text) (items next : List Mark) → AreSlices front items → AddsEach items next text
+pub slices_each : (front text : rules.Text) (items next : List MarkRef) → AreSlices front items → AddsEach items next text
     → AreSlices (front ++ text) next
 slices_each front text items next h a =
     subst (λ t. AreSlices (front ++ text) t) (sym a.behind)

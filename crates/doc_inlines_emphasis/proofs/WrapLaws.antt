@@ -4,7 +4,7 @@ use Rattle.std.proofs.lemmas.List.{length-take-le, take-append-le, take-take, ta
 use Rattle.doc_rules.specs.Emphasis.{emphasis_of}
 use Rattle.doc_inlines_pass.specs.Marks.{Placed, ArePlaced, seen}
 use Rattle.doc_inlines_pass.proofs.Stretches.{Agree, placed_same, placed_until}
-use Rattle.doc_inlines_marks.specs.declared.mark.Mark.{Mark}
+use Rattle.doc_inlines_marks.specs.declared.mark_ref.MarkRef.{MarkRef}
 use Rattle.doc_inlines_marks.specs.Views.{inlines_shown}
 use Rattle.doc_inlines_emphasis.specs.declared.run.Run.{Run}
 use Rattle.doc_inlines_emphasis.specs.declared.marks.Place.{Place}
@@ -22,11 +22,11 @@ part_from from runs = take (length runs - from.runs) (drop from.runs runs)
 pub part_is : (from : Place) (runs : List Run) → all_placed (part_from from runs) ≡ drop from.runs (all_placed runs)
 part_is from runs = ap all_placed (take_rest runs from.runs) ∙ sym (drop-map placed_shown from.runs runs)
 
-part_stands : (items : List Mark) (runs : List Run) (from : Place) → StandsApart items (all_placed runs) from
+part_stands : (items : List MarkRef) (runs : List Run) (from : Place) → StandsApart items (all_placed runs) from
     → ArePlaced (marks_shown items) from.marks (length items) (all_placed (part_from from runs))
 part_stands items runs from h = subst (λ t. ArePlaced (marks_shown items) from.marks (length items) t) (sym (part_is from runs)) h.behind
 
-pub passed_part : (items given : List Mark) (runs held : List Run) (from : Place) → given ≡ items → held ≡ runs
+pub passed_part : (items given : List MarkRef) (runs held : List Run) (from : Place) → given ≡ items → held ≡ runs
     → StandsApart items (all_placed runs) from →
     ArePlaced (marks_shown given) 0 (length given) (all_placed (part_from from held))
 passed_part items given runs held from e f h =
@@ -38,12 +38,12 @@ passed_part items given runs held from e f h =
 -- ---- what stands then
 
 -- the marks and the runs before and after emphasis from a place on
-pub record Wraps (items next : List Mark) (runs left : List Run) (from : Place) : Type 0 where
+pub record Wraps (items next : List MarkRef) (runs left : List Run) (from : Place) : Type 0 where
   pub place : StandsApart items (all_placed runs) from
   pub wrapped : IsWrapped from.marks items next (part_from from runs)
   pub left_are : left ≡ take from.runs runs
 
-pub wraps : (n : ℕ) (items given next got : List Mark) (runs held left : List Run) (from : Place) → n ≡ length items → given ≡ items
+pub wraps : (n : ℕ) (items given next got : List MarkRef) (runs held left : List Run) (from : Place) → n ≡ length items → given ≡ items
     → held ≡ runs → StandsApart items (all_placed runs) from →
     ((place : ℕ) → ArePlaced (marks_shown given) place (length given) (all_placed (part_from from held))
     → IsWrapped place given next (part_from from held)) →
@@ -63,7 +63,7 @@ wraps n items given next got runs held left from long e f h w is g =
       left_are = g;
     }
 
-module _ (items next : List Mark) (runs left : List Run) (from : Place) (w : Wraps items next runs left from) where
+module _ (items next : List MarkRef) (runs left : List Run) (from : Place) (w : Wraps items next runs left from) where
   pub wrap_runs : all_placed left ≡ take from.runs (all_placed runs)
   wrap_runs = ap all_placed w.left_are ∙ sym (take-map placed_shown from.runs runs)
 

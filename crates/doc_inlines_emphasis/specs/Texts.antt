@@ -3,8 +3,8 @@ use Rattle.std.specs.Prelude.{◌≡◌, ℕ, suc, Bool, List, [], ◌∷◌, �
 use Rattle.doc_rules.specs.Characters as rules
 use Rattle.doc_inlines_pass.specs.Marks.{Placed}
 use Rattle.doc_inlines_emphasis.specs.RunSteps.{delimiter}
-use Rattle.doc_inlines_marks.specs.declared.mark.Mark.{Mark}
-use Rattle.doc_inlines_marks.specs.declared.mark.Mark.TheVariants.{Text}
+use Rattle.doc_inlines_marks.specs.declared.mark_ref.MarkRef.{MarkRef}
+use Rattle.doc_inlines_marks.specs.declared.mark_ref.MarkRef.TheVariants.{Text}
 
 -- one or more '*', or one or more '_'
 pub record IsRunText (text : rules.Text) : Type 0 where
@@ -13,20 +13,20 @@ pub record IsRunText (text : rules.Text) : Type 0 where
   pub is : text ≡ replicate (suc more) (delimiter star)
 
 -- the text of this character alone
-abbrev pub IsTextOf : ℕ → Mark → Type 0
+abbrev pub IsTextOf : ℕ → MarkRef → Type 0
 IsTextOf c (Text text) = chars text.now ≡ c ∷ []
 IsTextOf c mark = ⊥
 
 -- a text of its own for each of these characters
-abbrev pub AreEach : List Mark → rules.Text → Type 0
+abbrev pub AreEach : List MarkRef → rules.Text → Type 0
 AreEach [] [] = ⊤
 AreEach [] (c ∷ rest) = ⊥
 AreEach (mark ∷ more) [] = ⊥
 AreEach (mark ∷ more) (c ∷ rest) = IsTextOf c mark × AreEach more rest
 
 -- such texts come behind the marks
-pub record AddsEach (old new : List Mark) (text : rules.Text) : Type 0 where
-  pub added : List Mark
+pub record AddsEach (old new : List MarkRef) (text : rules.Text) : Type 0 where
+  pub added : List MarkRef
   pub each : AreEach added text
   pub behind : new ≡ old ++ added
 

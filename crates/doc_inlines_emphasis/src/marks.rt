@@ -15,13 +15,13 @@ use crate::pair::put;
 use crate::pass::pass;
 use crate::run::Run;
 use doc_heap::{Heap, Vec};
-use doc_inlines_marks::mark::Mark;
+use doc_inlines_marks::mark_ref::MarkRef;
 use doc_page::failure::Memory;
 
 /// Marks made so far, and the delimiter runs among them. Each delimiter has a mark of its own.
 #[derive(Drop)]
-pub struct Marks<'t> {
-    marks: Vec<Mark<'t>>,
+pub struct Marks<'t, 'r> {
+    marks: Vec<MarkRef<'t, 'r>>,
     runs: Vec<Run>,
     openers: Openers,
 }
@@ -33,7 +33,7 @@ pub struct Place {
     pub runs: usize,
 }
 
-impl<'t> Marks<'t> {
+impl<'t, 'r> Marks<'t, 'r> {
     /// No marks and no runs. Takes no memory.
     pub fn new(heap: Heap) -> Self
         ensures items { items_of result ≡ [] }
@@ -58,7 +58,7 @@ impl<'t> Marks<'t> {
     }
 
     /// A mark that is no delimiter's comes behind all.
-    pub fn push(&mut self, mark: Mark<'t>) -> Result<(), Memory>
+    pub fn push(&mut self, mark: MarkRef<'t, 'r>) -> Result<(), Memory>
         requires { IsSound self.old }
         ensures items { OnOk result (items_of self.new ≡ items_of self.old ++ (mark.entry ∷ [])) }
         ensures runs { OnOk result (runs_in self.new ≡ runs_in self.old) }
@@ -139,7 +139,7 @@ impl<'t> Marks<'t> {
     }
 
     /// Sets a mark that is no delimiter's, with no run behind it.
-    pub fn turn(&mut self, at: usize, mark: Mark<'t>)
+    pub fn turn(&mut self, at: usize, mark: MarkRef<'t, 'r>)
         requires within { at < length (items_of self.old) }
         requires behind { ArePlaced (marks_in self.old) 0 at (runs_in self.old) }
         ensures items { items_of self.new ≡ slice_set (items_of self.old) at mark.entry }
@@ -151,17 +151,10 @@ impl<'t> Marks<'t> {
     }
 
     /// The marks.
-    pub fn as_slice(&self) -> &[Mark<'t>]
+    pub fn as_slice(&self) -> &[MarkRef<'t, 'r>]
         ensures { result.now ≡ items_of self.now }
     {
         &self.marks
-    }
-
-    /// The marks.
-    pub fn into_marks(self) -> Vec<Mark<'t>>
-        ensures { result.items ≡ items_of self.entry }
-    {
-        self.marks
     }
 
     /// How many runs the searches for an opener looked at since this was made.
@@ -171,13 +164,17 @@ impl<'t> Marks<'t> {
 }
 
 /// So many delimiters come behind the marks.
-fn push_delimiters<'t>(marks: &mut Vec<Mark<'t>>, star: bool, length: usize) -> Result<(), Memory>
+fn push_delimiters<'t, 'r>(
+    marks: &mut Vec<MarkRef<'t, 'r>>,
+    star: bool,
+    length: usize,
+) -> Result<(), Memory>
     ensures { OnOk result (AddsEach marks.old.items marks.new.items
         (replicate length (character star))) }
 {
     let text = delimiter(star);
     for _ in 0..length {
-        marks.push(Mark::Text(text))?;
+        marks.push(MarkRef::Text(text))?;
     }
     Ok(())
 }

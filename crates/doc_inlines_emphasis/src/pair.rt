@@ -10,10 +10,10 @@ ghost use Rattle.doc_inlines_emphasis.specs.Views.{marks_shown};
 
 use crate::openers::Openers;
 use crate::run::{Run, span};
-use doc_inlines_marks::mark::Mark;
+use doc_inlines_marks::mark_ref::{MarkRef, SpanRef};
 
 /// Sets the mark at this place.
-pub(crate) fn put<'t>(marks: &mut [Mark<'t>], at: usize, mark: Mark<'t>)
+pub(crate) fn put<'t, 'r>(marks: &mut [MarkRef<'t, 'r>], at: usize, mark: MarkRef<'t, 'r>)
     requires { at < length marks.old }
     ensures { marks.new ≡ slice_set marks.old at mark.entry }
 {
@@ -21,20 +21,21 @@ pub(crate) fn put<'t>(marks: &mut [Mark<'t>], at: usize, mark: Mark<'t>)
 }
 
 /// So many delimiters from each of two places on become a start and an end. Of two the second is an empty text then.
-fn write_ends<'t>(marks: &mut [Mark<'t>], opening: usize, closing: usize, taken: usize)
+fn write_ends<'t, 'r>(marks: &mut [MarkRef<'t, 'r>], opening: usize, closing: usize, taken: usize)
     requires taken { OneOrTwo taken }
     requires order { opening + taken ≤ closing }
     requires within { closing + taken ≤ length marks.old }
     ensures shown { marks_shown marks.new ≡ paired (marks_shown marks.old) opening closing taken }
     ensures keeps { (place : ℕ) → place ≤ opening → Keeps place marks.old marks.new }
 {
-    put(marks, opening, Mark::Start(span(taken)));
-    put(marks, closing, Mark::End(span(taken)));
+    let span: SpanRef<'t, 'r> = span(taken);
+    put(marks, opening, MarkRef::Start(span));
+    put(marks, closing, MarkRef::End(span));
     if taken != 2 {
         return;
     }
-    put(marks, opening + 1, Mark::Text(""));
-    put(marks, closing + 1, Mark::Text(""));
+    put(marks, opening + 1, MarkRef::Text(""));
+    put(marks, closing + 1, MarkRef::Text(""));
 }
 
 /// So many delimiters are taken of the runs of these two numbers.
@@ -60,8 +61,8 @@ fn take_delimiters(runs: &mut [Run], opener: usize, closer: usize, taken: usize)
 }
 
 /// The opener at this place of the stack, which is the nearest, and the run of this number become a pair.
-pub(crate) fn pair<'t>(
-    marks: &mut [Mark<'t>],
+pub(crate) fn pair<'t, 'r>(
+    marks: &mut [MarkRef<'t, 'r>],
     runs: &mut [Run],
     openers: &mut Openers,
     number: usize,

@@ -21,11 +21,16 @@ ghost use Rattle.doc_inlines_emphasis.specs.Views.{marks_shown};
 use crate::openers::Openers;
 use crate::pair::pair;
 use crate::run::Run;
-use doc_inlines_marks::mark::Mark;
+use doc_inlines_marks::mark_ref::MarkRef;
 use doc_page::failure::Memory;
 
 /// The run of this number is closed as often as it has an opener.
-fn close<'t>(marks: &mut [Mark<'t>], runs: &mut [Run], openers: &mut Openers, number: usize)
+fn close<'t, 'r>(
+    marks: &mut [MarkRef<'t, 'r>],
+    runs: &mut [Run],
+    openers: &mut Openers,
+    number: usize,
+)
     requires stands { StandAt marks.old runs.old openers.old.numbers.items number }
     requires stacked { Stacked (all_placed runs.old) openers.old.numbers.items openers.old.bounds
         number }
@@ -48,8 +53,8 @@ fn close<'t>(marks: &mut [Mark<'t>], runs: &mut [Run], openers: &mut Openers, nu
 }
 
 /// Each of the runs in turn.
-pub(crate) fn pass<'t>(
-    marks: &mut [Mark<'t>],
+pub(crate) fn pass<'t, 'r>(
+    marks: &mut [MarkRef<'t, 'r>],
     runs: &mut [Run],
     openers: &mut Openers,
 ) -> Result<(), Memory>

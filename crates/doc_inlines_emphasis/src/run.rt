@@ -5,7 +5,7 @@ ghost use Rattle.doc_inlines_pass.specs.Openers.{closer_kind};
 ghost use Rattle.doc_inlines_marks.specs.Views.{span_shown};
 ghost use Rattle.doc_inlines_emphasis.specs.RunSteps.{run_shown};
 
-use doc_inlines_marks::mark::Span;
+use doc_inlines_marks::mark_ref::SpanRef;
 
 /// A run of `*`, where `star` holds, or of `_`. Each delimiter that is left of it has a mark of its own, the leftmost of them at `first`.
 #[derive(Clone, Copy)]
@@ -60,11 +60,11 @@ fn number_if(so: bool, number: usize) -> usize
 
 /// What so many delimiters make.
 #[tactic(auto, unfolding(doc_inlines_marks::specs::Views::span_shown))]
-pub(crate) fn span(taken: usize) -> Span
+pub(crate) fn span<'t, 'r>(taken: usize) -> SpanRef<'t, 'r>
     ensures { span_shown result ≡ span_of taken }
 {
     if taken == 2 {
-        return Span::Strong;
+        return SpanRef::Strong;
     }
-    Span::Emphasis
+    SpanRef::Emphasis
 }

@@ -1,2 +1,4 @@
+pub mod EscapeSteps
+pub mod Targets
 pub mod Views
 pub mod Slices

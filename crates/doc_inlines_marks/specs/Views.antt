@@ -1,30 +1,31 @@
 -- The marks of the code, seen as inlines (CommonMark 0.31.2, section 6).
-use Rattle.std.specs.Prelude.{List, [], ◌∷◌, map, flat_map, chars}
+use Rattle.std.specs.Prelude.{List, [], ◌∷◌, flat_map, chars}
 use Rattle.doc_rules.specs.Inlines as rules
 use Rattle.doc_rules.specs.Inlines.{Inline, literals}
-use Rattle.doc_refs.specs.Targets.{target_shown}
-use Rattle.doc_inlines_marks.specs.declared.mark.Span.{Span}
-use Rattle.doc_inlines_marks.specs.declared.mark.Span.TheVariants as span
-use Rattle.doc_inlines_marks.specs.declared.mark.Mark.{Mark}
-use Rattle.doc_inlines_marks.specs.declared.mark.Mark.TheVariants.{Text, Code, Soft, Hard, Raw, Reference, Start, End}
+use Rattle.doc_lines.specs.Entities.{characters}
+use Rattle.doc_inlines_marks.specs.Targets.{named}
+use Rattle.doc_inlines_marks.specs.declared.mark_ref.SpanRef.{SpanRef}
+use Rattle.doc_inlines_marks.specs.declared.mark_ref.SpanRef.TheVariants as span
+use Rattle.doc_inlines_marks.specs.declared.mark_ref.MarkRef.{MarkRef}
+use Rattle.doc_inlines_marks.specs.declared.mark_ref.MarkRef.TheVariants.{Text, Code, Soft, Hard, Raw, Reference, Start, End}
 
-unfoldable pub span_shown : Span → rules.Span
+unfoldable pub span_shown : SpanRef → rules.Span
 span_shown span.Emphasis = rules.Emphasis
 span_shown span.Strong = rules.Strong
-span_shown (span.Link target) = rules.Link (target_shown target)
-span_shown (span.Image target) = rules.Image (target_shown target)
+span_shown (span.Link target) = rules.Link (named target)
+span_shown (span.Image target) = rules.Image (named target)
 
 -- the inlines of one mark: of a text each character is one
-unfoldable pub inlines_in : Mark → List Inline
+unfoldable pub inlines_in : MarkRef → List Inline
 inlines_in (Text text) = literals (chars text.now)
 inlines_in (Code text) = rules.Code (chars text.now) ∷ []
 inlines_in Soft = rules.SoftBreak ∷ []
 inlines_in Hard = rules.HardBreak ∷ []
 inlines_in (Raw text) = rules.Raw (chars text.now) ∷ []
-inlines_in (Reference source text) = rules.Reference (chars source.now) (chars text) ∷ []
+inlines_in (Reference source those) = rules.Reference (chars source.now) (characters those) ∷ []
 inlines_in (Start span) = rules.Start (span_shown span) ∷ []
 inlines_in (End span) = rules.End (span_shown span) ∷ []
 
 -- the inlines of marks in a row
-abbrev pub inlines_shown : List Mark → List Inline
+abbrev pub inlines_shown : List MarkRef → List Inline
 inlines_shown marks = flat_map inlines_in marks

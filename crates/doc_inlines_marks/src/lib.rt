@@ -1,5 +1,7 @@
 //! The inlines of a text as a flat list of marks (CommonMark 0.31.2, section 6): what they are, what they show, and where their texts
-//! stand.
+//! stand. Marks are `Copy`: they own nothing, and what a link names is read where it is asked for.
 #![tactic(auto)]
 
-pub mod mark;
+pub mod mark_ref;
+pub mod target_ref;
+pub mod unescaped;

@@ -6,14 +6,14 @@ use Rattle.doc_rules.specs.Entities.{Table}
 use Rattle.doc_rules.specs.Destinations.{target_of}
 use Rattle.doc_rules.specs.Links.{Tail}
 use Rattle.doc_refs.specs.Sources.{text_shown}
-use Rattle.doc_refs.specs.Targets.{target_shown}
-use Rattle.doc_refs.specs.declared.target.Target.{Target}
+use Rattle.doc_inlines_marks.specs.Targets.{named}
+use Rattle.doc_inlines_marks.specs.declared.target_ref.TargetRef.{TargetRef}
 use Rattle.doc_inlines_tails.specs.declared.inline_tail.TailSource.{TailSource}
 
 -- a target with the text behind the tail
-abbrev pub tail_shown : Option (Target × Bor Text) → Tail
+abbrev pub tail_shown : Option (TargetRef × Bor Text) → Tail
 tail_shown None = None
-tail_shown (Some tail) = Some (target_shown tail.0, chars tail.1.now)
+tail_shown (Some tail) = Some (named tail.0, chars tail.1.now)
 
 -- the tail that the parts of an inline tail are
 abbrev pub source_tail : Table → Option TailSource → Tail

@@ -13,29 +13,28 @@ ghost use Rattle.doc_inlines_tails.specs.TailSteps.{tail_shown};
 mod inline_tail;
 mod label;
 mod reference_tail;
-mod target;
 
 use doc_heap::Heap;
+use doc_inlines_marks::target_ref::TargetRef;
 use doc_lines::entities::Entities;
 use doc_page::failure::Memory;
-use doc_refs::{RefMap, Target};
-use inline_tail::inline_tail;
+use doc_refs::RefMap;
+use inline_tail::{TailSource, inline_tail};
 use reference_tail::reference_tail;
-use target::read_target;
 
 /// What the tail of a link or an image names, with the text behind the tail; `None` where no tail stands there. `between` is the text
 /// between the brackets, `rest` the text behind the `]`.
 ///
-/// An inline tail is tried first; it takes memory only where it stands. Of the text between the brackets, and of a label that follows,
-/// no more is looked at than a label may have.
-#[tactic(auto, unfolding(doc_rules::specs::Links::link_tail))]
-pub fn link_tail<'t>(
+/// An inline tail is tried first, and takes no memory. Of the text between the brackets, and of a label that follows, no more is looked
+/// at than a label may have.
+#[tactic(auto, unfolding(doc_rules::specs::Links::link_tail, doc_inlines_marks::specs::Targets::named))]
+pub fn link_tail<'t, 'r>(
     heap: Heap,
-    entities: &Entities,
-    refs: &RefMap,
+    entities: &'r Entities,
+    refs: &'r RefMap,
     between: &str,
     rest: &'t str,
-) -> Result<Option<(Target, &'t str)>, Memory>
+) -> Result<Option<(TargetRef<'t, 'r>, &'t str)>, Memory>
     ensures value { (definitions : List Definition) → refs.now ≡ targets_of definitions
         → IfOk result (λ found. tail_shown found
         ≡ link_tail entities.now definitions (chars between.now) (chars rest.now)) }
@@ -43,7 +42,14 @@ pub fn link_tail<'t>(
         (λ tail. IsRest (chars tail.1.now) (chars rest.now))) }
 {
     match inline_tail(rest) {
-        Some(source) => Ok(Some((read_target(heap, entities, source)?, source.rest))),
+        Some(TailSource { dest, title, rest }) => Ok(Some((
+            TargetRef::Written {
+                dest,
+                title,
+                entities,
+            },
+            rest,
+        ))),
         None => reference_tail(heap, refs, between, rest),
     }
 }

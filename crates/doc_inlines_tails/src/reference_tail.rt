@@ -7,23 +7,23 @@ ghost use Rattle.doc_refs.specs.Targets.{targets_of};
 ghost use Rattle.doc_inlines_tails.specs.TailSteps.{tail_shown};
 
 use crate::label::{is_label, label};
-use crate::target::copy_target;
 use doc_heap::Heap;
+use doc_inlines_marks::target_ref::TargetRef;
 use doc_lines::scan::front::front;
 use doc_lines::scan::word::word;
 use doc_page::failure::Memory;
 use doc_refs::scan::inside::inside;
-use doc_refs::{RefMap, Target, normalize_label};
+use doc_refs::{RefMap, normalize_label};
 
 /// The tail of a reference: the label that follows, or else the text between the brackets itself, `[]` behind it or not. Where a label
 /// follows, only that one counts.
 #[tactic(auto, unfolding(doc_rules::specs::Links::reference_tail), using(doc_refs::proofs::Rests::label_rest))]
-pub fn reference_tail<'t>(
+pub fn reference_tail<'t, 'r>(
     heap: Heap,
-    refs: &RefMap,
+    refs: &'r RefMap,
     between: &str,
     rest: &'t str,
-) -> Result<Option<(Target, &'t str)>, Memory>
+) -> Result<Option<(TargetRef<'t, 'r>, &'t str)>, Memory>
     ensures value { (definitions : List Definition) → refs.now ≡ targets_of definitions
         → IfOk result (λ found. tail_shown found
         ≡ reference_tail definitions (chars between.now) (chars rest.now)) }
@@ -41,12 +41,12 @@ pub fn reference_tail<'t>(
 
 /// The target that a label names, with the text behind the tail.
 #[tactic(auto, unfolding(doc_rules::specs::Links::reference_target))]
-fn reference_target<'t>(
+fn reference_target<'t, 'r>(
     heap: Heap,
-    refs: &RefMap,
+    refs: &'r RefMap,
     name: &str,
     after: &'t str,
-) -> Result<Option<(Target, &'t str)>, Memory>
+) -> Result<Option<(TargetRef<'t, 'r>, &'t str)>, Memory>
     ensures value { (definitions : List Definition) → refs.now ≡ targets_of definitions
         → IfOk result (λ found. tail_shown found
         ≡ reference_target definitions (chars name.now) (chars after.now)) }
@@ -54,7 +54,7 @@ fn reference_target<'t>(
 {
     let normal = normalize_label(heap, name)?;
     match refs.find(normal.get()) {
-        Some(target) => Ok(Some((copy_target(heap, target)?, after))),
+        Some(target) => Ok(Some((TargetRef::Defined(target), after))),
         None => Ok(None),
     }
 }

@@ -10,16 +10,16 @@ use Rattle.doc_html.proofs.document.write_html.Goals as goal
 
 pub returns : goal.returns
 returns g c = λ definitions is.
-    let held : HoldsHtml (g.L.Linker.shown c.push_all.new.writer.linker.now) (string_bytes c.push_all.new.writer.out)
+    let held : HoldsHtml (g.K.Links.shown c.push_all.new.writer.links.now) (string_bytes c.push_all.new.writer.out)
     c.push_all.new.writer.fresh
     (blocks_told c.args.entities.now definitions false (blocks_shown c.as_slice.result.now)
-    (begun (g.L.Linker.shown c.args.linker.now) None))
-    = c.in_ok-push_all.ensures definitions (begun (g.L.Linker.shown c.args.linker.now) None) is c.in_ok-writer.ensures in
+    (begun (g.K.Links.shown c.args.links.now) None))
+    = c.in_ok-push_all.ensures definitions (begun (g.K.Links.shown c.args.links.now) None) is c.in_ok-writer.ensures in
     c.into_text.ensures
-    ∙ (html_told c.args.entities.now definitions (blocks_shown c.as_slice.result.now) (g.L.Linker.shown c.args.linker.now)
-    (g.L.Linker.shown c.push_all.new.writer.linker.now) _
+    ∙ (html_told c.args.entities.now definitions (blocks_shown c.as_slice.result.now) (g.K.Links.shown c.args.links.now)
+    (g.K.Links.shown c.push_all.new.writer.links.now) _
     c.push_all.new.writer.fresh held
-    ∙ ap (λ items. html_bytes c.args.entities.now (g.L.Linker.shown c.args.linker.now) [] (record {
+    ∙ ap (λ items. html_bytes c.args.entities.now (g.K.Links.shown c.args.links.now) [] (record {
       blocks = blocks_shown items;
       refs = definitions;
     })) c.as_slice.ensures.value)

@@ -7,8 +7,8 @@ use Rattle.doc_html.proofs.html_writer.HtmlWriterWriter.escaped.Goals as goal
 
 pub returns : goal.returns
 returns g c = λ p h.
-    holds_more (g.L.Linker.shown c.args.self.now.linker.now) _ _ (escaped c.args.text.now) c.args.self.now.fresh c.fresh_behind-self.result
+    holds_more (g.K.Links.shown c.args.self.now.links.now) _ _ (escaped c.args.text.now) c.args.self.now.fresh c.fresh_behind-self.result
     p (characters (html_escape (chars c.args.text.now))) h
     c.in_ok-push_escaped.ensures (escape_begins c.fresh_behind-self.result c.args.self.now.fresh p.output (chars c.args.text.now)
     c.fresh_behind-self.ensures h.begins)
-    (spells_escape (g.L.Linker.shown c.args.self.now.linker.now) c.args.text.now c.utf8.text)
+    (spells_escape (g.K.Links.shown c.args.self.now.links.now) c.args.text.now c.utf8.text)

@@ -1,6 +1,6 @@
 use Rattle.std.proofs.Common.{arith, refl, ap, ◌∙◌, length}
 use Rattle.doc_inlines.proofs.ClosingLaws.{place_behind, bracket_below, one_more, wrapped_marks, turned_marks, kept_more, lower_placed}
-use Rattle.doc_inlines.proofs.ClosingLaws.{link_open, link_made_at, dead_within, same_span}
+use Rattle.doc_inlines.proofs.ClosingLaws.{link_open, link_made_at, dead_within}
 use Rattle.doc_inlines.proofs.SliceLaws.{link_slices, link_cut}
 use Rattle.doc_inlines.proofs.draft.Draft.link.Goals as goal
 
@@ -15,8 +15,8 @@ pub returns-clause-made : goal.returns-clause-made
 returns-clause-made c = λ live.
     link_made_at _ _ _ _ _ _ _ _ _ _ _ _ _ _ _ live c.requires.stood c.in_ok-wrap.ensures.size c.in_ok-wrap.ensures.before
     c.in_ok-wrap.ensures.emphasis c.in_ok-wrap.ensures.runs
-    c.turn.ensures.items c.turn.ensures.runs c.in_ok-push.ensures.items c.in_ok-push.ensures.runs c.span.ensures
-    (same_span _ _ _ _ c.in_ok-copy.ensures c.span-2.ensures) c.dead_behind-self.ensures.image (λ e. c.dead_behind-self.ensures.link e
+    c.turn.ensures.items c.turn.ensures.runs c.in_ok-push.ensures.items c.in_ok-push.ensures.runs c.span-span.ensures
+    c.span-span.ensures c.dead_behind-self.ensures.image (λ e. c.dead_behind-self.ensures.link e
     ∙ ap length c.as_slice.ensures.value)
 
 pub returns-clause-slices : goal.returns-clause-slices

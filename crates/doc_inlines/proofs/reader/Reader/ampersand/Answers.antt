@@ -28,4 +28,4 @@ returns c = λ targets.
     c.args.self.now) c.requires.sound p.sound p.text (ap (λ t. chars t.now) p.rest) c.requires.first
     c.in-Some.ensures.end (λ definitions e. reference_reads c.args.entities.now definitions _ (state_made c.args.self.now) _ _ _
     (sym c.in-Some.ensures.value))
-    (reference_made _ _ _ _ _ _ _ _ c.requires.first c.in-Some.ensures.end c.front-source.ensures.value c.in_ok-text.ensures p.made)
+    (reference_made _ _ _ _ _ _ _ c.requires.first c.in-Some.ensures.end c.front-source.ensures.value p.made)

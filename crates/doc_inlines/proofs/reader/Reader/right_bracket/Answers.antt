@@ -1,7 +1,7 @@
 use Rattle.std.proofs.Common.{ap, sym, subst, chars, ◌∙◌, IfSome}
 use Rattle.doc_rules.specs.Rests.{IsRest}
 use Rattle.doc_rules.proofs.ParserLaws.{is_rest_again}
-use Rattle.doc_refs.specs.Targets.{target_shown}
+use Rattle.doc_inlines_marks.specs.Targets.{named}
 use Rattle.doc_inlines_tails.specs.TailSteps.{tail_shown}
 use Rattle.doc_inlines.proofs.BracketItemLaws.{none_is, one_is, behind_first, stray_goes_on, unlinked_goes_on, linked_goes_on}
 use Rattle.doc_inlines.proofs.reader.Reader.right_bracket.Goals as goal
@@ -45,6 +45,6 @@ returns c =
     let l = c.in_ok-link.ensures in
     linked_goes_on c.args.entities.now c.args.refs.now c.args.self.now c.take_bracket.new.self c.link.new.self c.in-Some.bracket
     c.in-Some.live (chars c.args.behind.now) (chars c.in-Some-2.after.now)
-    (target_shown c.in-Some-2.target) one c.requires.sound l.sound l.text (ap (λ t. chars t.now) l.rest) c.requires.first
+    (named c.in-Some-2.target) one c.requires.sound l.sound l.text (ap (λ t. chars t.now) l.rest) c.requires.first
     (subst (λ found. IfSome found (λ tail. IsRest (chars tail.1.now) (chars c.args.behind.now))) c.in-Some-2.is c.in_ok-target.ensures.end)
     (λ definitions f. sym (ap tail_shown c.in-Some-2.is) ∙ c.in_ok-target.ensures.value definitions f) (l.made c.in-Some.live)
