@@ -1,8 +1,11 @@
 -- The first line of a text, and what is read of a line.
 use Rattle.std.proofs.Common.{◌≡◌, ◌∙◌, ℕ, ◌<◌, Bool, true, false, not, ◌==◌, ◌||◌, ◌&&◌, if◌then◌else◌, List, [], ◌∷◌, ◌++◌, map}
-use Rattle.std.proofs.Common.{append_assoc, append-nil, length, refl, ap, sym, subst, arith, Option, Some, None}
-use Rattle.std.specs.Prelude.{nat_lt, chars}
-use Rattle.std.specs.Str.{IsUtf8}
+use Rattle.std.proofs.Common.{append_assoc, append-nil, length, drop, refl, ap, sym, subst, arith, Option, Some, None}
+use Rattle.std.specs.Prelude.{nat_lt, chars, slice_index}
+use Rattle.std.specs.Str.{IsUtf8, IsCharBoundary}
+use Rattle.std.proofs.lemmas.Str.{IsCharBoundary-before_ascii}
+use Rattle.memchr.specs.Find.{Passes, Nowhere, NoneBefore, is_byte3}
+use Rattle.doc_lines.proofs.ByteSearch.{IsMissedBefore, stops_at, stops_nowhere}
 use Rattle.std.specs.List.{list_all}
 use Rattle.std.proofs.lemmas.Bool.{both_ways, and_parts, not-true}
 use Rattle.std.proofs.lemmas.Bool.Decides.{nat_tests}
@@ -22,9 +25,45 @@ pub ends_are_ascii : IsAsciiClass ends_plain
 unfolding ends_plain
 ends_are_ascii c e = grind (arith, nat_tests)
 
+-- ---- where the search for an end stops
+
+is_false : (b : Bool) → ¬ (b ≡ true) → b ≡ false
+is_false true h = absurd (h refl)
+is_false false h = refl
+
+abbrev IsEnd : List ℕ → ℕ → Type 0
+IsEnd text = Passes (is_byte3 10 13 0) text
+
+missed_before : (text : List ℕ) (n : ℕ) → Nowhere (IsEnd text) 0 n → IsMissedBefore ends_plain text n
+unfolding ends_plain
+missed_before text n h k less = is_false (is_byte3 10 13 0 (slice_index text k)) (h k (omega arith) less)
+
+pub end_found : (text searched : List ℕ) (n : ℕ) → searched ≡ text
+    → NoneBefore (IsEnd searched) 0 (length searched) n × IsEnd searched n → NoneBefore (IsEnd text) 0 (length text) n × IsEnd text n
+end_found text searched n e h = subst (λ (t : List ℕ). NoneBefore (IsEnd t) 0 (length t) n × IsEnd t n) e h
+
+pub end_at_boundary : (text : List ℕ) (n : ℕ) → NoneBefore (IsEnd text) 0 (length text) n × IsEnd text n → IsCharBoundary text n
+unfolding ends_plain
+end_at_boundary text n h = IsCharBoundary-before_ascii text n h.0.high (ends_are_ascii (slice_index text n) h.1)
+
+pub cut_at_end : (text rest : List ℕ) (n : ℕ) → IsUtf8 text → NoneBefore (IsEnd text) 0 (length text) n × IsEnd text n
+    → rest ≡ drop n text → IsCutBefore ends_plain (chars text) (chars rest)
+unfolding ends_plain
+cut_at_end text rest n utf8 h e = stops_at ends_plain ends_are_ascii text rest n utf8 h.0.high (missed_before text n h.0.before) h.1 e
+
+pub cut_nowhere : (text searched : List ℕ) → searched ≡ text → IsUtf8 text → Nowhere (IsEnd searched) 0 (length searched)
+    → IsCutBefore ends_plain (chars text) (chars [])
+cut_nowhere text searched e utf8 h =
+    let none : Nowhere (IsEnd text) 0 (length text) = subst (λ (t : List ℕ). Nowhere (IsEnd t) 0 (length t)) e h in
+    stops_nowhere ends_plain ends_are_ascii text (length text) utf8 (omega arith) (missed_before text (length text) none)
+
 one_of_both : (a b : Bool) → (a || b) ≡ true → a ≡ false → b ≡ true
 one_of_both true b e f = absurd (both_ways true f refl)
 one_of_both false b e f = e
+
+other_of_both : (a b : Bool) → (a || b) ≡ true → b ≡ false → a ≡ true
+other_of_both true b e f = refl
+other_of_both false b e f = absurd (both_ways b f e)
 
 -- a text with bytes has characters
 pub some_chars : (text : List ℕ) → IsUtf8 text → 0 < length text → 0 < length (chars text)
@@ -221,7 +260,7 @@ unfolding ends_plain
 secure_same [] e = refl
 secure_same (c ∷ text) e =
     let parts = and_parts (not (ends_plain c)) (list_all (λ d. not (ends_plain d)) text) e in
-    ap (λ (x : ℕ). x ∷ map secure_char text) (secure_one c (or_first (c == 0) (is_ending c) (not-true (ends_plain c) parts.0)))
+    ap (λ (x : ℕ). x ∷ map secure_char text) (secure_one c (or_second (is_ending c) (c == 0) (not-true (ends_plain c) parts.0)))
     ∙ ap (λ (xs : Text). c ∷ xs) (secure_same text parts.1)
 
 after_null : ℕ → Text → Bool → Option Text
@@ -235,11 +274,11 @@ no_null c rest false e = refl
 ending_stops : (rest : Text) → begins_in ends_plain rest ≡ true → is 0 rest ≡ None → begins_in is_ending rest ≡ true
 unfolding ends_plain after_null
 ending_stops [] e f = refl
-ending_stops (c ∷ rest) e f = one_of_both (c == 0) (is_ending c) e (no_null c rest (c == 0) f)
+ending_stops (c ∷ rest) e f = other_of_both (is_ending c) (c == 0) e (no_null c rest (c == 0) f)
 
 is_null_or_ending : (c : ℕ) → ends_plain c ≡ false → is_ending c ≡ false
 unfolding ends_plain
-is_null_or_ending c e = or_second (c == 0) (is_ending c) e
+is_null_or_ending c e = or_first (is_ending c) (c == 0) e
 
 -- the same where the search stopped at U+0000 too, and did not
 pub plain_cut : (text line stop rest : Text) → IsCutBefore ends_plain text stop → is 0 stop ≡ None → text ≡ line ++ stop

@@ -3,9 +3,9 @@ use Rattle.std.specs.Prelude.{◌≡◌, ℕ, Bool, true, false, ◌||◌, ◌==
 use Rattle.doc_rules.specs.Characters.{Text, is_ending}
 use Rattle.doc_rules.specs.Lines.{lines_of, without_ending}
 
--- U+0000, or a character of a line ending
+-- a character of a line ending, or U+0000
 unfoldable pub ends_plain : ℕ → Bool
-ends_plain c = (c == 0) || is_ending c
+ends_plain c = is_ending c || (c == 0)
 
 -- the text behind the LF at its front, if one stands there
 unfoldable pub behind_lf : Text → Text

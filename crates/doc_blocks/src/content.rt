@@ -3,6 +3,7 @@
 ghost use Rattle.std.specs.Prelude.{◌≡◌, ◌<◌, true, false, chars, length, map, string_bytes, IfOk};
 ghost use Rattle.doc_rules.specs.Characters.{is_ending};
 ghost use Rattle.doc_rules.specs.Lines.{secure_char};
+ghost use Rattle.doc_lines.specs.RestSteps.{IsCutBefore};
 ghost use Rattle.doc_blocks.specs.ContentSteps.{ends_plain, behind_ending, IsFirstLine};
 
 use doc_heap::{Heap, String};
@@ -11,6 +12,7 @@ use doc_lines::scan::character::{is, next_char};
 use doc_lines::scan::front::front;
 use doc_lines::scan::until::until;
 use doc_page::failure::Memory;
+use memchr::memchr3;
 
 /// The first line of a text, without its ending, and the text behind it.
 #[derive(Clone, Copy)]
@@ -28,7 +30,7 @@ pub(crate) fn first_line(text: &str) -> FirstLine<'_>
         → map secure_char (chars result.line.now) ≡ chars result.line.now }
     ensures shorter { length (chars result.rest.now) < length (chars text.now) }
 {
-    let stop = until(text, ends_plain);
+    let stop = from_end(text);
     if is(stop, '\0').is_some() {
         return null_line(text);
     }
@@ -54,11 +56,14 @@ fn null_line(text: &str) -> FirstLine<'_>
     }
 }
 
-#[tactic(auto, unfolding(crate::specs::ContentSteps::ends_plain))]
-fn ends_plain(byte: u8) -> bool
-    ensures { result ≡ ends_plain byte }
+/// The text from its first line ending or U+0000 on, or its end where it has none.
+fn from_end(text: &str) -> &str
+    ensures { IsCutBefore ends_plain (chars text.now) (chars result.now) }
 {
-    matches!(byte, b'\0' | b'\n' | b'\r')
+    match memchr3(b'\n', b'\r', b'\0', text.as_bytes()) {
+        Some(place) => &text[place..],
+        None => "",
+    }
 }
 
 fn is_ending(byte: u8) -> bool

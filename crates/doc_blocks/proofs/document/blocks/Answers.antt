@@ -1,11 +1,9 @@
-use Rattle.std.proofs.Common.{rules, ◌≡◌, ◌∙◌, List, [], ◌∷◌, map, chars, ap, sym}
+use Rattle.std.proofs.Common.{rules, ◌≡◌, ◌∙◌, List, [], map, chars, ap, sym}
 use Rattle.doc_lines.proofs.Ends.{empty_chars}
 use Rattle.doc_refs.proofs.SpaceLaws.{is_none, is_some}
 use Rattle.doc_rules.specs.Characters.{Text}
 use Rattle.doc_rules.specs.Columns.{cells_of}
 use Rattle.doc_rules.specs.Lines.{lines_of, secure_char}
-use Rattle.doc_refs.specs.Targets.{targets_of}
-use Rattle.doc_blocks_pass.specs.Paths.{empty_path}
 use Rattle.doc_blocks_leaves.specs.Views.{blocks_shown}
 use Rattle.doc_blocks.specs.StateSteps.{State, shown, after_line, document_left}
 use Rattle.doc_blocks.specs.BuilderSteps.{state_of}
