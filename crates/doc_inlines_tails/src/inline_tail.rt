@@ -22,7 +22,7 @@ pub struct TailSource<'t> {
 }
 
 /// The inline tail at the front of a text. A destination may be missing only where the title is too, which is this project's choice.
-#[tactic(auto, unfolding(doc_rules::specs::Links::inline_tail), using(doc_refs::proofs::Rests::destination_rest))]
+#[tactic(auto, unfolding(doc_rules::specs::Links::inline_tail), using(doc_refs_parts::proofs::Rests::destination_rest))]
 pub fn inline_tail(rest: &str) -> Option<TailSource>
     ensures value { (table : Table)
         → source_tail table result ≡ inline_tail table (chars rest.now) }
@@ -36,7 +36,7 @@ pub fn inline_tail(rest: &str) -> Option<TailSource>
 }
 
 /// Behind a destination: a title that spacing sets off, or none, and the `)`.
-#[tactic(auto, unfolding(doc_rules::specs::Links::destination_tail), using(doc_refs::proofs::Rests::title_rest))]
+#[tactic(auto, unfolding(doc_rules::specs::Links::destination_tail), using(doc_refs_parts::proofs::Rests::title_rest))]
 fn destination_tail<'t>(dest: &'t str, text: &'t str) -> Option<TailSource<'t>>
     ensures value { (table : Table)
         → source_tail table result ≡ destination_tail table (chars dest.now) (chars text.now) }

@@ -17,7 +17,7 @@ use doc_refs::{RefMap, normalize_label};
 
 /// The tail of a reference: the label that follows, or else the text between the brackets itself, `[]` behind it or not. Where a label
 /// follows, only that one counts.
-#[tactic(auto, unfolding(doc_rules::specs::Links::reference_tail), using(doc_refs::proofs::Rests::label_rest))]
+#[tactic(auto, unfolding(doc_rules::specs::Links::reference_tail), using(doc_refs_parts::proofs::Rests::label_rest))]
 pub fn reference_tail<'t, 'r>(
     heap: Heap,
     refs: &'r RefMap,

@@ -21,10 +21,10 @@ use Rattle.std.proofs.lemmas.Str.{IsUtf8-string_bytes, encodes-chars}
 use Rattle.doc_rules.specs.Characters.{Text}
 use Rattle.doc_rules.specs.Destinations as rules
 use Rattle.doc_refs.specs.EntrySteps.{targets_shown, AreEntries, AreGrown, earlier, with_entry}
-use Rattle.doc_refs.specs.Targets.{Targets, target_shown, joined, single}
+use Rattle.doc_refs_parts.specs.Targets.{Targets, target_shown, joined, single}
 use Rattle.doc_refs.specs.declared.ref_map.Entry.{Entry}
-use Rattle.doc_refs.specs.declared.target.Target.{Target}
-use Rattle.doc_refs.proofs.MapLaws.{named, is_name, is_name-same, same_targets, first_of, get-joined, get-single}
+use Rattle.doc_refs_parts.specs.declared.target.Target.{Target}
+use Rattle.doc_refs_parts.proofs.MapLaws.{named, is_name, is_name-same, same_targets, first_of, get-joined, get-single}
 use Rattle.doc_page.proofs.Bools.{same_bool}
 
 -- ---- names of labels

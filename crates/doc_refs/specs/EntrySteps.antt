@@ -5,9 +5,9 @@ use Rattle.std.specs.FinMap as finite
 use Rattle.std.specs.List.{All, filter}
 use Rattle.std.specs.Map.{lookup}
 use Rattle.std.specs.String.{string_cmp}
-use Rattle.doc_refs.specs.Targets.{Targets, target_shown}
+use Rattle.doc_refs_parts.specs.Targets.{Targets, target_shown}
 use Rattle.doc_refs.specs.declared.ref_map.Entry.{Entry}
-use Rattle.doc_refs.specs.declared.target.Target.{Target}
+use Rattle.doc_refs_parts.specs.declared.target.Target.{Target}
 
 -- the map that entries stand for
 abbrev pub targets_shown : {A : Type 0} → List (String A × Entry) → Targets

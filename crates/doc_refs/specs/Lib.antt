@@ -1,5 +1,4 @@
 pub mod EntrySteps
-pub mod Laws
-pub mod ParenthesisSteps
-pub mod Sources
-pub mod Targets
+pub use Rattle.doc_refs_parts.specs.Laws
+pub use Rattle.doc_refs_parts.specs.Sources
+pub use Rattle.doc_refs_parts.specs.Targets

@@ -2,15 +2,15 @@
 ghost use Rattle.std.specs.Prelude.{◌≡◌, chars, drop, IfOk};
 ghost use Rattle.std.specs.Str.{IsCharBoundary};
 ghost use Rattle.doc_rules.specs.Definitions.{definitions_of};
-ghost use Rattle.doc_refs.specs.Targets.{targets_of};
+ghost use Rattle.doc_refs_parts.specs.Targets.{targets_of};
 
 use crate::labels::normalize_label;
 use crate::ref_map::RefMap;
-use crate::scan::definition::definition_source;
-use crate::target::read_target;
 use doc_heap::Heap;
 use doc_lines::entities::Entities;
 use doc_page::failure::Memory;
+use doc_refs_parts::scan::definition::definition_source;
+use doc_refs_parts::target::read_target;
 
 /// Takes the link reference definitions at the front of a text (CommonMark 0.31.2, section 4.7), one after another, and answers what
 /// they name with how many bytes they take, the line ending after each included.

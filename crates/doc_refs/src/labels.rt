@@ -4,7 +4,6 @@ ghost use Rattle.caseless.specs.Caseless.{default_case_fold};
 ghost use Rattle.doc_rules.specs.Characters.{strip, strip_end, is_space_tab_or_ending};
 ghost use Rattle.doc_rules.specs.Labels.{collapse, normal_label};
 
-use crate::scan::label::is_space_tab_or_ending;
 use caseless::Caseless;
 use doc_heap::{Heap, String};
 use doc_lines::pushing::{push_char, push_text};
@@ -12,6 +11,7 @@ use doc_lines::scan::front::front;
 use doc_lines::scan::run::many;
 use doc_page::failure::Memory;
 use doc_page::text::Text;
+use doc_refs_parts::scan::label::is_space_tab_or_ending;
 
 /// The label as it matches (CommonMark 0.31.2, section 6.3): case folded, without white space at its ends, each run of spaces, tabs
 /// and line endings inside as one space. Backslash escapes and character references stay as they stand. It is given without its

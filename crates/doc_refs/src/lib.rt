@@ -4,14 +4,10 @@
 
 mod definitions;
 mod labels;
-pub mod laws;
-mod lengths;
 mod ref_map;
-pub mod scan;
-mod target;
 
 pub use definitions::take_definitions;
+pub use doc_refs_parts::target::{Target, destination_value, title_value};
+pub use doc_refs_parts::{destination, laws, scan, title};
 pub use labels::normalize_label;
-pub use lengths::{destination, title};
 pub use ref_map::RefMap;
-pub use target::{Target, destination_value, title_value};

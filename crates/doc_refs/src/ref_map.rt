@@ -1,12 +1,12 @@
 //! The targets of labels.
 ghost use Rattle.std.specs.Prelude.{◌≡◌, chars, string_bytes, OnOk, OnErr};
 ghost use Rattle.std.specs.FinMap as finite;
-ghost use Rattle.doc_refs.specs.Targets.{target_found, target_shown, single, joined};
+ghost use Rattle.doc_refs_parts.specs.Targets.{target_found, target_shown, single, joined};
 ghost use Rattle.doc_refs.specs.EntrySteps.{targets_shown, with_entry, earlier, AreGrown};
 
-use crate::target::Target;
 use doc_heap::{BTreeMap, Heap, String};
 use doc_page::failure::Memory;
+use doc_refs_parts::target::Target;
 use std::marker::Model;
 
 /// What labels name, by the labels as [`crate::normalize_label`] gives them: of several definitions of a label the first.
@@ -25,7 +25,7 @@ struct Entry {
 }
 
 impl Model for RefMap {
-    ghost use Rattle.doc_refs.specs.Targets.{Targets, targets_code};
+    ghost use Rattle.doc_refs_parts.specs.Targets.{Targets, targets_code};
     ghost use Rattle.doc_refs.specs.EntrySteps.{targets_shown, AreEntries};
 
     ghost Value = { Targets };

@@ -4,8 +4,8 @@ use Rattle.doc_rules.specs.Definitions.{Definition}
 use Rattle.doc_rules.proofs.ParserLaws.{is_all, is_rest_again}
 use Rattle.doc_rules.proofs.GrammarLaws.{definition_takes, definition_ends}
 use Rattle.doc_lines.proofs.Slices.{rest_is_no_longer, rest_is_behind, seam_is_boundary}
-use Rattle.doc_refs.specs.Targets.{target_shown}
-use Rattle.doc_refs.proofs.TakenLaws.{joined_to_none, none_more, one_more, taken_all, taken_more}
+use Rattle.doc_refs_parts.specs.Targets.{target_shown}
+use Rattle.doc_refs_parts.proofs.TakenLaws.{joined_to_none, none_more, one_more, taken_all, taken_more}
 use Rattle.doc_refs.proofs.definitions.take_definitions.Goals as goal
 
 pub definitions-init : goal.definitions-init

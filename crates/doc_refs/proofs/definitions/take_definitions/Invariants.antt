@@ -3,7 +3,7 @@ use denote.Text.{Utf8}
 use denote.Shadow.{shadow}
 use Rattle.doc_rules.specs.Definitions.{definitions_of}
 use Rattle.doc_rules.specs.Rests.{IsRest}
-use Rattle.doc_refs.specs.Targets.{targets_of, joined}
+use Rattle.doc_refs_parts.specs.Targets.{targets_of, joined}
 use Rattle.doc_refs.proofs.definitions.take_definitions.Given as goal
 
 abbrev pub invariant-definitions : goal.invariant-definitions

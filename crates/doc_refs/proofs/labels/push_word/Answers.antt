@@ -2,7 +2,7 @@ use Rattle.std.proofs.Common.{rules, ◌≡◌, ◌<◌, length, chars, string_b
 use Rattle.doc_rules.specs.Characters.{is_space_tab_or_ending}
 use Rattle.doc_rules.specs.Parsers.{many}
 use Rattle.doc_lines.proofs.Ends.{empty_chars}
-use Rattle.doc_refs.proofs.SpaceLaws.{is_word_char, last_word, word_and_space, word_takes, some_characters, is_none, is_some}
+use Rattle.doc_refs_parts.proofs.SpaceLaws.{is_word_char, last_word, word_and_space, word_takes, some_characters, is_none, is_some}
 use Rattle.doc_refs.proofs.labels.push_word.Goals as goal
 
 pub returns-then-is_empty-clause-value : goal.returns-then-is_empty-clause-value

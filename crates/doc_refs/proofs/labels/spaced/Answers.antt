@@ -3,7 +3,7 @@ use Rattle.doc_lines.proofs.Pushes.{nothing_before}
 use Rattle.doc_rules.specs.Characters.{is_space_tab_or_ending}
 use Rattle.doc_rules.specs.Parsers.{many}
 use Rattle.doc_lines.proofs.Ends.{empty_chars}
-use Rattle.doc_refs.proofs.SpaceLaws.{front_is_stripped, nothing_left, some_characters, is_none, is_some}
+use Rattle.doc_refs_parts.proofs.SpaceLaws.{front_is_stripped, nothing_left, some_characters, is_none, is_some}
 use Rattle.doc_refs.proofs.labels.spaced.Goals as goal
 
 pub words-init : goal.words-init

@@ -1,8 +1,8 @@
 use Rattle.std.proofs.Common.{ap, sym, subst, ◌∙◌}
 use Rattle.doc_refs.specs.EntrySteps.{targets_shown, AreGrown}
-use Rattle.doc_refs.specs.Targets.{joined}
+use Rattle.doc_refs_parts.specs.Targets.{joined}
 use Rattle.doc_refs.proofs.EntryLaws.{grown-none, grown-with, joined-next}
-use Rattle.doc_refs.proofs.MapLaws.{joined-empty}
+use Rattle.doc_refs_parts.proofs.MapLaws.{joined-empty}
 use Rattle.doc_refs.proofs.ref_map.put_all.Goals as goal
 
 pub labels-init : goal.labels-init

@@ -1,6 +1,6 @@
 use Rattle.std.proofs.Common.{◌≡◌}
 use Rattle.doc_refs.specs.EntrySteps.{targets_shown, AreGrown}
-use Rattle.doc_refs.specs.Targets.{joined}
+use Rattle.doc_refs_parts.specs.Targets.{joined}
 use Rattle.doc_refs.proofs.ref_map.put_all.Given as goal
 
 abbrev pub invariant-labels : goal.invariant-labels

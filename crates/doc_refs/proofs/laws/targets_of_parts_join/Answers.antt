@@ -1,5 +1,0 @@
-use Rattle.doc_refs.proofs.MapLaws.{joins_definitions}
-use Rattle.doc_refs.proofs.laws.targets_of_parts_join.Goals as goal
-
-pub returns : goal.returns
-returns c = joins_definitions

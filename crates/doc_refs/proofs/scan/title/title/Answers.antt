@@ -1,5 +1,0 @@
-use Rattle.doc_refs.proofs.Rests.{enclosed_rest}
-use Rattle.doc_refs.proofs.scan.title.title.Goals as goal
-
-pub front-requires : goal.front-requires
-front-requires c = enclosed_rest _ _ c.in_ok-rest.ensures

@@ -1,0 +1,4 @@
+pub mod Laws
+pub mod ParenthesisSteps
+pub mod Sources
+pub mod Targets
