@@ -1,28 +1,21 @@
--- Worked examples: the definitions on literal requests and replies.
+-- Worked examples: the definitions on literal requests.
 use Rattle.std.proofs.Common.{◌≡◌, [], ◌∷◌, true, false, codes, refl}
 use Rattle.std.specs.Prelude.{Some, None}
-use Rattle.std.specs.Fmt.{digits}
 use Rattle.httparse.specs.Grammar.{crlf, trim_ows}
 use Rattle.doc_http_bodies.specs.Chunks.{extent_in, data_in}
 use Rattle.doc_http_bodies.specs.Framings.{framing_of, body_limit}
 use Rattle.doc_http_bodies.specs.Readings.{encoded_limit, reading_of}
 use Rattle.doc_http.specs.declared.head.HeadSpan.TheVariants.{Unfinished, At}
 use Rattle.doc_http.specs.declared.request.Next.TheVariants as next
-use Rattle.doc_http.specs.declared.reply.Allow.TheVariants.{Page, Read}
-use Rattle.doc_http.specs.declared.reply_form.ReplyForm.TheVariants as forms
-use Rattle.doc_http.specs.declared.status.Status.TheVariants as statuses
 use Rattle.doc_http.specs.Bearers.{bearer_in}
 use Rattle.doc_http.specs.Fields.{lists_close}
 use Rattle.doc_http.specs.Heads.{head_limit, head_span_of, has_bare_line_feed}
-use Rattle.doc_http.specs.Replies.{reason_of, field_line, reply_head, reply_bytes}
-use Rattle.doc_http.specs.ReplyForms.{reply_of}
 use Rattle.doc_http.specs.Requests.{next_behind, request_of}
 use Rattle.doc_page.specs.Tokens.{is_token}
 
 -- one name to unfold where an example computes
 unfoldable computing : Unit {0}
-unfolding digits trim_ows head_limit head_span_of next_behind framing_of body_limit encoded_limit extent_in data_in reading_of is_token
-    reason_of field_line reply_head reply_bytes
+unfolding trim_ows head_limit head_span_of next_behind framing_of body_limit encoded_limit extent_in data_in reading_of is_token
 computing = tt
 
 -- ---- heads
@@ -435,86 +428,3 @@ a_scheme_alone = refl
 no_value : bearer_in None ≡ None
 unfolding computing
 no_value = refl
-
--- ---- replies
-
-a_page : reply_bytes (record {
-  code = 200;
-  html = true;
-  allow = None;
-  location = None;
-  body = codes
-      "<!DOCTYPE html>\n<title>a.md</title>\n<p>Hello</p>\n";
-}) false false
-    ≡ codes "HTTP/1.1 200 OK\r\nContent-Type: text/html; charset=utf-8\r\nContent-Length: 49\r\n\r\n<!DOCTYPE html>\n<title>a.md</title>\n<p>Hello</p>\n"
-unfolding computing
-a_page = refl
-
-a_page_by_its_head : reply_bytes (record {
-  code = 200;
-  html = true;
-  allow = None;
-  location = None;
-  body = codes
-      "<!DOCTYPE html>\n<title>a.md</title>\n<p>Hello</p>\n";
-}) true false
-    ≡ codes "HTTP/1.1 200 OK\r\nContent-Type: text/html; charset=utf-8\r\nContent-Length: 49\r\n\r\n"
-unfolding computing
-a_page_by_its_head = refl
-
-plain_text : reply_bytes (record { code = 200; html = false; allow = None; location = None; body = codes "1\ta.md\n" }) false true
-    ≡ codes "HTTP/1.1 200 OK\r\nContent-Type: text/plain; charset=utf-8\r\nContent-Length: 7\r\nConnection: close\r\n\r\n1\ta.md\n"
-unfolding computing
-plain_text = refl
-
-no_reader : reply_bytes (record { code = 401; html = false; allow = None; location = None; body = [] }) false false
-    ≡ codes "HTTP/1.1 401 Unauthorized\r\nContent-Type: text/plain; charset=utf-8\r\nContent-Length: 17\r\nWWW-Authenticate: Bearer realm=\"docs\"\r\n\r\n401 Unauthorized\n"
-unfolding computing
-no_reader = refl
-
-a_bad_request : reply_bytes (record { code = 400; html = false; allow = None; location = None; body = [] }) false true
-    ≡ codes "HTTP/1.1 400 Bad Request\r\nContent-Type: text/plain; charset=utf-8\r\nContent-Length: 16\r\nConnection: close\r\n\r\n400 Bad Request\n"
-unfolding computing
-a_bad_request = refl
-
-not_found : reply_bytes (record { code = 404; html = false; allow = None; location = None; body = [] }) false false
-    ≡ codes "HTTP/1.1 404 Not Found\r\nContent-Type: text/plain; charset=utf-8\r\nContent-Length: 14\r\n\r\n404 Not Found\n"
-unfolding computing
-not_found = refl
-
-no_content : reply_bytes (record { code = 204; html = false; allow = None; location = None; body = [] }) false false
-    ≡ codes "HTTP/1.1 204 No Content\r\n\r\n"
-unfolding computing
-no_content = refl
-
-too_long_a_head : reply_bytes (record { code = 431; html = false; allow = None; location = None; body = [] }) false true
-    ≡ codes "HTTP/1.1 431 Request Header Fields Too Large\r\nContent-Type: text/plain; charset=utf-8\r\nContent-Length: 36\r\nConnection: close\r\n\r\n431 Request Header Fields Too Large\n"
-unfolding computing
-too_long_a_head = refl
-
-another_method : reply_bytes (record { code = 405; html = false; allow = Some Page; location = None; body = [] }) false false
-    ≡ codes "HTTP/1.1 405 Method Not Allowed\r\nContent-Type: text/plain; charset=utf-8\r\nContent-Length: 23\r\nAllow: GET, HEAD, PUT, DELETE\r\n\r\n405 Method Not Allowed\n"
-unfolding computing
-another_method = refl
-
-a_resource_to_read : reply_bytes (record { code = 405; html = false; allow = Some Read; location = None; body = [] }) false true
-    ≡ codes "HTTP/1.1 405 Method Not Allowed\r\nContent-Type: text/plain; charset=utf-8\r\nContent-Length: 23\r\nAllow: GET, HEAD\r\nConnection: close\r\n\r\n405 Method Not Allowed\n"
-unfolding computing
-a_resource_to_read = refl
-
-moved : reply_bytes (record { code = 301; html = false; allow = None; location = Some (codes "/page/b.md"); body = [] }) false false
-    ≡ codes "HTTP/1.1 301 Moved Permanently\r\nContent-Type: text/plain; charset=utf-8\r\nContent-Length: 22\r\nLocation: /page/b.md\r\n\r\n301 Moved Permanently\n"
-unfolding computing
-moved = refl
-
--- ---- replies by their forms
-
-a_full_store : reply_bytes (reply_of (forms.Status statuses.InsufficientStorage)) false false
-    ≡ codes "HTTP/1.1 507 Insufficient Storage\r\nContent-Type: text/plain; charset=utf-8\r\nContent-Length: 25\r\n\r\n507 Insufficient Storage\n"
-unfolding computing
-a_full_store = refl
-
-moved_by_its_head : reply_bytes (reply_of (forms.Moved (codes "/page/b.md"))) true true
-    ≡ codes "HTTP/1.1 301 Moved Permanently\r\nContent-Type: text/plain; charset=utf-8\r\nContent-Length: 22\r\nLocation: /page/b.md\r\nConnection: close\r\n\r\n"
-unfolding computing
-moved_by_its_head = refl

@@ -4,7 +4,6 @@ mod HeadLemmas
 pub mod LawLemmas
 mod ProgressLemmas
 mod ReadLemmas
-mod ReplyLemmas
 mod SkipLemmas
 mod SpanLemmas
 pub mod TakenLemmas

@@ -1,9 +1,10 @@
 -- Laws of requests.
-use Rattle.std.specs.Prelude.{IsTrue, Bool, ◌||◌, ◌==◌, ◌≡◌, ℕ, ◌≤◌, List, [], ◌++◌, length}
+use Rattle.std.specs.Prelude.{IsTrue, Bool, ◌≡◌, ℕ, ◌≤◌, List, [], ◌++◌, length}
 use Rattle.doc_http.specs.declared.request.Request.{Request}
 use Rattle.doc_http.specs.declared.request.Next.{Next}
 use Rattle.doc_http.specs.declared.request.Next.TheVariants as next
 use Rattle.doc_http.specs.Requests.{IsNext}
+pub use Rattle.doc_http_replies.specs.Replies.{is_fault_code}
 
 -- the bytes begin with one thing
 abbrev pub IsReadInOneWay : Type 0
@@ -24,10 +25,6 @@ TakesBytes = (bytes : List ℕ) (used : ℕ) (request : Request) → IsNext byte
 -- where there are no bytes, they begin with neither a request nor a fault
 abbrev pub EmptyIsUndecided : Type 0
 EmptyIsUndecided = (a : Next) → IsNext [] a → a ≡ next.More
-
--- the codes of faults (RFC 9110, sections 15.5.1, 15.5.14 and 15.6.2; RFC 6585, section 5)
-abbrev pub is_fault_code : ℕ → Bool
-is_fault_code code = (code == 400) || (code == 413) || (code == 431) || (code == 501)
 
 -- a fault has one of these codes
 abbrev pub FaultsHaveCodes : Type 0

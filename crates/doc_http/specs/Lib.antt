@@ -5,7 +5,6 @@ pub mod Heads
 pub mod KnowledgeSteps
 pub mod Laws
 pub mod ProgressSteps
-pub mod Replies
-pub mod ReplyForms
-pub mod ReplySteps
 pub mod Requests
+pub use Rattle.doc_http_replies.specs.Replies
+pub use Rattle.doc_http_replies.specs.ReplyForms

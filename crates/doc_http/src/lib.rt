@@ -1,5 +1,5 @@
-//! Requests and replies of HTTP/1.1 as bytes (RFC 9112): what the unread bytes of a connection begin
-//! with, the token that a request carries, and the bytes of a reply.
+//! Requests of HTTP/1.1 as bytes (RFC 9112): what the unread bytes of a connection begin with, and the token
+//! that a request carries. Under this one name also replies and their bytes, from `doc_http_replies`.
 #![tactic(auto)]
 
 pub mod bearer;
@@ -8,9 +8,7 @@ mod fields;
 mod head;
 pub mod laws;
 mod progress;
-pub mod reply;
-pub mod reply_form;
-mod reply_parts;
 pub mod request;
-pub mod status;
 pub mod unread;
+
+pub use doc_http_replies::{reply, reply_form, status};

@@ -7,7 +7,7 @@ use Rattle.doc_store.specs.Sites.{Site, View, view_of}
 use Rattle.doc_store.specs.Store.{StoreState}
 use Rattle.doc_store.specs.declared.reader.Reader.{Reader}
 use Rattle.doc_http.specs.Replies.{reply_bytes}
-use Rattle.doc_http.specs.declared.reply.Allow.TheVariants.{Read}
+use Rattle.doc_http_replies.specs.declared.reply.Allow.TheVariants.{Read}
 use Rattle.doc_http.specs.Requests.{is_bare}
 use Rattle.doc_http.specs.declared.request.Request.{Request}
 use Rattle.doc_http_targets.specs.Targets.{Route, route_of, route_shown}

@@ -15,9 +15,9 @@ use Rattle.doc_store.specs.declared.reader.Reader.{Reader}
 use Rattle.doc_store.specs.Sites.{View, page_at, goal_in}
 use Rattle.doc_page_encoding.specs.Encoding.{encoded_path}
 use Rattle.doc_resolve.specs.Hrefs.{shown}
-use Rattle.doc_http.specs.declared.reply.Allow.{Allow}
-use Rattle.doc_http.specs.declared.reply.Allow.TheVariants as resources
-use Rattle.doc_http.specs.declared.reply.Reply.{Reply}
+use Rattle.doc_http_replies.specs.declared.reply.Allow.{Allow}
+use Rattle.doc_http_replies.specs.declared.reply.Allow.TheVariants as resources
+use Rattle.doc_http_replies.specs.declared.reply.Reply.{Reply}
 use Rattle.doc_http.specs.declared.request.Request.{Request}
 use Rattle.doc_http.specs.Replies.{reply_bytes}
 use Rattle.doc_http.specs.ReplyForms.{content_reply}

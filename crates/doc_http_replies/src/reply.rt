@@ -1,9 +1,9 @@
 //! Replies as bytes.
 
 ghost use Rattle.std.specs.Prelude.{◌≡◌, ◌≢◌, ◌==◌, [], false, is_some, IsTrue, IfOk};
-ghost use Rattle.doc_http.specs.Replies.{reply_bytes, is_reply_code, allowed_methods};
-ghost use Rattle.doc_http.specs.ReplyForms.{content_reply};
-ghost use Rattle.doc_http.specs.ReplySteps.{reply_with};
+ghost use Rattle.doc_http_replies.specs.Replies.{reply_bytes, is_reply_code, allowed_methods};
+ghost use Rattle.doc_http_replies.specs.ReplyForms.{content_reply};
+ghost use Rattle.doc_http_replies.specs.ReplySteps.{reply_with};
 
 use crate::reply_parts::ReplyParts;
 use doc_heap::Heap;

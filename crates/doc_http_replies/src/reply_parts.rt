@@ -1,9 +1,9 @@
 //! A reply whose parts are borrowed, as bytes.
 
 ghost use Rattle.std.specs.Prelude.{◌≡◌, ◌++◌, length, IsTrue, IfOk, OnOk, string_bytes, codes, decimal, option_copied};
-ghost use Rattle.doc_http.specs.Replies.{reply_bytes, reply_head, is_reply_code, reason_of, status_of, content_of, content_lines, field_lines, field_line, location_line, allow_line, challenge_line, close_line, content_type as type_of};
-ghost use Rattle.doc_http.specs.ReplyForms.{content_reply, plain_reply};
-ghost use Rattle.doc_http.specs.ReplySteps.{reply_with};
+ghost use Rattle.doc_http_replies.specs.Replies.{reply_bytes, reply_head, is_reply_code, reason_of, status_of, content_of, content_lines, field_lines, field_line, location_line, allow_line, challenge_line, close_line, content_type as type_of};
+ghost use Rattle.doc_http_replies.specs.ReplyForms.{content_reply, plain_reply};
+ghost use Rattle.doc_http_replies.specs.ReplySteps.{reply_with};
 
 use crate::reply::Allow;
 use doc_heap::{Heap, String};

@@ -1,7 +1,7 @@
 use Rattle.std.proofs.lemmas.Result.{IfOk-equal}
-use Rattle.doc_http.specs.ReplySteps.{reply_with}
-use Rattle.doc_http.proofs.ReplyLemmas.{content_lines_after}
-use Rattle.doc_http.proofs.reply_parts.ReplyParts.push_content_lines.Goals as goal
+use Rattle.doc_http_replies.specs.ReplySteps.{reply_with}
+use Rattle.doc_http_replies.proofs.ReplyLemmas.{content_lines_after}
+use Rattle.doc_http_replies.proofs.reply_parts.ReplyParts.push_content_lines.Goals as goal
 
 pub returns : goal.returns
 returns c =

@@ -1,7 +1,7 @@
 -- What is said of a reply whose parts are borrowed.
 use Rattle.std.specs.Option.{option_copied}
-use Rattle.doc_http.specs.declared.reply.Reply.{Reply}
-use Rattle.doc_http.specs.declared.reply_parts.ReplyParts.{ReplyParts}
+use Rattle.doc_http_replies.specs.declared.reply.Reply.{Reply}
+use Rattle.doc_http_replies.specs.declared.reply_parts.ReplyParts.{ReplyParts}
 
 -- the reply with these parts
 abbrev pub reply_with : ReplyParts → Reply

@@ -1,7 +1,7 @@
 use Rattle.std.proofs.Common.{rules}
 use Rattle.std.proofs.lemmas.List.{append_assoc}
-use Rattle.doc_http.specs.Replies.{reply_head}
-use Rattle.doc_http.proofs.reply_parts.ReplyParts.push_head.Goals as goal
+use Rattle.doc_http_replies.specs.Replies.{reply_head}
+use Rattle.doc_http_replies.proofs.reply_parts.ReplyParts.push_head.Goals as goal
 
 pub returns : goal.returns
 unfolding reply_head

@@ -1,9 +1,8 @@
 //! The statuses of replies.
 
 ghost use Rattle.std.specs.Prelude.{◌≡◌, IsTrue};
-ghost use Rattle.doc_http.specs.Laws.{is_fault_code};
-ghost use Rattle.doc_http.specs.Replies.{is_reply_code};
-ghost use Rattle.doc_http.specs.ReplyForms.{code_of};
+ghost use Rattle.doc_http_replies.specs.Replies.{is_fault_code, is_reply_code};
+ghost use Rattle.doc_http_replies.specs.ReplyForms.{code_of};
 
 /// The status of a reply that says no more than it (RFC 9110, section 15; 431: RFC 6585, section 5; 507: RFC 4918, section 11.5).
 #[derive(Clone, Copy, Debug, PartialEq, Eq)]
@@ -40,7 +39,7 @@ impl Status {
         }
     }
 
-    /// The status of a fault, as `next_request` answers its code.
+    /// The status of a fault of a request, by its code.
     pub fn of_fault(code: u16) -> Status
         requires { IsTrue (is_fault_code code) }
         ensures { code_of result ≡ code }

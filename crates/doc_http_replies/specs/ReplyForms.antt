@@ -1,12 +1,12 @@
 -- Replies by the forms that they have.
 use Rattle.std.specs.Prelude.{◌≡◌, ◌≢◌, ℕ, ◌==◌, IsTrue, Bool, false, List, [], Option, Some, None, is_some}
-use Rattle.doc_http.specs.declared.reply.Allow.{Allow}
-use Rattle.doc_http.specs.declared.reply.Reply.{Reply}
-use Rattle.doc_http.specs.declared.reply_form.ReplyForm.{ReplyForm}
-use Rattle.doc_http.specs.declared.reply_form.ReplyForm.TheVariants as forms
-use Rattle.doc_http.specs.declared.status.Status.{Status}
-use Rattle.doc_http.specs.declared.status.Status.TheVariants as statuses
-use Rattle.doc_http.specs.Replies.{is_reply_code}
+use Rattle.doc_http_replies.specs.declared.reply.Allow.{Allow}
+use Rattle.doc_http_replies.specs.declared.reply.Reply.{Reply}
+use Rattle.doc_http_replies.specs.declared.reply_form.ReplyForm.{ReplyForm}
+use Rattle.doc_http_replies.specs.declared.reply_form.ReplyForm.TheVariants as forms
+use Rattle.doc_http_replies.specs.declared.status.Status.{Status}
+use Rattle.doc_http_replies.specs.declared.status.Status.TheVariants as statuses
+use Rattle.doc_http_replies.specs.Replies.{is_reply_code}
 
 -- the codes of statuses (RFC 9110, section 15; 431: RFC 6585, section 5; 507: RFC 4918, section 11.5)
 abbrev pub code_of : Status → ℕ

@@ -1,9 +1,9 @@
 -- Replies as bytes.
-use Rattle.std.specs.Prelude.{ℕ, ◌==◌, ◌&&◌, not, Bool, List, [], ◌∷◌, ◌++◌, Option, Some, None, length, codes, decimal, if◌then◌else◌}
+use Rattle.std.specs.Prelude.{ℕ, ◌==◌, ◌&&◌, ◌||◌, not, Bool, List, [], ◌∷◌, ◌++◌, Option, Some, None, length, codes, decimal, if◌then◌else◌}
 use Rattle.std.specs.List.{list_any}
-use Rattle.doc_http.specs.declared.reply.Reply.{Reply}
-use Rattle.doc_http.specs.declared.reply.Allow.{Allow}
-use Rattle.doc_http.specs.declared.reply.Allow.TheVariants.{Page, Read}
+use Rattle.doc_http_replies.specs.declared.reply.Reply.{Reply}
+use Rattle.doc_http_replies.specs.declared.reply.Allow.{Allow}
+use Rattle.doc_http_replies.specs.declared.reply.Allow.TheVariants.{Page, Read}
 
 -- the reason phrase of a code (RFC 9110, section 15; 431: RFC 6585, section 5; 507: RFC 4918, section 11.5)
 unfoldable pub reason_of : ℕ → List ℕ
@@ -20,6 +20,10 @@ reason_of code =
 abbrev pub is_reply_code : ℕ → Bool
 is_reply_code code =
     list_any (λ c. c == code) (200 ∷ 201 ∷ 204 ∷ 301 ∷ 400 ∷ 401 ∷ 403 ∷ 404 ∷ 405 ∷ 413 ∷ 431 ∷ 501 ∷ 507 ∷ [])
+
+-- the codes of faults (RFC 9110, sections 15.5.1, 15.5.14 and 15.6.2; RFC 6585, section 5)
+abbrev pub is_fault_code : ℕ → Bool
+is_fault_code code = (code == 400) || (code == 413) || (code == 431) || (code == 501)
 
 -- the code and its reason phrase (RFC 9112, section 4)
 abbrev pub status_of : ℕ → List ℕ

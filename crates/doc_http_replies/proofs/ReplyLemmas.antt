@@ -5,8 +5,8 @@ use Rattle.std.specs.Prelude.{decimal, if◌then◌else◌}
 use Rattle.std.proofs.lemmas.Bool.Decides.{nat_tests}
 use Rattle.std.proofs.lemmas.List.{append_assoc}
 use Rattle.std.proofs.lemmas.Fmt.{decimal_digit, decimal_step}
-use Rattle.doc_http.specs.declared.reply.Reply.{Reply}
-use Rattle.doc_http.specs.Replies.{is_reply_code, reason_of, status_of, content_of, content_type, content_lines, field_line}
+use Rattle.doc_http_replies.specs.declared.reply.Reply.{Reply}
+use Rattle.doc_http_replies.specs.Replies.{is_reply_code, reason_of, status_of, content_of, content_type, content_lines, field_line}
 
 one_longer : (n : ℕ) → 10 ≤ n → n < 1000 → length (decimal n) ≡ length (decimal (n / 10)) + 1
 one_longer n low high =

@@ -1,9 +1,9 @@
 //! Replies by the forms that they have, each of which can be written.
 
 ghost use Rattle.std.specs.Prelude.{◌≡◌, IsTrue, IfOk};
-ghost use Rattle.doc_http.specs.Replies.{reply_bytes, is_reply_code};
-ghost use Rattle.doc_http.specs.ReplyForms.{reply_of, plain_reply, IsReply};
-ghost use Rattle.doc_http.specs.ReplySteps.{reply_with};
+ghost use Rattle.doc_http_replies.specs.Replies.{reply_bytes, is_reply_code};
+ghost use Rattle.doc_http_replies.specs.ReplyForms.{reply_of, plain_reply, IsReply};
+ghost use Rattle.doc_http_replies.specs.ReplySteps.{reply_with};
 
 use crate::reply::{Allow, Reply};
 use crate::reply_parts::ReplyParts;

@@ -1,0 +1,3 @@
+pub mod Replies
+pub mod ReplyForms
+pub mod ReplySteps
