@@ -38,13 +38,13 @@ use Rattle.doc_hub.specs.Worlds.{World, reader_of}
 use Rattle.doc_http_targets.specs.Queries.{value_of}
 use Rattle.doc_http_targets.specs.Targets.{origin_form, route_of}
 use Rattle.doc_http_targets.specs.WrittenPaths.{path_written}
-use Rattle.doc_hub_replies.specs.declared.answer.Answer.{Answer}
+use Rattle.doc_hub_answers.specs.declared.answer.Answer.{Answer}
 use Rattle.doc_hub.specs.declared.connection.Connection.{Connection}
 use Rattle.doc_hub.specs.declared.edited.Edited.{Edited}
 use Rattle.doc_hub.specs.declared.edited.Edited.TheVariants.{Put, Removed}
 use Rattle.doc_hub.specs.declared.refusal.PushError.TheVariants.{Closed}
-use Rattle.doc_hub_replies.specs.declared.response.Edit.{Edit}
-use Rattle.doc_hub_replies.specs.declared.response.Edit.TheVariants as edits
+use Rattle.doc_hub_answers.specs.declared.response.Edit.{Edit}
+use Rattle.doc_hub_answers.specs.declared.response.Edit.TheVariants as edits
 
 -- one name to unfold where an example computes
 unfoldable computing : Unit {0}

@@ -15,7 +15,7 @@ use Rattle.doc_http.specs.declared.request.Next.{Next as Front}
 use Rattle.doc_http.specs.declared.request.Next.TheVariants as nexts
 use Rattle.doc_http.proofs.LawLemmas.{read_in_one_way}
 use Rattle.doc_hub.specs.Connections.{new_connection, pushed_onto, with_pushed, pushed_at, finished}
-use Rattle.doc_hub_replies.specs.declared.answer.Answer.{Answer}
+use Rattle.doc_hub_answers.specs.declared.answer.Answer.{Answer}
 use Rattle.doc_hub.specs.declared.connection.Connection.{Connection}
 use Rattle.doc_hub.specs.declared.event.ConnId.{ConnId}
 use Rattle.doc_hub.specs.declared.event.Step.{Step}

@@ -34,9 +34,9 @@ use Rattle.doc_hub.specs.declared.refusal.ConnectError.TheVariants as connect_er
 use Rattle.doc_hub.specs.declared.refusal.PushError.TheVariants as push_errors
 use Rattle.doc_hub.specs.declared.refusal.StepError.{StepError}
 use Rattle.doc_hub.specs.declared.refusal.StepError.TheVariants as step_errors
-use Rattle.doc_hub_replies.specs.declared.response.Edit.{Edit}
-use Rattle.doc_hub_replies.specs.declared.response.Edit.TheVariants as edits
-use Rattle.doc_hub_replies.proofs.AnswerEdits.{answer_can_be_made}
+use Rattle.doc_hub_answers.specs.declared.response.Edit.{Edit}
+use Rattle.doc_hub_answers.specs.declared.response.Edit.TheVariants as edits
+use Rattle.doc_hub_answers.proofs.AnswerEdits.{answer_can_be_made}
 
 err_ok : {X E : Type 0} (e : E) (x : X) → ◌≡◌ {A = Result X E} (Err e) (Ok x) → ⊥
 err_ok e x is = cc

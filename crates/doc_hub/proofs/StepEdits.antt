@@ -18,9 +18,9 @@ use Rattle.doc_hub.specs.declared.edited.Edited.{Edited}
 use Rattle.doc_hub.specs.declared.event.Step.{Step}
 use Rattle.doc_hub.specs.declared.event.Step.TheVariants as steps
 use Rattle.doc_hub.specs.declared.refusal.StepError.{StepError}
-use Rattle.doc_hub_replies.specs.declared.response.Edit.{Edit}
-use Rattle.doc_hub_replies.specs.declared.response.Edit.TheVariants as edits
-use Rattle.doc_hub_replies.proofs.AnswerEdits.{answer_can_be_made}
+use Rattle.doc_hub_answers.specs.declared.response.Edit.{Edit}
+use Rattle.doc_hub_answers.specs.declared.response.Edit.TheVariants as edits
+use Rattle.doc_hub_answers.proofs.AnswerEdits.{answer_can_be_made}
 use Rattle.doc_hub.proofs.SiteLaws.{made_site, refused_step}
 
 module _ (render : Renders) (w v : World) where

@@ -12,11 +12,11 @@ use Rattle.doc_http.proofs.LawLemmas.{read_in_one_way}
 use Rattle.doc_http.specs.Replies.{reply_bytes}
 use Rattle.doc_http_targets.specs.Targets.{Route, route_of}
 use Rattle.doc_http_targets.specs.Targets as routes
-use Rattle.doc_hub_replies.specs.declared.answer.Answer.{Answer}
+use Rattle.doc_hub_answers.specs.declared.answer.Answer.{Answer}
 use Rattle.doc_hub.specs.declared.connection.Connection.{Connection}
 use Rattle.doc_hub.specs.declared.event.Step.{Step}
-use Rattle.doc_hub_replies.specs.declared.method.Method.{Method}
-use Rattle.doc_hub_replies.specs.declared.method.Method.TheVariants.{Get, Head, Put, Delete, Other}
+use Rattle.doc_hub_answers.specs.declared.method.Method.{Method}
+use Rattle.doc_hub_answers.specs.declared.method.Method.TheVariants.{Get, Head, Put, Delete, Other}
 use Rattle.doc_hub.specs.declared.refusal.StepError.{StepError}
 use Rattle.doc_hub_replies.specs.Edits.{puts_left}
 use Rattle.doc_hub_replies.specs.Replies.{Renders, Response, answer_of, at_route, edit_at, edit_page, method_of, on_route, only_reply, put_by}

@@ -20,13 +20,13 @@ use Rattle.doc_hub_replies.specs.Edits.{store_after}
 use Rattle.doc_hub_replies.specs.Replies.{Renders}
 use Rattle.doc_hub.specs.Worlds.{Answers, Stays, Steps, StepsAt, World, answer_in, step_said, stepped_by, with_finished, with_store}
 use Rattle.doc_hub.specs.Worlds.{world_after, world_moved, world_put, world_removed}
-use Rattle.doc_hub_replies.specs.declared.answer.Answer.{Answer}
+use Rattle.doc_hub_answers.specs.declared.answer.Answer.{Answer}
 use Rattle.doc_hub.specs.declared.connection.Connection.{Connection}
 use Rattle.doc_hub.specs.declared.event.Step.{Step}
 use Rattle.doc_hub.specs.declared.event.Step.TheVariants as steps
 use Rattle.doc_hub.specs.declared.refusal.StepError.{StepError}
-use Rattle.doc_hub_replies.specs.declared.response.Edit.{Edit}
-use Rattle.doc_hub_replies.specs.declared.response.Edit.TheVariants as edits
+use Rattle.doc_hub_answers.specs.declared.response.Edit.{Edit}
+use Rattle.doc_hub_answers.specs.declared.response.Edit.TheVariants as edits
 
 -- without stamps
 abbrev bare : StoreState → StoreState

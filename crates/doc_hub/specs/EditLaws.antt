@@ -11,8 +11,8 @@ use Rattle.doc_hub.specs.declared.event.Event.{Event}
 use Rattle.doc_hub.specs.declared.event.Event.TheVariants as events
 use Rattle.doc_hub.specs.declared.outcome.Outcome.{Outcome}
 use Rattle.doc_hub.specs.declared.outcome.Outcome.TheVariants as outcomes
-use Rattle.doc_hub_replies.specs.declared.response.Edit.{Edit}
-use Rattle.doc_hub_replies.specs.declared.response.Edit.TheVariants as edits
+use Rattle.doc_hub_answers.specs.declared.response.Edit.{Edit}
+use Rattle.doc_hub_answers.specs.declared.response.Edit.TheVariants as edits
 use Rattle.doc_hub_replies.specs.Replies.{Renders}
 use Rattle.doc_hub.specs.Worlds.{World, answer_in}
 use Rattle.doc_hub.specs.Runs.{Happened, Runs}

@@ -13,8 +13,8 @@ use Rattle.doc_hub.specs.declared.event.ConnId.{ConnId}
 use Rattle.doc_hub.specs.declared.event.Event.TheVariants as events
 use Rattle.doc_hub.specs.declared.event.Step.{Step}
 use Rattle.doc_hub.specs.declared.refusal.StepError.{StepError}
-use Rattle.doc_hub_replies.specs.declared.response.Edit.{Edit}
-use Rattle.doc_hub_replies.specs.declared.response.Edit.TheVariants as edits
+use Rattle.doc_hub_answers.specs.declared.response.Edit.{Edit}
+use Rattle.doc_hub_answers.specs.declared.response.Edit.TheVariants as edits
 use Rattle.doc_hub_replies.specs.Replies.{Renders}
 use Rattle.doc_hub.specs.Runs.{Happens}
 use Rattle.doc_hub.specs.Worlds.{World, answer_in, store_of}

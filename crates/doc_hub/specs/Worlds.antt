@@ -21,7 +21,7 @@ use Rattle.doc_http.specs.declared.request.Next.TheVariants as nexts
 use Rattle.doc_hub.specs.Connections.{Connections, new_connection, pushed, finished}
 use Rattle.doc_hub_replies.specs.Edits.{puts_left, store_after}
 use Rattle.doc_hub_replies.specs.Replies.{Renders, answer_of, fault_bytes}
-use Rattle.doc_hub_replies.specs.declared.answer.Answer.{Answer}
+use Rattle.doc_hub_answers.specs.declared.answer.Answer.{Answer}
 use Rattle.doc_hub.specs.declared.connection.Connection.{Connection}
 use Rattle.doc_hub.specs.declared.event.ConnId.{ConnId}
 use Rattle.doc_hub.specs.declared.event.Step.{Step}

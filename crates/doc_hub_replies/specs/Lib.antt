@@ -1,4 +1,4 @@
-pub mod AnswerSteps
-pub mod Counts
-pub mod Edits
-pub mod Replies
+pub use Rattle.doc_hub_answers.specs.AnswerSteps
+pub use Rattle.doc_hub_answers.specs.Counts
+pub use Rattle.doc_hub_answers.specs.Edits
+pub use Rattle.doc_hub_answers.specs.Replies

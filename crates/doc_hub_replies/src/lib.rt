@@ -1,12 +1,8 @@
-//! The reply to each request, from what its reader may see, and the edit that goes with it.
+//! The reply to each request, and the edit that goes with it: who asks, by the token, and what is asked, by the route.
+//!
+//! What a known reader gets at a route is of `doc_hub_answers`, whose answers and edits stand under this name too.
 #![tactic(auto)]
 
-pub mod answer;
-mod edits;
-mod exchange;
-mod goals;
-mod lists;
-mod method;
-mod reading;
-pub mod response;
 pub mod serving;
+
+pub use doc_hub_answers::{answer, response};

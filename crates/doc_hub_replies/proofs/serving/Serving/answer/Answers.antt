@@ -1,10 +1,10 @@
 use Rattle.std.proofs.Common.{Some, ap, ◌∙◌}
 use Rattle.doc_store.specs.Sites.{view_of}
 use Rattle.doc_http_targets.specs.Targets.{route_of, route_shown}
-use Rattle.doc_hub_replies.specs.AnswerSteps.{entry_of}
-use Rattle.doc_hub_replies.specs.Edits.{puts_left}
-use Rattle.doc_hub_replies.specs.Replies.{at_route}
-use Rattle.doc_hub_replies.proofs.AnswerSteps.{answered_so, refused_so, routed, unknown, unrouted}
+use Rattle.doc_hub_answers.specs.AnswerSteps.{entry_of}
+use Rattle.doc_hub_answers.specs.Edits.{puts_left}
+use Rattle.doc_hub_answers.specs.Replies.{at_route}
+use Rattle.doc_hub_answers.proofs.AnswerSteps.{answered_so, refused_so, routed, unknown, unrouted}
 use Rattle.doc_hub_replies.proofs.serving.Serving.answer.Goals as goal
 
 pub returns-in_default-clause-answer : goal.returns-in_default-clause-answer

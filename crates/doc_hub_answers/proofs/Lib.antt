@@ -1,0 +1,5 @@
+pub mod AnswerEdits
+pub mod AnswerSteps
+pub mod OwnerSteps
+mod PutSteps
+mod ReadingSteps

@@ -1,0 +1,48 @@
+-- What is said of answers as they are made.
+use Rattle.std.specs.Prelude.{◌≡◌, ℕ, List, Bool, true, false, Option, Some, option_and_then, Result, Ok, Err}
+use Rattle.std.specs.FinMap as map
+use Rattle.doc_page.specs.declared.failure.Memory.{Memory}
+use Rattle.doc_store.specs.Readers.{ReaderTable}
+use Rattle.doc_store.specs.Store.{StoreState}
+use Rattle.doc_store.specs.declared.reader.Reader.{Reader}
+use Rattle.doc_http.specs.Bearers.{bearer_of}
+use Rattle.doc_http.specs.Replies.{reply_bytes}
+use Rattle.doc_http.specs.declared.request.Request.{Request}
+use Rattle.doc_hub_answers.specs.declared.answer.Answer.{Answer}
+use Rattle.doc_hub_answers.specs.declared.exchange.Exchange.{Exchange}
+use Rattle.doc_hub_answers.specs.declared.method.Method.{Method}
+use Rattle.doc_hub_answers.specs.declared.method.Method.TheVariants.{Head}
+use Rattle.doc_hub_answers.specs.declared.response.Edit.{Edit}
+use Rattle.doc_hub_answers.specs.Edits.{store_after}
+use Rattle.doc_hub_answers.specs.Replies.{Response}
+
+-- the entry of a request's token
+abbrev pub entry_of : ReaderTable → Request → Option Reader
+entry_of readers request = option_and_then (map.get readers) (bearer_of request)
+
+-- whether the reply to the method is its head alone
+abbrev pub is_head : Method → Bool
+is_head Head = true
+is_head _ = false
+
+-- a response as it is sent in an exchange
+abbrev pub sent_in : Exchange → Response → Answer
+sent_in exchange response =
+    record {
+      bytes = reply_bytes response.reply (is_head exchange.method) exchange.close;
+      closes = exchange.close;
+      edit = response.edit;
+    }
+
+-- an answer after an edit
+abbrev pub after_edit : Answer → Edit → Answer
+after_edit answer edit = record { bytes = answer.bytes; closes = answer.closes; edit = Some edit }
+
+-- A request with this body got this answer, and its edit was made; or memory ran out, and the store is as it was.
+abbrev pub AnsweredSo : List ℕ → StoreState → Answer → StoreState → Result Answer Memory → Type 0
+AnsweredSo text old answer new (Ok told) = (told ≡ answer) × (new ≡ store_after old text told.edit)
+AnsweredSo text old answer new (Err e) = new ≡ old
+
+-- the same by a response
+abbrev pub Answered : Exchange → StoreState → Response → StoreState → Result Answer Memory → Type 0
+Answered exchange old response new result = AnsweredSo exchange.request.now.body old (sent_in exchange response) new result

@@ -1,0 +1,4 @@
+pub mod AnswerSteps
+pub mod Counts
+pub mod Edits
+pub mod Replies

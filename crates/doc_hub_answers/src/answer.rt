@@ -1,0 +1,44 @@
+//! What a request or a fault is answered.
+
+ghost use Rattle.std.specs.Prelude.{◌≡◌, IsTrue, IfOk};
+ghost use Rattle.doc_http.specs.Laws.{is_fault_code};
+ghost use Rattle.doc_hub_answers.specs.AnswerSteps.{after_edit};
+ghost use Rattle.doc_hub_answers.specs.Replies.{fault_bytes};
+
+use crate::response::Edit;
+use doc_heap::Heap;
+use doc_http::reply_form::ReplyForm;
+use doc_http::status::Status;
+use doc_page::bytes::Bytes;
+use doc_page::failure::Memory;
+
+/// A reply as it is sent.
+#[derive(Debug, Drop)]
+pub struct Answer {
+    pub bytes: Bytes,
+    /// Whether the connection closes after it.
+    pub closes: bool,
+    /// What was made of the site before it is sent.
+    pub edit: Option<Edit>,
+}
+
+impl Answer {
+    /// The answer after an edit, which was made.
+    pub fn after(self, edit: Edit) -> Answer
+        ensures { result ≡ after_edit self edit }
+    {
+        Answer {
+            bytes: self.bytes,
+            closes: self.closes,
+            edit: Some(edit),
+        }
+    }
+}
+
+/// The bytes for what is no request, after which the connection closes.
+pub fn answer_to_fault(heap: Heap, code: u16, bare: bool) -> Result<Bytes, Memory>
+    requires { IsTrue (is_fault_code code) }
+    ensures { IfOk result (λ bytes. bytes ≡ fault_bytes code bare) }
+{
+    ReplyForm::Status(Status::of_fault(code)).write(heap, bare, true)
+}

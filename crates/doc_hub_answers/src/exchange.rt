@@ -1,0 +1,72 @@
+//! One request, and how the reply to it is written.
+
+ghost use Rattle.std.specs.Prelude.{◌≡◌, IfOk, None};
+ghost use Rattle.doc_http.specs.ReplyForms.{code_of, content_reply, reply_of};
+ghost use Rattle.doc_hub_answers.specs.AnswerSteps.{is_head, sent_in};
+ghost use Rattle.doc_hub_answers.specs.Replies.{only_reply, refused};
+
+use crate::answer::Answer;
+use crate::method::Method;
+use doc_heap::Heap;
+use doc_http::reply::write_content;
+use doc_http::reply_form::ReplyForm;
+use doc_http::request::Request;
+use doc_http::status::Status;
+use doc_page::bytes::Bytes;
+use doc_page::failure::Memory;
+use doc_page::text::Text;
+
+/// A request, and how the reply to it is written.
+#[derive(Clone, Copy)]
+pub struct Exchange<'a> {
+    pub heap: Heap,
+    pub request: &'a Request,
+    /// The request's.
+    pub method: Method,
+    /// Whether the connection closes after the reply.
+    pub close: bool,
+}
+
+impl Exchange<'_> {
+    /// Whether the reply is its head alone.
+    pub fn head_only(&self) -> bool
+        ensures { result ≡ is_head self.now.method }
+    {
+        self.method.is_head()
+    }
+
+    /// The answer that these bytes are, after no edit.
+    pub fn sent(&self, bytes: Bytes) -> Answer
+        ensures { result ≡ record { bytes = bytes; closes = self.now.close; edit = None } }
+    {
+        Answer {
+            bytes,
+            closes: self.close,
+            edit: None,
+        }
+    }
+
+    /// The answer that is this reply, after no edit.
+    pub fn reply(&self, form: ReplyForm) -> Result<Answer, Memory>
+        ensures { IfOk result (λ a. a ≡ sent_in self.now (only_reply (reply_of form))) }
+    {
+        Ok(self.sent(form.write(self.heap, self.head_only(), self.close)?))
+    }
+
+    /// The answer that is this text, HTML or else plain, after no edit.
+    pub fn content(&self, html: bool, text: &Text) -> Result<Answer, Memory>
+        ensures { IfOk result
+            (λ a. a ≡ sent_in self.now (only_reply (content_reply html text.now))) }
+    {
+        let bytes = text.get().as_bytes();
+        let reply = write_content(self.heap, html, bytes, self.head_only(), self.close)?;
+        Ok(self.sent(reply))
+    }
+
+    /// The answer that says no more than a status, after no edit.
+    pub fn status(&self, status: Status) -> Result<Answer, Memory>
+        ensures { IfOk result (λ a. a ≡ sent_in self.now (refused (code_of status))) }
+    {
+        self.reply(ReplyForm::Status(status))
+    }
+}

@@ -1,0 +1,42 @@
+//! Where a path leads at which a reader sees no page.
+
+ghost use Rattle.std.specs.Prelude.{◌≡◌, IfOk};
+ghost use Rattle.doc_http.specs.ReplyForms.{reply_of};
+ghost use Rattle.doc_hub_answers.specs.Replies.{goal_reply, moved_reply};
+
+use doc_heap::{Heap, String};
+use doc_http::reply_form::ReplyForm;
+use doc_http::status::Status;
+use doc_page::failure::Memory;
+use doc_page::path::Path;
+use doc_page::sight::Sight;
+use doc_page::text::Text;
+use doc_resolve::encoding::push_encoded_path;
+
+/// The reply at a path where the reader sees no page: 301 where the path is an alias of a page that they see, and else 404. The
+/// front is that of the route, as `/page/`.
+pub fn goal_reply<S: Sight>(
+    heap: Heap,
+    front: &str,
+    path: &Path,
+    sight: &S,
+) -> Result<ReplyForm, Memory>
+    ensures { IfOk result
+        (λ form. reply_of form ≡ goal_reply front.now (S.goals sight.now path.now)) }
+{
+    match sight.goal(path) {
+        Some(goal) => moved_reply(heap, front, goal),
+        None => Ok(ReplyForm::Status(Status::NotFound)),
+    }
+}
+
+/// The page stands under this path now. Of most paths no byte has to be encoded.
+fn moved_reply(heap: Heap, front: &str, goal: &Path) -> Result<ReplyForm, Memory>
+    ensures { IfOk result (λ form. reply_of form ≡ moved_reply front.now goal.now) }
+{
+    let room = front.len().saturating_add(goal.text().len());
+    let mut location = String::with_capacity(heap, room)?;
+    location.push_str(front)?;
+    push_encoded_path(&mut location, goal.text())?;
+    Ok(ReplyForm::Moved(Text::new(location)))
+}

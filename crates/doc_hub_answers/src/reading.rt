@@ -1,0 +1,42 @@
+//! What a reader gets of a page.
+
+ghost use Rattle.std.specs.Prelude.{◌≡◌, IfOk, Some};
+ghost use Rattle.doc_store.specs.Sites.{view_of};
+ghost use Rattle.doc_http_targets.specs.WrittenPaths.{path_written};
+ghost use Rattle.doc_hub_answers.specs.AnswerSteps.{sent_in};
+ghost use Rattle.doc_hub_answers.specs.Replies.{at_path, only_reply};
+
+use crate::answer::Answer;
+use crate::exchange::Exchange;
+use crate::goals::goal_reply;
+use doc_http::status::Status;
+use doc_http_targets::written_path::written_path;
+use doc_page::failure::Memory;
+use doc_page::renderer::Renderer;
+use doc_shelf::Shelf;
+use doc_store::reader::Reader;
+
+/// The answer to GET and HEAD of the page that the rest of a target writes: the page as the reader sees
+/// it, or where it stands now, where the path is an alias of a page that they see; what they don't see is
+/// not found.
+pub fn answer_at<R: Renderer + Drop>(
+    exchange: &Exchange,
+    shelf: &mut Shelf<R>,
+    reader: &Reader,
+    rest: &str,
+) -> Result<Answer, Memory>
+    ensures answer { IfOk result (λ a. a ≡ sent_in exchange.now
+        (only_reply (at_path (R.page shelf.old.0) (view_of shelf.old.1.site (Some reader.now))
+        (path_written rest.now)))) }
+    ensures same { shelf.new ≡ shelf.old }
+{
+    let Some(path) = written_path(exchange.heap, rest)? else {
+        return exchange.status(Status::NotFound);
+    };
+    let shown = shelf.page(&path, reader, exchange.head_only(), exchange.close)?;
+    let Some(bytes) = shown else {
+        let sight = shelf.store().sight(reader);
+        return exchange.reply(goal_reply(exchange.heap, "/page/", &path, &sight)?);
+    };
+    Ok(exchange.sent(bytes))
+}

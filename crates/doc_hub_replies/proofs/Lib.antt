@@ -1,5 +1,0 @@
-pub mod AnswerEdits
-mod AnswerSteps
-pub mod OwnerSteps
-mod PutSteps
-mod ReadingSteps
