@@ -9,7 +9,7 @@ use Rattle.doc_links.specs.declared.answers.Broken.{Broken}
 use Rattle.doc_links.specs.declared.answers.Entry.{Entry}
 use Rattle.doc_links.specs.declared.answers.Reason.{Reason}
 use Rattle.doc_links.specs.declared.answers.Reason.TheVariants as reasons
-use Rattle.doc_words.specs.declared.hit.Hit.{Hit}
+use Rattle.doc_words_search.specs.declared.hit.Hit.{Hit}
 use Rattle.doc_listings.specs.Listings.{backlinks_text, contents_text, entry_lines, heading_line, hits_text, report_text}
 
 -- ---- contents

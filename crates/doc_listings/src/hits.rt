@@ -7,7 +7,7 @@ ghost use Rattle.doc_listings.specs.Listings.{hit_line, hits_text};
 use crate::number::{MOST_DIGITS, push_number};
 use doc_heap::{Heap, String};
 use doc_page::failure::Memory;
-use doc_words::hit::Hit;
+use doc_words_search::hit::Hit;
 
 /// Writes a line for each page that a search found: its score, a tab, and its path.
 #[tactic(auto, unfolding(crate::specs::Listings::hits_text), using(doc_page::proofs::BufferSteps::front_same, doc_page::proofs::BufferSteps::front_more))]

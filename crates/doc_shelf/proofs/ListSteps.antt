@@ -30,7 +30,7 @@ use Rattle.doc_store.specs.Sites.{View, goal_in, page_at}
 use Rattle.doc_store.specs.Store.{StoreState, IsStore, is_goal}
 use Rattle.doc_store.specs.declared.reader.Reader.{Reader}
 use Rattle.doc_words.specs.Searches.{search, pages_of as pages_with_words}
-use Rattle.doc_words.specs.declared.hit.Hit.{Hit}
+use Rattle.doc_words_search.specs.declared.hit.Hit.{Hit}
 
 nothing : (page : Page) → None ≡ Some page → ⊥
 nothing page e = cc

@@ -18,7 +18,7 @@ use Rattle.doc_store.specs.Sites.{Site, View, may_see_at, view_of, visible_to}
 use Rattle.doc_store.specs.Store.{StoreState}
 use Rattle.doc_words.specs.Searches.{best, hits, holders, holds_all, quotient, ranked, score, search}
 use Rattle.doc_words.specs.Words.{capped, count, page_words, word_counts}
-use Rattle.doc_words.specs.declared.hit.Hit.{Hit}
+use Rattle.doc_words_search.specs.declared.hit.Hit.{Hit}
 use Rattle.doc_shelf_views.specs.Held.{held_of, rendered_under}
 use Rattle.doc_shelf_views.specs.Views.{Renders}
 use Rattle.doc_shelf_views.proofs.HeldLaws.{get-held_of}

@@ -12,7 +12,7 @@ use Rattle.doc_page.specs.declared.rendered.Rendered.{Rendered}
 use Rattle.doc_store.specs.Sites.{View, goal_in}
 use Rattle.doc_words.specs.Searches.{search}
 use Rattle.doc_words.specs.Words.{word_counts}
-use Rattle.doc_words.specs.declared.hit.Hit.{Hit}
+use Rattle.doc_words_search.specs.declared.hit.Hit.{Hit}
 
 -- what a renderer makes of each text
 abbrev pub Renders : Type 0

@@ -1,5 +1,3 @@
-pub mod Held
-pub mod SearchSteps
-pub mod Searches
-pub mod Words
-pub mod WordSteps
+pub use Rattle.doc_words_search.specs.Held
+pub use Rattle.doc_words_search.specs.Searches
+pub use Rattle.doc_words_text.specs.Words

@@ -3,15 +3,10 @@
 ghost use Rattle.std.specs.Prelude.{◌≡◌, None, IfOk, OnOk, OnErr, length};
 ghost use Rattle.std.specs.FinMap as map;
 ghost use Rattle.doc_page.specs.Sights.{seen};
-ghost use Rattle.doc_words.specs.Held.{counts_or_none};
-ghost use Rattle.doc_words.specs.Searches.{pages_of, search};
-ghost use Rattle.doc_words.specs.Words.{word_counts};
+ghost use Rattle.doc_words_search.specs.Held.{counts_or_none};
+ghost use Rattle.doc_words_search.specs.Searches.{pages_of, search};
+ghost use Rattle.doc_words_text.specs.Words.{word_counts};
 
-use crate::hit::Hit;
-use crate::marking::slots_for;
-use crate::search::{search_among, search_in, seen_among};
-use crate::word::Word;
-use crate::words::counted;
 use doc_heap::Heap;
 use doc_index::index::Index;
 use doc_page::failure::Memory;
@@ -19,6 +14,11 @@ use doc_page::list::List;
 use doc_page::path::Path;
 use doc_page::rendered::Rendered;
 use doc_page::sight::Sight;
+use doc_words_search::hit::Hit;
+use doc_words_search::marking::slots_for;
+use doc_words_search::search::{search_among, search_in, seen_among};
+use doc_words_text::word::Word;
+use doc_words_text::words::counted;
 use std::marker::Model;
 
 /// Pages, each held under a path and a stamp with the counts of its words. Contracts see the map.
@@ -39,7 +39,7 @@ impl Model for WordIndex {
     ghost use Rattle.std.specs.Coded.{coded×, coded_list, coded_ℕ};
     ghost use Rattle.std.specs.FinMap as map;
     ghost use Rattle.doc_index.specs.Maps.{PairMap, TextMap};
-    ghost use Rattle.doc_words.specs.Held.{words_held};
+    ghost use Rattle.doc_words_search.specs.Held.{words_held};
 
     ghost Value = { PairMap (TextMap ℕ) };
 

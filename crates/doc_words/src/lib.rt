@@ -1,16 +1,11 @@
-//! Words of pages and queries, and the search for pages by words.
+//! An index of words: pages held under a path and a stamp with the counts of their words, and the search for those that hold each
+//! word of a query, among the pages that a reader sees.
 //!
-//! A word is a run of letters, marks and numbers with its case folded. A page is held under a path and a stamp with the
-//! counts of its words; a search finds the pages that hold each word of a query, among those that a reader sees.
+//! What a word is and how words are read stands in `doc_words_text`, and the search itself in `doc_words_search`; hits, queries and
+//! words can be named here too.
 #![tactic(auto)]
 
-mod characters;
-mod counter;
-pub mod hit;
 pub mod index;
-mod marking;
-pub mod query;
-mod search;
-mod weighing;
-pub mod word;
-pub mod words;
+
+pub use doc_words_search::hit;
+pub use doc_words_text::{query, word, words};

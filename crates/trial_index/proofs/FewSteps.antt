@@ -7,7 +7,7 @@ use Rattle.std.specs.Ordering.{is_lt}
 use Rattle.std.proofs.lemmas.List.{length-map, length-take}
 use Rattle.doc_index.specs.Maps.{TextMap}
 use Rattle.doc_words.specs.Searches.{hits, holds_all, placed, rank_cmp, ranked, search}
-use Rattle.doc_words.specs.declared.hit.Hit.{Hit}
+use Rattle.doc_words_search.specs.declared.hit.Hit.{Hit}
 
 length_placed : (hit : Hit) (found : List Hit) → length (placed hit found) ≡ suc (length found)
 length_placed hit [] = refl

@@ -1,7 +1,7 @@
 use Rattle.std.proofs.Common.{ap, ap₂, ◌∙◌}
 use Rattle.std.specs.FinMap as map
 use Rattle.doc_index.proofs.TableSteps.{on_ok}
-use Rattle.doc_words.proofs.HeldSteps.{none_held, words_inserted}
+use Rattle.doc_words_search.proofs.HeldSteps.{none_held, words_inserted}
 use Rattle.doc_words.proofs.index.WordIndex.add.Goals as goal
 
 pub add-requires : goal.add-requires

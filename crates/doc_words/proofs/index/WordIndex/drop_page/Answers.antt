@@ -1,6 +1,6 @@
 use Rattle.std.proofs.Common.{ap, ◌∙◌}
 use Rattle.std.specs.FinMap as map
-use Rattle.doc_words.proofs.HeldSteps.{is_held, words_removed}
+use Rattle.doc_words_search.proofs.HeldSteps.{is_held, words_removed}
 use Rattle.doc_words.proofs.index.WordIndex.drop_page.Goals as goal
 
 pub returns-clause-answer : goal.returns-clause-answer

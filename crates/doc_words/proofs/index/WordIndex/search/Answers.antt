@@ -1,9 +1,9 @@
 use Rattle.std.proofs.Common.{ap, length, sym, ◌∙◌}
 use Rattle.doc_page.specs.Sights.{seen}
-use Rattle.doc_words.specs.Searches.{pages_of, search}
-use Rattle.doc_words.specs.SearchSteps.{pages_at}
-use Rattle.doc_words.proofs.HeldSteps.{pages_in_order}
-use Rattle.doc_words.proofs.SearchSteps.{seen_full, seen_pages, told}
+use Rattle.doc_words_search.specs.Searches.{pages_of, search}
+use Rattle.doc_words_search.specs.SearchSteps.{pages_at}
+use Rattle.doc_words_search.proofs.HeldSteps.{pages_in_order}
+use Rattle.doc_words_search.proofs.SearchSteps.{seen_full, seen_pages, told}
 use Rattle.doc_words.proofs.index.WordIndex.search.Goals as goal
 
 pub search_among-requires : goal.search_among-requires

@@ -1,9 +1,9 @@
 use Rattle.std.proofs.Common.{ap, subst, ◌∙◌}
 use Rattle.doc_page.specs.Sights.{seen}
-use Rattle.doc_words.specs.Searches.{pages_of}
-use Rattle.doc_words.specs.SearchSteps.{AgreeFor, pages_at, search_by}
-use Rattle.doc_words.proofs.AgreeSteps.{agree_for_seen, same_search}
-use Rattle.doc_words.proofs.SearchSteps.{seen_pages, told}
+use Rattle.doc_words_search.specs.Searches.{pages_of}
+use Rattle.doc_words_search.specs.SearchSteps.{AgreeFor, pages_at, search_by}
+use Rattle.doc_words_search.proofs.AgreeSteps.{agree_for_seen, same_search}
+use Rattle.doc_words_search.proofs.SearchSteps.{seen_pages, told}
 use Rattle.doc_words.proofs.index.WordIndex.search_among.Goals as goal
 
 pub returns : goal.returns

@@ -1,9 +1,0 @@
-pub mod AgreeSteps
-pub mod CountSteps
-mod Examples
-pub mod HeldSteps
-pub mod MapSteps
-pub mod MarkSteps
-pub mod RankSteps
-pub mod RunSteps
-pub mod SearchSteps

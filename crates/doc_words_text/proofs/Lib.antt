@@ -1,0 +1,4 @@
+pub mod CountSteps
+mod Examples
+pub mod MapSteps
+pub mod RunSteps
