@@ -9,9 +9,10 @@ use Rattle.doc_index.specs.declared.held.Held.{Held}
 use Rattle.doc_index.proofs.HeldSteps.{pairs_exact, pairs_total}
 use Rattle.doc_index.proofs.TableSteps.{on_ok}
 use Rattle.doc_page.specs.Sights.{leads_to_itself, seen}
-use Rattle.doc_links.specs.IndexSteps.{page_in, with_values, without_counts}
-use Rattle.doc_links.specs.PageLinks.{pages_of}
-use Rattle.doc_links.specs.declared.page_links.PageLinks.{PageLinks}
+use Rattle.doc_links_seen.specs.SeenSteps.{page_in}
+use Rattle.doc_links.specs.IndexSteps.{with_values, without_counts}
+use Rattle.doc_links_pages.specs.PageLinks.{pages_of}
+use Rattle.doc_links_pages.specs.declared.page_links.PageLinks.{PageLinks}
 use Rattle.doc_links.proofs.MapSteps.{empty_with, entries_with, get_with, insert_with, remove_with}
 
 abbrev value_of : Known PageLinks → PageLinks

@@ -1,43 +1,15 @@
 -- Pages that are held with the counts of the paths that their links write.
-use Rattle.std.proofs.Common.{◌≡◌, ℕ, ◌+◌, List, [], Bool, true, false, cond, refl, ap, arith, sym, subst, ◌∙◌}
-use Rattle.std.specs.Prelude.{Option, Some, None, Result, Ok, Err, OnOk, OnErr, bytes_eq, unwrap_or}
-use Rattle.std.specs.Cmp.Lexicographic.{slice_cmp}
+use Rattle.std.proofs.Common.{◌≡◌, ℕ, List, [], Bool, true, false, cond, ap, sym, subst, ◌∙◌}
+use Rattle.std.specs.Prelude.{Option, Some, None, Result, Ok, Err, OnOk, OnErr}
 use Rattle.std.specs.FinMap as map
-use Rattle.std.specs.Ordering.{eq_by_cmp, nat_cmp}
-use Rattle.std.proofs.lemmas.Cmp.{nat_list_cmp_total}
-use Rattle.std.proofs.lemmas.Map.Lookups.{exact_bytes}
-use Rattle.std.proofs.lemmas.Map.Text.{is_eq-slice_cmp}
+use Rattle.std.specs.Ordering.{eq_by_cmp}
 use Rattle.doc_index.specs.declared.held.Held.{Held}
 use Rattle.doc_index.specs.Held.{Known, held}
-use Rattle.doc_index.specs.Maps.{TextMap, pair_cmp}
+use Rattle.doc_index.specs.Maps.{pair_cmp}
 use Rattle.doc_index.proofs.HeldSteps.{not_some, pairs_total, some_is}
-use Rattle.doc_index.proofs.TableSteps.{equal_from}
-use Rattle.doc_links.specs.IndexSteps.{AreKeyed, HasKeys, count_at}
-use Rattle.doc_links.specs.declared.page_links.PageLinks.{PageLinks}
-
-none_less : (n : ℕ) → n ≡ n + 0
-none_less n = omega arith
-
-pub same_bytes : (x y : List ℕ) → bytes_eq x y ≡ true → x ≡ y
-same_bytes x y e = exact_bytes x y (equal_from (slice_cmp nat_cmp x y) (is_eq-slice_cmp x y ∙ e))
-
--- at first nothing is counted
-pub none_counted : (path : List ℕ) → count_at map.empty path ≡ 0
-none_counted path = ap (λ o. unwrap_or o 0) (map.get-empty (slice_cmp nat_cmp) path)
-
--- a path is counted once more
-pub one_counted : (old new : TextMap ℕ) (written : List ℕ) → new ≡ map.insert old written (count_at old written + 1) → (path : List ℕ)
-    → count_at new path ≡ count_at old path + cond (bytes_eq path written) 1 0
-one_counted old new written is path =
-    ap (λ m. count_at m path) is
-    ∙ ap (λ o. unwrap_or o 0) (map.get-insert nat_list_cmp_total old written (count_at old written + 1) path)
-    ∙ ap (λ b. unwrap_or (cond b (Some (count_at old written + 1)) (map.get old path)) 0) (is_eq-slice_cmp path written)
-    ∙ by (bytes_eq path written) refl
-  where
-    by : (b : Bool) → bytes_eq path written ≡ b
-        → unwrap_or (cond b (Some (count_at old written + 1)) (map.get old path)) 0 ≡ count_at old path + cond b 1 0
-    by true e = ap (λ p. count_at old p + 1) (sym (same_bytes path written e))
-    by false e = none_less (count_at old path)
+use Rattle.doc_links.specs.IndexSteps.{AreKeyed}
+use Rattle.doc_links_pages.specs.KnownSteps.{HasKeys}
+use Rattle.doc_links_pages.specs.declared.page_links.PageLinks.{PageLinks}
 
 pub keyed_none : AreKeyed []
 keyed_none k page at = absurd (not_some page (sym (map.get-empty pair_cmp k) ∙ at))

@@ -1,5 +1,3 @@
-pub mod AnswerSteps
-mod Examples
 pub mod HeldSteps
 pub mod KeySteps
 pub mod MapSteps

@@ -21,14 +21,17 @@ use Rattle.doc_page.proofs.Maps.{entries_in_order}
 use Rattle.doc_page.specs.Sights.{leads_to_itself, seen}
 use Rattle.doc_resolve.specs.declared.link_kind.LinkKind.{LinkKind}
 use Rattle.doc_resolve.specs.declared.link_kind.LinkKind.TheVariants.{External, Page, Nowhere}
-use Rattle.doc_links.specs.IndexSteps.{AreKeyed, HasKeys, IsInOrder, IsTally, count_at, goes_to, if_seen, sources_of, without_counts, written_at}
-use Rattle.doc_links.specs.Links.{backlinks, page_at}
-use Rattle.doc_links.specs.Names.{AreNames, is_written, writes}
-use Rattle.doc_links.specs.PageLinks.{IsOnce, pages_of}
-use Rattle.doc_links.specs.declared.page_links.PageLinks.{PageLinks}
+use Rattle.doc_links.specs.IndexSteps.{AreKeyed, IsTally, goes_to, if_seen, sources_of, without_counts, written_at}
+use Rattle.doc_links_pages.specs.KnownSteps.{HasKeys, count_at}
+use Rattle.doc_links_seen.specs.SeenSteps.{IsInOrder}
+use Rattle.doc_links_pages.specs.Links.{backlinks, page_at}
+use Rattle.doc_links_pages.specs.Names.{AreNames, is_written, writes}
+use Rattle.doc_links_pages.specs.PageLinks.{IsOnce, pages_of}
+use Rattle.doc_links_pages.specs.declared.page_links.PageLinks.{PageLinks}
 use Rattle.doc_links.proofs.HeldSteps.{entry_at, has_key, pages_are}
-use Rattle.doc_links.proofs.KeySteps.{same_bytes}
-use Rattle.doc_links.proofs.OrderSteps.{path_cmp, seen_in_order}
+use Rattle.doc_links_pages.proofs.CountSteps.{same_bytes}
+use Rattle.doc_links_seen.proofs.SearchSteps.{path_cmp}
+use Rattle.doc_links.proofs.OrderSteps.{seen_in_order}
 use Rattle.doc_links.proofs.SourceSteps.{with_target}
 use Rattle.doc_links.proofs.TallySteps.{bytes_itself, find_before}
 

@@ -1,8 +1,11 @@
 -- Which links lead to a target, and which pages have such links.
-use Rattle.std.proofs.Common.{◌≡◌, ℕ, List, [], ◌∷◌, ◌++◌, Bool, true, false, cond, ◌&&◌, ◌==◌, not, is_some, refl, ap, sym, ◌∙◌}
-use Rattle.std.specs.Prelude.{Option, Some, None, bytes_eq, count_by, map as mapped, option_and_then}
+use Rattle.std.proofs.Common.{◌≡◌, ℕ, ◌≤◌, List, [], ◌∷◌, ◌++◌, Bool, true, false, cond, ◌&&◌, ◌==◌, length, not, is_some, take, refl, ap, sym, ◌∙◌}
+use Rattle.std.specs.Prelude.{Option, Some, None, bytes_eq, count_by, map as mapped, option_and_then, option_map}
 use Rattle.std.specs.Option.{unwrap_or}
 use Rattle.std.specs.List.{filter, flat_map}
+use Rattle.std.proofs.lemmas.Bool.{both_ways}
+use Rattle.std.proofs.lemmas.List.{take_all}
+use Rattle.std.proofs.lemmas.List.Folds.{flat_map-map}
 use Rattle.std.proofs.lemmas.Map.Lookups.{exact_bytes}
 use Rattle.std.proofs.lemmas.Map.Text.{is_eq-slice_cmp}
 use Rattle.std.specs.Cmp.Lexicographic.{slice_cmp}
@@ -13,8 +16,10 @@ use Rattle.doc_page.specs.Sights.{leads_to_itself}
 use Rattle.doc_resolve.specs.declared.link_kind.LinkKind.{LinkKind}
 use Rattle.doc_resolve.specs.declared.link_kind.LinkKind.TheVariants.{External, Page, Nowhere}
 use Rattle.doc_links.specs.IndexSteps.{goes_to, source_of, sources_of}
-use Rattle.doc_links.specs.Links.{backlinks, is_target, leads_to, page_at}
-use Rattle.doc_links.specs.declared.page_links.PageLinks.{PageLinks}
+use Rattle.doc_links_pages.specs.Links.{backlinks, is_target, leads_to, page_at}
+use Rattle.doc_links_pages.specs.declared.page_links.PageLinks.{PageLinks}
+use Rattle.doc_links_seen.specs.SeenPages.{seen_page, seen_pages}
+use Rattle.doc_links_seen.specs.declared.seen.SeenPage.{SeenPage}
 
 same_bytes : (x y : List ℕ) → bytes_eq x y ≡ true → x ≡ y
 same_bytes x y e = exact_bytes x y (equal_from (slice_cmp nat_cmp x y) (is_eq-slice_cmp x y ∙ e))
@@ -102,3 +107,23 @@ module _ (goals : List ℕ → Option (List ℕ)) (pages : List (List ℕ × Pag
   with_target is =
       sym (ap by_test (tests ∙ ap (λ b. λ link. b && goes_to goals target link) is)
       ∙ listed (λ page. count_by (goes_to goals target) page.links) pages)
+
+-- what a loop over the pages has put together
+module _ (goals : List ℕ → Option (List ℕ)) (pages : List SeenPage) (i : ℕ) (within : length pages ≤ i) where
+  pub all_sources : (target : List ℕ) (all : List (List ℕ × ℕ))
+      → all ≡ flat_map (λ page. source_of page.path.now (count_by (goes_to goals target) page.known.now.links)) (take i pages)
+      → all ≡ sources_of goals target (seen_pages pages)
+  all_sources target all is =
+      is
+      ∙ ap (flat_map (λ (page : SeenPage). source_of page.path.now (count_by (goes_to goals target) page.known.now.links)))
+      (take_all i pages within)
+      ∙ sym (flat_map-map (λ page. source_of page.0 (count_by (goes_to goals target) page.1.links)) seen_page pages)
+
+pub no_page : (page : Option SeenPage) (b : Bool) → is_some page ≡ not b → b ≡ true → option_map seen_page page ≡ None
+no_page None b e is = refl
+no_page (Some page) b e is = absurd (both_ways true (e ∙ ap not is) refl)
+
+pub some_page : (page : Option SeenPage) (b : Bool) → is_some page ≡ not b → b ≡ false → {found : Option (List ℕ × PageLinks)}
+    → option_map seen_page page ≡ found → is_some found ≡ true
+some_page None b e is same = absurd (both_ways false refl (e ∙ ap not is))
+some_page (Some page) b e is same = ap is_some (sym same)

@@ -22,11 +22,12 @@ use Rattle.doc_index.specs.TableSteps.{same_number}
 use Rattle.doc_index.proofs.CountSteps.{number_is, number_itself, text_itself}
 use Rattle.doc_index.proofs.HeldSteps.{not_some, pair_itself, pairs_total, same_pair, some_is}
 use Rattle.doc_page.specs.Sights.{leads_to_itself}
-use Rattle.doc_links.specs.IndexSteps.{AreSingle, IsTally, count_at, if_seen, with_count, with_page, with_row, without_counts, written_at}
-use Rattle.doc_links.specs.PageLinks.{IsOnce}
-use Rattle.doc_links.specs.declared.page_links.PageLinks.{PageLinks}
+use Rattle.doc_links.specs.IndexSteps.{AreSingle, IsTally, if_seen, with_count, with_page, with_row, without_counts, written_at}
+use Rattle.doc_links_pages.specs.KnownSteps.{count_at}
+use Rattle.doc_links_pages.specs.PageLinks.{IsOnce}
+use Rattle.doc_links_pages.specs.declared.page_links.PageLinks.{PageLinks}
 use Rattle.doc_links.proofs.HeldSteps.{has_key}
-use Rattle.doc_links.proofs.KeySteps.{same_bytes}
+use Rattle.doc_links_pages.proofs.CountSteps.{same_bytes}
 use Rattle.doc_links.proofs.MapSteps.{sorted_is}
 
 pub told_in_order : {X E Q : Type 0} {P S : X → Type 0} (r : Result X E) → (Q → (x : X) → P x → S x) → OnOk r Q → IfOk r P → IfOk r S

@@ -4,17 +4,11 @@
 //! of the pages that the reader doesn't see nothing is told, and a link to one of them is as a link to none.
 #![tactic(auto)]
 
-mod answers;
-mod keys;
-mod known;
 mod link_index;
-mod page_links;
-mod report;
-mod seen;
 mod sources;
 mod tally;
 
-pub use answers::{Broken, Entry, Reason};
+pub use doc_links_pages::answers::{Broken, Entry, Reason};
+pub use doc_links_pages::page_links::PageLinks;
+pub use doc_links_seen::seen::SeenPage;
 pub use link_index::LinkIndex;
-pub use page_links::PageLinks;
-pub use seen::SeenPage;

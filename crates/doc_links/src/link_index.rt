@@ -4,20 +4,20 @@ ghost use Rattle.std.specs.Prelude.{◌≡◌, None, IfOk, IsTrue, OnOk, OnErr, 
 ghost use Rattle.std.specs.Prelude.{option_map};
 ghost use Rattle.std.specs.FinMap as map;
 ghost use Rattle.doc_page.specs.Sights.{seen};
-ghost use Rattle.doc_links.specs.Links.{backlinks, broken, contents, page_at};
-ghost use Rattle.doc_links.specs.Names.{AreNames};
-ghost use Rattle.doc_links.specs.PageLinks.{IsOnce, page_links, pages_of};
-ghost use Rattle.doc_links.specs.SeenPages.{seen_pages};
+ghost use Rattle.doc_links_pages.specs.Links.{backlinks, broken, contents, page_at};
+ghost use Rattle.doc_links_pages.specs.Names.{AreNames};
+ghost use Rattle.doc_links_pages.specs.PageLinks.{IsOnce, page_links, pages_of};
+ghost use Rattle.doc_links_seen.specs.SeenPages.{seen_pages};
 
-use crate::answers::{Broken, Entry};
-use crate::keys::keys_of;
-use crate::known::Known;
-use crate::report::broken_in;
-use crate::seen::{SeenPage, entries_of, seen_in};
 use crate::sources::sources_in;
 use crate::tally::tally_of;
 use doc_heap::{Heap, Vec};
 use doc_index::index::Index;
+use doc_links_pages::answers::{Broken, Entry};
+use doc_links_pages::keys::keys_of;
+use doc_links_pages::known::Known;
+use doc_links_seen::report::broken_in;
+use doc_links_seen::seen::{SeenPage, entries_of, seen_in};
 use doc_page::failure::Memory;
 use doc_page::list::List;
 use doc_page::path::Path;
@@ -46,8 +46,8 @@ impl Model for LinkIndex {
     ghost use Rattle.std.specs.Coded.{coded_ℕ, coded_list, coded×};
     ghost use Rattle.std.specs.FinMap as map;
     ghost use Rattle.doc_index.specs.Maps.{PairMap};
-    ghost use Rattle.doc_links.specs.contracts.page_links.PageLinks as one;
-    ghost use Rattle.doc_links.specs.declared.page_links.PageLinks.{PageLinks};
+    ghost use Rattle.doc_links_pages.specs.contracts.page_links.PageLinks as one;
+    ghost use Rattle.doc_links_pages.specs.declared.page_links.PageLinks.{PageLinks};
     ghost use Rattle.doc_links.specs.IndexSteps.{without_counts};
 
     ghost Value = { PairMap PageLinks };

@@ -2,12 +2,13 @@
 
 ghost use Rattle.std.specs.Prelude.{◌≡◌, ◌++◌, ◌==◌, [], ◌∷◌, count_by, IfOk, OnOk, if◌then◌else◌};
 ghost use Rattle.doc_page.specs.Sights.{leads_to_itself};
-ghost use Rattle.doc_links.specs.IndexSteps.{IsInOrder, goes_to, source_of, sources_of};
-ghost use Rattle.doc_links.specs.Links.{backlinks};
-ghost use Rattle.doc_links.specs.SeenPages.{seen_page, seen_pages};
+ghost use Rattle.doc_links_seen.specs.SeenSteps.{IsInOrder};
+ghost use Rattle.doc_links.specs.IndexSteps.{goes_to, source_of, sources_of};
+ghost use Rattle.doc_links_pages.specs.Links.{backlinks};
+ghost use Rattle.doc_links_seen.specs.SeenPages.{seen_page, seen_pages};
 
-use crate::seen::{SeenPage, page_at};
 use doc_heap::{Heap, Vec};
+use doc_links_seen::seen::{SeenPage, page_at};
 use doc_page::failure::Memory;
 use doc_page::list::List;
 use doc_page::path::Path;

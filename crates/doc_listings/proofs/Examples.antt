@@ -5,10 +5,10 @@ use Rattle.percent_encoding.specs.Percent.{percent_encode_byte}
 use Rattle.doc_page.specs.Escaping.{escaped}
 use Rattle.doc_page.specs.declared.rendered.Heading.{Heading}
 use Rattle.doc_page_encoding.specs.Encoding.{encoded, encoded_path}
-use Rattle.doc_links.specs.declared.answers.Broken.{Broken}
-use Rattle.doc_links.specs.declared.answers.Entry.{Entry}
-use Rattle.doc_links.specs.declared.answers.Reason.{Reason}
-use Rattle.doc_links.specs.declared.answers.Reason.TheVariants as reasons
+use Rattle.doc_links_pages.specs.declared.answers.Broken.{Broken}
+use Rattle.doc_links_pages.specs.declared.answers.Entry.{Entry}
+use Rattle.doc_links_pages.specs.declared.answers.Reason.{Reason}
+use Rattle.doc_links_pages.specs.declared.answers.Reason.TheVariants as reasons
 use Rattle.doc_words_search.specs.declared.hit.Hit.{Hit}
 use Rattle.doc_listings.specs.Listings.{backlinks_text, contents_text, entry_lines, heading_line, hits_text, report_text}
 

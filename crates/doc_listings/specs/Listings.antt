@@ -5,10 +5,10 @@ use Rattle.doc_page.specs.Escaping.{escaped}
 use Rattle.doc_page.specs.declared.rendered.Heading.{Heading}
 use Rattle.doc_page_encoding.specs.Encoding.{encoded}
 use Rattle.doc_resolve.specs.Hrefs.{page_href}
-use Rattle.doc_links.specs.declared.answers.Broken.{Broken}
-use Rattle.doc_links.specs.declared.answers.Entry.{Entry}
-use Rattle.doc_links.specs.declared.answers.Reason.{Reason}
-use Rattle.doc_links.specs.declared.answers.Reason.TheVariants as reasons
+use Rattle.doc_links_pages.specs.declared.answers.Broken.{Broken}
+use Rattle.doc_links_pages.specs.declared.answers.Entry.{Entry}
+use Rattle.doc_links_pages.specs.declared.answers.Reason.{Reason}
+use Rattle.doc_links_pages.specs.declared.answers.Reason.TheVariants as reasons
 use Rattle.doc_words_search.specs.declared.hit.Hit.{Hit}
 
 -- ---- contents, in HTML

@@ -9,7 +9,7 @@ ghost use Rattle.doc_listings.specs.Listings.{page_line, page_start};
 
 use crate::number::{MOST_DIGITS, push_number};
 use doc_heap::{Heap, String};
-use doc_links::Entry;
+use doc_links_pages::answers::Entry;
 use doc_page::escaping::push_escaped;
 use doc_page::failure::Memory;
 use doc_page::path::Path;

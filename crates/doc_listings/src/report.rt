@@ -6,7 +6,7 @@ ghost use Rattle.doc_listings.specs.Listings.{broken_line, place_of, reason_name
 
 use crate::number::{MOST_DIGITS, push_number};
 use doc_heap::{Heap, String};
-use doc_links::{Broken, Reason};
+use doc_links_pages::answers::{Broken, Reason};
 use doc_page::failure::Memory;
 
 /// Writes a line for each broken link: the path of its page, its number there, the reason and what it leads to, with tabs between.

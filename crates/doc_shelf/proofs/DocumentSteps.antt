@@ -6,7 +6,7 @@ use Rattle.std.proofs.lemmas.Bool.{both_ways}
 use Rattle.doc_cache.specs.Caches.{Cached, kept as kept_in_cache, looked, text_under}
 use Rattle.doc_cache.specs.declared.key.Key.{Key}
 use Rattle.doc_index.specs.Maps.{PairMap}
-use Rattle.doc_links.specs.declared.page_links.PageLinks.{PageLinks}
+use Rattle.doc_links_pages.specs.declared.page_links.PageLinks.{PageLinks}
 use Rattle.doc_page.specs.Pages.{body_of, filled}
 use Rattle.doc_page.specs.declared.linker.Shown.{Shown}
 use Rattle.doc_page.specs.declared.rendered.Rendered.{Rendered}

@@ -6,9 +6,9 @@ use Rattle.doc_index.specs.Maps.{PairMap, TextMap}
 use Rattle.doc_links.specs.Links.{backlinks, broken, contents, page_at as page_with_links}
 use Rattle.doc_links.specs.Names.{AreNames as WrittenNames}
 use Rattle.doc_links.specs.PageLinks.{IsOnce, pages_of as pages_with_links}
-use Rattle.doc_links.specs.declared.answers.Broken.{Broken}
-use Rattle.doc_links.specs.declared.answers.Entry.{Entry}
-use Rattle.doc_links.specs.declared.page_links.PageLinks.{PageLinks}
+use Rattle.doc_links_pages.specs.declared.answers.Broken.{Broken}
+use Rattle.doc_links_pages.specs.declared.answers.Entry.{Entry}
+use Rattle.doc_links_pages.specs.declared.page_links.PageLinks.{PageLinks}
 use Rattle.doc_listings.specs.Listings.{backlinks_text, contents_text, hits_text, report_text}
 use Rattle.std.proofs.lemmas.Simd.{map-map}
 use Rattle.doc_page.specs.declared.rendered.Rendered.{Rendered}

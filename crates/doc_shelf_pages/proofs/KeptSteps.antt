@@ -6,7 +6,7 @@ use Rattle.std.specs.Result.{is_err}
 use Rattle.doc_index.specs.Maps.{PairMap, TextMap}
 use Rattle.doc_index.proofs.HeldSteps.{pair_is, pairs_exact, pairs_total, same_pair}
 use Rattle.doc_page.specs.declared.rendered.Rendered.{Rendered}
-use Rattle.doc_links.specs.declared.page_links.PageLinks.{PageLinks}
+use Rattle.doc_links_pages.specs.declared.page_links.PageLinks.{PageLinks}
 use Rattle.doc_shelf_pages.specs.KeptPages.{Kept}
 
 -- to let go what was just added under a free key leaves what was there

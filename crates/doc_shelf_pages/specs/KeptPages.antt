@@ -5,7 +5,7 @@ use Rattle.std.specs.FinMap as map
 use Rattle.doc_index.specs.Maps.{PairMap, TextMap}
 use Rattle.doc_page.specs.declared.rendered.Rendered.{Rendered}
 use Rattle.doc_links.specs.PageLinks.{page_links}
-use Rattle.doc_links.specs.declared.page_links.PageLinks.{PageLinks}
+use Rattle.doc_links_pages.specs.declared.page_links.PageLinks.{PageLinks}
 use Rattle.doc_words.specs.Held.{counts_or_none}
 use Rattle.doc_words.specs.Words.{word_counts}
 

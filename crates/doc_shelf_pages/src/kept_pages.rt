@@ -33,7 +33,7 @@ impl Drop for KeptPages {
 }
 
 impl Model for KeptPages {
-    ghost use Rattle.doc_links.specs.contracts.page_links.PageLinks as link_row;
+    ghost use Rattle.doc_links_pages.specs.contracts.page_links.PageLinks as link_row;
     ghost use Rattle.doc_page.specs.contracts.rendered.Rendered as page_row;
     ghost use Rattle.doc_shelf_pages.specs.KeptPages.{Kept, kept_code};
 

@@ -6,7 +6,7 @@ use Rattle.std.proofs.lemmas.Bool.{both_ways}
 use Rattle.std.proofs.lemmas.List.{length-map}
 use Rattle.std.proofs.lemmas.Simd.{map-map}
 use Rattle.doc_links.specs.Links.{is_target, leads_to, page_at as page_with_links}
-use Rattle.doc_links.specs.declared.page_links.PageLinks.{PageLinks}
+use Rattle.doc_links_pages.specs.declared.page_links.PageLinks.{PageLinks}
 use Rattle.doc_resolve.specs.declared.link_kind.LinkKind.TheVariants.{Page as page_link}
 use Rattle.doc_store.proofs.KeySteps.{bytes_eq_is, same_from, same_itself}
 use Rattle.doc_store.proofs.NamesLaw.{names_lead}

@@ -4,9 +4,9 @@ use Rattle.std.specs.Prelude.{ℕ, List, map as mapped}
 use Rattle.doc_index.specs.Maps.{TextMap}
 use Rattle.doc_links.specs.Links.{backlinks, broken, contents}
 use Rattle.doc_links.specs.PageLinks.{page_links}
-use Rattle.doc_links.specs.declared.answers.Broken.{Broken}
-use Rattle.doc_links.specs.declared.answers.Entry.{Entry}
-use Rattle.doc_links.specs.declared.page_links.PageLinks.{PageLinks}
+use Rattle.doc_links_pages.specs.declared.answers.Broken.{Broken}
+use Rattle.doc_links_pages.specs.declared.answers.Entry.{Entry}
+use Rattle.doc_links_pages.specs.declared.page_links.PageLinks.{PageLinks}
 use Rattle.doc_listings.specs.Listings.{backlinks_text, contents_text, hits_text, report_text}
 use Rattle.doc_page.specs.declared.rendered.Rendered.{Rendered}
 use Rattle.doc_store.specs.Sites.{View, goal_in}

@@ -11,7 +11,7 @@ use Rattle.doc_page.specs.Sights.{leads_to_itself, seen}
 use Rattle.doc_links.specs.Links.{page_at}
 use Rattle.doc_links.specs.Names.{AreNames as WrittenNames}
 use Rattle.doc_links.specs.PageLinks.{pages_of}
-use Rattle.doc_links.specs.declared.page_links.PageLinks.{PageLinks}
+use Rattle.doc_links_pages.specs.declared.page_links.PageLinks.{PageLinks}
 use Rattle.doc_resolve.specs.declared.link_kind.LinkKind.{LinkKind}
 use Rattle.doc_store.proofs.KeySteps.{bytes_eq_is, same_itself}
 use Rattle.doc_store.proofs.NamesLaw.{names_lead}

@@ -1,5 +1,5 @@
 use Rattle.std.proofs.Common.{arith, ◌∙◌}
-use Rattle.doc_links.proofs.AnswerSteps.{all_sources}
+use Rattle.doc_links.proofs.SourceSteps.{all_sources}
 use Rattle.doc_links.proofs.sources.sources_of.Goals as goal
 
 pub returns : goal.returns

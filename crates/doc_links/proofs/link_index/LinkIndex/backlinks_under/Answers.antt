@@ -2,9 +2,9 @@ use Rattle.std.proofs.Common.{ap, subst, sym, ◌∙◌}
 use Rattle.std.specs.Prelude.{IsTrue, is_some, map as mapped}
 use Rattle.doc_index.proofs.OrderSteps.{told}
 use Rattle.doc_page.specs.Sights.{seen}
-use Rattle.doc_links.specs.Links.{backlinks, page_at}
-use Rattle.doc_links.specs.Names.{AreNames}
-use Rattle.doc_links.specs.PageLinks.{IsOnce, pages_of}
+use Rattle.doc_links_pages.specs.Links.{backlinks, page_at}
+use Rattle.doc_links_pages.specs.Names.{AreNames}
+use Rattle.doc_links_pages.specs.PageLinks.{IsOnce, pages_of}
 use Rattle.doc_links.proofs.NamedSteps.{answered}
 use Rattle.doc_links.proofs.link_index.LinkIndex.backlinks_under.Goals as goal
 

@@ -1,5 +1,5 @@
 use Rattle.std.proofs.Common.{ap, ◌∙◌}
-use Rattle.doc_links.specs.SeenPages.{seen_pages}
+use Rattle.doc_links_seen.specs.SeenPages.{seen_pages}
 use Rattle.doc_links.proofs.OrderSteps.{seen_in_order}
 use Rattle.doc_links.proofs.link_index.LinkIndex.broken.Goals as goal
 

@@ -1,9 +1,0 @@
-use Rattle.std.proofs.Common.{arith, ◌∙◌}
-use Rattle.doc_links.proofs.AnswerSteps.{all_broken}
-use Rattle.doc_links.proofs.report.broken_in.Goals as goal
-
-pub returns : goal.returns
-returns g c =
-    c.new.ensures
-    ∙ all_broken (g.S.Sight.goals c.args.sight.now) c.args.pages.now c.loop-page.page-index (omega (arith, c.loop-page-test.false))
-    c.loop-page.all.items c.loop-page.invariant

@@ -1,0 +1,3 @@
+pub mod AnchorSteps
+pub mod CountSteps
+mod Examples

@@ -1,0 +1,4 @@
+pub mod KnownSteps
+pub mod Links
+pub mod Names
+pub mod PageLinks

@@ -1,0 +1,86 @@
+//! What an index knows of a page.
+
+ghost use Rattle.std.specs.Prelude.{◌≡◌, IfOk};
+ghost use Rattle.doc_links_pages.specs.KnownSteps.{HasAnchors};
+ghost use Rattle.doc_links_pages.specs.Links.{has_anchor};
+ghost use Rattle.doc_links_pages.specs.PageLinks.{page_links};
+
+use crate::page_links::{PageLinks, copy_of_headings};
+use doc_heap::Heap;
+use doc_page::failure::Memory;
+use doc_page::list::List;
+use doc_page::path::Path;
+use doc_page::rendered::{Heading, Piece};
+use doc_page::text::Text;
+use doc_resolve::{LinkKind, kinds};
+use std::collections::BTreeSet;
+use std::marker::Model;
+
+/// What an index knows of a page. The anchors of its headings stand in a tree besides, so that one is found in the time of a logarithm.
+#[derive(Drop)]
+pub struct Known {
+    page: PageLinks,
+    anchors: BTreeSet<Text, Heap>,
+}
+
+impl Model for Known {
+    ghost use Rattle.doc_links_pages.specs.declared.page_links.PageLinks.{PageLinks};
+
+    ghost Value = { PageLinks };
+
+    ghost use Rattle.doc_links_pages.specs.KnownSteps.{HasAnchors};
+
+    ghost view = { λ k. k.page };
+
+    ghost invariant = { λ k. HasAnchors k.page.headings k.anchors };
+}
+
+impl Known {
+    /// What is known of the page at a path by its pieces and headings.
+    pub fn new(
+        heap: Heap,
+        path: &Path,
+        pieces: &[Piece],
+        headings: &[Heading],
+    ) -> Result<Known, Memory>
+        ensures { IfOk result (λ known. known ≡ page_links path.now pieces.now headings.now) }
+    {
+        let links = List::new(kinds(heap, path, pieces)?);
+        let anchors = anchors_of(heap, headings)?;
+        let headings = copy_of_headings(heap, headings)?;
+        Ok(Known {
+            page: PageLinks { links, headings },
+            anchors,
+        })
+    }
+
+    pub fn links(&self) -> &[LinkKind]
+        ensures { result.now ≡ self.now.links }
+    {
+        self.page.links.get()
+    }
+
+    pub fn headings(&self) -> &[Heading]
+        ensures { result.now ≡ self.now.headings }
+    {
+        self.page.headings.get()
+    }
+
+    /// Whether a heading of the page has this anchor.
+    pub fn has_anchor(&self, anchor: &Text) -> bool
+        ensures { result ≡ has_anchor self.now.headings anchor.now }
+    {
+        self.anchors.contains(anchor)
+    }
+}
+
+/// The anchors of these headings.
+fn anchors_of(heap: Heap, headings: &[Heading]) -> Result<BTreeSet<Text, Heap>, Memory>
+    ensures { IfOk result (λ anchors. HasAnchors headings.now anchors) }
+{
+    let mut anchors = BTreeSet::new(heap);
+    for heading in headings {
+        anchors.insert(heading.anchor.copy(heap)?)?;
+    }
+    Ok(anchors)
+}

@@ -1,0 +1,2 @@
+pub mod AnswerSteps
+pub mod SearchSteps

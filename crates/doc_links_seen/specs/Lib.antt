@@ -1,0 +1,2 @@
+pub mod SeenPages
+pub mod SeenSteps

@@ -1,0 +1,152 @@
+//! Broken links.
+
+ghost use Rattle.std.specs.Prelude.{◌≡◌, ◌++◌, [], ◌∷◌, IfOk, OnOk, option_and_then, option_copied, option_map, codes};
+ghost use Rattle.doc_page_encoding.specs.Encoding.{encoded};
+ghost use Rattle.doc_links_seen.specs.SeenSteps.{IsInOrder};
+ghost use Rattle.doc_links_pages.specs.Links.{broken, broken_by, broken_from, fault_in, fault_of, page_at};
+ghost use Rattle.doc_links_seen.specs.SeenPages.{seen_page, seen_pages};
+
+use crate::seen::{SeenPage, page_at};
+use doc_heap::{Heap, String, Vec};
+use doc_links_pages::answers::{Broken, Reason};
+use doc_page::failure::Memory;
+use doc_page::list::List;
+use doc_page::path::Path;
+use doc_page::sight::Sight;
+use doc_page::text::Text;
+use doc_page_encoding::encoding::push_encoded;
+use doc_resolve::LinkKind;
+
+/// The broken links of these pages, which are all that the sight sees and stand in the order of their paths.
+pub fn broken_in<S: Sight>(
+    heap: Heap,
+    pages: &[SeenPage],
+    sight: &S,
+) -> Result<List<Broken>, Memory>
+    requires { IsInOrder (seen_pages pages.now) }
+    ensures { IfOk result (λ all. all ≡ broken (S.goals sight.now) (seen_pages pages.now)) }
+{
+    let mut all = Vec::new(heap);
+    for page in pages {
+        push_broken(heap, &mut all, page, pages, sight)?;
+    }
+    Ok(List::new(all))
+}
+
+/// Adds the broken links of a page.
+fn push_broken<S: Sight>(
+    heap: Heap,
+    all: &mut Vec<Broken>,
+    page: &SeenPage,
+    pages: &[SeenPage],
+    sight: &S,
+) -> Result<(), Memory>
+    requires { IsInOrder (seen_pages pages.now) }
+    ensures { OnOk result (all.new.items ≡ all.old.items
+        ++ broken_from (S.goals sight.now) (seen_pages pages.now) page.now.path.now 1
+        page.now.known.now.links) }
+{
+    for (index, link) in page.links().iter().enumerate() {
+        let place = index as u64 + 1;
+        if let Some((reason, target)) = fault_of(heap, link, pages, sight)? {
+            push_fault(heap, all, page.path(), place, reason, target)?;
+        }
+    }
+    Ok(())
+}
+
+/// Adds a broken link.
+fn push_fault(
+    heap: Heap,
+    all: &mut Vec<Broken>,
+    source: &Path,
+    place: u64,
+    reason: Reason,
+    target: Text,
+) -> Result<(), Memory>
+    ensures { OnOk result (all.new.items ≡ all.old.items
+        ++ record { source = source.now; place = place; reason = reason; target = target } ∷ []) }
+{
+    let source = source.copy(heap)?;
+    all.push(Broken {
+        source,
+        place,
+        reason,
+        target,
+    })?;
+    Ok(())
+}
+
+/// Why a link is broken, if it is, and what is told of it.
+fn fault_of<S: Sight>(
+    heap: Heap,
+    link: &LinkKind,
+    pages: &[SeenPage],
+    sight: &S,
+) -> Result<Option<(Reason, Text)>, Memory>
+    requires { IsInOrder (seen_pages pages.now) }
+    ensures { IfOk result (λ fault.
+        fault ≡ fault_of (S.goals sight.now) (seen_pages pages.now) link.now) }
+{
+    match link {
+        LinkKind::External => Ok(None),
+        LinkKind::Page { path, anchor } => {
+            let page = page_among(pages, sight.goal(path));
+            fault_in(heap, path, anchor, page)
+        }
+        LinkKind::Nowhere => Ok(Some((Reason::Path, Text::copy_of(heap, "-")?))),
+    }
+}
+
+/// The page at a path, where there is one and it is one of these.
+fn page_among<'a>(pages: &[SeenPage<'a>], goal: Option<&Path>) -> Option<SeenPage<'a>>
+    requires { IsInOrder (seen_pages pages.now) }
+    ensures { option_map seen_page result
+        ≡ option_and_then (page_at (seen_pages pages.now)) (option_copied goal.entry) }
+{
+    let Some(goal) = goal else {
+        return None;
+    };
+    page_at(pages, goal)
+}
+
+/// Why a link to a path and an anchor is broken, if it is, by the page that the path leads to.
+fn fault_in(
+    heap: Heap,
+    path: &Path,
+    anchor: &Option<Text>,
+    page: Option<SeenPage>,
+) -> Result<Option<(Reason, Text)>, Memory>
+    ensures { IfOk result (λ fault.
+        fault ≡ fault_in path.now anchor.now (option_map seen_page page.entry)) }
+{
+    let Some(page) = page else {
+        return Ok(Some((Reason::Page, Text::copy_of(heap, path.text())?)));
+    };
+    let Some(anchor) = anchor else {
+        return Ok(None);
+    };
+    if page.known().has_anchor(anchor) {
+        return Ok(None);
+    }
+    Ok(Some((Reason::Anchor, with_anchor(heap, path, anchor)?)))
+}
+
+/// A path and an anchor, as a reference to it is written.
+fn with_anchor(heap: Heap, path: &Path, anchor: &Text) -> Result<Text, Memory>
+    ensures { IfOk result (λ text. text ≡ path.now ++ codes "#" ++ encoded anchor.now) }
+{
+    let mut out = String::with_capacity(heap, room_of(path, anchor))?;
+    out.push_str(path.text())?;
+    out.push_str("#")?;
+    push_encoded(&mut out, anchor.get())?;
+    Ok(Text::new(out))
+}
+
+/// How many bytes these take, where none of the anchor has to be encoded: a guess, on which nothing rests.
+fn room_of(path: &Path, anchor: &Text) -> usize {
+    path.text()
+        .len()
+        .saturating_add(anchor.get().len())
+        .saturating_add(1)
+}

@@ -1,0 +1,128 @@
+//! The pages of an index that a sight sees.
+
+ghost use Rattle.std.specs.Prelude.{◌≡◌, ◌++◌, IfOk, OnOk, map as mapped, option_copied, option_map};
+ghost use Rattle.std.specs.List.{flat_map};
+ghost use Rattle.doc_index.specs.Held.{slot_at};
+ghost use Rattle.doc_page.specs.Sights.{seen};
+ghost use Rattle.doc_links_seen.specs.SeenSteps.{IsInOrder, page_in};
+ghost use Rattle.doc_links_pages.specs.Links.{contents, entry_of, page_at};
+ghost use Rattle.doc_links_seen.specs.SeenPages.{seen_page, seen_pages};
+
+use doc_heap::{Heap, Vec};
+use doc_index::held::Held;
+use doc_index::index::Index;
+use doc_links_pages::answers::Entry;
+use doc_links_pages::known::Known;
+use doc_links_pages::page_links::copy_of_headings;
+use doc_page::failure::Memory;
+use doc_page::list::List;
+use doc_page::path::Path;
+use doc_page::rendered::Heading;
+use doc_page::sight::Sight;
+use doc_resolve::LinkKind;
+
+/// A page that is seen.
+#[derive(Clone, Copy)]
+pub struct SeenPage<'a> {
+    path: &'a Path,
+    known: &'a Known,
+}
+
+impl<'a> SeenPage<'a> {
+    pub fn path(&self) -> &'a Path
+        ensures { result.now ≡ self.now.path.now }
+    {
+        self.path
+    }
+
+    /// What each link of the page leads to, in order, also out of the site.
+    pub fn links(&self) -> &'a [LinkKind]
+        ensures { result.now ≡ self.now.known.now.links }
+    {
+        self.known.links()
+    }
+
+    /// The headings, in order.
+    pub fn headings(&self) -> &'a [Heading]
+        ensures { result.now ≡ self.now.known.now.headings }
+    {
+        self.known.headings()
+    }
+
+    pub(crate) fn known(&self) -> &'a Known
+        ensures { result.now ≡ self.now.known.now }
+    {
+        self.known
+    }
+
+    /// A copy of the path and the headings.
+    fn entry(&self, heap: Heap) -> Result<Entry, Memory>
+        ensures { IfOk result (λ entry. entry ≡ entry_of (seen_page self.now)) }
+    {
+        Ok(Entry {
+            path: self.path.copy(heap)?,
+            headings: copy_of_headings(heap, self.headings())?,
+        })
+    }
+}
+
+/// The pages in these slots that a sight sees, in this order.
+pub fn seen_in<'a, S: Sight>(
+    heap: Heap,
+    pages: &'a Index<Known>,
+    slots: &[u64],
+    sight: &S,
+) -> Result<Vec<SeenPage<'a>>, Memory>
+    ensures { IfOk result (λ all. seen_pages all.items ≡ flat_map
+        (λ slot. seen (S.goals sight.now) (page_in (slot_at pages.now slot))) slots.now) }
+{
+    let mut all = Vec::new(heap);
+    for slot in slots {
+        push_seen(&mut all, pages.slot(*slot as usize), sight)?;
+    }
+    Ok(all)
+}
+
+/// Adds the page of a slot, where there is one and it is seen.
+fn push_seen<'a, S: Sight>(
+    all: &mut Vec<SeenPage<'a>>,
+    page: Option<&'a Held<Known>>,
+    sight: &S,
+) -> Result<(), Memory>
+    ensures { OnOk result (seen_pages all.new.items ≡ seen_pages all.old.items
+        ++ seen (S.goals sight.now) (page_in (option_copied page.entry))) }
+{
+    let Some(page) = page else {
+        return Ok(());
+    };
+    if !sight.sees(&page.path) {
+        return Ok(());
+    }
+    all.push(SeenPage {
+        path: &page.path,
+        known: &page.value,
+    })?;
+    Ok(())
+}
+
+/// Copies of the pages' paths and headings.
+pub fn entries_of(heap: Heap, pages: &[SeenPage]) -> Result<List<Entry>, Memory>
+    ensures { IfOk result (λ all. all ≡ contents (seen_pages pages.now)) }
+{
+    let mut all = Vec::with_capacity(heap, pages.len())?;
+    for page in pages {
+        all.push(page.entry(heap)?)?;
+    }
+    Ok(List::new(all))
+}
+
+/// The page at a path, where it is one of these, which stand in the order of their paths.
+pub fn page_at<'a>(pages: &[SeenPage<'a>], path: &Path) -> Option<SeenPage<'a>>
+    requires { IsInOrder (seen_pages pages.now) }
+    ensures { option_map seen_page result ≡ page_at (seen_pages pages.now) path.now }
+{
+    let Ok(at) = pages.binary_search_by(|page| page.path.cmp(path)) else {
+        return None;
+    };
+    Some(pages[at])
+}
