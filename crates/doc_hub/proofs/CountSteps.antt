@@ -9,9 +9,9 @@ use Rattle.doc_store.specs.Pages.{Page}
 use Rattle.doc_store.specs.Store.{StoreState, fits_in, may_move, moved_by, put_by, with_page}
 use Rattle.doc_store.specs.declared.moving.MoveError.{MoveError}
 use Rattle.doc_store.specs.declared.moving.MoveError.TheVariants as move_errors
-use Rattle.doc_store.specs.declared.readers.ReaderError.{ReaderError}
-use Rattle.doc_store.specs.declared.readers.ReaderError.TheVariants as reader_errors
-use Rattle.doc_store.specs.declared.readers.Set.{Set}
+use Rattle.doc_store_readers.specs.declared.readers.ReaderError.{ReaderError}
+use Rattle.doc_store_readers.specs.declared.readers.ReaderError.TheVariants as reader_errors
+use Rattle.doc_store_readers.specs.declared.readers.Set.{Set}
 use Rattle.doc_store.specs.declared.store.EditError.{EditError}
 use Rattle.doc_store.specs.declared.store.EditError.TheVariants as edit_errors
 use Rattle.doc_store.specs.declared.store.Put.{Put}

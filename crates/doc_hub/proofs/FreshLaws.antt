@@ -8,11 +8,11 @@ use Rattle.std.specs.Ordering.{nat_cmp}
 use Rattle.std.proofs.lemmas.Bool.Decides.{nat_tests}
 use Rattle.std.proofs.lemmas.Cmp.{nat_cmp_total, nat_list_cmp_total}
 use Rattle.std.proofs.lemmas.List.Elements.{All-nil, All-cons}
-use Rattle.doc_store.specs.declared.reader.Reader.{Reader}
+use Rattle.doc_store_readers.specs.declared.reader.Reader.{Reader}
 use Rattle.doc_store.specs.Readers.{ReaderTable}
 use Rattle.doc_store.specs.Sites.{visible_to}
 use Rattle.doc_store.specs.Store.{put_limit}
-use Rattle.doc_store.proofs.ViewLaw.{view_of_view}
+use Rattle.doc_store_readers.proofs.ViewLaw.{view_of_view}
 use Rattle.doc_http.specs.Bearers.{bearer_of}
 use Rattle.doc_http.specs.Requests.{IsNext}
 use Rattle.doc_http.specs.declared.request.Request.{Request}

@@ -9,7 +9,7 @@ use Rattle.std.proofs.lemmas.Bool.Decides.{nat_tests}
 use Rattle.std.proofs.lemmas.Cmp.{nat_list_cmp_total}
 use Rattle.std.proofs.lemmas.List.Elements.{All-append, All-nil, All-cons}
 use Rattle.std.proofs.lemmas.Map.Lookups.{exact_bytes}
-use Rattle.doc_store.proofs.KeySteps.{same_key, same_from, same_itself, get_set, get_taken, not_none}
+use Rattle.doc_store_readers.proofs.KeySteps.{same_key, same_from, same_itself, get_set, get_taken, not_none}
 use Rattle.doc_store.specs.Maps.{TextMap}
 use Rattle.doc_store.specs.Pages.{Page}
 use Rattle.doc_store.specs.Readers.{ReaderTable}

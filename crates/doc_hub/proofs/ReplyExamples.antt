@@ -18,7 +18,7 @@ use Rattle.doc_store.specs.Groups.{groups_of_names}
 use Rattle.doc_store.specs.Pages.{Page}
 use Rattle.doc_store.specs.Sites.{View, view_of}
 use Rattle.doc_store.specs.Store.{text_limit, page_limit}
-use Rattle.doc_store.specs.declared.reader.Reader.{Reader}
+use Rattle.doc_store_readers.specs.declared.reader.Reader.{Reader}
 use Rattle.doc_http.specs.Replies.{reason_of, field_line, reply_head, reply_bytes}
 use Rattle.doc_http.specs.declared.request.Next.TheVariants as nexts
 use Rattle.doc_http.specs.declared.request.Request.{Request}

@@ -2,7 +2,7 @@
 use Rattle.std.proofs.Common.{◌≡◌, ℕ, List, Bool, true, false, cond, ap, sym, ◌∙◌, subst}
 use Rattle.std.specs.Prelude.{MatchBool, Option, Some, None, Result, Ok}
 use Rattle.std.specs.FinMap as map
-use Rattle.doc_store.proofs.KeySteps.{get_set, same_itself}
+use Rattle.doc_store_readers.proofs.KeySteps.{get_set, same_itself}
 use Rattle.doc_store.specs.Pages.{Page}
 use Rattle.doc_store.specs.Sites.{Site}
 use Rattle.doc_http.specs.Requests.{IsNext}

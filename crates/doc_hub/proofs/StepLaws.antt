@@ -2,7 +2,7 @@
 use Rattle.std.proofs.Common.{◌≡◌, ℕ, List, Bool, true, false, bytes_eq, codes, refl, ap, sym, ◌∙◌, subst}
 use Rattle.std.specs.Prelude.{not, ◌&&◌, ◌||◌, Option, Some, None, Result, Ok, if◌then◌else◌}
 use Rattle.std.specs.FinMap as map
-use Rattle.doc_store.specs.declared.reader.Reader.{Reader}
+use Rattle.doc_store_readers.specs.declared.reader.Reader.{Reader}
 use Rattle.doc_store.specs.Sites.{View, view_of}
 use Rattle.doc_http.specs.Requests.{IsNext, is_bare}
 use Rattle.doc_http.specs.declared.request.Request.{Request}

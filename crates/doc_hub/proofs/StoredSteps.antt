@@ -14,13 +14,13 @@ use Rattle.doc_store.specs.Store.{IsStore, StoreState, alias_limit, aliases_afte
 use Rattle.doc_store.specs.Store.{page_limit, remove_page, set_page, text_limit, with_key_at, without_goal}
 use Rattle.doc_store.specs.declared.moving.MoveError.{MoveError}
 use Rattle.doc_store.specs.declared.moving.MoveError.TheVariants as move_errors
-use Rattle.doc_store.specs.declared.reader.Reader.{Reader}
+use Rattle.doc_store_readers.specs.declared.reader.Reader.{Reader}
 use Rattle.doc_store.specs.declared.store.EditError.{EditError}
 use Rattle.doc_store.specs.declared.store.EditError.TheVariants.{TooLong, StoreFull}
-use Rattle.doc_store.proofs.KeySteps.{same_key, not_none, some_is, get_set, get_taken, contains_taken}
+use Rattle.doc_store_readers.proofs.KeySteps.{same_key, not_none, some_is, get_set, get_taken, contains_taken}
 use Rattle.doc_store.proofs.StampLaw.{move_needs}
 use Rattle.doc_store.proofs.StoreSteps.{empty_is_store, get-without_goal, move_stays, neither, put_stays, remove_stays}
-use Rattle.doc_store.proofs.ViewLaw.{get-visible_aliases, get-visible_pages}
+use Rattle.doc_store_readers.proofs.ViewLaw.{get-visible_aliases, get-visible_pages}
 use Rattle.doc_hub.specs.MadeLaws.{IsWithin}
 use Rattle.doc_hub.proofs.MadeSites.{absent, len_added, len_taken, some_entry, standing}
 

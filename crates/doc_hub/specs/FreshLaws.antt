@@ -1,7 +1,7 @@
 -- Noninterference, one reply after another: each is that of a fresh server which holds only what its reader may see.
 use Rattle.std.specs.Prelude.{◌≡◌, ◌≤◌, ◌+◌, ℕ, All, Bool, List, length, nat_lt, true, Option, Some, None, Result, Ok, Err, ⊤}
 use Rattle.std.specs.FinMap as map
-use Rattle.doc_store.specs.declared.reader.Reader.{Reader}
+use Rattle.doc_store_readers.specs.declared.reader.Reader.{Reader}
 use Rattle.doc_store.specs.Sites.{Site, empty_site}
 use Rattle.doc_store.specs.Store.{put_limit}
 use Rattle.doc_store.specs.Readers.{ReaderTable}

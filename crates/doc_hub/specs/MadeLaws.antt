@@ -5,7 +5,7 @@ use Rattle.doc_store.specs.Pages.{Page}
 use Rattle.doc_store.specs.Sites.{Site, IsSite}
 use Rattle.doc_store.specs.Store.{alias_limit, page_limit, put_limit, text_limit}
 use Rattle.doc_store.specs.Readers.{ReaderTable}
-use Rattle.doc_store.specs.declared.reader.Reader.{Reader}
+use Rattle.doc_store_readers.specs.declared.reader.Reader.{Reader}
 use Rattle.doc_http.specs.Bearers.{bearer_of}
 use Rattle.doc_http.specs.declared.request.Request.{Request}
 use Rattle.doc_http.specs.declared.request.Next.TheVariants as nexts

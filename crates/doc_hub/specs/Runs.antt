@@ -3,7 +3,7 @@ use Rattle.std.specs.Prelude.{◌≡◌, ℕ, List, [], ◌∷◌, ◌==◌, Boo
 use Rattle.doc_page.specs.Refusals.{Gives}
 use Rattle.doc_page.specs.declared.failure.Memory.{Memory}
 use Rattle.doc_store.specs.declared.moving.MoveError.TheVariants as move_errors
-use Rattle.doc_store.specs.declared.readers.ReaderError.TheVariants as reader_errors
+use Rattle.doc_store_readers.specs.declared.readers.ReaderError.TheVariants as reader_errors
 use Rattle.doc_store.specs.declared.store.EditError.TheVariants as edit_errors
 use Rattle.doc_hub.specs.Events.{Said, outcome_of}
 use Rattle.doc_hub_replies.specs.Replies.{Renders}

@@ -3,13 +3,13 @@ use Rattle.std.specs.Prelude.{◌≡◌, ℕ, List, ◌+◌, ◌^◌, ◌-◌, B
 use Rattle.std.specs.Prelude.{Result, Ok, Err, if◌then◌else◌, refl}
 use Rattle.std.specs.Coded.{Coded, code_by, coded×, coded_ℕ, coded_bool}
 use Rattle.std.specs.FinMap as map
-use Rattle.doc_store.specs.declared.reader.Reader.{Reader}
+use Rattle.doc_store_readers.specs.declared.reader.Reader.{Reader}
 use Rattle.doc_store.specs.Sites.{Site, empty_site, site_code, view_of}
 use Rattle.doc_store.specs.Readers.{ReaderTable, set_reader}
 use Rattle.doc_store.specs.Store.{StoreState, put_into, without_page, moved_in}
 use Rattle.doc_store.specs.declared.moving.MoveError.{MoveError}
-use Rattle.doc_store.specs.declared.readers.ReaderError.{ReaderError}
-use Rattle.doc_store.specs.declared.readers.Set.{Set}
+use Rattle.doc_store_readers.specs.declared.readers.ReaderError.{ReaderError}
+use Rattle.doc_store_readers.specs.declared.readers.Set.{Set}
 use Rattle.doc_store.specs.declared.store.EditError.{EditError}
 use Rattle.doc_store.specs.declared.store.Put.{Put}
 use Rattle.doc_http.specs.Bearers.{bearer_of}

@@ -85,7 +85,7 @@ impl<R: Renderer + Drop> Model for Hub<R> {
     ghost use Rattle.doc_hub.specs.Connections.{HaveGivenNumbers};
     ghost use Rattle.doc_hub.specs.Worlds.{World, world_code};
     ghost use Rattle.doc_hub.specs.contracts.connection.Connection as one;
-    ghost use Rattle.doc_store.specs.contracts.readers.Readers as reader_table;
+    ghost use Rattle.doc_store_readers.specs.contracts.readers.Readers as reader_table;
 
     ghost Value = { R × World };
 

@@ -5,8 +5,8 @@ use Rattle.std.specs.Str.{is_utf8}
 use Rattle.doc_store.specs.Groups.{groups_of}
 use Rattle.doc_store.specs.Sites.{page_at, view_of}
 use Rattle.doc_store.specs.Store.{StoreState}
-use Rattle.doc_store.specs.declared.groups.GroupsError.{GroupsError}
-use Rattle.doc_store.specs.declared.reader.Reader.{Reader}
+use Rattle.doc_store_readers.specs.declared.groups.GroupsError.{GroupsError}
+use Rattle.doc_store_readers.specs.declared.reader.Reader.{Reader}
 use Rattle.doc_http_replies.specs.declared.reply.Reply.{Reply}
 use Rattle.doc_http.specs.declared.request.Request.{Request}
 use Rattle.doc_http_targets.specs.Queries.{parameter}

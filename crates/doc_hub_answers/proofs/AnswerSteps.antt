@@ -5,7 +5,7 @@ use Rattle.std.proofs.lemmas.Slice.Eq.{bytes_eq-Decides}
 use Rattle.doc_page.specs.declared.failure.Memory.{Memory}
 use Rattle.doc_store.specs.Sites.{Site, View, view_of}
 use Rattle.doc_store.specs.Store.{StoreState}
-use Rattle.doc_store.specs.declared.reader.Reader.{Reader}
+use Rattle.doc_store_readers.specs.declared.reader.Reader.{Reader}
 use Rattle.doc_http.specs.Replies.{reply_bytes}
 use Rattle.doc_http_replies.specs.declared.reply.Allow.TheVariants.{Read}
 use Rattle.doc_http.specs.Requests.{is_bare}

@@ -9,10 +9,10 @@ use Rattle.doc_store.specs.Groups.{meet}
 use Rattle.doc_store.specs.Pages.{Page}
 use Rattle.doc_store.specs.Sites.{Site, may_see_at, page_at, view_of, visible_to}
 use Rattle.doc_store.specs.Store.{StoreState, fits, fits_in, text_limit, page_limit, put_limit}
-use Rattle.doc_store.specs.declared.reader.Reader.{Reader}
+use Rattle.doc_store_readers.specs.declared.reader.Reader.{Reader}
 use Rattle.doc_store.specs.declared.store.EditError.{EditError}
 use Rattle.doc_store.specs.declared.store.EditError.TheVariants.{TooLong, StoreFull}
-use Rattle.doc_store.proofs.ViewLaw.{get-visible_pages, entry_at-entries}
+use Rattle.doc_store_readers.proofs.ViewLaw.{get-visible_pages, entry_at-entries}
 use Rattle.doc_hub_answers.specs.Edits.{puts_left}
 use Rattle.doc_hub_answers.specs.Replies.{has_room}
 

@@ -4,7 +4,7 @@ use Rattle.std.specs.FinMap as map
 use Rattle.doc_page.specs.declared.failure.Memory.{Memory}
 use Rattle.doc_store.specs.Readers.{ReaderTable}
 use Rattle.doc_store.specs.Store.{StoreState}
-use Rattle.doc_store.specs.declared.reader.Reader.{Reader}
+use Rattle.doc_store_readers.specs.declared.reader.Reader.{Reader}
 use Rattle.doc_http.specs.Bearers.{bearer_of}
 use Rattle.doc_http.specs.Replies.{reply_bytes}
 use Rattle.doc_http.specs.declared.request.Request.{Request}

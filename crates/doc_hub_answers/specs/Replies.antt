@@ -10,8 +10,8 @@ use Rattle.doc_page.specs.declared.rendered.Rendered.{Rendered}
 use Rattle.doc_store.specs.Groups.{groups_of}
 use Rattle.doc_store.specs.Pages.{Page}
 use Rattle.doc_store.specs.Store.{text_limit, page_limit}
-use Rattle.doc_store.specs.declared.groups.GroupsError.{GroupsError}
-use Rattle.doc_store.specs.declared.reader.Reader.{Reader}
+use Rattle.doc_store_readers.specs.declared.groups.GroupsError.{GroupsError}
+use Rattle.doc_store_readers.specs.declared.reader.Reader.{Reader}
 use Rattle.doc_store.specs.Sites.{View, page_at, goal_in}
 use Rattle.doc_page_encoding.specs.Encoding.{encoded_path}
 use Rattle.doc_resolve.specs.Hrefs.{shown}

@@ -8,7 +8,7 @@ ghost use Rattle.doc_http_targets.specs.Queries.{parameter};
 ghost use Rattle.doc_http_targets.specs.WrittenPaths.{path_written};
 ghost use Rattle.doc_store.specs.Groups.{groups_of};
 ghost use Rattle.doc_store.specs.Sites.{view_of};
-ghost use Rattle.doc_store.specs.declared.reader.Reader.{Reader};
+ghost use Rattle.doc_store_readers.specs.declared.reader.Reader.{Reader};
 ghost use Rattle.doc_hub_answers.specs.AnswerSteps.{Answered, AnsweredSo, sent_in};
 ghost use Rattle.doc_hub_answers.specs.Counts.{RendersPuts};
 ghost use Rattle.doc_hub_answers.specs.Edits.{puts_left};

@@ -11,8 +11,8 @@ use Rattle.doc_page.specs.Tokens.{is_token}
 use Rattle.doc_store.specs.Groups.{groups_of_names, groups_of}
 use Rattle.doc_store.specs.Pages.{Page}
 use Rattle.doc_store.specs.Readers.{readers_of}
-use Rattle.doc_store.specs.declared.readers.ReadersError.{ReadersError}
-use Rattle.doc_store.specs.declared.readers.ReadersError.TheVariants as readers_errors
+use Rattle.doc_store_readers.specs.declared.readers.ReadersError.{ReadersError}
+use Rattle.doc_store_readers.specs.declared.readers.ReadersError.TheVariants as readers_errors
 use Rattle.doc_store.specs.declared.store.EditError.{EditError}
 use Rattle.doc_store.specs.declared.store.EditError.TheVariants.{TooLong, StoreFull}
 use Rattle.doc_store.specs.declared.store.Put.TheVariants.{Created, Replaced}

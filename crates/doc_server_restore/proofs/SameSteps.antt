@@ -8,7 +8,7 @@ use Rattle.std.specs.FinMap as map
 use Rattle.std.proofs.lemmas.List.{map-append}
 use Rattle.doc_store.specs.Groups.{texts_of}
 use Rattle.doc_store.specs.Names.{aliases_of, names_of}
-use Rattle.doc_store.proofs.KeySteps.{same_itself, bytes_eq_is}
+use Rattle.doc_store_readers.proofs.KeySteps.{same_itself, bytes_eq_is}
 use Rattle.doc_store.specs.Pages.{Page}
 use Rattle.doc_store.specs.Sites.{Site}
 use Rattle.doc_page.proofs.Bools.{clash}

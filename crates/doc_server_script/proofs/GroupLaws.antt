@@ -14,8 +14,8 @@ use Rattle.std.proofs.lemmas.List.{append-nil, append_assoc, length-append}
 use Rattle.std.proofs.lemmas.List.Splits.{slice_split-cons_yes, slice_split-cons_no}
 use Rattle.doc_page.proofs.Bools.{and_first, and_second}
 use Rattle.doc_store.specs.Groups.{IsGroups, is_group, is_group_byte, has_good_length, different_names, groups_of, groups_of_names, parts_of, with_name, with_names}
-use Rattle.doc_store.proofs.GroupSteps.{of_text}
-use Rattle.doc_store.proofs.SortedSteps.{IsBelow}
+use Rattle.doc_store_readers.proofs.GroupSteps.{of_text}
+use Rattle.doc_store_readers.proofs.SortedSteps.{IsBelow}
 use Rattle.doc_server_script.specs.Edits.{behind_commas, groups_text}
 use Rattle.doc_server_script.specs.Escapes.{is_printable}
 use Rattle.doc_server_script.specs.Fields.{groups_in}

@@ -8,7 +8,7 @@ use Rattle.std.specs.List.{flat_map}
 use Rattle.std.proofs.lemmas.Cmp.{nat_list_cmp_total}
 use Rattle.std.proofs.lemmas.Map.Lookups.{exact_bytes}
 use Rattle.doc_store.proofs.AliasSteps.{len-aliases_after, len_where_none}
-use Rattle.doc_store.proofs.KeySteps.{same_key, same_itself, get_taken}
+use Rattle.doc_store_readers.proofs.KeySteps.{same_key, same_itself, get_taken}
 use Rattle.doc_store.specs.declared.moving.MoveError.TheVariants as move_errors
 use Rattle.doc_store.specs.declared.store.EditError.{EditError}
 use Rattle.doc_store.specs.declared.store.EditError.TheVariants.{TooLong, StoreFull}

@@ -2,7 +2,7 @@
 use Rattle.std.proofs.Common.{◌≡◌, ℕ, List, [], ◌∷◌, Bool, true, false, cond, not, ◌||◌, is_some, refl, ap, sym, ◌∙◌}
 use Rattle.std.specs.Prelude.{⊤, map as mapped, Option, Some, None}
 use Rattle.std.specs.FinMap as map
-use Rattle.doc_store.proofs.KeySteps.{same_key, bytes_eq_is, not_none, some_is, get_taken}
+use Rattle.doc_store_readers.proofs.KeySteps.{same_key, bytes_eq_is, not_none, some_is, get_taken}
 use Rattle.doc_store.proofs.StoreSteps.{get-without_goal}
 use Rattle.doc_store.specs.Maps.{TextMap}
 use Rattle.doc_store.specs.Pages.{Page}

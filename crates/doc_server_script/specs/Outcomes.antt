@@ -1,7 +1,7 @@
 -- Outcomes as lines, without their line feed. All of this is this project's choice.
 use Rattle.std.specs.Prelude.{ℕ, List, ◌++◌, Bool, codes, decimal, if◌then◌else◌}
-use Rattle.doc_store.specs.declared.readers.Set.{Set}
-use Rattle.doc_store.specs.declared.readers.Set.TheVariants as sets
+use Rattle.doc_store_readers.specs.declared.readers.Set.{Set}
+use Rattle.doc_store_readers.specs.declared.readers.Set.TheVariants as sets
 use Rattle.doc_store.specs.declared.store.Put.{Put}
 use Rattle.doc_store.specs.declared.store.Put.TheVariants as puts
 use Rattle.doc_hub.specs.declared.event.Step.{Step}

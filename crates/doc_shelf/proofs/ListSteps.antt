@@ -12,7 +12,7 @@ use Rattle.doc_links_pages.specs.declared.page_links.PageLinks.{PageLinks}
 use Rattle.doc_listings.specs.Listings.{backlinks_text, contents_text, hits_text, report_text}
 use Rattle.std.proofs.lemmas.Simd.{map-map}
 use Rattle.doc_page.specs.declared.rendered.Rendered.{Rendered}
-use Rattle.doc_store.proofs.KeySteps.{bytes_eq_is, same_from, same_itself}
+use Rattle.doc_store_readers.proofs.KeySteps.{bytes_eq_is, same_from, same_itself}
 use Rattle.doc_page.specs.Sights.{leads_to_itself, seen}
 use Rattle.doc_shelf_edits.proofs.KeptEdits.{what_is_kept_is_held}
 use Rattle.doc_shelf_edits.specs.Shelves.{IsKept}
@@ -28,7 +28,7 @@ use Rattle.doc_store.specs.Names.{AreNames, names_of}
 use Rattle.doc_store.specs.Pages.{Page}
 use Rattle.doc_store.specs.Sites.{View, goal_in, page_at}
 use Rattle.doc_store.specs.Store.{StoreState, IsStore, is_goal}
-use Rattle.doc_store.specs.declared.reader.Reader.{Reader}
+use Rattle.doc_store_readers.specs.declared.reader.Reader.{Reader}
 use Rattle.doc_words.specs.Searches.{search, pages_of as pages_with_words}
 use Rattle.doc_words_search.specs.declared.hit.Hit.{Hit}
 

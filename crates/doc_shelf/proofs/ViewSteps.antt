@@ -4,8 +4,8 @@ use Rattle.std.specs.Prelude.{Some, None}
 use Rattle.std.specs.FinMap as map
 use Rattle.doc_store.specs.Pages.{Page}
 use Rattle.doc_store.specs.Sites.{Site, view_of, page_at, may_see_at}
-use Rattle.doc_store.specs.declared.reader.Reader.{Reader}
-use Rattle.doc_store.proofs.ViewLaw.{page_at-view_of}
+use Rattle.doc_store_readers.specs.declared.reader.Reader.{Reader}
+use Rattle.doc_store_readers.proofs.ViewLaw.{page_at-view_of}
 
 pub no_page : (site : Site) (reader : Reader) (path : List ℕ) → None ≡ map.get site.pages path
     → None ≡ page_at (view_of site (Some reader)).pages path

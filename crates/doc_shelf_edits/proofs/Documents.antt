@@ -12,7 +12,7 @@ use Rattle.doc_page.specs.Pages.{title_of}
 use Rattle.doc_resolve.proofs.DecisionLaws.{links_are_decided}
 use Rattle.doc_resolve.specs.Decisions.{decisions}
 use Rattle.doc_shelf_views.specs.Views.{Renders}
-use Rattle.doc_store.proofs.KeySteps.{get_set, get_taken, not_none, same_key, some_is}
+use Rattle.doc_store_readers.proofs.KeySteps.{get_set, get_taken, not_none, same_key, some_is}
 use Rattle.doc_store.specs.Maps.{TextMap}
 use Rattle.doc_store.specs.Pages.{Page}
 use Rattle.doc_store.specs.Store.{StoreState, IsStore, effect_of, remove_page, with_key_at, with_move, with_page, without_page}

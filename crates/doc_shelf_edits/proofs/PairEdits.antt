@@ -10,7 +10,7 @@ use Rattle.doc_index.specs.TableSteps.{same_number}
 use Rattle.doc_index.proofs.CountSteps.{number_is, number_itself}
 use Rattle.doc_index.proofs.HeldSteps.{both_same, pairs_total}
 use Rattle.doc_page.specs.declared.rendered.Rendered.{Rendered}
-use Rattle.doc_store.proofs.KeySteps.{get_set, get_taken, same_from, same_itself, same_key}
+use Rattle.doc_store_readers.proofs.KeySteps.{get_set, get_taken, same_from, same_itself, same_key}
 use Rattle.doc_store.specs.Maps.{TextMap}
 use Rattle.doc_store.specs.Pages.{Page}
 use Rattle.doc_store.specs.Store.{StoreState, IsStore, effect_of, remove_page, with_key_at, with_move, with_page, without_page}

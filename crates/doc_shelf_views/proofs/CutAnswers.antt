@@ -5,9 +5,9 @@ use Rattle.std.specs.FinMap as map
 use Rattle.std.proofs.lemmas.Bool.{both_ways}
 use Rattle.std.proofs.lemmas.Cmp.{nat_list_cmp_total}
 use Rattle.std.proofs.lemmas.Map.Lookups.{exact_bytes}
-use Rattle.doc_store.proofs.SitesOfViews.{views_are_sites}
-use Rattle.doc_store.proofs.ViewLaw.{get-visible_aliases, get-visible_pages, view_of_view}
-use Rattle.doc_store.specs.declared.reader.Reader.{Reader}
+use Rattle.doc_store_readers.proofs.SitesOfViews.{views_are_sites}
+use Rattle.doc_store_readers.proofs.ViewLaw.{get-visible_aliases, get-visible_pages, view_of_view}
+use Rattle.doc_store_readers.specs.declared.reader.Reader.{Reader}
 use Rattle.doc_store.specs.Groups.{meet}
 use Rattle.doc_store.specs.Pages.{Page}
 use Rattle.doc_store.specs.Sites.{Site, IsSite, View, may_see_at, view_of, visible_to}

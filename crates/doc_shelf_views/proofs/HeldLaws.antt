@@ -17,8 +17,8 @@ use Rattle.doc_index.proofs.CountSteps.{number_is}
 use Rattle.doc_index.proofs.HeldSteps.{both_same, pairs_exact, pairs_total, some_is}
 use Rattle.doc_page.proofs.Maps.{entries_in_order}
 use Rattle.doc_page.specs.declared.rendered.Rendered.{Rendered}
-use Rattle.doc_store.proofs.FilterSteps.{keys_in_order}
-use Rattle.doc_store.proofs.KeySteps.{same_from, same_itself, same_key}
+use Rattle.doc_store_readers.proofs.FilterSteps.{keys_in_order}
+use Rattle.doc_store_readers.proofs.KeySteps.{same_from, same_itself, same_key}
 use Rattle.doc_store.specs.Pages.{Page}
 use Rattle.doc_store.specs.Store.{StoreState, IsStore}
 use Rattle.doc_words.specs.Words.{word_counts}

@@ -8,10 +8,10 @@ use Rattle.std.proofs.lemmas.Simd.{map-map}
 use Rattle.doc_links.specs.Links.{is_target, leads_to, page_at as page_with_links}
 use Rattle.doc_links_pages.specs.declared.page_links.PageLinks.{PageLinks}
 use Rattle.doc_resolve.specs.declared.link_kind.LinkKind.TheVariants.{Page as page_link}
-use Rattle.doc_store.proofs.KeySteps.{bytes_eq_is, same_from, same_itself}
+use Rattle.doc_store_readers.proofs.KeySteps.{bytes_eq_is, same_from, same_itself}
 use Rattle.doc_store.proofs.NamesLaw.{names_lead}
-use Rattle.doc_store.proofs.SitesOfViews.{kept}
-use Rattle.doc_store.proofs.ViewLaw.{page_at-view_of}
+use Rattle.doc_store_readers.proofs.SitesOfViews.{kept}
+use Rattle.doc_store_readers.proofs.ViewLaw.{page_at-view_of}
 use Rattle.doc_store.specs.Names.{AreNames, names_of}
 use Rattle.doc_store.specs.Pages.{Page}
 use Rattle.doc_store.specs.Sites.{goal_in, may_see_at, page_at}

@@ -12,7 +12,7 @@ use Rattle.std.proofs.lemmas.List.{length-map}
 use Rattle.std.proofs.lemmas.Simd.{map-map}
 use Rattle.doc_page.specs.declared.rendered.Rendered.{Rendered}
 use Rattle.doc_store.proofs.SeenLaw.{entries-retain_keys}
-use Rattle.doc_store.specs.declared.reader.Reader.{Reader}
+use Rattle.doc_store_readers.specs.declared.reader.Reader.{Reader}
 use Rattle.doc_store.specs.Pages.{Page}
 use Rattle.doc_store.specs.Sites.{Site, View, may_see_at, view_of, visible_to}
 use Rattle.doc_store.specs.Store.{StoreState}

@@ -10,9 +10,9 @@ use Rattle.std.proofs.lemmas.Simd.{map-map}
 use Rattle.doc_links.specs.Links.{backlinks, broken, contents}
 use Rattle.doc_page.specs.Sights.{seen}
 use Rattle.doc_page.specs.declared.rendered.Rendered.{Rendered}
-use Rattle.doc_store.proofs.FilterSteps.{keys_in_order}
+use Rattle.doc_store_readers.proofs.FilterSteps.{keys_in_order}
 use Rattle.doc_store.proofs.SeenLaw.{seen_of_known}
-use Rattle.doc_store.specs.declared.reader.Reader.{Reader}
+use Rattle.doc_store_readers.specs.declared.reader.Reader.{Reader}
 use Rattle.doc_store.specs.Pages.{Page}
 use Rattle.doc_store.specs.Sites.{goal_in, visible_to}
 use Rattle.doc_store.specs.Store.{StoreState, IsStore}

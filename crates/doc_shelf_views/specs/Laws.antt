@@ -12,7 +12,7 @@ use Rattle.doc_links.specs.PageLinks.{IsOnce, pages_of as pages_with_links}
 use Rattle.doc_links_pages.specs.declared.page_links.PageLinks.{PageLinks}
 use Rattle.doc_page.specs.Sights.{seen}
 use Rattle.doc_resolve.specs.declared.link_kind.LinkKind.TheVariants.{Page as page_link}
-use Rattle.doc_store.specs.declared.reader.Reader.{Reader}
+use Rattle.doc_store_readers.specs.declared.reader.Reader.{Reader}
 use Rattle.doc_store.specs.Names.{AreNames, names_of}
 use Rattle.doc_store.specs.Pages.{Page}
 use Rattle.doc_store.specs.Sites.{Site, IsSite, View, goal_in, page_at, view_of, visible_to}

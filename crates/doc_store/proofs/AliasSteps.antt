@@ -11,11 +11,11 @@ use Rattle.std.proofs.lemmas.Cmp.{nat_list_cmp_total}
 use Rattle.std.proofs.lemmas.Map.Entries.{option_filter}
 use Rattle.std.proofs.lemmas.Map.Lookups.{exact_bytes}
 use Rattle.doc_page.proofs.Bools.{clash}
-use Rattle.doc_store.proofs.KeySteps.{same_key, get_taken}
-use Rattle.doc_store.proofs.MapSteps.{get_filtered}
+use Rattle.doc_store_readers.proofs.KeySteps.{same_key, get_taken}
+use Rattle.doc_store_readers.proofs.MapSteps.{get_filtered}
 use Rattle.doc_store.proofs.StoreSteps.{get-without_goal}
-use Rattle.doc_store.proofs.MapValues.{contains-map_values, len-map_values}
-use Rattle.doc_store.specs.Maps.{TextMap, map_values}
+use Rattle.doc_store_readers.proofs.MapValues.{contains-map_values, len-map_values}
+use Rattle.doc_store_readers.specs.Maps.{TextMap, map_values}
 use Rattle.doc_store.specs.Store.{is_goal, without_goal, goal_after, aliases_after}
 
 abbrev Entries : Type 0

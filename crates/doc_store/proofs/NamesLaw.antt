@@ -12,17 +12,17 @@ use Rattle.std.proofs.lemmas.Map.Entries.{option_filter}
 use Rattle.std.proofs.lemmas.Map.Keys.{IsDistinct-cons, IsDistinct-from_sorted}
 use Rattle.std.proofs.lemmas.Map.Lookups.{exact_bytes}
 use Rattle.doc_page.proofs.Bools.{clash}
-use Rattle.doc_store.proofs.FilterSteps.{keys_in_order, some_in_order}
-use Rattle.doc_store.proofs.KeySteps.{bytes_eq_is, same_from, some_is}
-use Rattle.doc_store.proofs.MapSteps.{get_filtered}
-use Rattle.doc_store.proofs.MapValues.{contains-map_values}
-use Rattle.doc_store.proofs.ViewLaw.{get-visible_aliases, get-visible_pages, goals_of_views}
-use Rattle.doc_store.specs.declared.reader.Reader.{Reader}
+use Rattle.doc_store_readers.proofs.FilterSteps.{keys_in_order, some_in_order}
+use Rattle.doc_store_readers.proofs.KeySteps.{bytes_eq_is, same_from, some_is}
+use Rattle.doc_store_readers.proofs.MapSteps.{get_filtered}
+use Rattle.doc_store_readers.proofs.MapValues.{contains-map_values}
+use Rattle.doc_store_readers.proofs.ViewLaw.{get-visible_aliases, get-visible_pages, goals_of_views}
+use Rattle.doc_store_readers.specs.declared.reader.Reader.{Reader}
 use Rattle.doc_store.specs.Laws.{NamesOfPages}
-use Rattle.doc_store.specs.Maps.{TextMap}
+use Rattle.doc_store_readers.specs.Maps.{TextMap}
 use Rattle.doc_store.specs.Names.{aliases_of, names_of}
-use Rattle.doc_store.specs.Pages.{Page, StampedPage}
-use Rattle.doc_store.specs.Sites.{Site, IsSite, goal_by, goal_in, goal_of, may_see_at, view_of}
+use Rattle.doc_store_readers.specs.Pages.{Page, StampedPage}
+use Rattle.doc_store_readers.specs.Sites.{Site, IsSite, goal_by, goal_in, goal_of, may_see_at, view_of}
 use Rattle.doc_store.specs.Store.{StoreState, is_goal, state_of}
 
 same_bytes : (x y : List ℕ) → bytes_eq x y ≡ true → x ≡ y

@@ -14,16 +14,16 @@ use Rattle.std.proofs.lemmas.Map.Entries.{option_filter}
 use Rattle.std.proofs.lemmas.Map.Lookups.{exact_bytes}
 use Rattle.doc_page.proofs.Maps.{entries_in_order, len-sorted}
 use Rattle.doc_page.specs.Sights.{leads_to_itself, seen}
-use Rattle.doc_store.proofs.FilterSteps.{keys_in_order, some_in_order}
-use Rattle.doc_store.proofs.MapSteps.{get_filtered}
-use Rattle.doc_store.proofs.MapValues.{get-map_values, len-map_values}
+use Rattle.doc_store_readers.proofs.FilterSteps.{keys_in_order, some_in_order}
+use Rattle.doc_store_readers.proofs.MapSteps.{get_filtered}
+use Rattle.doc_store_readers.proofs.MapValues.{get-map_values, len-map_values}
 use Rattle.doc_store.proofs.SightSteps.{itself_is}
-use Rattle.doc_store.proofs.ViewLaw.{get-visible_pages, page_at-view_of}
-use Rattle.doc_store.specs.declared.reader.Reader.{Reader}
+use Rattle.doc_store_readers.proofs.ViewLaw.{get-visible_pages, page_at-view_of}
+use Rattle.doc_store_readers.specs.declared.reader.Reader.{Reader}
 use Rattle.doc_store.specs.Laws.{WhatIsSeen}
-use Rattle.doc_store.specs.Maps.{TextMap, map_values}
-use Rattle.doc_store.specs.Pages.{Page, StampedPage}
-use Rattle.doc_store.specs.Sites.{Site, IsSite, View, goal_in, may_see, may_see_at, view_of, visible_to}
+use Rattle.doc_store_readers.specs.Maps.{TextMap, map_values}
+use Rattle.doc_store_readers.specs.Pages.{Page, StampedPage}
+use Rattle.doc_store_readers.specs.Sites.{Site, IsSite, View, goal_in, may_see, may_see_at, view_of, visible_to}
 use Rattle.doc_store.specs.Store.{site_with}
 
 -- the entries of a map with some keys alone are those entries of the map

@@ -12,13 +12,13 @@ use Rattle.std.proofs.lemmas.Cmp.{nat_list_cmp_total}
 use Rattle.std.proofs.lemmas.Map.Lookups.{exact_bytes}
 use Rattle.doc_page.proofs.Bools.{clash}
 use Rattle.doc_page.proofs.Maps.{entries_in_order}
-use Rattle.doc_store.proofs.FilterSteps.{keys_in_order, some_in_order}
-use Rattle.doc_store.proofs.KeySteps.{same_key, same_from, same_itself, bytes_eq_is, some_is, get_set, get_taken, contains_set, contains_taken}
-use Rattle.doc_store.proofs.MapValues.{get-map_values}
+use Rattle.doc_store_readers.proofs.FilterSteps.{keys_in_order, some_in_order}
+use Rattle.doc_store_readers.proofs.KeySteps.{same_key, same_from, same_itself, bytes_eq_is, some_is, get_set, get_taken, contains_set, contains_taken}
+use Rattle.doc_store_readers.proofs.MapValues.{get-map_values}
 use Rattle.doc_store.proofs.NamesLaw.{alias_leads, by_bytes}
 use Rattle.doc_store.proofs.StoreSteps.{get-without_goal, get-aliases_after}
 use Rattle.doc_store.specs.AliasSteps.{TextSet, set_at, has_alias, AreSets, with_value, with_all, without_all}
-use Rattle.doc_store.specs.Maps.{TextMap, map_values}
+use Rattle.doc_store_readers.specs.Maps.{TextMap, map_values}
 use Rattle.doc_store.specs.Names.{aliases_of}
 use Rattle.doc_store.specs.Store.{is_goal, without_goal, goal_after, aliases_after}
 

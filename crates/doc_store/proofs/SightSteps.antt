@@ -3,13 +3,13 @@ use Rattle.std.proofs.Common.{◌≡◌, ℕ, List, Bool, true, false, cond, is_
 use Rattle.std.specs.Prelude.{Option, Some, None, option_map, option_and_then}
 use Rattle.std.specs.FinMap as map
 use Rattle.doc_page.specs.Sights.{leads_to_itself}
-use Rattle.doc_store.proofs.KeySteps.{same_key, same_from, same_itself, bytes_eq_is}
-use Rattle.doc_store.proofs.MapValues.{get-map_values}
-use Rattle.doc_store.proofs.ViewLaw.{alias_at-view_of, page_at-view_of}
-use Rattle.doc_store.specs.declared.reader.Reader.{Reader}
-use Rattle.doc_store.specs.Maps.{TextMap, map_values}
-use Rattle.doc_store.specs.Pages.{Page, StampedPage}
-use Rattle.doc_store.specs.Sites.{Site, IsSite, View, may_see, may_see_at, page_of_alias, goal_by, goal_in, view_of}
+use Rattle.doc_store_readers.proofs.KeySteps.{same_key, same_from, same_itself, bytes_eq_is}
+use Rattle.doc_store_readers.proofs.MapValues.{get-map_values}
+use Rattle.doc_store_readers.proofs.ViewLaw.{alias_at-view_of, page_at-view_of}
+use Rattle.doc_store_readers.specs.declared.reader.Reader.{Reader}
+use Rattle.doc_store_readers.specs.Maps.{TextMap, map_values}
+use Rattle.doc_store_readers.specs.Pages.{Page, StampedPage}
+use Rattle.doc_store_readers.specs.Sites.{Site, IsSite, View, may_see, may_see_at, page_of_alias, goal_by, goal_in, view_of}
 use Rattle.doc_store.specs.Store.{site_with}
 use Rattle.doc_page.proofs.Bools.{clash}
 

@@ -2,11 +2,11 @@
 use Rattle.std.proofs.Common.{◌≡◌, ◌≢◌, ℕ, ◌<◌, List, Bool, true, false, cond, refl, ap, ◌∙◌, arith}
 use Rattle.std.specs.Prelude.{Some, Result, Ok, Err}
 use Rattle.std.specs.FinMap as map
-use Rattle.doc_store.proofs.KeySteps.{same_itself, get_set}
+use Rattle.doc_store_readers.proofs.KeySteps.{same_itself, get_set}
 use Rattle.doc_store.proofs.StoreSteps.{put_stays, move_stays}
 use Rattle.doc_store.specs.Laws.{StampsAreFresh, TakesStamp}
-use Rattle.doc_store.specs.Maps.{TextMap}
-use Rattle.doc_store.specs.Pages.{Page}
+use Rattle.doc_store_readers.specs.Maps.{TextMap}
+use Rattle.doc_store_readers.specs.Pages.{Page}
 use Rattle.doc_store.specs.Store.{StoreState, IsStore, fits_in, put_by, may_move, move_fits, moved_by, aliases_after}
 use Rattle.doc_store.specs.declared.moving.MoveError.{MoveError}
 use Rattle.doc_store.specs.declared.moving.MoveError.TheVariants as move_errors

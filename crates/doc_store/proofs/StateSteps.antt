@@ -8,14 +8,14 @@ use Rattle.doc_store.specs.declared.store.EditError.{EditError}
 use Rattle.doc_store.specs.declared.store.EditError.TheVariants.{TooLong, StoreFull}
 use Rattle.doc_store.specs.declared.store.Put.{Put}
 use Rattle.doc_store.specs.declared.store.Put.TheVariants.{Created, Replaced}
-use Rattle.doc_store.proofs.MapValues.{contains-map_values, entries-map_values, get-map_values, is_some-option_map}
-use Rattle.doc_store.proofs.MapValues.{map_values-empty, map_values-insert, map_values-remove}
+use Rattle.doc_store_readers.proofs.MapValues.{contains-map_values, entries-map_values, get-map_values, is_some-option_map}
+use Rattle.doc_store_readers.proofs.MapValues.{map_values-empty, map_values-insert, map_values-remove}
 use Rattle.doc_store.proofs.PageSteps.{is_true}
 use Rattle.doc_store.proofs.StampLaw.{move_needs}
 use Rattle.doc_store.proofs.StoreSteps.{move_stays, put_stays, remove_stays, taken_out}
-use Rattle.doc_store.specs.Maps.{TextMap, map_values}
+use Rattle.doc_store_readers.specs.Maps.{TextMap, map_values}
 use Rattle.doc_store.specs.MoveSteps.{restamped, with_stamped, with_stamped_at}
-use Rattle.doc_store.specs.Pages.{Page, StampedPage, without_stamps}
+use Rattle.doc_store_readers.specs.Pages.{Page, StampedPage, without_stamps}
 use Rattle.doc_store.specs.Store.{StoreState, IsStore, empty_store, state_of, with_page, put_by, fits, fits_in, without_goal, without_page}
 use Rattle.doc_store.specs.Store.{text_limit, page_limit, put_limit, aliases_after, may_move, move_fits, with_key_at, with_move, moved_by, moved_in}
 use Rattle.doc_page.proofs.Bools.{clash}

@@ -6,18 +6,19 @@ use Rattle.std.specs.List.Sorted.{IsStrictlySortedBy}
 use Rattle.doc_page.specs.Tokens.{is_token}
 use Rattle.doc_store.specs.declared.moving.MoveError.{MoveError}
 use Rattle.doc_store.specs.declared.moving.MoveError.TheVariants as move_errors
-use Rattle.doc_store.specs.declared.reader.Reader.{Reader}
-use Rattle.doc_store.specs.declared.readers.ReaderError.{ReaderError}
-use Rattle.doc_store.specs.declared.readers.ReaderError.TheVariants.{BadToken}
-use Rattle.doc_store.specs.declared.readers.Set.{Set}
+use Rattle.doc_store_readers.specs.declared.reader.Reader.{Reader}
+use Rattle.doc_store_readers.specs.declared.readers.ReaderError.{ReaderError}
+use Rattle.doc_store_readers.specs.declared.readers.ReaderError.TheVariants.{BadToken}
+use Rattle.doc_store_readers.specs.declared.readers.Set.{Set}
 use Rattle.doc_store.specs.declared.store.EditError.{EditError}
+use Rattle.doc_store.specs.declared.store.EditError.TheVariants.{StoreFull}
 use Rattle.doc_store.specs.declared.store.Put.{Put}
 use Rattle.doc_store.specs.declared.store.Put.TheVariants.{Created, Replaced}
 use Rattle.doc_store.proofs.StoreOnLists.{Entries, made, has-made, removed-made, len-none, len-more, store_of, no_page_on, taken_on}
 use Rattle.doc_store.proofs.StoreOnLists.{full_on, moved_on, put_on, removed_on, not_removed_on}
-use Rattle.doc_store.specs.Pages.{Page}
-use Rattle.doc_store.specs.Readers.{ReaderTable, set_reader}
-use Rattle.doc_store.specs.Store.{StoreState, put_into, without_page, moved_in, text_limit, page_limit, alias_limit, put_limit}
+use Rattle.doc_store_readers.specs.Pages.{Page}
+use Rattle.doc_store_readers.specs.Readers.{ReaderTable, set_reader}
+use Rattle.doc_store.specs.Store.{StoreState, fits, put_into, without_page, moved_in, text_limit, page_limit, alias_limit, put_limit}
 
 abbrev staff : List (List ℕ)
 staff = codes "staff" ∷ []
@@ -45,6 +46,28 @@ site = store_of pages [] stamps 3
 
 abbrev MoveAnswer : Type 0
 MoveAnswer = StoreState × Result (Unit {0}) MoveError
+
+-- ---- whether a put fits
+
+last_new_path : fits 9999 false 7 (codes "x") ≡ Ok tt
+unfolding text_limit page_limit put_limit
+last_new_path = refl
+
+full_for_a_new_path : fits 10000 false 7 (codes "x") ≡ Err StoreFull
+unfolding text_limit page_limit put_limit
+full_for_a_new_path = refl
+
+full_but_for_an_old_path : fits 10000 true 7 (codes "x") ≡ Ok tt
+unfolding text_limit page_limit put_limit
+full_but_for_an_old_path = refl
+
+last_put : fits 1 true 18446744073709551614 (codes "x") ≡ Ok tt
+unfolding text_limit page_limit put_limit
+last_put = refl
+
+no_put_left : fits 1 true 18446744073709551615 (codes "x") ≡ Err StoreFull
+unfolding text_limit page_limit put_limit
+no_put_left = refl
 
 -- ---- moves
 

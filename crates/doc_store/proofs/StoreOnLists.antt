@@ -18,10 +18,10 @@ use Rattle.doc_store.specs.declared.store.EditError.{EditError}
 use Rattle.doc_store.specs.declared.store.Put.{Put}
 use Rattle.doc_store.specs.declared.store.Put.TheVariants.{Created, Replaced}
 use Rattle.doc_store.proofs.AliasSteps.{goals_removed}
-use Rattle.doc_store.proofs.KeySteps.{same_key}
-use Rattle.doc_store.proofs.MapValues.{find-changed, get-map_values}
-use Rattle.doc_store.specs.Maps.{TextMap, map_values}
-use Rattle.doc_store.specs.Pages.{Page}
+use Rattle.doc_store_readers.proofs.KeySteps.{same_key}
+use Rattle.doc_store_readers.proofs.MapValues.{find-changed, get-map_values}
+use Rattle.doc_store_readers.specs.Maps.{TextMap, map_values}
+use Rattle.doc_store_readers.specs.Pages.{Page}
 use Rattle.doc_store.specs.Store.{StoreState, put_into, put_by, fits, without_goal, without_page, goal_after, aliases_after, alias_limit}
 use Rattle.doc_store.specs.Store.{put_limit, move_fits, moved_by, moved_in, with_key_at}
 

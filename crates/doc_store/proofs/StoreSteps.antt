@@ -6,12 +6,12 @@ use Rattle.std.specs.FinMap as map
 use Rattle.std.specs.Cmp.Lexicographic.{slice_cmp}
 use Rattle.std.specs.Ordering.{nat_cmp}
 use Rattle.std.proofs.lemmas.Cmp.{nat_list_cmp_total}
-use Rattle.doc_store.proofs.KeySteps.{same_key, same_from, same_itself, bytes_eq_is, not_none, some_is, get_set, get_taken, stood}
-use Rattle.doc_store.proofs.KeySteps.{set_or_stood, contains_set, contains_taken}
-use Rattle.doc_store.proofs.MapValues.{get-map_values}
-use Rattle.doc_store.specs.Maps.{TextMap, map_values}
-use Rattle.doc_store.specs.Pages.{Page}
-use Rattle.doc_store.specs.Sites.{Site, IsSite}
+use Rattle.doc_store_readers.proofs.KeySteps.{same_key, same_from, same_itself, bytes_eq_is, not_none, some_is, get_set, get_taken, stood}
+use Rattle.doc_store_readers.proofs.KeySteps.{set_or_stood, contains_set, contains_taken}
+use Rattle.doc_store_readers.proofs.MapValues.{get-map_values}
+use Rattle.doc_store_readers.specs.Maps.{TextMap, map_values}
+use Rattle.doc_store_readers.specs.Pages.{Page}
+use Rattle.doc_store_readers.specs.Sites.{Site, IsSite}
 use Rattle.doc_store.specs.Store.{StoreState, IsStore, empty_store, is_goal, without_goal, goal_after, aliases_after, with_page, with_move}
 use Rattle.doc_store.specs.Store.{with_key_at}
 use Rattle.doc_page.proofs.Bools.{clash}

@@ -1,7 +1,7 @@
 -- Words of how aliases are kept: where each leads, and back, for each goal the aliases that lead there.
 use Rattle.std.specs.Prelude.{◌≡◌, ℕ, List, [], ◌∷◌, Bool, map as mapped, Option, Some, None, if◌then◌else◌}
 use Rattle.std.specs.FinMap as map
-use Rattle.doc_store.specs.Maps.{TextMap}
+use Rattle.doc_store_readers.specs.Maps.{TextMap}
 use Rattle.doc_store.specs.Store.{is_goal}
 
 -- a set of texts

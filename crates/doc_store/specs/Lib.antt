@@ -1,10 +1,10 @@
 pub mod AliasSteps
-pub mod Groups
 pub mod Laws
-pub mod Maps
 pub mod MoveSteps
 pub mod Names
-pub mod Pages
-pub mod Readers
-pub mod Sites
 pub mod Store
+pub use Rattle.doc_store_readers.specs.Groups
+pub use Rattle.doc_store_readers.specs.Maps
+pub use Rattle.doc_store_readers.specs.Pages
+pub use Rattle.doc_store_readers.specs.Readers
+pub use Rattle.doc_store_readers.specs.Sites

@@ -1,8 +1,8 @@
 -- Words of the proofs of moves.
-use Rattle.std.specs.Prelude.{ℕ, List, [], Option, Some, None}
+use Rattle.std.specs.Prelude.{ℕ, List, Option, Some, None}
 use Rattle.std.specs.FinMap as map
-use Rattle.doc_store.specs.Maps.{TextMap}
-use Rattle.doc_store.specs.Pages.{StampedPage}
+use Rattle.doc_store_readers.specs.Maps.{TextMap}
+use Rattle.doc_store_readers.specs.Pages.{StampedPage}
 
 -- the page with another stamp
 abbrev pub restamped : ℕ → StampedPage → StampedPage
@@ -15,7 +15,3 @@ with_stamped_at pages from to stamp (Some page) = map.insert (map.remove pages f
 
 abbrev pub with_stamped : TextMap StampedPage → List ℕ → List ℕ → ℕ → TextMap StampedPage
 with_stamped pages from to stamp = with_stamped_at pages from to stamp (map.get pages from)
-
--- what stands under a new path until the page is moved there
-abbrev pub empty_page : StampedPage
-empty_page = record { page = record { groups = []; text = [] }; stamp = 0 }

@@ -2,8 +2,8 @@
 use Rattle.std.specs.Prelude.{◌≡◌, ℕ, List, [], ◌∷◌, bytes_eq, map as mapped, Option, if◌then◌else◌}
 use Rattle.std.specs.FinMap as map
 use Rattle.std.specs.List.{IsDistinct, filter, list_any}
-use Rattle.doc_store.specs.Maps.{TextMap}
-use Rattle.doc_store.specs.Sites.{Site}
+use Rattle.doc_store_readers.specs.Maps.{TextMap}
+use Rattle.doc_store_readers.specs.Sites.{Site}
 use Rattle.doc_store.specs.Store.{is_goal}
 
 -- the aliases that lead to a path, in the order of their bytes

@@ -9,9 +9,9 @@ use Rattle.doc_store.specs.declared.store.EditError.{EditError}
 use Rattle.doc_store.specs.declared.store.EditError.TheVariants.{TooLong, StoreFull}
 use Rattle.doc_store.specs.declared.store.Put.{Put}
 use Rattle.doc_store.specs.declared.store.Put.TheVariants.{Created, Replaced}
-use Rattle.doc_store.specs.Maps.{TextMap, map_values}
-use Rattle.doc_store.specs.Pages.{Page, StampedPage}
-use Rattle.doc_store.specs.Sites.{Site, IsSite, empty_site, site_code}
+use Rattle.doc_store_readers.specs.Maps.{TextMap, map_values}
+use Rattle.doc_store_readers.specs.Pages.{Page, StampedPage}
+use Rattle.doc_store_readers.specs.Sites.{Site, IsSite, empty_site, site_code}
 
 -- how many bytes the text of a page may have
 unfoldable pub text_limit : ℕ

@@ -2,8 +2,8 @@
 
 ghost use Rattle.std.specs.Prelude.{◌≡◌, ◌≢◌, ◌+◌, [], ◌∷◌, ℕ, List as Seq, Some, None, IfOk, OnOk, OnErr, option_copied};
 ghost use Rattle.std.specs.FinMap as map;
-ghost use Rattle.doc_store.specs.Groups.{texts_of};
-ghost use Rattle.doc_store.specs.Maps.{map_values};
+ghost use Rattle.doc_store_readers.specs.Groups.{texts_of};
+ghost use Rattle.doc_store_readers.specs.Maps.{map_values};
 ghost use Rattle.doc_store.specs.Names.{aliases_of};
 ghost use Rattle.doc_store.specs.Store.{aliases_after, goal_after, without_goal};
 
@@ -28,7 +28,7 @@ impl Model for Aliases {
     ghost use Rattle.std.specs.Coded.{coded_ℕ, coded_list};
     ghost use Rattle.std.specs.FinMap as map;
     ghost use Rattle.doc_store.specs.AliasSteps.{AreSets};
-    ghost use Rattle.doc_store.specs.Maps.{TextMap};
+    ghost use Rattle.doc_store_readers.specs.Maps.{TextMap};
 
     ghost Value = { TextMap (Seq ℕ) };
 

@@ -22,7 +22,7 @@ impl Model for ByGoal {
     ghost use Rattle.std.specs.FinMap as map;
     ghost use Rattle.std.specs.FinSet as set;
     ghost use Rattle.doc_store.specs.AliasSteps.{TextSet};
-    ghost use Rattle.doc_store.specs.Maps.{TextMap};
+    ghost use Rattle.doc_store_readers.specs.Maps.{TextMap};
 
     ghost Value = { TextMap TextSet };
 

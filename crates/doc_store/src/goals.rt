@@ -21,7 +21,7 @@ impl Model for Goals {
     ghost use Rattle.std.specs.Prelude.{ℕ, List as Seq};
     ghost use Rattle.std.specs.Coded.{coded_ℕ, coded_list};
     ghost use Rattle.std.specs.FinMap as map;
-    ghost use Rattle.doc_store.specs.Maps.{TextMap};
+    ghost use Rattle.doc_store_readers.specs.Maps.{TextMap};
 
     ghost Value = { TextMap (Seq ℕ) };
 

@@ -1,47 +1,12 @@
-//! Laws of groups, of what readers see, and of stamps. Each function does nothing: its contract is the law.
+//! Laws of what readers see of a store, of names, and of stamps. Each function does nothing: its contract is the law.
 
-ghost use Rattle.doc_store.specs.Laws.{EqualSets, GoalsOfViews, NamesOfPages, NoReaderSeesNothing, SameGroups, SameNames};
-ghost use Rattle.doc_store.specs.Laws.{StampsAreFresh, ViewOfView, ViewsAreSites, WhatIsSeen};
+ghost use Rattle.doc_store.specs.Laws.{NamesOfPages, StampsAreFresh, WhatIsSeen};
 
-/// The groups of some names are these names, and no others.
-pub fn groups_are_their_names()
-    ensures { SameNames }
-{}
-
-/// Equal sets of names make equal groups.
-pub fn equal_sets_are_equal_groups()
-    ensures { EqualSets }
-{}
-
-/// Two sets of groups with the same names are equal values.
-#[tactic(auto, using(crate::proofs::GroupLaws::same_groups))]
-pub fn groups_with_the_same_names_are_equal()
-    ensures { SameGroups }
-{}
-
-/// A reader sees the whole of what the reader sees.
-pub fn the_view_of_a_view_is_the_view()
-    ensures { ViewOfView }
-{}
-
-/// What a reader sees of a site is a site: no alias is the path of a page that they see, and each leads
-/// to one.
-#[tactic(auto, using(crate::proofs::SitesOfViews::views_are_sites))]
-pub fn what_a_reader_sees_is_a_site()
-    ensures { ViewsAreSites }
-{}
-
-/// No reader sees nothing.
-#[tactic(auto, using(crate::proofs::ViewLaw::no_reader_sees_nothing))]
-pub fn no_reader_sees_nothing()
-    ensures { NoReaderSeesNothing }
-{}
-
-/// A path leads in a view where it leads in what the reader sees.
-#[tactic(auto, using(crate::proofs::ViewLaw::goals_of_views))]
-pub fn views_lead_where_sites_lead()
-    ensures { GoalsOfViews }
-{}
+pub use doc_store_readers::laws::{
+    equal_sets_are_equal_groups, groups_are_their_names, groups_with_the_same_names_are_equal,
+    no_reader_sees_nothing, the_view_of_a_view_is_the_view, views_lead_where_sites_lead,
+    what_a_reader_sees_is_a_site,
+};
 
 /// A reader's sight sees a path exactly where a page stands under it in the reader's view, and of all
 /// pages of the site exactly those of the view.

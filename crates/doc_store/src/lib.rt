@@ -1,20 +1,16 @@
-//! The pages of a site with their aliases, the groups that they are for, and the readers: who may see
-//! which page.
+//! The pages of a site with their aliases: what stands under a path, where it leads, and what a reader
+//! sees of it. Groups, pages and readers are those of `doc_store_readers`, and stand under this crate's
+//! name too.
 #![tactic(auto)]
 
 mod aliases;
 mod by_goal;
-mod entries;
 mod goals;
-pub mod groups;
 pub mod laws;
 pub mod moving;
-mod names;
-pub mod page;
 mod pages;
 mod path_set;
-pub mod reader;
-pub mod readers;
 pub mod site_sight;
 pub mod store;
-pub mod tables;
+
+pub use doc_store_readers::{groups, page, reader, readers, tables};

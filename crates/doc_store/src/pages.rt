@@ -3,14 +3,15 @@
 ghost use Rattle.std.specs.Prelude.{◌≡◌, ◌<◌, ◌^◌, Some, IsTrue, IfOk, OnOk, OnErr, length, option_copied, option_map};
 ghost use Rattle.std.specs.FinMap as map;
 ghost use Rattle.std.specs.List.{filter};
-ghost use Rattle.doc_store.specs.MoveSteps.{empty_page, with_stamped};
-ghost use Rattle.doc_store.specs.Sites.{may_see};
+ghost use Rattle.doc_store.specs.MoveSteps.{with_stamped};
+ghost use Rattle.doc_store_readers.specs.Pages.{empty_page};
+ghost use Rattle.doc_store_readers.specs.Sites.{may_see};
 
-use crate::page::Page;
-use crate::reader::Reader;
 use doc_heap::{BTreeMap, Heap};
 use doc_page::failure::Memory;
 use doc_page::path::Path;
+use doc_store_readers::page::Page;
+use doc_store_readers::reader::Reader;
 use std::collections::btree_map::Iter;
 use std::marker::Model;
 
@@ -23,8 +24,8 @@ pub struct Pages {
 impl Model for Pages {
     ghost use Rattle.std.specs.Coded.{coded_ℕ, coded_list};
     ghost use Rattle.std.specs.FinMap as map;
-    ghost use Rattle.doc_store.specs.Maps.{TextMap};
-    ghost use Rattle.doc_store.specs.Pages as pages;
+    ghost use Rattle.doc_store_readers.specs.Maps.{TextMap};
+    ghost use Rattle.doc_store_readers.specs.Pages as pages;
 
     ghost Value = { TextMap pages.StampedPage };
 

@@ -7,7 +7,7 @@ ghost use Rattle.std.specs.FinMap as map;
 ghost use Rattle.std.specs.Map.{keys_of};
 ghost use Rattle.std.specs.Ordering.{nat_cmp};
 ghost use Rattle.doc_store.specs.AliasSteps.{copies_for};
-ghost use Rattle.doc_store.specs.Groups.{texts_of};
+ghost use Rattle.doc_store_readers.specs.Groups.{texts_of};
 
 use doc_heap::{BTreeMap, Heap, Vec};
 use doc_page::failure::Memory;

@@ -1,13 +1,13 @@
 //! What a reader sees of a site.
 
 ghost use Rattle.std.specs.Prelude.{◌≡◌, Some, None, MatchOption};
-ghost use Rattle.doc_store.specs.Sites.{IsSite};
+ghost use Rattle.doc_store_readers.specs.Sites.{IsSite};
 
 use crate::aliases::Aliases;
 use crate::pages::Pages;
-use crate::reader::Reader;
 use doc_page::path::Path;
 use doc_page::sight::Sight;
+use doc_store_readers::reader::Reader;
 use std::marker::Model;
 
 /// What a reader sees of a site. Contracts see the view: the pages that the reader may see, and the
@@ -21,7 +21,7 @@ pub struct SiteSight<'a> {
 
 impl<'a> Model for SiteSight<'a> {
     ghost use Rattle.std.specs.Prelude.{Some};
-    ghost use Rattle.doc_store.specs.Sites.{IsSite, View, view_code, view_of};
+    ghost use Rattle.doc_store_readers.specs.Sites.{IsSite, View, view_code, view_of};
     ghost use Rattle.doc_store.specs.Store.{site_with};
 
     ghost Value = { View };
@@ -34,7 +34,7 @@ impl<'a> Model for SiteSight<'a> {
 }
 
 impl<'a> SiteSight<'a> {
-    ghost use Rattle.doc_store.specs.Sites.{IsSite, view_of};
+    ghost use Rattle.doc_store_readers.specs.Sites.{IsSite, view_of};
     ghost use Rattle.doc_store.specs.Store.{site_with};
 
     pub(crate) fn new(pages: &'a Pages, aliases: &'a Aliases, reader: &'a Reader) -> SiteSight<'a>
@@ -50,7 +50,7 @@ impl<'a> SiteSight<'a> {
 }
 
 impl<'a> Sight for SiteSight<'a> {
-    ghost use Rattle.doc_store.specs.Sites.{goal_in};
+    ghost use Rattle.doc_store_readers.specs.Sites.{goal_in};
 
     ghost goals = { goal_in };
 

@@ -13,13 +13,13 @@ use Rattle.doc_links.specs.Names.{AreNames as WrittenNames}
 use Rattle.doc_links.specs.PageLinks.{pages_of}
 use Rattle.doc_links_pages.specs.declared.page_links.PageLinks.{PageLinks}
 use Rattle.doc_resolve.specs.declared.link_kind.LinkKind.{LinkKind}
-use Rattle.doc_store.proofs.KeySteps.{bytes_eq_is, same_itself}
+use Rattle.doc_store_readers.proofs.KeySteps.{bytes_eq_is, same_itself}
 use Rattle.doc_store.proofs.NamesLaw.{names_lead}
 use Rattle.doc_store.proofs.SightSteps.{itself_is}
 use Rattle.doc_store.specs.Names.{AreNames, names_of}
 use Rattle.doc_store.specs.Sites.{Site, IsSite, View, goal_in, view_of}
 use Rattle.doc_store.specs.Store.{IsStore, StoreState, is_goal}
-use Rattle.doc_store.specs.declared.reader.Reader.{Reader}
+use Rattle.doc_store_readers.specs.declared.reader.Reader.{Reader}
 
 abbrev Entries : Type 0
 Entries = List ((List ℕ × ℕ) × PageLinks)

@@ -1,4 +1,4 @@
-use Rattle.doc_store.specs.declared.readers.ReadersError.TheVariants as readers_errors
+use Rattle.doc_store_readers.specs.declared.readers.ReadersError.TheVariants as readers_errors
 use Rattle.doc_server.proofs.Puts.{these_readers, not_refused}
 use Rattle.doc_server.proofs.demo_site.readers.Goals as goal
 

@@ -1,7 +1,7 @@
 use Rattle.std.proofs.Common.{refl, ap, ◌∙◌}
 use Rattle.std.specs.FinMap as map
 use Rattle.doc_store.proofs.PageSteps.{paths_differ, renamed_in_room, room_is_there, room_undone, stands_beside}
-use Rattle.doc_store.specs.MoveSteps.{empty_page}
+use Rattle.doc_store_readers.specs.Pages.{empty_page}
 use Rattle.doc_store.proofs.moving.move_page.Goals as goal
 
 pub follow-requires-clause-apart : goal.follow-requires-clause-apart

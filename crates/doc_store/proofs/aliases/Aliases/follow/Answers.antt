@@ -2,7 +2,7 @@ use Rattle.std.proofs.Common.{ap, sym, ◌∙◌}
 use Rattle.std.specs.FinMap as map
 use Rattle.doc_store.proofs.PageSteps.{room_undone}
 use Rattle.doc_store.proofs.SetSteps.{followed, still_free}
-use Rattle.doc_store.specs.Maps.{map_values}
+use Rattle.doc_store_readers.specs.Maps.{map_values}
 use Rattle.doc_store.specs.Store.{goal_after}
 use Rattle.doc_store.proofs.aliases.Aliases.follow.Goals as goal
 

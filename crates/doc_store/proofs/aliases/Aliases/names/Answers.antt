@@ -1,7 +1,7 @@
 use Rattle.std.proofs.Common.{◌∷◌, ap, ◌∙◌}
 use Rattle.doc_store.proofs.NamesLaw.{found_instead}
 use Rattle.doc_store.proofs.SetSteps.{names_kept, no_names}
-use Rattle.doc_store.specs.Groups.{texts_of}
+use Rattle.doc_store_readers.specs.Groups.{texts_of}
 use Rattle.doc_store.specs.Names.{aliases_of}
 use Rattle.doc_store.proofs.aliases.Aliases.names.Goals as goal
 

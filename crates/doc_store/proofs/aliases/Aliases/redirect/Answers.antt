@@ -3,7 +3,7 @@ use Rattle.std.specs.Prelude.{Some}
 use Rattle.std.specs.FinMap as map
 use Rattle.doc_store.proofs.SetSteps.{goals_led, goals_stay, none_led, sets_led, sets_same, taken_is}
 use Rattle.doc_store.specs.AliasSteps.{set_at, with_all, with_value}
-use Rattle.doc_store.specs.Maps.{map_values}
+use Rattle.doc_store_readers.specs.Maps.{map_values}
 use Rattle.doc_store.specs.Store.{goal_after}
 use Rattle.doc_store.proofs.aliases.Aliases.redirect.Goals as goal
 

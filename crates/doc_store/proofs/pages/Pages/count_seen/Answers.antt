@@ -3,7 +3,7 @@ use Rattle.std.specs.Prelude.{Some}
 use Rattle.std.specs.Map.{values_of}
 use Rattle.std.proofs.lemmas.Iterator.Consumers.{YieldsList-at, YieldsList-from_filter, YieldsList-from_rest, count_from_yields_List}
 use Rattle.doc_store.proofs.SeenLaw.{values_seen}
-use Rattle.doc_store.specs.Sites.{may_see}
+use Rattle.doc_store_readers.specs.Sites.{may_see}
 use Rattle.doc_store.proofs.pages.Pages.count_seen.Goals as goal
 
 pub returns : goal.returns

@@ -1,6 +1,6 @@
 use Rattle.std.proofs.Common.{◌∷◌}
 use Rattle.doc_store.proofs.SetSteps.{said_of_keys}
-use Rattle.doc_store.specs.Groups.{texts_of}
+use Rattle.doc_store_readers.specs.Groups.{texts_of}
 use Rattle.doc_store.proofs.path_set.PathSet.after.Goals as goal
 
 pub returns : goal.returns

@@ -1,7 +1,7 @@
 use Rattle.std.proofs.Common.{ap, length, ◌∙◌}
 use Rattle.std.specs.Prelude.{Some}
 use Rattle.doc_store.proofs.SeenLaw.{count_of_seen}
-use Rattle.doc_store.specs.Sites.{view_of}
+use Rattle.doc_store_readers.specs.Sites.{view_of}
 use Rattle.doc_store.proofs.store.Store.count_seen.Goals as goal
 
 pub returns : goal.returns

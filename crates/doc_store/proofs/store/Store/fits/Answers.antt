@@ -1,5 +1,5 @@
 use Rattle.std.proofs.Common.{sym}
-use Rattle.doc_store.proofs.MapValues.{len-map_values}
+use Rattle.doc_store_readers.proofs.MapValues.{len-map_values}
 use Rattle.doc_store.proofs.StateSteps.{fits_is}
 use Rattle.doc_store.proofs.store.Store.fits.Goals as goal
 

@@ -1,6 +1,6 @@
 use Rattle.std.proofs.Common.{ap, ◌∙◌}
 use Rattle.doc_store.proofs.NamesLaw.{found_instead, names_of_none, names_of_page}
-use Rattle.doc_store.specs.Groups.{texts_of}
+use Rattle.doc_store_readers.specs.Groups.{texts_of}
 use Rattle.doc_store.proofs.store.Store.names_of.Goals as goal
 
 pub returns-in_default : goal.returns-in_default

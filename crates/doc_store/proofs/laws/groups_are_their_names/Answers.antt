@@ -1,5 +1,0 @@
-use Rattle.doc_store.proofs.GroupLaws.{same_names}
-use Rattle.doc_store.proofs.laws.groups_are_their_names.Goals as goal
-
-pub returns : goal.returns
-returns c = same_names

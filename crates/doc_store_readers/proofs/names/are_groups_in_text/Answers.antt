@@ -1,0 +1,10 @@
+use Rattle.std.proofs.Common.{rules, tests, lit<}
+use Rattle.std.proofs.lemmas.Iterator.Splits.{YieldsList-from_str_split}
+use Rattle.std.proofs.lemmas.Iterator.Search.{all_from_yields_List}
+use Rattle.doc_store_readers.specs.Groups.{is_group}
+use Rattle.doc_store_readers.proofs.names.are_groups_in_text.Goals as goal
+
+pub returns : goal.returns
+returns c =
+    all_from_yields_List is_group _ _ _ c.all.ensures.ran (YieldsList-from_str_split 44 c.args.text.now (lit< tt) c.split.ensures.text
+    c.split.ensures.has_more c.split.ensures.pattern) (λ x b q k. search (rules, tests))
