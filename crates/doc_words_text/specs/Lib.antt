@@ -1,3 +1,2 @@
-pub mod Maps
 pub mod Words
 pub mod WordSteps

@@ -7,7 +7,7 @@ use Rattle.caseless.specs.Caseless.{default_case_fold}
 use Rattle.unicode.specs.GeneralCategory.{general_category}
 use Rattle.unicode.specs.GeneralCategoryGroup.{in_group}
 use Rattle.unicode.specs.declared.properties.GeneralCategoryGroup.TheVariants.{Letter, Mark, Number}
-use Rattle.doc_words_text.specs.Maps.{TextMap}
+use Rattle.doc_index.specs.Maps.{TextMap}
 use Rattle.doc_page.specs.Pages.{is_empty}
 use Rattle.doc_page.specs.declared.rendered.Rendered.{Rendered}
 use Rattle.doc_words_text.specs.declared.query.QueryError.{QueryError}
