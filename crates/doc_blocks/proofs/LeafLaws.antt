@@ -14,7 +14,7 @@ use Rattle.doc_rules.specs.Trees.{Situation, InParagraph, has_no_paragraph, Leaf
 use Rattle.doc_rules.specs.Trees.{line_text}
 use Rattle.doc_rules.specs.Blocks.{Blocks, Document, document_of}
 use Rattle.doc_refs.specs.Targets.{Targets, targets_of, joined}
-use Rattle.doc_refs_parts.MapLaws.{joins_definitions}
+use Rattle.doc_refs_parts.proofs.MapLaws.{joins_definitions}
 use Rattle.doc_blocks_pass.specs.Leaves.{OpenLeaf, NoLeaf, OpenParagraph, OpenCode, OpenFence, OpenHtml, open_of, open_references}
 use Rattle.doc_blocks_pass.specs.Leaves.{with_open, code_with, kept_with, fence_with, html_with, taken, Taken, NotTaken, GoesOn, Closes}
 use Rattle.doc_blocks_pass.specs.Paths.{Level, Path, empty_path, Here, begun_at, finished, with_blocks}

@@ -10,7 +10,7 @@ use Rattle.doc_rules.specs.Destinations.{Target}
 use Rattle.doc_rules.specs.ContainerStarts.{ListKind, ItemStart, quote_start, item_start}
 use Rattle.doc_rules.specs.Trees.{Situation, NoParagraph, LeafStart, leaf_begins, item_may_begin}
 use Rattle.doc_refs.specs.Targets.{Targets, targets_of, joined}
-use Rattle.doc_refs_parts.MapLaws.{same_targets, first_of, get-joined, joined-empty, joins_definitions}
+use Rattle.doc_refs_parts.proofs.MapLaws.{same_targets, first_of, get-joined, joined-empty, joins_definitions}
 use Rattle.doc_blocks_pass.specs.Leaves.{NoLeaf, open_references}
 use Rattle.doc_blocks_pass.specs.Paths.{Level, OpenQuote, OpenItem, Path, Inside, empty_path, begun_at, item_begun_at}
 use Rattle.doc_blocks_pass.specs.Closing.{closed, path_blank, path_references}

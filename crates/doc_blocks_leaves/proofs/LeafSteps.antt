@@ -15,7 +15,7 @@ use Rattle.doc_rules.specs.Blocks.{with_leaf}
 use Rattle.doc_blocks_pass.specs.Leaves.{OpenLeaf, NoLeaf, OpenParagraph, OpenCode, OpenFence, OpenHtml, open_of, with_open}
 use Rattle.doc_refs.specs.Targets.{Targets, targets_of}
 use Rattle.doc_refs.specs.Targets as maps
-use Rattle.doc_refs_parts.MapLaws.{joined-empty}
+use Rattle.doc_refs_parts.proofs.MapLaws.{joined-empty}
 use Rattle.doc_blocks_leaves.specs.declared.block.Block.TheVariants as variants
 use Rattle.doc_blocks_leaves.specs.OpenLeaves.{paragraph_text, with_leaf_of, underlined, with_underlined, underlined_references, with_begun}
 use Rattle.doc_blocks_leaves.specs.Views.{with_block}

@@ -7,7 +7,7 @@ use Rattle.doc_rules.specs.Destinations.{destination, title}
 use Rattle.doc_rules.specs.Rests.{IsRest}
 use Rattle.doc_rules.proofs.ParserLaws.{is_rest_again}
 use Rattle.doc_lines.proofs.Rests.{is_rest, spacing_rest, some_spacing_rest}
-use Rattle.doc_refs_parts.Rests.{destination_rest, title_rest}
+use Rattle.doc_refs_parts.proofs.Rests.{destination_rest, title_rest}
 use Rattle.doc_inlines_tails.specs.declared.inline_tail.TailSource.{TailSource}
 
 -- what stands behind the end of an end is behind the text

@@ -11,7 +11,7 @@ use Rattle.doc_rules.specs.Parsers.{is, before, passing, begins_before, is_nothi
 use Rattle.doc_rules.specs.Labels.{label, label_text, is_label}
 use Rattle.doc_rules.proofs.ParserLaws.{rest_is_shorter}
 use Rattle.doc_rules.proofs.GrammarLaws.{many_or_escaped_leaves}
-use Rattle.doc_refs_parts.Ends.{takes_all}
+use Rattle.doc_refs_parts.proofs.Ends.{takes_all}
 use Rattle.doc_inlines_tails.specs.LabelSteps.{IsTooLong}
 
 pub too_long : (text rest : Text) → label_text text ≡ label_text rest → length rest + 1000 ≤ length text → IsTooLong text

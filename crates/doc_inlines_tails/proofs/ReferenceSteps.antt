@@ -8,7 +8,7 @@ use Rattle.doc_rules.specs.Destinations.{Target}
 use Rattle.doc_rules.specs.Labels.{normal_label}
 use Rattle.doc_rules.specs.Links.{reference_target}
 use Rattle.doc_refs.specs.Targets.{Targets, targets_of}
-use Rattle.doc_refs_parts.MapLaws.{finds_the_reference}
+use Rattle.doc_refs_parts.proofs.MapLaws.{finds_the_reference}
 
 pub names_target : (definitions : List Definition) (refs : Targets) (name normal after : Text) (found : Option Target)
     → refs ≡ targets_of definitions → normal ≡ normal_label name → found ≡ get refs normal

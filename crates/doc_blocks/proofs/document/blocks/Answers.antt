@@ -1,6 +1,6 @@
 use Rattle.std.proofs.Common.{rules, ◌≡◌, ◌∙◌, List, [], map, chars, ap, sym}
 use Rattle.doc_lines.proofs.Ends.{empty_chars}
-use Rattle.doc_refs_parts.SpaceLaws.{is_none, is_some}
+use Rattle.doc_refs_parts.proofs.SpaceLaws.{is_none, is_some}
 use Rattle.doc_rules.specs.Characters.{Text}
 use Rattle.doc_rules.specs.Columns.{cells_of}
 use Rattle.doc_rules.specs.Lines.{lines_of, secure_char}

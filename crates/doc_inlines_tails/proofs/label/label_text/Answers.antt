@@ -2,7 +2,7 @@ use Rattle.std.proofs.Common.{rules, refl, ◌∙◌, sym, chars, arith}
 use Rattle.std.specs.Prelude.{codes}
 use Rattle.doc_rules.specs.Characters.{none_of}
 use Rattle.doc_rules.proofs.ParserLaws.{is_all, is_rest_again}
-use Rattle.doc_refs_parts.Escapes.{run_ends, run_goes_on}
+use Rattle.doc_refs_parts.proofs.Escapes.{run_ends, run_goes_on}
 use Rattle.doc_inlines_tails.proofs.LabelSteps.{too_long}
 use Rattle.doc_inlines_tails.proofs.label.label_text.Goals as goal
 
