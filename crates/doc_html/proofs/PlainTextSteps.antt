@@ -26,7 +26,7 @@ plain_of (Code text) = append-nil _
 plain_of Soft = refl
 plain_of Hard = refl
 plain_of (Raw text) = refl
-plain_of (Reference source those) = append-nil _
+plain_of (Reference reference) = append-nil _
 plain_of (Start span) = refl
 plain_of (End span) = refl
 

@@ -31,7 +31,7 @@ mark_html (Code text) = inline_html (inlines.Code (chars text.now))
 mark_html Soft = inline_html inlines.SoftBreak
 mark_html Hard = inline_html inlines.HardBreak
 mark_html (Raw text) = characters (chars text.now)
-mark_html (Reference source those) = characters (html_escape (both those))
+mark_html (Reference reference) = characters (html_escape (both reference.now.those))
 mark_html (Start span) = span_start (span_shown span)
 mark_html (End span) = characters (span_end (span_shown span))
 
@@ -42,7 +42,7 @@ mark_plain (Code text) = spaced (chars text.now)
 mark_plain Soft = 32 ∷ []
 mark_plain Hard = 32 ∷ []
 mark_plain (Raw text) = []
-mark_plain (Reference source those) = both those
+mark_plain (Reference reference) = both reference.now.those
 mark_plain (Start span) = []
 mark_plain (End span) = []
 

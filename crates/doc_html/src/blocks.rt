@@ -30,7 +30,7 @@ pub(crate) fn push_all<'d, W: Writer>(
         OnOk result (W.holds writer.new
         (blocks_told source.now.entities.now definitions false (blocks_shown blocks.now) p)) }
 {
-    let mut reader: Reader<'d, 'd> = Reader::new(source.heap);
+    let mut reader: Reader<'d, 'd> = Reader::new(source.heap, source.arena);
     push_blocks(writer, source, &mut reader, blocks, false)?;
     Ok(())
 }

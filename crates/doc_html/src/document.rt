@@ -14,6 +14,7 @@ use crate::links::{ByLinker, Links};
 use crate::reading::Source;
 use doc_blocks::Document;
 use doc_heap::Heap;
+use doc_inlines_marks::arena::Arena;
 use doc_lines::entities::Entities;
 use doc_page::failure::Memory;
 use doc_page::linker::Linker;
@@ -52,10 +53,12 @@ pub(crate) fn write_html<K: Links>(
         IfOk result (λ html. html ≡ html_bytes entities.now (K.shown links.now) []
         (record { blocks = blocks_shown document.now.blocks.items; refs = definitions })) }
 {
+    let arena = Arena::new(heap);
     let source = Source {
         heap,
         refs: &document.refs,
         entities,
+        arena: &arena,
     };
     let mut writer = HtmlWriter::new(heap, links, room)?;
     push_all(&mut writer, &source, document.blocks.as_slice())?;

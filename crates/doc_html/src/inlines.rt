@@ -83,7 +83,7 @@ fn push_plain<W: Writer>(writer: &mut W, heap: Heap, mark: &MarkRef) -> Result<(
         MarkRef::Code(text) => push_spaced(writer, text),
         MarkRef::Soft => push_space(writer),
         MarkRef::Hard => push_space(writer),
-        MarkRef::Reference { source: _, those } => push_reference(writer, heap, *those),
+        MarkRef::Reference(reference) => push_reference(writer, heap, reference.those),
         MarkRef::Raw(_) => push_nothing(writer),
         MarkRef::Start(_) => push_nothing(writer),
         MarkRef::End(_) => push_nothing(writer),
@@ -101,7 +101,7 @@ fn push_whole<W: Writer>(writer: &mut W, heap: Heap, mark: &MarkRef) -> Result<(
         MarkRef::Soft => push_soft(writer),
         MarkRef::Hard => push_hard(writer),
         MarkRef::Raw(text) => writer.text(text),
-        MarkRef::Reference { source: _, those } => push_reference(writer, heap, *those),
+        MarkRef::Reference(reference) => push_reference(writer, heap, reference.those),
         MarkRef::Start(span) => push_start(writer, heap, span),
         MarkRef::End(span) => push_end(writer, heap, span),
     }
@@ -168,8 +168,8 @@ fn push_start<W: Writer>(writer: &mut W, heap: Heap, span: &SpanRef) -> Result<(
     match span {
         SpanRef::Emphasis => markup(writer, "<em>"),
         SpanRef::Strong => markup(writer, "<strong>"),
-        SpanRef::Link(target) => writer.link(*target),
-        SpanRef::Image(target) => push_image_start(writer, heap, *target),
+        SpanRef::Link(target) => writer.link(**target),
+        SpanRef::Image(target) => push_image_start(writer, heap, **target),
     }
 }
 
@@ -196,7 +196,7 @@ fn push_end<W: Writer>(writer: &mut W, heap: Heap, span: &SpanRef) -> Result<(),
         SpanRef::Emphasis => markup(writer, "</em>"),
         SpanRef::Strong => markup(writer, "</strong>"),
         SpanRef::Link(_) => markup(writer, "</a>"),
-        SpanRef::Image(target) => push_image_end(writer, heap, *target),
+        SpanRef::Image(target) => push_image_end(writer, heap, **target),
     }
 }
 

@@ -10,6 +10,7 @@ use crate::page_writer::PageWriter;
 use crate::reading::Source;
 use doc_blocks::{Document, blocks};
 use doc_heap::Heap;
+use doc_inlines_marks::arena::Arena;
 use doc_lines::entities::Entities;
 use doc_page::failure::Memory;
 use doc_page::rendered::Rendered;
@@ -30,10 +31,12 @@ fn document_page(heap: Heap, document: &Document, entities: &Entities) -> Result
         (document_page entities.now
         (record { blocks = blocks_shown document.now.blocks.items; refs = definitions }))) }
 {
+    let arena = Arena::new(heap);
     let source = Source {
         heap,
         refs: &document.refs,
         entities,
+        arena: &arena,
     };
     let mut writer = PageWriter::new(heap);
     push_all(&mut writer, &source, document.blocks.as_slice())?;

@@ -37,7 +37,7 @@ fn room_of_mark(mark: &MarkRef) -> usize {
     match mark {
         MarkRef::Text(text) => text.len(),
         MarkRef::Code(text) => text.len(),
-        MarkRef::Reference { source, those: _ } => source.len(),
+        MarkRef::Reference(reference) => reference.source.len(),
         MarkRef::Soft | MarkRef::Hard => 1,
         MarkRef::Raw(_) | MarkRef::Start(_) | MarkRef::End(_) => 0,
     }
@@ -53,7 +53,7 @@ fn push_mark(out: &mut String, mark: &MarkRef) -> Result<(), Memory>
         MarkRef::Code(text) => push_spaced(out, text),
         MarkRef::Soft => push_space(out),
         MarkRef::Hard => push_space(out),
-        MarkRef::Reference { source: _, those } => push_both(out, *those),
+        MarkRef::Reference(reference) => push_both(out, reference.those),
         MarkRef::Raw(_) => Ok(()),
         MarkRef::Start(_) => Ok(()),
         MarkRef::End(_) => Ok(()),

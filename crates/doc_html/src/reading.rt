@@ -1,5 +1,6 @@
 //! What the inlines of a document are read with.
 use doc_heap::Heap;
+use doc_inlines_marks::arena::Arena;
 use doc_lines::entities::Entities;
 use doc_refs::RefMap;
 
@@ -9,4 +10,6 @@ pub(crate) struct Source<'d> {
     pub(crate) heap: Heap,
     pub(crate) refs: &'d RefMap,
     pub(crate) entities: &'d Entities,
+    /// Where what the marks name stands.
+    pub(crate) arena: &'d Arena,
 }

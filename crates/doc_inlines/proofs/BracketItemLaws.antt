@@ -208,6 +208,7 @@ has_none reader e = record {
 
 abbrev pub with_draft : Reader → Draft → Reader
 with_draft reader draft = record {
+  arena = reader.arena;
   text = reader.text;
   plain = reader.plain;
   rest = reader.rest;

@@ -36,7 +36,7 @@ final_mark (mark.Code text) = tt
 final_mark mark.Soft = tt
 final_mark mark.Hard = tt
 final_mark (mark.Raw text) = tt
-final_mark (mark.Reference source those) = tt
+final_mark (mark.Reference reference) = tt
 final_mark (mark.Start span) = tt
 final_mark (mark.End span) = tt
 

@@ -14,6 +14,7 @@ use Rattle.doc_rules.specs.Inlines.{Inline, Literal, Reference, HardBreak, liter
 use Rattle.doc_rules.specs.Reading.{kinds, kind_in, item_of_kind, read_item, backslash, ampersand, Step}
 use Rattle.doc_rules.specs.Rests.{IsRest}
 use Rattle.doc_rules.proofs.ParserLaws.{before_rest, is_rest_again, rest_is_shorter}
+use Rattle.doc_inlines_marks.specs.declared.mark_ref.ReferenceRef.{ReferenceRef}
 use Rattle.doc_inlines_marks.specs.declared.mark_ref.MarkRef.TheVariants as mark
 use Rattle.doc_inlines_marks.specs.Slices.{slice_in, is_cut}
 use Rattle.doc_inlines_marks.specs.Views.{inlines_in}
@@ -138,19 +139,24 @@ pub before_behind : (c : ℕ) (rest more next : Text) → rest ≡ c ∷ more �
 before_behind c rest more next e g =
     ap (before next) (e ∙ ap (λ t. c ∷ t) (before_rest next more g)) ∙ before_is (c ∷ before next more) next
 
-pub reference_stands : (rest next : Text) (source : Bor Text) (those : ℕ × Option ℕ) → IsRest next rest
-    → chars source.now ≡ before next rest
-    → MarkStands (mark.Reference source those) rest next
+pub reference_stands : (rest next : Text) (reference : Bor ReferenceRef) (source : Bor Text) (those : ℕ × Option ℕ) → IsRest next rest
+    → reference.now ≡ record { source = source; those = those } → chars source.now ≡ before next rest
+    → MarkStands (mark.Reference reference) rest next
 unfolding slice_in
-reference_stands rest next source those g e = record {
-  behind = g;
-  slices = ([], [], (sym e ∙ sym (append-nil (chars source.now)), tt));
-  cut = tt;
-}
+reference_stands rest next reference source those g k e =
+    let f : chars reference.now.source.now ≡ before next rest = ap (λ r. chars r.source.now) k ∙ e in
+    record {
+      behind = g;
+      slices = ([], [], (sym f ∙ sym (append-nil (chars reference.now.source.now)), tt));
+      cut = tt;
+    }
 
-pub reference_made : (rest more next : Text) (source : Bor Text) (those : ℕ × Option ℕ) (made new : List Inline) → rest ≡ 38 ∷ more
-    → IsRest next more → chars source.now ≡ before next rest →
-    new ≡ onto (inlines_in (mark.Reference source those)) made → new ≡ Reference (38 ∷ before next more) (both those) ∷ made
+pub reference_made : (rest more next : Text) (reference : Bor ReferenceRef) (source : Bor Text) (those : ℕ × Option ℕ)
+    (made new : List Inline)
+    → rest ≡ 38 ∷ more → IsRest next more → reference.now ≡ record { source = source; those = those }
+    → chars source.now ≡ before next rest →
+    new ≡ onto (inlines_in (mark.Reference reference)) made → new ≡ Reference (38 ∷ before next more) (both those) ∷ made
 unfolding inlines_in
-reference_made rest more next source those made new e g f k =
-    k ∙ ap (λ a. Reference a (both those) ∷ made) (f ∙ before_behind 38 rest more next e g)
+reference_made rest more next reference source those made new e g h f k =
+    k ∙ (ap (λ r. Reference (chars r.source.now) (both r.those) ∷ made) h
+    ∙ ap (λ a. Reference a (both those) ∷ made) (f ∙ before_behind 38 rest more next e g))

@@ -1,6 +1,6 @@
 -- Marks that own what they name, mark by mark.
 use Rattle.std.proofs.Common.{◌≡◌, ℕ, ◌+◌, ◌<◌, List, [], ◌∷◌, ◌++◌, take, length, get_or, flat_map, refl, ap, ap₂, sym, subst, ◌∙◌}
-use Rattle.std.proofs.Common.{chars, Option}
+use Rattle.std.proofs.Common.{chars}
 use Rattle.std.proofs.lemmas.List.{take_more}
 use Rattle.std.proofs.lemmas.List.Concat.{flat_map-append}
 use denote.Ref.{Bor}
@@ -10,6 +10,7 @@ use Rattle.doc_rules.specs.Characters.{Text}
 use Rattle.doc_rules.specs.Inlines as inlines
 use Rattle.doc_inlines_marks.specs.Slices as lent
 use Rattle.doc_inlines_marks.specs.Views as lent_views
+use Rattle.doc_inlines_marks.specs.declared.mark_ref.ReferenceRef.{ReferenceRef}
 use Rattle.doc_inlines_marks.specs.declared.mark_ref.MarkRef.{MarkRef}
 use Rattle.doc_inlines_marks.specs.declared.mark_ref.MarkRef.TheVariants as borrowed
 use Rattle.doc_inlines_marks.specs.declared.mark_ref.SpanRef.{SpanRef}
@@ -40,11 +41,11 @@ pub raw_owned : (text : Bor (List ℕ)) → IsOwned (borrowed.Raw text) (mark.Ra
 unfolding inlines_in lent_views.inlines_in slice_in lent.slice_in
 raw_owned text = record { shown = refl; slice = refl; cut = λ h. h }
 
-pub reference_owned : (source : Bor (List ℕ)) (those : ℕ × Option ℕ) (text : List ℕ) → chars text ≡ characters those
-    → IsOwned (borrowed.Reference source those) (mark.Reference source text)
+pub reference_owned : (reference : Bor ReferenceRef) (text : List ℕ) → chars text ≡ characters reference.now.those
+    → IsOwned (borrowed.Reference reference) (mark.Reference reference.now.source text)
 unfolding inlines_in lent_views.inlines_in slice_in lent.slice_in
-reference_owned source those text e = record {
-  shown = ap (λ t. inlines.Reference (chars source.now) t ∷ []) e;
+reference_owned reference text e = record {
+  shown = ap (λ t. inlines.Reference (chars reference.now.source.now) t ∷ []) e;
   slice = refl;
   cut = λ h. h;
 }

@@ -154,7 +154,8 @@ impl<'t, 'r> Reader<'t, 'r> {
             ≡ linked (last_of self.old.draft bracket.entry live) (named target.entry)) }
         ensures sound { OnOk result (IsReader self.new) }
     {
-        self.draft.link(bracket, target)?;
+        let kept: &'r TargetRef<'t, 'r> = self.arena.target(target)?;
+        self.draft.link(bracket, kept)?;
         self.rest = after;
         self.plain = after;
         Ok(())

@@ -130,14 +130,14 @@ impl<'t, 'r> Draft<'t, 'r> {
     pub(crate) fn link(
         &mut self,
         bracket: Bracket<'t>,
-        target: TargetRef<'t, 'r>,
+        target: &'r TargetRef<'t, 'r>,
     ) -> Result<(), Memory>
         requires sound { IsDraft self.old }
         requires stood { AreOpen (items_of self.old.marks) (runs_in self.old.marks)
             (self.old.brackets.items ++ (bracket ∷ [])) }
         ensures made { (live : Bool)
             → OnOk result (made_of self.new
-            ≡ linked (last_of self.old bracket.entry live) (named target.entry)) }
+            ≡ linked (last_of self.old bracket.entry live) (named target.now)) }
         ensures brackets { OnOk result (self.new.brackets.items ≡ self.old.brackets.items) }
         ensures slices { OnOk result ((text : rules.Text)
             → AreSlices text (items_of self.old.marks) → AreSlices text (items_of self.new.marks)) }
@@ -174,9 +174,9 @@ impl<'t, 'r> Draft<'t, 'r> {
 
 /// A link, or an image.
 #[tactic(auto, unfolding(doc_inlines_marks::specs::Views::span_shown))]
-fn span<'t, 'r>(image: bool, target: TargetRef<'t, 'r>) -> SpanRef<'t, 'r>
+fn span<'t, 'r>(image: bool, target: &'r TargetRef<'t, 'r>) -> SpanRef<'t, 'r>
     ensures { span_shown result
-        ≡ (if image then images.Image (named target.entry) else images.Link (named target.entry)) }
+        ≡ (if image then images.Image (named target.now) else images.Link (named target.now)) }
 {
     if image {
         SpanRef::Image(target)

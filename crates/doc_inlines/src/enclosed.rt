@@ -20,6 +20,7 @@ ghost use Rattle.doc_inlines.specs.PieceSteps.{AddsText, IsPiece};
 use crate::draft::Draft;
 use crate::reader::Reader;
 use doc_inlines_enclosed::Enclosed;
+use doc_inlines_marks::arena::Arena;
 use doc_inlines_marks::mark_ref::{MarkRef, SpanRef};
 use doc_inlines_marks::target_ref::TargetRef;
 use doc_lines::scan::character::next_char;
@@ -112,7 +113,7 @@ impl<'t, 'r> Reader<'t, 'r> {
             (state_made self.old)) }
         ensures sound { OnOk result (IsReader self.new) }
     {
-        let span: SpanRef<'t, 'r> = autolink_span(scheme, address);
+        let span: SpanRef<'t, 'r> = autolink_span(self.arena, scheme, address)?;
         self.flush()?;
         self.draft.put(MarkRef::Start(span))?;
         self.draft.put_text(address)?;
@@ -174,8 +175,13 @@ fn is_uncut(c: char) -> bool
 
 /// A link to this scheme with this address behind it.
 #[tactic(auto, unfolding(doc_inlines_marks::specs::Views::span_shown, doc_inlines_marks::specs::Targets::named))]
-fn autolink_span<'t, 'r>(scheme: &'static str, address: &'t str) -> SpanRef<'t, 'r>
-    ensures { span_shown result ≡ rules.autolink_span (chars scheme.now ++ chars address.now) }
+fn autolink_span<'t, 'r>(
+    arena: &'r Arena,
+    scheme: &'static str,
+    address: &'t str,
+) -> Result<SpanRef<'t, 'r>, Memory>
+    ensures { IfOk result (λ span. span_shown span
+        ≡ rules.autolink_span (chars scheme.now ++ chars address.now)) }
 {
-    SpanRef::Link(TargetRef::Address { scheme, address })
+    Ok(SpanRef::Link(arena.target(TargetRef::Address { scheme, address })?))
 }

@@ -6,7 +6,7 @@ ghost use Rattle.doc_inlines.specs.ReaderSteps.{IsReader, GoesOn};
 
 use crate::reader::Reader;
 use crate::runs::behind_run;
-use doc_inlines_marks::mark_ref::MarkRef;
+use doc_inlines_marks::mark_ref::{MarkRef, ReferenceRef};
 use doc_lines::character_reference;
 use doc_lines::entities::Entities;
 use doc_lines::scan::character::next_char;
@@ -49,7 +49,8 @@ impl<'t, 'r> Reader<'t, 'r> {
             return Ok(());
         };
         let source = front(self.rest, next);
-        self.put(MarkRef::Reference { source, those }, next)?;
+        let kept: &'r ReferenceRef<'t> = self.arena.reference(ReferenceRef { source, those })?;
+        self.put(MarkRef::Reference(kept), next)?;
         Ok(())
     }
 }

@@ -34,6 +34,7 @@ mod reader;
 mod runs;
 
 use doc_heap::{Heap, Vec};
+use doc_inlines_marks::arena::Arena;
 use doc_lines::entities::Entities;
 use doc_page::failure::Memory;
 use doc_refs::RefMap;
@@ -71,12 +72,14 @@ pub fn inlines_counted<'t>(
     ensures slices { IfOk result (λ marks. AreSlices (chars text.now) marks.0.items) }
     ensures cut { IfOk result (λ marks. AreCut marks.0.items) }
 {
-    read_whole(heap, text, refs, entities)
+    let arena = Arena::new(heap);
+    read_whole(heap, &arena, text, refs, entities)
 }
 
-/// The same: what the reader's marks borrow beside the text has one lifetime.
+/// The same over an arena: what the reader's marks borrow beside the text has one lifetime.
 fn read_whole<'t, 'r>(
     heap: Heap,
+    arena: &'r Arena,
     text: &'t str,
     refs: &'r RefMap,
     entities: &'r Entities,
@@ -87,14 +90,13 @@ fn read_whole<'t, 'r>(
     ensures slices { IfOk result (λ marks. AreSlices (chars text.now) marks.0.items) }
     ensures cut { IfOk result (λ marks. AreCut marks.0.items) }
 {
-    let mut reader = reader_of(heap, text, refs);
+    let mut reader = reader_of(heap, text, arena);
     reader.read(heap, entities, refs, text)?;
     let marks = owned(heap, reader.marks())?;
     Ok((marks, reader.looked()))
 }
 
-/// A reader of texts that live as long as this one, whose marks name what lives as long as this map: the prover's borrow checker takes
-/// the two lifetimes from arguments alone.
-fn reader_of<'t, 'r>(heap: Heap, _text: &'t str, _refs: &'r RefMap) -> Reader<'t, 'r> {
-    Reader::new(heap)
+/// A reader of texts that live as long as this one: the prover's borrow checker takes lifetimes from arguments alone.
+fn reader_of<'t, 'r>(heap: Heap, _text: &'t str, arena: &'r Arena) -> Reader<'t, 'r> {
+    Reader::new(heap, arena)
 }

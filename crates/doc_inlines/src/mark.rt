@@ -65,9 +65,12 @@ fn owned_mark<'t, 'r>(heap: Heap, mark: MarkRef<'t, 'r>) -> Result<Mark<'t>, Mem
         MarkRef::Soft => Ok(Mark::Soft),
         MarkRef::Hard => Ok(Mark::Hard),
         MarkRef::Raw(text) => Ok(Mark::Raw(text)),
-        MarkRef::Reference { source, those } => {
-            let text = text_of(heap, those)?;
-            Ok(Mark::Reference { source, text })
+        MarkRef::Reference(reference) => {
+            let text = text_of(heap, reference.those)?;
+            Ok(Mark::Reference {
+                source: reference.source,
+                text,
+            })
         }
         MarkRef::Start(span) => Ok(Mark::Start(owned_span(heap, span)?)),
         MarkRef::End(span) => Ok(Mark::End(owned_span(heap, span)?)),

@@ -19,6 +19,7 @@ use crate::draft::Draft;
 use crate::plain::behind_plain;
 use doc_heap::Heap;
 use doc_inlines_enclosed::{Backticks, MissingEnds};
+use doc_inlines_marks::arena::Arena;
 use doc_inlines_marks::mark_ref::MarkRef;
 use doc_lines::entities::Entities;
 use doc_lines::scan::character::next_char;
@@ -29,6 +30,8 @@ use doc_refs::RefMap;
 /// A reader of texts. It keeps its room from one text to the next, and the marks of the last text that it read.
 #[derive(Drop)]
 pub struct Reader<'t, 'r> {
+    /// Where the marks' targets and references stand.
+    pub(crate) arena: &'r Arena,
     /// The whole text.
     pub(crate) text: &'t str,
     /// The text from where no mark has it yet.
@@ -42,10 +45,11 @@ pub struct Reader<'t, 'r> {
 
 impl<'t, 'r> Reader<'t, 'r> {
     /// A reader that has read nothing. Takes no memory.
-    pub fn new(heap: Heap) -> Self
+    pub fn new(heap: Heap, arena: &'r Arena) -> Self
         ensures { marks_of result ≡ [] }
     {
         Reader {
+            arena,
             text: "",
             plain: "",
             rest: "",

@@ -5,7 +5,7 @@ use Rattle.std.proofs.Common.{get_or-set_other, length-set, chars}
 use Rattle.std.specs.Prelude.{flat_map}
 use Rattle.std.specs.Str.{IsUtf8, IsAscii}
 use Rattle.std.proofs.lemmas.List.{append-nil, map-append, get_or_append_left, get_or-append_right, length-map, length-replicate, map-set}
-use Rattle.std.proofs.lemmas.List.{take-append-le, drop-append-le, take_all, take-map, get_or-take, drop-take}
+use Rattle.std.proofs.lemmas.List.{take-append-le, drop-append-le, take-map, get_or-take, drop-take}
 use Rattle.std.proofs.Math.ListN.{drop_of_length-le}
 use Rattle.std.proofs.lemmas.Str.{encodes-chars, encodes-IsAscii, chars-IsAscii}
 use Rattle.doc_rules.specs.Characters as rules
@@ -33,7 +33,7 @@ text_shows c (Code text) h = absurd h
 text_shows c Soft h = absurd h
 text_shows c Hard h = absurd h
 text_shows c (Raw text) h = absurd h
-text_shows c (Reference source those) h = absurd h
+text_shows c (Reference reference) h = absurd h
 text_shows c (Start span) h = absurd h
 text_shows c (End span) h = absurd h
 
@@ -44,7 +44,7 @@ text_slice c (Code text) h = absurd h
 text_slice c Soft h = absurd h
 text_slice c Hard h = absurd h
 text_slice c (Raw text) h = absurd h
-text_slice c (Reference source those) h = absurd h
+text_slice c (Reference reference) h = absurd h
 text_slice c (Start span) h = absurd h
 text_slice c (End span) h = absurd h
 
@@ -55,7 +55,7 @@ text_cut c (Code text) h = absurd h
 text_cut c Soft h = absurd h
 text_cut c Hard h = absurd h
 text_cut c (Raw text) h = absurd h
-text_cut c (Reference source those) h = absurd h
+text_cut c (Reference reference) h = absurd h
 text_cut c (Start span) h = absurd h
 text_cut c (End span) h = absurd h
 
@@ -203,21 +203,6 @@ placed_set items at mark runs h l =
     placed_until (marks_shown (set items at mark)) 0 at (length (set items at mark)) runs
     (placed_same (marks_shown items) (marks_shown (set items at mark)) 0 at runs h (agree_set items at mark 0 at (omega arith)))
     (omega arith)
-
--- what is written into a list of this length
-pub refilled : (n : ℕ) (items next : List MarkRef) → n ≡ length items → length next ≡ length items
-    → take n (next ++ drop (length next) items) ≡ next
-refilled n items next e f =
-    ap (λ t. take n (next ++ t)) (drop_of_length-le items (omega arith)) ∙ (ap (take n) (append-nil next) ∙ take_all n next (omega arith))
-
-pub turned_is : (n : ℕ) (items given next : List MarkRef) (at : ℕ) (mark : MarkRef) → n ≡ length items → given ≡ items
-    → next ≡ set given at mark →
-    take n (next ++ drop (length next) items) ≡ set items at mark
-turned_is n items given next at mark e f g =
-    let is : next ≡ set items at mark = g ∙ ap (λ t. set t at mark) f in
-    let long : length (set items at mark) ≡ length items = length-set items at mark in
-    let same : length next ≡ length (set items at mark) = ap length is in
-    refilled n items next e (omega arith) ∙ is
 
 -- ---- parts of runs
 

@@ -38,7 +38,7 @@ mark_is_final (Code text) = tt
 mark_is_final Soft = tt
 mark_is_final Hard = tt
 mark_is_final (Raw text) = tt
-mark_is_final (Reference source those) = tt
+mark_is_final (Reference reference) = tt
 mark_is_final (Start span) = tt
 mark_is_final (End span) = tt
 

@@ -12,7 +12,7 @@ use Rattle.doc_inlines_emphasis.specs.RunSteps.{placed_shown, all_placed}
 use Rattle.doc_inlines_emphasis.specs.Steps.{IsWrapped}
 use Rattle.doc_inlines_emphasis.specs.Views.{marks_shown, StandsApart}
 use Rattle.doc_inlines_emphasis.proofs.NumberLaws.{as_many}
-use Rattle.doc_inlines_emphasis.proofs.MarkLaws.{refilled, placed_from, middle_placed, agree_front}
+use Rattle.doc_inlines_emphasis.proofs.MarkLaws.{placed_from, middle_placed, agree_front}
 
 -- ---- what the code passes
 
@@ -26,14 +26,12 @@ part_stands : (items : List MarkRef) (runs : List Run) (from : Place) → Stands
     → ArePlaced (marks_shown items) from.marks (length items) (all_placed (part_from from runs))
 part_stands items runs from h = subst (λ t. ArePlaced (marks_shown items) from.marks (length items) t) (sym (part_is from runs)) h.behind
 
-pub passed_part : (items given : List MarkRef) (runs held : List Run) (from : Place) → given ≡ items → held ≡ runs
-    → StandsApart items (all_placed runs) from →
-    ArePlaced (marks_shown given) 0 (length given) (all_placed (part_from from held))
-passed_part items given runs held from e f h =
-    subst (λ t. ArePlaced (marks_shown t) 0 (length t) (all_placed (part_from from held))) (sym e)
-    (subst (λ t. ArePlaced (marks_shown items) 0 (length items) (all_placed (part_from from t))) (sym f)
+pub passed_part : (items : List MarkRef) (runs held : List Run) (from : Place) → held ≡ runs → StandsApart items (all_placed runs) from
+    → ArePlaced (marks_shown items) 0 (length items) (all_placed (part_from from held))
+passed_part items runs held from f h =
+    subst (λ t. ArePlaced (marks_shown items) 0 (length items) (all_placed (part_from from t))) (sym f)
     (placed_from (marks_shown items) from.marks (length items) 0 (all_placed (part_from from runs)) (part_stands items runs from h)
-    (omega arith)))
+    (omega arith))
 
 -- ---- what stands then
 
@@ -43,25 +41,17 @@ pub record Wraps (items next : List MarkRef) (runs left : List Run) (from : Plac
   pub wrapped : IsWrapped from.marks items next (part_from from runs)
   pub left_are : left ≡ take from.runs runs
 
-pub wraps : (n : ℕ) (items given next got : List MarkRef) (runs held left : List Run) (from : Place) → n ≡ length items → given ≡ items
-    → held ≡ runs → StandsApart items (all_placed runs) from →
-    ((place : ℕ) → ArePlaced (marks_shown given) place (length given) (all_placed (part_from from held))
-    → IsWrapped place given next (part_from from held)) →
-    got ≡ take n (next ++ drop (length next) items) → left ≡ take from.runs runs → Wraps items got runs left from
-wraps n items given next got runs held left from long e f h w is g =
+pub wraps : (items next : List MarkRef) (runs held left : List Run) (from : Place) → held ≡ runs
+    → StandsApart items (all_placed runs) from →
+    ((place : ℕ) → ArePlaced (marks_shown items) place (length items) (all_placed (part_from from held))
+    → IsWrapped place items next (part_from from held)) →
+    left ≡ take from.runs runs → Wraps items next runs left from
+wraps items next runs held left from f h w g =
     let here : (place : ℕ) → ArePlaced (marks_shown items) place (length items) (all_placed (part_from from runs))
     → IsWrapped place items next (part_from from runs) =
     subst (λ t. (place : ℕ) → ArePlaced (marks_shown items) place (length items) (all_placed (part_from from t))
-    → IsWrapped place items next (part_from from t)) f
-    (subst (λ t. (place : ℕ) → ArePlaced (marks_shown t) place (length t) (all_placed (part_from from held))
-    → IsWrapped place t next (part_from from held)) e w) in
-    let made : IsWrapped from.marks items next (part_from from runs) = here from.marks (part_stands items runs from h) in
-    record {
-      place = h;
-      wrapped = subst (λ t. IsWrapped from.marks items t (part_from from runs)) (sym (is ∙ refilled n items next long made.keeps.size))
-          made;
-      left_are = g;
-    }
+    → IsWrapped place items next (part_from from t)) f w in
+    record { place = h; wrapped = here from.marks (part_stands items runs from h); left_are = g }
 
 module _ (items next : List MarkRef) (runs left : List Run) (from : Place) (w : Wraps items next runs left from) where
   pub wrap_runs : all_placed left ≡ take from.runs (all_placed runs)

@@ -10,23 +10,32 @@ ghost use Rattle.doc_inlines_emphasis.specs.Views.{marks_shown};
 
 use crate::openers::Openers;
 use crate::run::{Run, span};
+use doc_heap::Vec;
 use doc_inlines_marks::mark_ref::{MarkRef, SpanRef};
+use std::alloc::Allocator;
 
-/// Sets the mark at this place.
-pub(crate) fn put<'t, 'r>(marks: &mut [MarkRef<'t, 'r>], at: usize, mark: MarkRef<'t, 'r>)
-    requires { at < length marks.old }
-    ensures { marks.new ≡ slice_set marks.old at mark.entry }
+/// Sets the item at this place. It is written for items of any type, since the prover doesn't follow what is written into a list of
+/// marks by its place: a mark has references to what has references.
+pub(crate) fn put<T: Copy, A: Allocator>(items: &mut std::vec::Vec<T, A>, at: usize, item: T)
+    requires { at < length items.old.items }
+    ensures { items.new.items ≡ slice_set items.old.items at item }
 {
-    marks[at] = mark;
+    items[at] = item;
 }
 
 /// So many delimiters from each of two places on become a start and an end. Of two the second is an empty text then.
-fn write_ends<'t, 'r>(marks: &mut [MarkRef<'t, 'r>], opening: usize, closing: usize, taken: usize)
+fn write_ends<'t, 'r>(
+    marks: &mut Vec<MarkRef<'t, 'r>>,
+    opening: usize,
+    closing: usize,
+    taken: usize,
+)
     requires taken { OneOrTwo taken }
     requires order { opening + taken ≤ closing }
-    requires within { closing + taken ≤ length marks.old }
-    ensures shown { marks_shown marks.new ≡ paired (marks_shown marks.old) opening closing taken }
-    ensures keeps { (place : ℕ) → place ≤ opening → Keeps place marks.old marks.new }
+    requires within { closing + taken ≤ length marks.old.items }
+    ensures shown { marks_shown marks.new.items
+        ≡ paired (marks_shown marks.old.items) opening closing taken }
+    ensures keeps { (place : ℕ) → place ≤ opening → Keeps place marks.old.items marks.new.items }
 {
     let span: SpanRef<'t, 'r> = span(taken);
     put(marks, opening, MarkRef::Start(span));
@@ -62,22 +71,22 @@ fn take_delimiters(runs: &mut [Run], opener: usize, closer: usize, taken: usize)
 
 /// The opener at this place of the stack, which is the nearest, and the run of this number become a pair.
 pub(crate) fn pair<'t, 'r>(
-    marks: &mut [MarkRef<'t, 'r>],
+    marks: &mut Vec<MarkRef<'t, 'r>>,
     runs: &mut [Run],
     openers: &mut Openers,
     number: usize,
     place: usize,
 )
-    requires stands { StandAt marks.old runs.old openers.old.numbers.items number }
+    requires stands { StandAt marks.old.items runs.old openers.old.numbers.items number }
     requires stacked { Stacked (all_placed runs.old) openers.old.numbers.items openers.old.bounds
         number }
     requires within { number < length runs.old }
     requires left { 1 ≤ (run_numbered (all_placed runs.old) number).left }
     requires nearest { NearestIs (run_numbered (all_placed runs.old)) openers.old.numbers.items
         (run_numbered (all_placed runs.old) number) (Some place) }
-    ensures goes { GoesOn marks.old marks.new runs.old runs.new openers.old.numbers.items
-        openers.new.numbers.items number }
-    ensures stands { StandAt marks.new runs.new openers.new.numbers.items number }
+    ensures goes { GoesOn marks.old.items marks.new.items runs.old runs.new
+        openers.old.numbers.items openers.new.numbers.items number }
+    ensures stands { StandAt marks.new.items runs.new openers.new.numbers.items number }
     ensures stacked { Stacked (all_placed runs.new) openers.new.numbers.items openers.new.bounds
         number }
     ensures size { length runs.new ≡ length runs.old }

@@ -21,22 +21,23 @@ ghost use Rattle.doc_inlines_emphasis.specs.Views.{marks_shown};
 use crate::openers::Openers;
 use crate::pair::pair;
 use crate::run::Run;
+use doc_heap::Vec;
 use doc_inlines_marks::mark_ref::MarkRef;
 use doc_page::failure::Memory;
 
 /// The run of this number is closed as often as it has an opener.
 fn close<'t, 'r>(
-    marks: &mut [MarkRef<'t, 'r>],
+    marks: &mut Vec<MarkRef<'t, 'r>>,
     runs: &mut [Run],
     openers: &mut Openers,
     number: usize,
 )
-    requires stands { StandAt marks.old runs.old openers.old.numbers.items number }
+    requires stands { StandAt marks.old.items runs.old openers.old.numbers.items number }
     requires stacked { Stacked (all_placed runs.old) openers.old.numbers.items openers.old.bounds
         number }
     requires within { number < length runs.old }
-    ensures past { GoesPast marks.old marks.new runs.old runs.new openers.old.numbers.items
-        openers.new.numbers.items number }
+    ensures past { GoesPast marks.old.items marks.new.items runs.old runs.new
+        openers.old.numbers.items openers.new.numbers.items number }
     ensures stacked { Stacked (all_placed runs.new) openers.new.numbers.items openers.new.bounds
         number }
     ensures size { length runs.new ≡ length runs.old }
@@ -54,14 +55,16 @@ fn close<'t, 'r>(
 
 /// Each of the runs in turn.
 pub(crate) fn pass<'t, 'r>(
-    marks: &mut [MarkRef<'t, 'r>],
+    marks: &mut Vec<MarkRef<'t, 'r>>,
     runs: &mut [Run],
     openers: &mut Openers,
 ) -> Result<(), Memory>
-    requires { ArePlaced (marks_shown marks.old) 0 (length marks.old) (all_placed runs.old) }
+    requires { ArePlaced (marks_shown marks.old.items) 0 (length marks.old.items)
+        (all_placed runs.old) }
     ensures { OnOk result ((place : ℕ)
-        → ArePlaced (marks_shown marks.old) place (length marks.old) (all_placed runs.old)
-        → IsWrapped place marks.old marks.new runs.old) }
+        → ArePlaced (marks_shown marks.old.items) place (length marks.old.items)
+        (all_placed runs.old)
+        → IsWrapped place marks.old.items marks.new.items runs.old) }
 {
     openers.start();
     for number in 0..runs.len() {

@@ -13,7 +13,7 @@ slice_in (Code text) = chars text.now ∷ []
 slice_in Soft = []
 slice_in Hard = []
 slice_in (Raw text) = chars text.now ∷ []
-slice_in (Reference source those) = chars source.now ∷ []
+slice_in (Reference reference) = chars reference.now.source.now ∷ []
 slice_in (Start span) = []
 slice_in (End span) = []
 
@@ -36,7 +36,7 @@ IsCut Soft = ⊤
 IsCut Hard = ⊤
 IsCut (Code text) = ⊤
 IsCut (Raw text) = ⊤
-IsCut (Reference source those) = ⊤
+IsCut (Reference reference) = ⊤
 IsCut (Start span) = ⊤
 IsCut (End span) = ⊤
 

@@ -12,8 +12,8 @@ use Rattle.doc_inlines_marks.specs.declared.mark_ref.MarkRef.TheVariants.{Text, 
 unfoldable pub span_shown : SpanRef → rules.Span
 span_shown span.Emphasis = rules.Emphasis
 span_shown span.Strong = rules.Strong
-span_shown (span.Link target) = rules.Link (named target)
-span_shown (span.Image target) = rules.Image (named target)
+span_shown (span.Link target) = rules.Link (named target.now)
+span_shown (span.Image target) = rules.Image (named target.now)
 
 -- the inlines of one mark: of a text each character is one
 unfoldable pub inlines_in : MarkRef → List Inline
@@ -22,7 +22,7 @@ inlines_in (Code text) = rules.Code (chars text.now) ∷ []
 inlines_in Soft = rules.SoftBreak ∷ []
 inlines_in Hard = rules.HardBreak ∷ []
 inlines_in (Raw text) = rules.Raw (chars text.now) ∷ []
-inlines_in (Reference source those) = rules.Reference (chars source.now) (characters those) ∷ []
+inlines_in (Reference reference) = rules.Reference (chars reference.now.source.now) (characters reference.now.those) ∷ []
 inlines_in (Start span) = rules.Start (span_shown span) ∷ []
 inlines_in (End span) = rules.End (span_shown span) ∷ []
 

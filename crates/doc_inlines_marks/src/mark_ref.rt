@@ -7,11 +7,19 @@ use crate::target_ref::TargetRef;
 pub enum SpanRef<'t, 'r> {
     Emphasis,
     Strong,
-    Link(TargetRef<'t, 'r>),
-    Image(TargetRef<'t, 'r>),
+    Link(&'r TargetRef<'t, 'r>),
+    Image(&'r TargetRef<'t, 'r>),
 }
 
-/// An inline, or the start or the end of a span of inlines (CommonMark 0.31.2, section 6). Its slices are of the text that was read.
+/// A character reference: as it stands, and the one or two characters that it stands for (CommonMark 0.31.2, section 2.5).
+#[derive(Clone, Copy)]
+pub struct ReferenceRef<'t> {
+    pub source: &'t str,
+    pub those: (char, Option<char>),
+}
+
+/// An inline, or the start or the end of a span of inlines (CommonMark 0.31.2, section 6), in 24 bytes. Its slices are of the text that
+/// was read; what has more than one stands in an [`Arena`](crate::arena::Arena).
 #[derive(Clone, Copy)]
 pub enum MarkRef<'t, 'r> {
     /// Text. Of `&`, `<`, `>` and `"` each is a text of its own. It may be empty.
@@ -24,11 +32,7 @@ pub enum MarkRef<'t, 'r> {
     Hard,
     /// Raw HTML.
     Raw(&'t str),
-    /// A character reference: as it stands, and the one or two characters that it stands for.
-    Reference {
-        source: &'t str,
-        those: (char, Option<char>),
-    },
+    Reference(&'r ReferenceRef<'t>),
     Start(SpanRef<'t, 'r>),
     End(SpanRef<'t, 'r>),
 }

@@ -14,16 +14,16 @@ blank = record { first = 0; left = 0; length = 0; star = false; opens = false; c
 
 pub overflow_sub-opens : goal.overflow_sub-opens
 overflow_sub-opens c =
-    (may_pair c.args.marks.now c.args.runs.now c.args.openers.now.numbers.items c.args.openers.now.bounds c.args.number c.args.place
+    (may_pair c.args.marks.now.items c.args.runs.now c.args.openers.now.numbers.items c.args.openers.now.bounds c.args.number c.args.place
     c.index-opener.result.now c.strength-taken.result blank blank
     c.requires.stands c.requires.stacked c.requires.within c.requires.nearest.0 c.requires.left c.index-opener.ensures
     c.strength-taken.ensures).of_opener
 
 pub overflow_add-opens : goal.overflow_add-opens
 overflow_add-opens c =
-    let p : MayPair (length c.args.marks.now) c.strength-taken.result (get_or c.args.runs.now c.index-opener.result.now blank)
+    let p : MayPair (length c.args.marks.now.items) c.strength-taken.result (get_or c.args.runs.now c.index-opener.result.now blank)
     (get_or c.args.runs.now c.args.number blank) =
-    may_pair c.args.marks.now c.args.runs.now c.args.openers.now.numbers.items c.args.openers.now.bounds c.args.number c.args.place
+    may_pair c.args.marks.now.items c.args.runs.now c.args.openers.now.numbers.items c.args.openers.now.bounds c.args.number c.args.place
     c.index-opener.result.now c.strength-taken.result blank blank
     c.requires.stands c.requires.stacked c.requires.within c.requires.nearest.0 c.requires.left c.index-opener.ensures
     c.strength-taken.ensures in
@@ -31,9 +31,9 @@ overflow_add-opens c =
 
 pub write_ends-requires-clause-order : goal.write_ends-requires-clause-order
 write_ends-requires-clause-order c =
-    let p : MayPair (length c.args.marks.now) c.strength-taken.result (get_or c.args.runs.now c.index-opener.result.now blank)
+    let p : MayPair (length c.args.marks.now.items) c.strength-taken.result (get_or c.args.runs.now c.index-opener.result.now blank)
     (get_or c.args.runs.now c.args.number blank) =
-    may_pair c.args.marks.now c.args.runs.now c.args.openers.now.numbers.items c.args.openers.now.bounds c.args.number c.args.place
+    may_pair c.args.marks.now.items c.args.runs.now c.args.openers.now.numbers.items c.args.openers.now.bounds c.args.number c.args.place
     c.index-opener.result.now c.strength-taken.result blank blank
     c.requires.stands c.requires.stacked c.requires.within c.requires.nearest.0 c.requires.left c.index-opener.ensures
     c.strength-taken.ensures in
@@ -41,9 +41,9 @@ write_ends-requires-clause-order c =
 
 pub write_ends-requires-clause-within : goal.write_ends-requires-clause-within
 write_ends-requires-clause-within c =
-    let p : MayPair (length c.args.marks.now) c.strength-taken.result (get_or c.args.runs.now c.index-opener.result.now blank)
+    let p : MayPair (length c.args.marks.now.items) c.strength-taken.result (get_or c.args.runs.now c.index-opener.result.now blank)
     (get_or c.args.runs.now c.args.number blank) =
-    may_pair c.args.marks.now c.args.runs.now c.args.openers.now.numbers.items c.args.openers.now.bounds c.args.number c.args.place
+    may_pair c.args.marks.now.items c.args.runs.now c.args.openers.now.numbers.items c.args.openers.now.bounds c.args.number c.args.place
     c.index-opener.result.now c.strength-taken.result blank blank
     c.requires.stands c.requires.stacked c.requires.within c.requires.nearest.0 c.requires.left c.index-opener.ensures
     c.strength-taken.ensures in
@@ -51,9 +51,9 @@ write_ends-requires-clause-within c =
 
 pub take_delimiters-requires-clause-of_opener : goal.take_delimiters-requires-clause-of_opener
 take_delimiters-requires-clause-of_opener c =
-    let p : MayPair (length c.args.marks.now) c.strength-taken.result (get_or c.args.runs.now c.index-opener.result.now blank)
+    let p : MayPair (length c.args.marks.now.items) c.strength-taken.result (get_or c.args.runs.now c.index-opener.result.now blank)
     (get_or c.args.runs.now c.args.number blank) =
-    may_pair c.args.marks.now c.args.runs.now c.args.openers.now.numbers.items c.args.openers.now.bounds c.args.number c.args.place
+    may_pair c.args.marks.now.items c.args.runs.now c.args.openers.now.numbers.items c.args.openers.now.bounds c.args.number c.args.place
     c.index-opener.result.now c.strength-taken.result blank blank
     c.requires.stands c.requires.stacked c.requires.within c.requires.nearest.0 c.requires.left c.index-opener.ensures
     c.strength-taken.ensures in
@@ -65,9 +65,9 @@ take_delimiters-requires-clause-of_opener c =
 
 pub take_delimiters-requires-clause-fits : goal.take_delimiters-requires-clause-fits
 take_delimiters-requires-clause-fits c =
-    let p : MayPair (length c.args.marks.now) c.strength-taken.result (get_or c.args.runs.now c.index-opener.result.now blank)
+    let p : MayPair (length c.args.marks.now.items) c.strength-taken.result (get_or c.args.runs.now c.index-opener.result.now blank)
     (get_or c.args.runs.now c.args.number blank) =
-    may_pair c.args.marks.now c.args.runs.now c.args.openers.now.numbers.items c.args.openers.now.bounds c.args.number c.args.place
+    may_pair c.args.marks.now.items c.args.runs.now c.args.openers.now.numbers.items c.args.openers.now.bounds c.args.number c.args.place
     c.index-opener.result.now c.strength-taken.result blank blank
     c.requires.stands c.requires.stacked c.requires.within c.requires.nearest.0 c.requires.left c.index-opener.ensures
     c.strength-taken.ensures in
@@ -80,7 +80,8 @@ returns-clause-goes c =
     ≡ placed_shown (get_or c.args.runs.now c.index-opener.result.now blank) =
     opens_is c.args.runs.now c.args.openers.now.numbers.items c.args.openers.now.bounds c.args.number c.args.place
     c.index-opener.result.now blank c.requires.stacked c.requires.within c.requires.nearest.0 c.index-opener.ensures in
-    let m : IsPairMade c.args.marks.now c.write_ends.new.marks c.args.runs.now c.take_delimiters.new.runs c.args.openers.now.numbers.items
+    let m : IsPairMade c.args.marks.now.items c.write_ends.new.marks.items c.args.runs.now c.take_delimiters.new.runs
+    c.args.openers.now.numbers.items
     c.keep.new.self.numbers.items c.args.openers.now.bounds
     c.args.number c.args.place c.strength-taken.result (get_or c.args.runs.now c.index-opener.result.now blank)
     (get_or c.args.runs.now c.args.number blank) =
@@ -99,7 +100,8 @@ returns-clause-goes c =
           (place_is c.args.openers.now.numbers.items c.args.place c.index-opener.result.now c.index-opener.ensures c.requires.nearest.0);
       kept_are = c.keep.ensures.numbers;
     } in
-    pair_goes c.args.marks.now c.write_ends.new.marks c.args.runs.now c.take_delimiters.new.runs c.args.openers.now.numbers.items
+    pair_goes c.args.marks.now.items c.write_ends.new.marks.items c.args.runs.now c.take_delimiters.new.runs
+    c.args.openers.now.numbers.items
     c.keep.new.self.numbers.items c.args.openers.now.bounds c.args.number c.args.place c.strength-taken.result
     (get_or c.args.runs.now c.index-opener.result.now blank) (get_or c.args.runs.now c.args.number blank) m
 
@@ -109,7 +111,8 @@ returns-clause-stands c =
     ≡ placed_shown (get_or c.args.runs.now c.index-opener.result.now blank) =
     opens_is c.args.runs.now c.args.openers.now.numbers.items c.args.openers.now.bounds c.args.number c.args.place
     c.index-opener.result.now blank c.requires.stacked c.requires.within c.requires.nearest.0 c.index-opener.ensures in
-    let m : IsPairMade c.args.marks.now c.write_ends.new.marks c.args.runs.now c.take_delimiters.new.runs c.args.openers.now.numbers.items
+    let m : IsPairMade c.args.marks.now.items c.write_ends.new.marks.items c.args.runs.now c.take_delimiters.new.runs
+    c.args.openers.now.numbers.items
     c.keep.new.self.numbers.items c.args.openers.now.bounds
     c.args.number c.args.place c.strength-taken.result (get_or c.args.runs.now c.index-opener.result.now blank)
     (get_or c.args.runs.now c.args.number blank) =
@@ -128,9 +131,11 @@ returns-clause-stands c =
           (place_is c.args.openers.now.numbers.items c.args.place c.index-opener.result.now c.index-opener.ensures c.requires.nearest.0);
       kept_are = c.keep.ensures.numbers;
     } in
-    stands_on c.args.marks.now c.write_ends.new.marks c.args.runs.now c.take_delimiters.new.runs c.args.openers.now.numbers.items
+    stands_on c.args.marks.now.items c.write_ends.new.marks.items c.args.runs.now c.take_delimiters.new.runs
+    c.args.openers.now.numbers.items
     c.keep.new.self.numbers.items c.args.number c.requires.stands
-    (pair_goes c.args.marks.now c.write_ends.new.marks c.args.runs.now c.take_delimiters.new.runs c.args.openers.now.numbers.items
+    (pair_goes c.args.marks.now.items c.write_ends.new.marks.items c.args.runs.now c.take_delimiters.new.runs
+    c.args.openers.now.numbers.items
     c.keep.new.self.numbers.items c.args.openers.now.bounds c.args.number c.args.place c.strength-taken.result
     (get_or c.args.runs.now c.index-opener.result.now blank) (get_or c.args.runs.now c.args.number blank) m)
 
@@ -140,7 +145,8 @@ returns-clause-stacked c =
     ≡ placed_shown (get_or c.args.runs.now c.index-opener.result.now blank) =
     opens_is c.args.runs.now c.args.openers.now.numbers.items c.args.openers.now.bounds c.args.number c.args.place
     c.index-opener.result.now blank c.requires.stacked c.requires.within c.requires.nearest.0 c.index-opener.ensures in
-    let m : IsPairMade c.args.marks.now c.write_ends.new.marks c.args.runs.now c.take_delimiters.new.runs c.args.openers.now.numbers.items
+    let m : IsPairMade c.args.marks.now.items c.write_ends.new.marks.items c.args.runs.now c.take_delimiters.new.runs
+    c.args.openers.now.numbers.items
     c.keep.new.self.numbers.items c.args.openers.now.bounds
     c.args.number c.args.place c.strength-taken.result (get_or c.args.runs.now c.index-opener.result.now blank)
     (get_or c.args.runs.now c.args.number blank) =
@@ -159,6 +165,6 @@ returns-clause-stacked c =
           (place_is c.args.openers.now.numbers.items c.args.place c.index-opener.result.now c.index-opener.ensures c.requires.nearest.0);
       kept_are = c.keep.ensures.numbers;
     } in
-    rw c.keep.ensures.bounds (pair_stacked c.args.marks.now c.write_ends.new.marks c.args.runs.now c.take_delimiters.new.runs
+    rw c.keep.ensures.bounds (pair_stacked c.args.marks.now.items c.write_ends.new.marks.items c.args.runs.now c.take_delimiters.new.runs
     c.args.openers.now.numbers.items c.keep.new.self.numbers.items c.args.openers.now.bounds c.args.number c.args.place
     c.strength-taken.result (get_or c.args.runs.now c.index-opener.result.now blank) (get_or c.args.runs.now c.args.number blank) m)

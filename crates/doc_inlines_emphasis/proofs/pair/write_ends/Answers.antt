@@ -6,13 +6,14 @@ pub returns-then-taken-ne2-clause-shown : goal.returns-then-taken-ne2-clause-sho
 returns-then-taken-ne2-clause-shown c =
     let other : c.args.taken ≢ 2 = omega arith in
     rw (c.put-2.ensures, c.put.ensures)
-    (one_shown c.args.marks.now c.args.opening c.args.closing c.args.taken c.span-span.result c.span-span.result c.span-span.ensures
+    (one_shown c.args.marks.now.items c.args.opening c.args.closing c.args.taken c.span-span.result c.span-span.result c.span-span.ensures
     c.span-span.ensures
     (is_not_two c.args.taken c.requires.taken other))
 
 pub returns-then-taken-ne2-clause-keeps : goal.returns-then-taken-ne2-clause-keeps
 returns-then-taken-ne2-clause-keeps c = λ place h.
-    rw (c.put-2.ensures, c.put.ensures) (one_keeps c.args.marks.now c.args.opening c.args.closing c.span-span.result c.span-span.result
+    rw (c.put-2.ensures, c.put.ensures) (one_keeps c.args.marks.now.items c.args.opening c.args.closing c.span-span.result
+    c.span-span.result
     place h
     (omega arith))
 
@@ -20,13 +21,14 @@ pub returns-clause-shown : goal.returns-clause-shown
 returns-clause-shown c =
     let two : c.args.taken ≡ 2 = omega arith in
     rw (c.put-4.ensures, c.put-3.ensures, c.put-2.ensures, c.put.ensures)
-    (two_shown c.args.marks.now c.args.opening c.args.closing c.args.taken (c.args.opening + 1) (c.args.closing + 1) c.span-span.result
+    (two_shown c.args.marks.now.items c.args.opening c.args.closing c.args.taken (c.args.opening + 1) (c.args.closing + 1)
+    c.span-span.result
     c.span-span.result _ _ c.span-span.ensures c.span-span.ensures (is_two c.args.taken two)
     (omega arith) (omega arith) (empty_text _ refl) (empty_text _ refl))
 
 pub returns-clause-keeps : goal.returns-clause-keeps
 returns-clause-keeps c = λ place h.
     rw (c.put-4.ensures, c.put-3.ensures, c.put-2.ensures, c.put.ensures)
-    (two_keeps c.args.marks.now c.args.opening c.args.closing (c.args.opening + 1) (c.args.closing + 1) c.span-span.result
+    (two_keeps c.args.marks.now.items c.args.opening c.args.closing (c.args.opening + 1) (c.args.closing + 1) c.span-span.result
     c.span-span.result _ _
     (omega arith) (omega arith) (empty_text _ refl) (empty_text _ refl) place h (omega arith))

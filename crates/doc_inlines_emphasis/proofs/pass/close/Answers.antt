@@ -11,14 +11,15 @@ blank = record { first = 0; left = 0; length = 0; star = false; opens = false; c
 
 pub returns-then-not-runs-number-clause-past : goal.returns-then-not-runs-number-clause-past
 returns-then-not-runs-number-clause-past c =
-    past_not_closing c.args.marks.now c.args.runs.now c.args.openers.now.numbers.items c.args.number blank c.requires.within
+    past_not_closing c.args.marks.now.items c.args.runs.now c.args.openers.now.numbers.items c.args.number blank c.requires.within
     c.if-not-runs-number.true
 
 pub returns-in_default-clause-past : goal.returns-in_default-clause-past
 returns-in_default-clause-past c =
-    subst (λ v. GoesPast c.args.marks.now c.loop-runs.marks c.args.runs.now c.loop-runs.runs c.args.openers.now.numbers.items v.items
+    subst (λ v. GoesPast c.args.marks.now.items c.loop-runs.marks.items c.args.runs.now c.loop-runs.runs c.args.openers.now.numbers.items
+    v.items
     c.args.number) (sym c.search.ensures.numbers)
-    (past_failed c.args.marks.now c.loop-runs.marks c.args.runs.now c.loop-runs.runs c.args.openers.now.numbers.items
+    (past_failed c.args.marks.now.items c.loop-runs.marks.items c.args.runs.now c.loop-runs.runs c.args.openers.now.numbers.items
     c.loop-runs.openers.numbers.items c.args.number c.loop-runs.invariant.goes c.in_default.ensures.nearest)
 
 pub loop-runs-preserved : goal.loop-runs-preserved
@@ -28,12 +29,13 @@ loop-runs-preserved c = record {
   size = c.pair.ensures.size ∙ c.loop-runs.invariant.size;
   closes = c.pair.ensures.closes ∙ c.loop-runs.invariant.closes;
   goes =
-      goes_more c.args.marks.now c.loop-runs.marks c.pair.new.marks c.args.runs.now c.loop-runs.runs c.pair.new.runs
+      goes_more c.args.marks.now.items c.loop-runs.marks.items c.pair.new.marks.items c.args.runs.now c.loop-runs.runs c.pair.new.runs
       c.args.openers.now.numbers.items c.loop-runs.openers.numbers.items c.pair.new.openers.numbers.items c.args.number
-      (goes_long c.args.marks.now c.loop-runs.marks c.args.runs.now c.loop-runs.runs c.args.openers.now.numbers.items
+      (goes_long c.args.marks.now.items c.loop-runs.marks.items c.args.runs.now c.loop-runs.runs c.args.openers.now.numbers.items
       c.loop-runs.openers.numbers.items c.args.number c.requires.stands c.loop-runs.invariant.goes)
       c.loop-runs.invariant.goes
-      (subst (λ v. GoesOn c.loop-runs.marks c.pair.new.marks c.loop-runs.runs c.pair.new.runs v.items c.pair.new.openers.numbers.items
+      (subst (λ v. GoesOn c.loop-runs.marks.items c.pair.new.marks.items c.loop-runs.runs c.pair.new.runs v.items
+      c.pair.new.openers.numbers.items
       c.args.number) c.search.ensures.numbers c.pair.ensures.goes);
 }
 
@@ -41,6 +43,6 @@ pub returns-clause-past : goal.returns-clause-past
 returns-clause-past c =
     let same : length c.loop-runs.runs ≡ length c.args.runs.now = c.loop-runs.invariant.size in
     let none : (get_or c.loop-runs.runs c.args.number blank).left ≡ 0 = omega arith in
-    past_emptied c.args.marks.now c.loop-runs.marks c.args.runs.now c.loop-runs.runs c.args.openers.now.numbers.items
+    past_emptied c.args.marks.now.items c.loop-runs.marks.items c.args.runs.now c.loop-runs.runs c.args.openers.now.numbers.items
     c.loop-runs.openers.numbers.items c.args.number c.loop-runs.invariant.goes
     (ap (λ (r : rules.Run). r.left) (run_is c.loop-runs.runs c.args.number blank (omega arith)) ∙ none)

@@ -7,11 +7,11 @@ use Rattle.doc_inlines_emphasis.proofs.pass.close.Given as goal
 
 abbrev pub invariant-loop-runs : goal.invariant-loop-runs
 invariant-loop-runs l = record {
-  stands : StandAt l.marks l.runs l.openers.numbers.items l.number;
+  stands : StandAt l.marks.items l.runs l.openers.numbers.items l.number;
   stacked : Stacked (all_placed l.runs) l.openers.numbers.items l.openers.bounds l.number;
   size : length l.runs ≡ length l.initial.runs;
   closes : (run_numbered (all_placed l.runs) l.number).closes ≡ true;
-  goes : GoesOn l.initial.marks l.marks l.initial.runs l.runs l.initial.openers.numbers.items l.openers.numbers.items l.number;
+  goes : GoesOn l.initial.marks.items l.marks.items l.initial.runs l.runs l.initial.openers.numbers.items l.openers.numbers.items l.number;
 }
 
 abbrev pub decreases-loop-runs : goal.decreases-loop-runs

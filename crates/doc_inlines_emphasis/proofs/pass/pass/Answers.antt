@@ -8,8 +8,9 @@ use Rattle.doc_inlines_emphasis.proofs.pass.pass.Goals as goal
 
 pub loop-number-init : goal.loop-number-init
 loop-number-init c = record {
-  walks = subst (λ t. WalksOn c.args.marks.now c.args.marks.now c.args.runs.now c.args.runs.now t 0) (sym c.start.ensures.numbers)
-      (walks_start c.args.marks.now c.args.runs.now);
+  walks = subst (λ t. WalksOn c.args.marks.now.items c.args.marks.now.items c.args.runs.now c.args.runs.now t 0) (sym
+      c.start.ensures.numbers)
+      (walks_start c.args.marks.now.items c.args.runs.now);
   stacked = rw (c.start.ensures.numbers, c.start.ensures.bounds) (stacked_start c.args.runs.now);
   size = refl;
 }
@@ -17,7 +18,7 @@ loop-number-init c = record {
 pub close-requires-clause-stands : goal.close-requires-clause-stands
 close-requires-clause-stands c =
     let same : length c.loop-number.runs ≡ length c.args.runs.now = c.loop-number.invariant.size in
-    walks_stand c.args.marks.now c.loop-number.marks c.args.runs.now c.loop-number.runs c.loop-number.openers.numbers.items
+    walks_stand c.args.marks.now.items c.loop-number.marks.items c.args.runs.now c.loop-number.runs c.loop-number.openers.numbers.items
     c.loop-number.number c.requires c.loop-number.invariant.walks (omega arith)
 
 pub loop-number-preserved : goal.loop-number-preserved
@@ -26,10 +27,12 @@ loop-number-preserved c =
     let next : suc c.loop-number.number ≡ c.loop-number.number + 1 = omega arith in
     record {
       walks =
-          subst (λ k. WalksOn c.args.marks.now c.close.new.marks c.args.runs.now c.close.new.runs c.join.new.self.numbers.items k) next
-          (subst (λ t. WalksOn c.args.marks.now c.close.new.marks c.args.runs.now c.close.new.runs t (suc c.loop-number.number))
+          subst (λ k. WalksOn c.args.marks.now.items c.close.new.marks.items c.args.runs.now c.close.new.runs
+          c.join.new.self.numbers.items k) next
+          (subst (λ t. WalksOn c.args.marks.now.items c.close.new.marks.items c.args.runs.now c.close.new.runs t (suc c.loop-number.number))
           (sym c.in_ok-join.ensures.numbers)
-          (walks_past c.args.marks.now c.loop-number.marks c.close.new.marks c.args.runs.now c.loop-number.runs c.close.new.runs
+          (walks_past c.args.marks.now.items c.loop-number.marks.items c.close.new.marks.items c.args.runs.now c.loop-number.runs
+          c.close.new.runs
           c.loop-number.openers.numbers.items c.close.new.openers.numbers.items c.loop-number.number
           c.requires c.loop-number.invariant.walks (omega arith) c.close.ensures.past));
       stacked =
@@ -43,5 +46,5 @@ loop-number-preserved c =
 pub returns : goal.returns
 returns c = λ place h.
     let same : length c.loop-number.runs ≡ length c.args.runs.now = c.loop-number.invariant.size in
-    wrapped_all c.args.marks.now c.loop-number.marks c.args.runs.now c.loop-number.runs c.loop-number.openers.numbers.items
+    wrapped_all c.args.marks.now.items c.loop-number.marks.items c.args.runs.now c.loop-number.runs c.loop-number.openers.numbers.items
     c.loop-number.number c.loop-number.invariant.walks (omega arith) place h

@@ -6,7 +6,7 @@ use Rattle.doc_inlines_emphasis.proofs.pass.pass.Given as goal
 
 abbrev pub invariant-loop-number : goal.invariant-loop-number
 invariant-loop-number l = record {
-  walks : WalksOn l.initial.marks l.marks l.initial.runs l.runs l.openers.numbers.items l.number;
+  walks : WalksOn l.initial.marks.items l.marks.items l.initial.runs l.runs l.openers.numbers.items l.number;
   stacked : Stacked (all_placed l.runs) l.openers.numbers.items l.openers.bounds l.number;
   size : length l.runs ≡ length l.initial.runs;
 }

@@ -17,8 +17,8 @@ pub front-source-requires : goal.front-source-requires
 front-source-requires c = behind_first 38 _ _ _ c.requires.first c.in-Some.ensures.end
 
 pub put-requires-clause-stands : goal.put-requires-clause-stands
-put-requires-clause-stands c = reference_stands _ _ _ _ (behind_first 38 _ _ _ c.requires.first c.in-Some.ensures.end)
-    c.front-source.ensures.value
+put-requires-clause-stands c = reference_stands _ _ _ _ _ (behind_first 38 _ _ _ c.requires.first c.in-Some.ensures.end)
+    c.in_ok-kept.ensures c.front-source.ensures.value
 
 pub returns : goal.returns
 returns c = λ targets.
@@ -28,4 +28,4 @@ returns c = λ targets.
     c.args.self.now) c.requires.sound p.sound p.text (ap (λ t. chars t.now) p.rest) c.requires.first
     c.in-Some.ensures.end (λ definitions e. reference_reads c.args.entities.now definitions _ (state_made c.args.self.now) _ _ _
     (sym c.in-Some.ensures.value))
-    (reference_made _ _ _ _ _ _ _ c.requires.first c.in-Some.ensures.end c.front-source.ensures.value p.made)
+    (reference_made _ _ _ _ _ _ _ _ c.requires.first c.in-Some.ensures.end c.in_ok-kept.ensures c.front-source.ensures.value p.made)

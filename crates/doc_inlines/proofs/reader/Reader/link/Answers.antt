@@ -1,11 +1,15 @@
 use Rattle.std.proofs.Common.{ap, chars, refl, ◌∙◌}
+use Rattle.doc_rules.specs.Links.{linked}
+use Rattle.doc_inlines_marks.specs.Targets.{named}
 use Rattle.doc_inlines_emphasis.specs.Views.{items_of}
+use Rattle.doc_inlines.specs.DraftSteps.{last_of}
 use Rattle.doc_inlines.proofs.ReaderLaws.{plain_moved, moved_behind, none_uncut, all_of_itself, nothing_pending}
 use Rattle.doc_inlines.proofs.BracketItemLaws.{longer_slices}
 use Rattle.doc_inlines.proofs.reader.Reader.link.Goals as goal
 
 pub returns-clause-made : goal.returns-clause-made
-returns-clause-made c = λ live. nothing_pending _ (chars c.args.after.now) ∙ c.in_ok-link.ensures.made live
+returns-clause-made c = λ live. nothing_pending _ (chars c.args.after.now)
+    ∙ (c.in_ok-link.ensures.made live ∙ ap (λ t. linked (last_of c.args.self.now.draft c.args.bracket live) (named t)) c.in_ok-kept.ensures)
 
 pub returns-clause-sound : goal.returns-clause-sound
 returns-clause-sound c =

@@ -7,16 +7,16 @@ use Rattle.doc_inlines.proofs.reader.Reader.put_autolink.Goals as goal
 pub returns-clause-made : goal.returns-clause-made
 returns-clause-made c =
     let f = c.in_ok-flush.ensures in
-    link_put _ _ _ _ _ (chars c.args.scheme.now ++ chars c.args.address.now) (chars c.args.address.now) _ _ _ c.autolink_span-span.result
-    c.autolink_span-span.result (ap (λ t. chars t.now) (f.plain ∙ sym f.rest)) c.in_ok-put.ensures.made
-    c.in_ok-put_text.ensures.made c.in_ok-put-2.ensures.made c.autolink_span-span.ensures c.autolink_span-span.ensures f.made
+    link_put _ _ _ _ _ (chars c.args.scheme.now ++ chars c.args.address.now) (chars c.args.address.now) _ _ _ c.in_ok-span.span
+    c.in_ok-span.span (ap (λ t. chars t.now) (f.plain ∙ sym f.rest)) c.in_ok-put.ensures.made
+    c.in_ok-put_text.ensures.made c.in_ok-put-2.ensures.made c.in_ok-span.ensures c.in_ok-span.ensures f.made
 
 pub returns-clause-sound : goal.returns-clause-sound
 returns-clause-sound c =
     let f = c.in_ok-flush.ensures in
     let p = ap (λ t. chars t.now) f.plain in
     let r = ap (λ t. chars t.now) f.rest in
-    let a = link_added (items_of c.flush.new.self.draft.marks) _ _ _ _ _ _ c.autolink_span-span.result c.autolink_span-span.result
+    let a = link_added (items_of c.flush.new.self.draft.marks) _ _ _ _ _ _ c.in_ok-span.span c.in_ok-span.span
     c.requires.stands
     c.in_ok-put.ensures.items c.in_ok-put_text.ensures.items c.in_ok-put-2.ensures.items in
     record {

@@ -2,20 +2,16 @@ use Rattle.std.proofs.Common.{length, sym, subst}
 use Rattle.doc_inlines_pass.specs.Marks.{ArePlaced}
 use Rattle.doc_inlines_emphasis.specs.RunSteps.{all_placed}
 use Rattle.doc_inlines_emphasis.specs.Views.{marks_shown, StandsApart}
-use Rattle.doc_inlines_emphasis.proofs.MarkLaws.{turned_is, placed_set, place_set}
+use Rattle.doc_inlines_emphasis.proofs.MarkLaws.{placed_set, place_set}
 use Rattle.doc_inlines_emphasis.proofs.marks.Marks.turn.Goals as goal
 
 pub returns-clause-sound : goal.returns-clause-sound
 returns-clause-sound c =
-    subst (λ t. ArePlaced (marks_shown t) 0 (length t) (all_placed c.args.self.now.runs.items))
-    (sym (turned_is c.args.self.now.marks.len c.args.self.now.marks.items c.deref_mut.result.now c.put.new.marks c.args.at c.args.mark
-    c.args.self.now.marks.ok.0 c.deref_mut.ensures.value c.put.ensures))
+    subst (λ t. ArePlaced (marks_shown t) 0 (length t) (all_placed c.args.self.now.runs.items)) (sym c.put.ensures)
     (placed_set c.args.self.now.marks.items c.args.at c.args.mark (all_placed c.args.self.now.runs.items) c.requires.behind
     c.requires.within)
 
 pub returns-clause-places : goal.returns-clause-places
 returns-clause-places c = λ place h.
-    subst (λ t. StandsApart t (all_placed c.args.self.now.runs.items) place)
-    (sym (turned_is c.args.self.now.marks.len c.args.self.now.marks.items c.deref_mut.result.now c.put.new.marks c.args.at c.args.mark
-    c.args.self.now.marks.ok.0 c.deref_mut.ensures.value c.put.ensures))
+    subst (λ t. StandsApart t (all_placed c.args.self.now.runs.items) place) (sym c.put.ensures)
     (place_set c.args.self.now.marks.items c.args.at c.args.mark (all_placed c.args.self.now.runs.items) place c.requires.behind h)
