@@ -1,3 +1,4 @@
+mod Examples
 pub mod ReadingLaws
 pub mod PlainLaws
 pub mod MadeLaws
