@@ -30,6 +30,7 @@ use doc_blocks_leaves::start::{LeafStart, NewLeaf, Situation, leaf_start};
 use doc_blocks_starts::indentation::is_blank_line;
 use doc_blocks_starts::item::{Item, take_item};
 use doc_blocks_starts::quote::take_quote;
+use doc_blocks_tags::texts::Texts;
 use doc_heap::Heap;
 use doc_lines::cursor::Cursor;
 use doc_lines::entities::Entities;
@@ -41,21 +42,21 @@ const MOST: usize = 100;
 
 /// The open containers, the open leaf, and what labels name so far.
 #[derive(Drop)]
-pub(crate) struct Builder {
-    pub(crate) levels: Levels,
-    pub(crate) leaf: OpenLeaf,
+pub(crate) struct Builder<'t> {
+    pub(crate) levels: Levels<'t>,
+    pub(crate) leaf: OpenLeaf<'t>,
     pub(crate) refs: RefMap,
 }
 
-impl Builder {
-    pub(crate) fn new(heap: Heap) -> Builder
+impl<'t> Builder<'t> {
+    pub(crate) fn new(heap: Heap, texts: &'t Texts) -> Builder<'t>
         ensures state { state_of result
             ≡ record { stack = empty_stack; leaf = NoLeaf; refs = finite.empty } }
         ensures ready { IsReady result 0 }
     {
         Builder {
             levels: Levels::new(heap),
-            leaf: OpenLeaf::new(heap),
+            leaf: OpenLeaf::new(heap, texts),
             refs: RefMap::new(heap),
         }
     }

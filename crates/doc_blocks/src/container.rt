@@ -9,6 +9,7 @@ ghost use Rattle.doc_blocks.specs.Containers.{container_shown};
 
 use doc_blocks_starts::indentation::{indent_up_to, is_blank_line};
 use doc_blocks_starts::quote::take_quote;
+use doc_blocks_tags::tag::ContainerBlock;
 use doc_lines::cursor::Cursor;
 
 /// An open quote, or an open item with the columns before its content. An item is empty while it started blank and no line went on
@@ -30,6 +31,14 @@ impl Container {
         match self {
             Container::Quote => take_quote(line),
             Container::Item { columns, is_empty } => matched_item(line, columns, is_empty),
+        }
+    }
+
+    /// The container as a block.
+    pub(crate) fn block(self) -> ContainerBlock {
+        match self {
+            Container::Quote => ContainerBlock::Quote,
+            Container::Item { .. } => ContainerBlock::Item,
         }
     }
 

@@ -1,19 +1,14 @@
-//! The document of a text: each of its lines in turn is added to a builder, and at the end all that is still open closes.
-ghost use Rattle.std.specs.Prelude.{◌≡◌, [], false, chars, map, IfOk, OnOk};
+//! Documents as trees of blocks.
+ghost use Rattle.std.specs.Prelude.{◌≡◌, chars, IfOk};
 ghost use Rattle.doc_rules.specs.Blocks.{document_of};
-ghost use Rattle.doc_rules.specs.Columns.{cells_of};
-ghost use Rattle.doc_rules.specs.Lines.{secure_char};
 ghost use Rattle.doc_refs.specs.Targets.{targets_of};
-ghost use Rattle.doc_blocks_leaves.specs.Views.{blocks_shown};
-ghost use Rattle.doc_blocks.specs.StateSteps.{shown, after_line, document_left};
-ghost use Rattle.doc_blocks.specs.BuilderSteps.{state_of};
-ghost use Rattle.doc_blocks.specs.LevelSteps.{IsSound};
+ghost use Rattle.doc_blocks.specs.Views.{blocks_shown};
 
-use crate::builder::Builder;
-use crate::content::{FirstLine, first_line, secure_text};
-use doc_blocks_leaves::block::Block;
+use crate::block::Block;
+use crate::tagged::tags;
+use crate::tree::tree;
+use doc_blocks_tags::texts::Texts;
 use doc_heap::{Heap, Vec};
-use doc_lines::cursor::Cursor;
 use doc_lines::entities::Entities;
 use doc_page::failure::Memory;
 use doc_refs::RefMap;
@@ -34,55 +29,10 @@ pub fn blocks(heap: Heap, text: &str, entities: &Entities) -> Result<Document, M
     ensures refs { IfOk result (λ document. document.refs
         ≡ targets_of (document_of entities.now (chars text.now)).refs) }
 {
-    let mut builder = Builder::new(heap);
-    let mut rest = text;
-    'lines: while !rest.is_empty() {
-        let first = first_line(rest);
-        add_line(&mut builder, heap, entities, first)?;
-        rest = first.rest;
-    }
-    let document = finish(builder, heap, entities)?;
-    Ok(document)
-}
-
-/// A line.
-fn add_line(
-    builder: &mut Builder,
-    heap: Heap,
-    entities: &Entities,
-    first: FirstLine,
-) -> Result<(), Memory>
-    requires sound { IsSound builder.old.levels }
-    requires plain { first.holds_null ≡ false
-        → map secure_char (chars first.line.now) ≡ chars first.line.now }
-    ensures line { OnOk result (after_line entities.now (state_of builder.old)
-        (cells_of (map secure_char (chars first.entry.line.now))) ≡ shown (state_of builder.new)) }
-    ensures sound { OnOk result (IsSound builder.new.levels) }
-{
-    if !first.holds_null {
-        builder.add(heap, entities, &mut Cursor::new(first.line))?;
-        return Ok(());
-    }
-    let content = secure_text(heap, first.line)?;
-    builder.add(heap, entities, &mut Cursor::new(content.as_str()))?;
-    Ok(())
-}
-
-/// All that is still open closes.
-fn finish(builder: Builder, heap: Heap, entities: &Entities) -> Result<Document, Memory>
-    requires { IsSound builder.levels }
-    ensures { IfOk result (λ document. (blocks_shown document.blocks.items, document.refs)
-        ≡ document_left entities.now [] (shown (state_of builder))) }
-{
-    let mut builder = builder;
-    builder.close_to(heap, entities, 0)?;
-    let Builder {
-        levels,
-        leaf: _,
-        refs,
-    } = builder;
+    let texts = Texts::new(heap);
+    let tagged = tags(heap, &texts, text, entities)?;
     Ok(Document {
-        blocks: levels.into_blocks()?,
-        refs,
+        blocks: tree(heap, tagged.tags.as_slice())?,
+        refs: tagged.refs,
     })
 }

@@ -27,26 +27,25 @@ ghost use Rattle.doc_blocks.specs.Containers.{container_shown};
 ghost use Rattle.doc_blocks.specs.LevelSteps.{stack_of, IsSound, Leaves};
 
 use crate::container::Container;
-use doc_blocks_leaves::block::Block;
 use doc_blocks_starts::item::ListKind;
+use doc_blocks_tags::tag::{ContainerBlock, LeafBlock, Tag};
 use doc_heap::{Heap, Vec};
 use doc_lines::cursor::Cursor;
 use doc_page::failure::Memory;
 use std::mem;
 
-/// A list that the next item may go on with. Its finished items stand on the stack from `base` on.
+/// A list that the next item may go on with. Its first tag stands at `place`.
 #[derive(Drop)]
 pub(crate) struct OpenList {
     pub(crate) kind: ListKind,
     pub(crate) start: u32,
     pub(crate) tight: bool,
-    pub(crate) base: usize,
+    pub(crate) place: usize,
 }
 
-/// A level of open containers. Its finished blocks stand on the stack from `base` on, up to its list's items.
+/// A level of open containers.
 #[derive(Drop)]
 pub(crate) struct Level {
-    pub(crate) base: usize,
     pub(crate) list: Option<OpenList>,
     pub(crate) gap: bool,
 }
@@ -59,40 +58,36 @@ pub(crate) struct Open {
 }
 
 /// The open containers, the outermost first, the level inside them, whether a blank line stands behind the last block there, and the
-/// finished blocks of all levels, of which a container that closes takes its own off the end.
-#[derive(Drop)]
-pub(crate) struct Levels {
-    heap: Heap,
-    outer: Vec<Open>,
-    inner: Level,
-    blank: bool,
-    done: Vec<Block>,
-}
-
-/// A container that was left: the blocks in it, and whether a blank line stands between two of them.
+/// tags so far.
+/// A container that was left, and whether a blank line stands between two of its blocks.
 #[derive(Drop)]
 struct Left {
     container: Container,
-    blocks: Vec<Block>,
     gap: bool,
 }
 
-impl Levels {
+#[derive(Drop)]
+pub(crate) struct Levels<'t> {
+    outer: Vec<Open>,
+    inner: Level,
+    blank: bool,
+    tags: Vec<Tag<'t>>,
+}
+
+impl<'t> Levels<'t> {
     #[tactic(auto, unfolding(doc_blocks_leaves::specs::Views::forest))]
-    pub(crate) fn new(heap: Heap) -> Levels
+    pub(crate) fn new(heap: Heap) -> Levels<'t>
         ensures stack { stack_of result ≡ empty_stack }
         ensures sound { IsSound result }
     {
         Levels {
-            heap,
             outer: Vec::new(heap),
             inner: Level {
-                base: 0,
                 list: None,
                 gap: false,
             },
             blank: false,
-            done: Vec::new(heap),
+            tags: Vec::new(heap),
         }
     }
 
@@ -109,18 +104,15 @@ impl Levels {
             Some(list) => list,
             None => return Ok(()),
         };
-        let items = self.done.split_off(list.base)?;
-        self.done.push(Block::List {
-            start: start_of(list.kind, list.start),
-            tight: list.tight,
-            items,
-        })?;
+        let block = list.block(list.tight);
+        self.tags[list.place] = Tag::Start(block);
+        self.tags.push(Tag::End(block))?;
         Ok(())
     }
 
     /// A block comes behind the blocks of the innermost level, whose list closes in any case.
     #[tactic(auto, unfolding(doc_blocks_leaves::specs::Views::with_block))]
-    pub(crate) fn put(&mut self, block: Option<Block>) -> Result<(), Memory>
+    pub(crate) fn put(&mut self, leaf: Option<LeafBlock<'t>>) -> Result<(), Memory>
         requires { IsSound self.old }
         ensures stack { OnOk result (stack_of self.new
             ≡ with_inner_blocks (stack_of self.old)
@@ -129,8 +121,8 @@ impl Levels {
         ensures outer { OnOk result (self.new.outer ≡ self.old.outer) }
     {
         self.finish_list()?;
-        if let Some(block) = block {
-            self.done.push(block)?;
+        if let Some(leaf) = leaf {
+            self.tags.push(Tag::Leaf(leaf))?;
         }
         Ok(())
     }
@@ -161,12 +153,14 @@ impl Levels {
             return Ok(());
         }
         self.begin_block()?;
-        self.inner.list = Some(OpenList {
+        let list = OpenList {
             kind,
             start,
             tight: true,
-            base: self.done.len(),
-        });
+            place: self.tags.len(),
+        };
+        self.tags.push(Tag::Start(list.block(true)))?;
+        self.inner.list = Some(list);
         Ok(())
     }
 
@@ -200,8 +194,8 @@ impl Levels {
         ensures sound { OnOk result (IsSound self.new) }
         ensures depth { OnOk result (vec_len self.new.outer ≡ vec_len self.old.outer + 1) }
     {
+        self.tags.push(Tag::Start(container.block()))?;
         let fresh = Level {
-            base: self.done.len(),
             list: None,
             gap: false,
         };
@@ -221,18 +215,13 @@ impl Levels {
     {
         let left = self.leave()?;
         match left.container {
-            Container::Quote => {
-                self.put_quote(left.blocks)?;
-                Ok(())
-            }
-            Container::Item { .. } => {
-                self.put_item(left.blocks, left.gap)?;
-                Ok(())
-            }
+            Container::Quote => self.set_blank(false),
+            Container::Item { .. } => self.loosen(left.gap),
         }
+        Ok(())
     }
 
-    /// Takes the innermost container off.
+    /// Takes the innermost container off, and puts its end tag.
     fn leave(&mut self) -> Result<Left, Memory>
         requires sound { IsSound self.old }
         requires open { 0 < vec_len self.old.outer }
@@ -243,42 +232,18 @@ impl Levels {
         self.finish_list()?;
         let Open { level, container } = self.outer.pop().unwrap();
         let inside = mem::replace(&mut self.inner, level);
-        let blocks = self.done.split_off(inside.base)?;
+        self.tags.push(Tag::End(container.block()))?;
         Ok(Left {
             container,
-            blocks,
             gap: inside.gap,
         })
     }
 
-    /// A quote of these blocks comes behind the blocks of the innermost level.
-    fn put_quote(&mut self, blocks: Vec<Block>) -> Result<(), Memory>
-        requires { IsSound self.old }
-        ensures stack { OnOk result (stack_of self.new
-            ≡ quote_put (stack_of self.old) (blocks_shown blocks.entry.items)) }
-        ensures sound { OnOk result (IsSound self.new) }
-        ensures outer { OnOk result (self.new.outer ≡ self.old.outer) }
-    {
-        self.put(Some(Block::Quote(blocks)))?;
-        self.set_blank(false);
-        Ok(())
-    }
-
-    /// An item with these blocks comes behind the items of the open list. A blank line between two of its blocks makes the list loose.
-    fn put_item(&mut self, blocks: Vec<Block>, gap: bool) -> Result<(), Memory>
-        requires { IsSound self.old }
-        ensures stack { OnOk result (stack_of self.new
-            ≡ item_put (stack_of self.old) gap (blocks_shown blocks.entry.items)) }
-        ensures sound { OnOk result (IsSound self.new) }
-        ensures outer { OnOk result (self.new.outer ≡ self.old.outer) }
-    {
-        let list = match &mut self.inner.list {
-            Some(list) => list,
-            None => return Ok(()),
-        };
-        list.tight &= !gap;
-        self.done.push(Block::Item(blocks))?;
-        Ok(())
+    /// A blank line between two blocks of an item makes the list round it loose.
+    fn loosen(&mut self, gap: bool) {
+        if let Some(list) = &mut self.inner.list {
+            list.tight &= !gap;
+        }
     }
 
     /// How many containers are open.
@@ -341,16 +306,10 @@ impl Levels {
         self.outer[place].container.matched(line)
     }
 
-    /// The blocks of the innermost level, whose list closes.
-    pub(crate) fn into_blocks(mut self) -> Result<Vec<Block>, Memory>
-        requires { IsSound self }
-        ensures { IfOk result (λ blocks. blocks_shown blocks.items
-            ≡ finished (stack_of self).inner) }
-    {
+    /// All tags, where no container is open. The list of the innermost level closes.
+    pub(crate) fn into_tags(mut self) -> Result<Vec<Tag<'t>>, Memory> {
         self.finish_list()?;
-        let base = self.inner.base;
-        let blocks = self.done.split_off(base)?;
-        Ok(blocks)
+        Ok(self.tags)
     }
 
     /// A line goes on with the container at this place.
@@ -364,6 +323,16 @@ impl Levels {
     {
         let container = self.outer[place].container;
         self.outer[place].container = container.gone_on();
+    }
+}
+
+impl OpenList {
+    /// The list as a block.
+    fn block(&self, tight: bool) -> ContainerBlock {
+        ContainerBlock::List {
+            start: start_of(self.kind, self.start),
+            tight,
+        }
     }
 }
 

@@ -15,12 +15,16 @@
 //! `Memory`, nothing is known of what is open: `blocks` lets all of it go.
 #![tactic(auto)]
 
+mod block;
 mod builder;
 mod container;
 mod content;
 mod document;
 mod levels;
 mod plain_line;
+mod tagged;
+mod tree;
 
-pub use doc_blocks_leaves::block::Block;
+pub use block::Block;
 pub use document::{Document, blocks};
+pub use tagged::{Tagged, tags};

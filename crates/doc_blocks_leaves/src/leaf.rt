@@ -18,7 +18,6 @@ mod close;
 mod kind;
 mod take;
 
-use crate::block::Block;
 use crate::gathered::Gathered;
 use crate::line::CODE;
 use crate::paragraph::paragraph_text;
@@ -26,12 +25,13 @@ use crate::start::NewLeaf;
 use close::closed;
 use doc_blocks_starts::html::HtmlKind;
 use doc_blocks_starts::indentation::is_blank_line;
+use doc_blocks_tags::tag::LeafBlock;
+use doc_blocks_tags::texts::Texts;
 use doc_heap::Heap;
 use doc_lines::cursor::Cursor;
 use doc_lines::entities::Entities;
 use doc_lines::unescape;
 use doc_page::failure::Memory;
-use doc_page::text::Text;
 use doc_refs::RefMap;
 use kind::Kind;
 use std::marker::Model;
@@ -44,12 +44,13 @@ use take::{take_code, take_fenced, take_html};
 ///
 /// Where a call answers [`Memory`], nothing is known of the leaf from then on.
 #[derive(Drop)]
-pub struct OpenLeaf {
+pub struct OpenLeaf<'t> {
     kind: Kind,
     lines: Gathered,
+    texts: &'t Texts,
 }
 
-impl Model for OpenLeaf {
+impl<'t> Model for OpenLeaf<'t> {
     ghost use Rattle.doc_blocks_pass.specs.Leaves as rules;
     ghost use Rattle.doc_blocks_leaves.specs.OpenLeaves.{leaf_shown};
 
@@ -58,15 +59,16 @@ impl Model for OpenLeaf {
     ghost view = { λ leaf. leaf_shown leaf.kind leaf.lines };
 }
 
-impl OpenLeaf {
+impl<'t> OpenLeaf<'t> {
     /// No open leaf. Takes no memory.
     #[tactic(auto, unfolding(crate::specs::OpenLeaves::leaf_shown))]
-    pub fn new(heap: Heap) -> OpenLeaf
+    pub fn new(heap: Heap, texts: &'t Texts) -> OpenLeaf<'t>
         ensures { result ≡ NoLeaf }
     {
         OpenLeaf {
             kind: Kind::Nothing,
             lines: Gathered::new(heap),
+            texts,
         }
     }
 
@@ -112,7 +114,7 @@ impl OpenLeaf {
         heap: Heap,
         entities: &Entities,
         refs: &mut RefMap,
-    ) -> Result<Option<Block>, Memory>
+    ) -> Result<Option<LeafBlock<'t>>, Memory>
         ensures leaf { OnOk result (self.new ≡ NoLeaf) }
         ensures block { IfOk result (λ block. (before : Blocks)
             → with_block block before ≡ with_open entities.now self.old before) }
@@ -120,7 +122,7 @@ impl OpenLeaf {
             ≡ joined refs.old (targets_of (open_references entities.now self.old))) }
     {
         let kind = mem::replace(&mut self.kind, Kind::Nothing);
-        let block = closed(heap, kind, &self.lines, entities, refs)?;
+        let block = closed(heap, self.texts, kind, &self.lines, entities, refs)?;
         self.lines.clear();
         Ok(block)
     }
@@ -133,7 +135,7 @@ impl OpenLeaf {
         level: u8,
         entities: &Entities,
         refs: &mut RefMap,
-    ) -> Result<Option<Block>, Memory>
+    ) -> Result<Option<LeafBlock<'t>>, Memory>
         ensures leaf { OnOk result (self.new ≡ underlined self.old) }
         ensures block { IfOk result (λ block. (before : Blocks)
             → with_block block before ≡ with_underlined entities.now level self.old before) }
@@ -143,12 +145,12 @@ impl OpenLeaf {
         let Some(above) = self.paragraph() else {
             return Ok(None);
         };
-        let text = paragraph_text(heap, above, entities, refs)?;
+        let text = paragraph_text(heap, self.texts, above, entities, refs)?;
         self.clear();
         let Some(text) = text else {
             return Ok(None);
         };
-        Ok(Some(Block::Heading { level, text }))
+        Ok(Some(LeafBlock::Heading { level, text }))
     }
 
     /// Drops what is open. The room of its lines stays.
@@ -205,7 +207,7 @@ impl OpenLeaf {
         line: &Cursor,
         leaf: NewLeaf,
         entities: &Entities,
-    ) -> Result<Option<Block>, Memory>
+    ) -> Result<Option<LeafBlock<'t>>, Memory>
         ensures leaf { OnOk result (self.new
             ≡ open_of entities.now (leaf_lines (left_of line.now) leaf.entry)) }
         ensures block { IfOk result (λ block. (before : Blocks) →
@@ -216,9 +218,9 @@ impl OpenLeaf {
         self.lines.clear();
         self.kind = Kind::Nothing;
         match leaf {
-            NewLeaf::Heading(heading) => Ok(Some(Block::Heading {
+            NewLeaf::Heading(heading) => Ok(Some(LeafBlock::Heading {
                 level: heading.level,
-                text: Text::copy_of(heap, heading.text)?,
+                text: self.texts.keep(heading.text)?,
             })),
             NewLeaf::Fenced(start) => {
                 let info = unescape(heap, start.info, entities)?;
@@ -228,19 +230,18 @@ impl OpenLeaf {
                 };
                 Ok(None)
             }
-            NewLeaf::Html { kind, goes_on } => self.begin_html(heap, line, kind, goes_on),
-            NewLeaf::Break => Ok(Some(Block::Break)),
+            NewLeaf::Html { kind, goes_on } => self.begin_html(line, kind, goes_on),
+            NewLeaf::Break => Ok(Some(LeafBlock::Break)),
         }
     }
 
     /// Begins an HTML block with this line, or answers it where it ends there.
     fn begin_html(
         &mut self,
-        heap: Heap,
         line: &Cursor,
         kind: HtmlKind,
         goes_on: bool,
-    ) -> Result<Option<Block>, Memory>
+    ) -> Result<Option<LeafBlock<'t>>, Memory>
         ensures leaf { (table : Table)
             → OnOk result (self.new ≡ open_of table
             (HtmlLines goes_on (kind_of kind) (text_of (left_of line.now) ∷ []))) }
@@ -258,6 +259,6 @@ impl OpenLeaf {
             self.kind = Kind::Html(kind);
             return Ok(None);
         }
-        Ok(Some(Block::Html(Text::copy_of(heap, self.lines.kept())?)))
+        Ok(Some(LeafBlock::Html(self.texts.keep(self.lines.kept())?)))
     }
 }

@@ -8,22 +8,23 @@ ghost use Rattle.doc_refs.specs.Targets.{targets_of, joined};
 ghost use Rattle.doc_blocks_leaves.specs.OpenLeaves.{with_leaf_of};
 
 use crate::strip::strip_end;
+use doc_blocks_tags::texts::Texts;
 use doc_heap::Heap;
 use doc_lines::entities::Entities;
 use doc_lines::scan::character::next_char;
 use doc_page::failure::Memory;
-use doc_page::text::Text;
 use doc_refs::{RefMap, take_definitions};
 
 /// The text that definitions leave of a paragraph, if they leave any, without spaces and tabs at its end. What the definitions name
 /// joins `refs`.
 #[tactic(auto, unfolding(doc_rules::specs::Blocks::with_text))]
-pub fn paragraph_text(
+pub fn paragraph_text<'t>(
     heap: Heap,
+    texts: &'t Texts,
     text: &str,
     entities: &Entities,
     refs: &mut RefMap,
-) -> Result<Option<Text>, Memory>
+) -> Result<Option<&'t str>, Memory>
     ensures text { IfOk result (λ rest. (leaf : Text → Leaf) (before : Blocks) →
         with_leaf_of leaf (option_map chars rest) before
         ≡ with_text leaf (definitions_of entities.now (chars text.now)).1 before) }
@@ -32,7 +33,7 @@ pub fn paragraph_text(
 {
     let rest = without_definitions(heap, text, entities, refs)?;
     match next_char(rest) {
-        Some(_) => Ok(Some(Text::copy_of(heap, strip_end(rest))?)),
+        Some(_) => Ok(Some(texts.keep(strip_end(rest))?)),
         None => Ok(None),
     }
 }

@@ -12,9 +12,10 @@ use crate::leaves::{
     push_break, push_decimal, push_fenced, push_heading, push_html_block, push_indented,
     push_paragraph,
 };
+use crate::nesting::Nesting;
 use crate::reading::Source;
 use crate::writer::{Writer, markup};
-use doc_blocks_leaves::block::Block;
+use doc_blocks_tags::tag::{ContainerBlock, LeafBlock, Tag};
 use doc_heap::Heap;
 use doc_inlines::Reader;
 use doc_page::failure::Memory;
@@ -23,7 +24,7 @@ use doc_page::failure::Memory;
 pub(crate) fn push_all<'d, W: Writer>(
     writer: &mut W,
     source: &Source<'d>,
-    blocks: &'d [Block],
+    tags: &'d [Tag<'d>],
 ) -> Result<(), Memory>
     ensures { (definitions : List Definition) (p : Progress)
         → source.now.refs.now ≡ targets_of definitions → W.holds writer.old p →
@@ -31,93 +32,56 @@ pub(crate) fn push_all<'d, W: Writer>(
         (blocks_told source.now.entities.now definitions false (blocks_shown blocks.now) p)) }
 {
     let mut reader: Reader<'d, 'd> = Reader::new(source.heap, source.arena);
-    push_blocks(writer, source, &mut reader, blocks, false)?;
-    Ok(())
-}
-
-/// Writes blocks, which stand directly in an item of a tight list or not.
-#[cycle(blocks)]
-pub(crate) fn push_blocks<'d, W: Writer>(
-    writer: &mut W,
-    source: &Source<'d>,
-    reader: &mut Reader<'d, 'd>,
-    blocks: &'d [Block],
-    tight: bool,
-) -> Result<(), Memory>
-    ensures { (definitions : List Definition) (before : Blocks) (p : Progress)
-        → source.now.refs.now ≡ targets_of definitions →
-        W.holds writer.old (blocks_told source.now.entities.now definitions tight before p) →
-        OnOk result (W.holds writer.new
-        (blocks_told source.now.entities.now definitions tight (forest blocks.now before) p)) }
-{
-    for block in blocks {
-        push_block(writer, source, reader, block, tight)?;
+    let mut nesting = Nesting::new(source.heap);
+    for tag in tags {
+        match *tag {
+            Tag::Leaf(leaf) => push_leaf(writer, source, &mut reader, leaf, nesting.is_tight())?,
+            Tag::Start(container) => {
+                begin(writer, source.heap, container)?;
+                nesting.enter(container)?;
+            }
+            Tag::End(container) => {
+                end(writer, container)?;
+                nesting.leave();
+            }
+        }
     }
     Ok(())
 }
 
-/// Writes a block.
-#[cycle(blocks)]
-fn push_block<'d, W: Writer>(
+/// Writes a leaf block, which stands directly in an item of a tight list or not.
+fn push_leaf<'d, W: Writer>(
     writer: &mut W,
     source: &Source<'d>,
     reader: &mut Reader<'d, 'd>,
-    block: &'d Block,
+    leaf: LeafBlock<'d>,
     tight: bool,
-) -> Result<(), Memory>
-    ensures { (definitions : List Definition) (before : Blocks) (p : Progress)
-        → source.now.refs.now ≡ targets_of definitions →
-        W.holds writer.old (blocks_told source.now.entities.now definitions tight before p) →
-        OnOk result (W.holds writer.new
-        (blocks_told source.now.entities.now definitions tight (behind block.now before) p)) }
-{
-    match block {
-        Block::Para(text) => {
-            push_paragraph(writer, source, reader, text.get(), tight)?;
-            Ok(())
-        }
-        Block::Heading { level, text } => {
-            push_heading(writer, source, reader, *level, text.get())?;
-            Ok(())
-        }
-        Block::Code(text) => {
-            push_indented(writer, text.get())?;
-            Ok(())
-        }
-        Block::Fence { info, text } => {
-            push_fenced(writer, info.get(), text.get())?;
-            Ok(())
-        }
-        Block::Html(text) => {
-            push_html_block(writer, text.get())?;
-            Ok(())
-        }
-        Block::Break => {
-            push_break(writer)?;
-            Ok(())
-        }
-        Block::Quote(inside) => {
-            begin_quote(writer)?;
-            push_blocks(writer, source, reader, inside, false)?;
-            end_quote(writer)?;
-            Ok(())
-        }
-        Block::List {
-            start,
-            tight,
-            items,
-        } => {
-            begin_list(writer, source.heap, *start)?;
-            push_blocks(writer, source, reader, items, *tight)?;
-            end_list(writer, *start)?;
-            Ok(())
-        }
-        Block::Item(inside) => {
-            begin_item(writer)?;
-            push_blocks(writer, source, reader, inside, tight)?;
-            end_item(writer)?;
-            Ok(())
-        }
+) -> Result<(), Memory> {
+    match leaf {
+        LeafBlock::Para(text) => push_paragraph(writer, source, reader, text, tight),
+        LeafBlock::Heading { level, text } => push_heading(writer, source, reader, level, text),
+        LeafBlock::Code(text) => push_indented(writer, text),
+        LeafBlock::Fence { info, text } => push_fenced(writer, info, text),
+        LeafBlock::Html(text) => push_html_block(writer, text),
+        LeafBlock::Break => push_break(writer),
+    }
+}
+
+/// Writes the start of a container block.
+fn begin<W: Writer>(writer: &mut W, heap: Heap, container: ContainerBlock) -> Result<(), Memory> {
+    match container {
+        ContainerBlock::Quote => begin_quote(writer),
+        ContainerBlock::List { start, tight: _ } => begin_list(writer, heap, start),
+        ContainerBlock::Item => begin_item(writer),
+    }
+}
+
+/// Writes the end of a container block.
+fn end<W: Writer>(writer: &mut W, container: ContainerBlock) -> Result<(), Memory> {
+    match container {
+        ContainerBlock::Quote => end_quote(writer),
+        ContainerBlock::List { start, tight: _ } => end_list(writer, start),
+        ContainerBlock::Item => end_item(writer),
     }
 }
 

@@ -9,16 +9,19 @@ ghost use Rattle.doc_blocks_leaves.specs.Views.{blocks_shown};
 ghost use Rattle.doc_html.specs.HtmlBytes.{html_bytes};
 
 use crate::blocks::push_all;
+use crate::flattening::push_tags;
 use crate::html_writer::HtmlWriter;
 use crate::links::{ByLinker, Links};
 use crate::reading::Source;
 use doc_blocks::Document;
-use doc_heap::Heap;
+use doc_blocks_tags::tag::Tag;
+use doc_heap::{Heap, Vec};
 use doc_inlines_marks::arena::Arena;
 use doc_lines::entities::Entities;
 use doc_page::failure::Memory;
 use doc_page::linker::Linker;
 use doc_page::text::Text;
+use doc_refs::RefMap;
 
 /// The document as HTML in the form of the examples of CommonMark 0.31.2, its links as the linker shows them. Headings carry no anchors.
 /// Where a rule over characters shows links as the linker does, the HTML is that of the rule.
@@ -37,14 +40,24 @@ pub fn to_html<L: Linker>(
         (html_of entities.now rule []
         (record { blocks = blocks_shown document.now.blocks.items; refs = definitions }))) }
 {
-    let html = write_html(heap, document, entities, &ByLinker { linker }, 0)?;
+    let mut tags = Vec::new(heap);
+    push_tags(&mut tags, document.blocks.as_slice())?;
+    let html = write_html(
+        heap,
+        tags.as_slice(),
+        &document.refs,
+        entities,
+        &ByLinker { linker },
+        0,
+    )?;
     Ok(html)
 }
 
 /// The document as HTML, its links as these are shown, with room for so many bytes: a guess, on which nothing rests.
 pub(crate) fn write_html<K: Links>(
     heap: Heap,
-    document: &Document,
+    tags: &[Tag],
+    refs: &RefMap,
     entities: &Entities,
     links: &K,
     room: usize,
@@ -56,11 +69,11 @@ pub(crate) fn write_html<K: Links>(
     let arena = Arena::new(heap);
     let source = Source {
         heap,
-        refs: &document.refs,
+        refs,
         entities,
         arena: &arena,
     };
     let mut writer = HtmlWriter::new(heap, links, room)?;
-    push_all(&mut writer, &source, document.blocks.as_slice())?;
+    push_all(&mut writer, &source, tags)?;
     Ok(writer.into_text())
 }

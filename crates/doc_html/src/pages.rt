@@ -8,24 +8,33 @@ ghost use Rattle.doc_blocks_leaves.specs.Views.{blocks_shown};
 use crate::blocks::push_all;
 use crate::page_writer::PageWriter;
 use crate::reading::Source;
-use doc_blocks::{Document, blocks};
+use doc_blocks::tags;
+use doc_blocks_tags::tag::Tag;
+use doc_blocks_tags::texts::Texts;
 use doc_heap::Heap;
 use doc_inlines_marks::arena::Arena;
 use doc_lines::entities::Entities;
 use doc_page::failure::Memory;
 use doc_page::rendered::Rendered;
+use doc_refs::RefMap;
 
 /// The page of a text.
 pub(crate) fn page_of(heap: Heap, text: &str, entities: &Entities) -> Result<Rendered, Memory>
     ensures { IfOk result (λ page. page ≡ rendered_of entities.now (chars text.now)) }
 {
-    let document = blocks(heap, text, entities)?;
-    let page = document_page(heap, &document, entities)?;
+    let texts = Texts::new(heap);
+    let tagged = tags(heap, &texts, text, entities)?;
+    let page = page_of_tags(heap, tagged.tags.as_slice(), &tagged.refs, entities)?;
     Ok(page)
 }
 
 /// The page of a document.
-fn document_page(heap: Heap, document: &Document, entities: &Entities) -> Result<Rendered, Memory>
+fn page_of_tags(
+    heap: Heap,
+    tags: &[Tag],
+    refs: &RefMap,
+    entities: &Entities,
+) -> Result<Rendered, Memory>
     ensures { (definitions : List Definition) → document.now.refs ≡ targets_of definitions →
         IfOk result (λ page. page ≡ encoded
         (document_page entities.now
@@ -34,12 +43,12 @@ fn document_page(heap: Heap, document: &Document, entities: &Entities) -> Result
     let arena = Arena::new(heap);
     let source = Source {
         heap,
-        refs: &document.refs,
+        refs,
         entities,
         arena: &arena,
     };
     let mut writer = PageWriter::new(heap);
-    push_all(&mut writer, &source, document.blocks.as_slice())?;
+    push_all(&mut writer, &source, tags)?;
     let page = writer.into_page()?;
     Ok(page)
 }

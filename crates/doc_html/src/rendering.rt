@@ -4,7 +4,8 @@ ghost use Rattle.doc_rules.specs.Html.{rendered_plain};
 
 use crate::document::write_html;
 use crate::links::AsTheyStand;
-use doc_blocks::blocks;
+use doc_blocks::tags;
+use doc_blocks_tags::texts::Texts;
 use doc_heap::Heap;
 use doc_lines::entities::Entities;
 use doc_page::failure::Memory;
@@ -15,8 +16,16 @@ pub fn render_plain(heap: Heap, text: &str, entities: &Entities) -> Result<Text,
     ensures { IfOk result (λ html. html ≡ encode_utf8_all
         (rendered_plain entities.now (chars text.now))) }
 {
-    let document = blocks(heap, text, entities)?;
-    let html = write_html(heap, &document, entities, &AsTheyStand, room_of(text))?;
+    let texts = Texts::new(heap);
+    let tagged = tags(heap, &texts, text, entities)?;
+    let html = write_html(
+        heap,
+        tagged.tags.as_slice(),
+        &tagged.refs,
+        entities,
+        &AsTheyStand,
+        room_of(text),
+    )?;
     Ok(html)
 }
 
