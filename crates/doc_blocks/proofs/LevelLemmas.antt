@@ -1,277 +1,294 @@
--- What each level has of the stack of finished blocks, as the stack and the open containers change.
-use Rattle.std.proofs.Common.{◌≡◌, ◌∙◌, ℕ, suc, ◌+◌, ◌<◌, ◌≤◌, Bool, true, false, ◌&&◌, not, List, [], ◌∷◌, ◌++◌, take, drop, length, refl}
-use Rattle.std.proofs.Common.{ap, sym, subst, arith, zero, get_or, set, Option, Some, None, Vec, Global}
-use denote.Bor.{Bor}
-use Rattle.doc_heap.specs.declared.refusing.Refusing.{Refusing}
-use Rattle.std.proofs.lemmas.List.{take-take, take-append-le, drop-append-le, length-take-le, take_all, drop_all}
-use Rattle.doc_rules.specs.Forests.{none, node}
-use Rattle.doc_rules.specs.Blocks.{Blocks, BlockQuote, ListBlock, ListItem, list_start}
+-- What each level has of the tags, as tags and open containers change.
+use Rattle.std.proofs.Common.{◌≡◌, ◌∙◌, ℕ, suc, ◌+◌, ◌<◌, Bool, true, false, ◌&&◌, not, List, [], ◌∷◌, ◌++◌, map, reverse, drop, length, refl}
+use Rattle.std.proofs.Common.{ap, sym, subst, arith, zero, get_or, set, Option, Some, None}
+use Rattle.std.proofs.lemmas.List.{reverse-append, map-append, map-set, length-append, length-map, length-reverse}
+use Rattle.std.proofs.Math.Seq.{map-set_same}
+use Rattle.doc_rules.specs.Forests.{none, ◌▹◌, node}
+use Rattle.doc_rules.specs.Blocks.{Blocks, Leaf, Container}
 use Rattle.doc_rules.specs.ContainerStarts.{ListKind, is_same_kind}
 use Rattle.doc_blocks_starts.specs.Items.{kind_of}
 use Rattle.doc_blocks_pass.specs.Paths as paths
 use Rattle.doc_blocks_pass.specs.Paths.{empty_level, gone_on, finished, with_blocks}
-use Rattle.doc_blocks_leaves.specs.declared.block.Block.{Block}
-use Rattle.doc_blocks_leaves.specs.declared.block.Block.TheVariants as variants
+use Rattle.doc_blocks_pass.specs.Closing.{container_closed, item_closed}
+use Rattle.doc_blocks_tags.specs.Tags.{Tag, OneLeaf, Start, End, tags_of, leaf_shown, tag_shown, tags_shown}
+use Rattle.doc_blocks_tags.specs.Tags.{container_shown as container_block}
+use Rattle.doc_blocks_tags.specs.OpenTags as tags
+use Rattle.doc_blocks_tags.specs.OpenTags.{Entry, read, open_tags}
+use Rattle.doc_blocks_tags.specs.declared.tag.Tag as code
+use Rattle.doc_blocks_tags.specs.declared.tag.Tag.TheVariants as tag
+use Rattle.doc_blocks_tags.specs.declared.tag.LeafBlock.{LeafBlock}
+use Rattle.doc_blocks_tags.specs.declared.tag.ContainerBlock.{ContainerBlock}
+use Rattle.doc_blocks_tags.proofs.TagLaws.{read_open, open_leaf, open_end, open_turned}
 use Rattle.doc_blocks.specs.declared.levels.OpenList.{OpenList}
 use Rattle.doc_blocks.specs.declared.levels.Level.{Level}
-use Rattle.doc_blocks.specs.declared.container.Container.{Container}
-use Rattle.doc_blocks.specs.declared.container.Container.TheVariants.{Quote, Item}
 use Rattle.doc_blocks.specs.declared.levels.Open.{Open}
 use Rattle.doc_blocks.specs.declared.levels.Left.{Left}
-use Rattle.doc_blocks_pass.specs.Closing.{container_closed, item_closed}
-use Rattle.doc_blocks_leaves.specs.Views.{behind, forest, blocks_shown}
-use Rattle.doc_blocks.specs.StackSteps.{Outer, Stack, with_inner_blocks, block_begun, item_begun, container_opened, quote_put, item_put}
-use Rattle.doc_blocks.specs.StackSteps.{list_with, container_blank, IsNotOf, ClosesLast}
-use Rattle.doc_blocks.specs.Containers.{container_shown}
+use Rattle.doc_blocks.specs.declared.levels.Levels.{Levels}
+use Rattle.doc_blocks.specs.declared.container.Container as held
+use Rattle.doc_blocks.specs.declared.container.Container.TheVariants.{Quote, Item}
+use Rattle.doc_blocks.specs.StackSteps.{Outer, Stack, empty_stack, with_inner_blocks, block_begun, item_begun, container_opened, stack_loosened, loosened}
+use Rattle.doc_blocks.specs.StackSteps.{container_blank, IsNotOf, ClosesLast}
+use Rattle.doc_blocks.specs.Containers.{container_shown, block_of}
 use Rattle.doc_blocks.specs.PathSteps.{gone_on_at}
-use Rattle.doc_blocks.specs.LevelSteps.{list_shown, level_at, level_shown, Leaves, first_base, outers_shown, EndsAt, AreSound}
-use Rattle.doc_blocks_leaves.proofs.Forests.{forest_push, behind_list, behind_quote, behind_item}
-
-abbrev pub Children : Type 0
-Children = Vec Block (Bor (Refusing Global))
+use Rattle.doc_blocks.specs.LevelSteps.{list_shown, list_of, level_at, round, Frame, frames_of, levels_in, with_containers, outers_at}
+use Rattle.doc_blocks.specs.LevelSteps.{stack_at, stack_of, Suits, ListFits, LevelFits, AreSound, item_put_in, put_inside, Leaves}
 
 -- records in which a lemma changes a part
 abbrev stack_with : List Outer → paths.Level → Bool → Stack
 stack_with outer inner blank = record { outer = outer; inner = inner; blank = blank }
 
-abbrev level_with : Blocks → Bool → paths.Level
-level_with blocks gap = record { blocks = blocks; list = None; gap = gap }
+-- ---- the open containers
 
-abbrev level_listed_with : Blocks → Bool → paths.OpenList → paths.Level
-level_listed_with blocks gap list = record { blocks = blocks; list = Some list; gap = gap }
+-- one more container is open
+pub frames_push : (outer : List Open) (o : Open) → frames_of (outer ++ o ∷ []) ≡ (o.level, block_of o.container) ∷ frames_of outer
+frames_push outer o =
+    let frame : Open → Frame = λ x. (x.level, block_of x.container) in
+    ap reverse (map-append frame outer (o ∷ [])) ∙ reverse-append (map frame outer) (frame o ∷ [])
 
--- ---- places
+levels_count : (frames : List Frame) (entries : List Entry) → length (levels_in frames entries) ≡ length frames
+levels_count [] entries = refl
+levels_count (frame ∷ more) [] = ap suc (levels_count more [])
+levels_count (frame ∷ more) (entry ∷ entries) = ap suc (levels_count more (round frame.0.list entries))
 
-pub ends_above : (end base : ℕ) (list : Option OpenList) → EndsAt end base list → base ≤ end
-ends_above end base None h = h
-ends_above end base (Some list) h = omega (arith, h.0, h.1)
+-- there are as many levels as open containers
+levels_are_as_many : (outer : List Open) (entries : List Entry) → length (reverse (levels_in (frames_of outer) entries)) ≡ length outer
+levels_are_as_many outer entries =
+    let frame : Open → Frame = λ x. (x.level, block_of x.container) in
+    length-reverse (levels_in (frames_of outer) entries)
+    ∙ (levels_count (frames_of outer) entries ∙ (length-reverse (map frame outer) ∙ length-map outer frame))
 
-pub ends_further : (end more base : ℕ) (list : Option OpenList) → end ≤ more → EndsAt end base list → EndsAt more base list
-ends_further end more base None le h = omega (arith, h)
-ends_further end more base (Some list) le h = (h.0, omega (arith, h.1))
+containers_push : (levels : List paths.Level) (level : paths.Level) (outer : List Open) (o : Open) → length levels ≡ length outer →
+    with_containers (levels ++ level ∷ []) (outer ++ o ∷ []) ≡ with_containers levels outer ++ (level, container_shown o.container) ∷ []
+containers_push [] level [] o e = refl
+containers_push [] level (a ∷ outer) o e = absurd (omega (arith, e))
+containers_push (l ∷ levels) level [] o e = absurd (omega (arith, e))
+containers_push (l ∷ levels) level (a ∷ outer) o e =
+    ap (λ (os : List Outer). (l, container_shown a.container) ∷ os) (containers_push levels level outer o (omega (arith, e)))
 
-pub first_below : (outer : List Open) (base : ℕ) → AreSound outer base → first_base outer base ≤ base
-first_below [] base sound = omega arith
-first_below (o ∷ more) base sound = omega (
-  arith,
-  ends_above (first_base more base) o.level.base o.level.list sound.0,
-  first_below more
-      base sound.1,
-)
+pub outers_push : (outer : List Open) (o : Open) (entry : Entry) (entries : List Entry) →
+    outers_at (outer ++ o ∷ []) (entry ∷ entries) ≡ outers_at outer (round o.level.list entries)
+    ++ (level_at entries entry.1 o.level.gap o.level.list, container_shown o.container) ∷ []
+outers_push outer o entry entries =
+    let level = level_at entries entry.1 o.level.gap o.level.list in
+    let levels = levels_in (frames_of outer) (round o.level.list entries) in
+    ap (λ (fs : List Frame). with_containers (reverse (levels_in fs (entry ∷ entries))) (outer ++ o ∷ [])) (frames_push outer o)
+    ∙ (ap (λ (ls : List paths.Level). with_containers ls (outer ++ o ∷ [])) (reverse-append (level ∷ []) levels)
+    ∙ containers_push (reverse levels) level outer o (levels_are_as_many outer (round o.level.list entries)))
 
-first_push : (outer : List Open) (o : Open) (base : ℕ) → first_base (outer ++ o ∷ []) base ≡ first_base outer o.level.base
-first_push [] o base = refl
-first_push (a ∷ outer) o base = refl
+containers_count : (levels : List paths.Level) (outer : List Open) → length levels ≡ length outer
+    → length (with_containers levels outer) ≡ length outer
+containers_count [] [] e = refl
+containers_count [] (o ∷ outer) e = absurd (omega (arith, e))
+containers_count (l ∷ levels) [] e = absurd (omega (arith, e))
+containers_count (l ∷ levels) (o ∷ outer) e = ap suc (containers_count levels outer (omega (arith, e)))
 
--- one more container is open, or one less
-pub sound_push : (outer : List Open) (o : Open) (base : ℕ) → AreSound outer o.level.base → EndsAt base o.level.base o.level.list
-    → AreSound (outer ++ o ∷ []) base
-sound_push [] o base sound ends = (ends, tt)
-sound_push (a ∷ outer) o base sound ends =
-    (rw (first_push outer o base) sound.0, sound_push outer o base sound.1 ends)
+length_outers : (outer : List Open) (entries : List Entry) → length (outers_at outer entries) ≡ length outer
+length_outers outer entries = containers_count (reverse (levels_in (frames_of outer) entries)) outer (levels_are_as_many outer entries)
 
-pub sound_pop : (outer : List Open) (o : Open) (base : ℕ) → AreSound (outer ++ o ∷ []) base
-    → AreSound outer o.level.base × EndsAt base o.level.base o.level.list
-sound_pop [] o base sound = (tt, sound.0)
-sound_pop (a ∷ outer) o base sound =
-    let rest = sound_pop outer o base sound.1 in
-    ((rw (first_push outer o base) at sound.0, rest.0), rest.1)
+pub length_stack : (s : Levels) → length (stack_of s).outer ≡ length s.outer.items
+length_stack s = length_outers s.outer.items (round s.inner.list (read (tags_shown s.tags.items)).0)
 
--- ---- the stack changes above a place
+-- ---- one of the open containers
 
-shorter : (n m : ℕ) (old new : List Block) → n ≤ m → take m new ≡ take m old → take n new ≡ take n old
-shorter n m old new h e = sym (take-take n m new h) ∙ (ap (take n) e ∙ take-take n m old h)
+container_here : (levels : List paths.Level) (outer : List Open) (n : ℕ) (o : Open) → length levels ≡ length outer → n < length outer
+    → o ≡ get_or outer n o →
+    (l : paths.Level) × (drop n (with_containers levels outer) ≡ (l, container_shown o.container) ∷ drop (suc n) (with_containers levels outer))
+container_here [] [] n o e h f = absurd (omega (arith, h))
+container_here [] (a ∷ outer) n o e h f = absurd (omega (arith, e))
+container_here (l ∷ levels) [] n o e h f = absurd (omega (arith, h))
+container_here (l ∷ levels) (a ∷ outer) zero o e h f =
+    (l, ap (λ (x : Open). (l, container_shown x.container) ∷ with_containers levels outer) (sym f))
+container_here (l ∷ levels) (a ∷ outer) (suc n) o e h f = container_here levels outer n o (omega (arith, e)) (omega (arith, h)) f
 
-pub outers_same : (outer : List Open) (base : ℕ) (old new : List Block) → AreSound outer base → take base new ≡ take base old
-    → outers_shown outer base new ≡ outers_shown outer base old
-outers_same [] base old new sound e = refl
-outers_same (o ∷ more) base old new sound e =
-    let inner = shorter (first_base more base) base old new (first_below more base sound.1) e in
-    let rest = outers_same more base old new sound.1 e in
-    ap (λ (t : List Block). (level_shown t o.level, container_shown o.container) ∷ outers_shown more base new) inner
-    ∙ ap (λ (os : List Outer). (level_shown (take (first_base more base) old) o.level, container_shown o.container) ∷ os) rest
+pub container_at : (outer : List Open) (entries : List Entry) (n : ℕ) (o : Open) → n < length outer → o ≡ get_or outer n o →
+    (l : paths.Level) × (drop n (outers_at outer entries) ≡ (l, container_shown o.container) ∷ drop (n + 1) (outers_at outer entries))
+container_at outer entries n o h e =
+    let levels = reverse (levels_in (frames_of outer) entries) in
+    let here = container_here levels outer n o (levels_are_as_many outer entries) h e in
+    let next : suc n ≡ n + 1 = omega arith in
+    (here.0, here.1 ∙ ap (λ (m : ℕ). (here.0, container_shown o.container) ∷ drop m (with_containers levels outer)) next)
 
-pub outers_push : (outer : List Open) (o : Open) (base : ℕ) (done : List Block) →
-    outers_shown (outer ++ o ∷ []) base done ≡ outers_shown outer o.level.base done
-    ++ (level_shown (take base done) o.level, container_shown o.container) ∷ []
-outers_push [] o base done = refl
-outers_push (a ∷ outer) o base done =
-    ap (λ (n : ℕ). (level_shown (take n done) a.level, container_shown a.container) ∷ outers_shown (outer ++ o ∷ []) base done)
-    (first_push outer o base)
-    ∙ ap (λ (os : List Outer). (level_shown (take (first_base outer o.level.base) done) a.level, container_shown a.container) ∷ os)
-    (outers_push outer o base done)
+-- its container changes, and stays a quote or an item
+pub same_item : (outer : List Open) (n : ℕ) (o p : Open) → n < length outer → o ≡ get_or outer n o → p ≡ get_or outer n p → p ≡ o
+same_item [] n o p h e f = absurd (omega (arith, h))
+same_item (a ∷ outer) zero o p h e f = f ∙ sym e
+same_item (a ∷ outer) (suc n) o p h e f = same_item outer n o p (omega (arith, h)) e f
 
--- what is put or taken off above a place leaves what is below
-pub same_pushed : (base : ℕ) (done more : List Block) → base ≤ length done → take base (done ++ more) ≡ take base done
-same_pushed base done more h = take-append-le base done more h
+block_stays : (c c' : held.Container) → container_shown c' ≡ gone_on (container_shown c) → block_of c' ≡ block_of c
+block_stays Quote Quote e = refl
+block_stays Quote (Item columns is_empty) e = absurd cc
+block_stays (Item columns is_empty) Quote e = absurd cc
+block_stays (Item columns is_empty) (Item columns' is_empty') e = refl
 
--- ---- blocks
+pub frames_gone : (outer : List Open) (n : ℕ) (o o' : Open) → o ≡ get_or outer n o → o'.level ≡ o.level
+    → container_shown o'.container ≡ gone_on (container_shown o.container) → frames_of (set outer n o') ≡ frames_of outer
+frames_gone outer n o o' e f g =
+    let frame : Open → Frame = λ x. (x.level, block_of x.container) in
+    let same : frame o' ≡ frame (get_or outer n o) =
+    ap (λ (l : Level). (l, block_of o'.container)) f
+    ∙ (ap (λ (b : Container). (o.level, b)) (block_stays o.container o'.container g) ∙ ap frame e) in
+    ap reverse (map-set_same frame outer n o' o same)
 
-pub shown_push : (base : ℕ) (done : List Block) (block : Block) → base ≤ length done
-    → blocks_shown (drop base (done ++ block ∷ [])) ≡ behind block (blocks_shown (drop base done))
-shown_push base done block h = ap blocks_shown (drop-append-le base done (block ∷ []) h) ∙ forest_push (drop base done) block none
+containers_gone : (levels : List paths.Level) (outer : List Open) (n : ℕ) (o o' : Open) → length levels ≡ length outer → n < length outer
+    → o ≡ get_or outer n o → container_shown o'.container ≡ gone_on (container_shown o.container)
+    → with_containers levels (set outer n o') ≡ gone_on_at n (with_containers levels outer)
+containers_gone [] [] n o o' e h f g = absurd (omega (arith, h))
+containers_gone [] (a ∷ outer) n o o' e h f g = absurd (omega (arith, e))
+containers_gone (l ∷ levels) [] n o o' e h f g = absurd (omega (arith, h))
+containers_gone (l ∷ levels) (a ∷ outer) zero o o' e h f g =
+    ap (λ (x : paths.OpenContainer). (l, x) ∷ with_containers levels outer) (g ∙ ap (λ (x : Open). gone_on (container_shown x.container)) f)
+containers_gone (l ∷ levels) (a ∷ outer) (suc n) o o' e h f g =
+    ap (λ (os : List Outer). (l, container_shown a.container) ∷ os)
+    (containers_gone levels outer n o o' (omega (arith, e)) (omega (arith, h)) f g)
+
+pub outers_gone : (outer : List Open) (entries : List Entry) (n : ℕ) (o o' : Open) → n < length outer → o ≡ get_or outer n o
+    → o'.level ≡ o.level → container_shown o'.container ≡ gone_on (container_shown o.container)
+    → outers_at (set outer n o') entries ≡ gone_on_at n (outers_at outer entries)
+outers_gone outer entries n o o' h e f g =
+    ap (λ (fs : List Frame). with_containers (reverse (levels_in fs entries)) (set outer n o')) (frames_gone outer n o o' e f g)
+    ∙ containers_gone (reverse (levels_in (frames_of outer) entries)) outer n o o' (levels_are_as_many outer entries) h e g
+
+-- ---- what was read of the tags
+
+-- so many tags stand before what an open list holds
+pub tags_count : (ts : List code.Tag) (entries : List Entry) (last : Blocks) → tags_shown ts ≡ open_tags entries last
+    → length ts ≡ length (open_tags entries last)
+tags_count ts entries last e = sym (length-map ts tag_shown) ∙ ap length e
+
+pub leaf_pushed : (ts ts' : List code.Tag) (leaf : LeafBlock) → ts' ≡ ts ++ tag.Leaf leaf ∷ []
+    → tags_shown ts' ≡ tags_shown ts ++ OneLeaf (leaf_shown leaf) ∷ []
+unfolding tag_shown
+leaf_pushed ts ts' leaf e = ap tags_shown e ∙ map-append tag_shown ts (tag.Leaf leaf ∷ [])
+
+pub start_pushed : (ts ts' : List code.Tag) (block : ContainerBlock) (c : Container) → container_block block ≡ c
+    → ts' ≡ ts ++ tag.Start block ∷ [] → tags_shown ts' ≡ tags_shown ts ++ Start c ∷ []
+unfolding tag_shown
+start_pushed ts ts' block c e f =
+    ap tags_shown f ∙ (map-append tag_shown ts (tag.Start block ∷ []) ∙ ap (λ (x : Container). tags_shown ts ++ Start x ∷ []) e)
+
+pub end_pushed : (ts ts' : List code.Tag) (block : ContainerBlock) (c : Container) → container_block block ≡ c
+    → ts' ≡ ts ++ tag.End block ∷ [] → tags_shown ts' ≡ tags_shown ts ++ End c ∷ []
+unfolding tag_shown
+end_pushed ts ts' block c e f =
+    ap tags_shown f ∙ (map-append tag_shown ts (tag.End block ∷ []) ∙ ap (λ (x : Container). tags_shown ts ++ End x ∷ []) e)
+
+pub stack_read : (outer : List Open) (gap : Bool) (list : Option OpenList) (blank : Bool) (ts : List Tag) (entries : List Entry)
+    (last : Blocks) → ts ≡ open_tags entries last → stack_at outer gap list blank (read ts) ≡ stack_at outer gap list blank (entries, last)
+stack_read outer gap list blank ts entries last e =
+    ap (λ (r : tags.Open). stack_at outer gap list blank r) (ap read e ∙ read_open entries last)
+
+-- no tags, and nothing is open
+pub stack_empty : (outer : List Open) (ts : List code.Tag) → outer ≡ [] → ts ≡ []
+    → stack_at outer false None false (read (tags_shown ts)) ≡ empty_stack
+unfolding tags.read_on
+stack_empty outer ts e f =
+    ap (λ (os : List Open). stack_at os false None false (read (tags_shown ts))) e
+    ∙ ap (λ (t : List code.Tag). stack_at [] false None false (read (tags_shown t))) f
+
+-- ---- the open list ends
+
+-- the container of an open list, and the blocks before it
+pub first_fits : (l : OpenList) (entries : List Entry) (AreSo : List Entry → Type 0) → ListFits l entries AreSo →
+    (before : Blocks) × ((rest : List Entry) × ((entries ≡ (list_of l true, before) ∷ rest) × ((l.place ≡ length (open_tags rest before))
+    × AreSo rest)))
+first_fits l [] AreSo h = absurd h
+first_fits l (entry ∷ entries) AreSo h =
+    (entry.1, (entries, (ap (λ (c : Container). (c, entry.1) ∷ entries) h.0, (h.1.0, h.1.1))))
+
+pub list_ends : (ts ts' : List code.Tag) (block : ContainerBlock) (l : OpenList) (entries : List Entry) (before last : Blocks)
+    (rest : List Entry) → tags_shown ts ≡ open_tags entries last → entries ≡ (list_of l true, before) ∷ rest
+    → l.place ≡ length (open_tags rest before) → container_block block ≡ list_of l l.tight
+    → ts' ≡ set ts l.place (tag.Start block) ++ tag.End block ∷ []
+    → tags_shown ts' ≡ open_tags rest (node before (list_of l l.tight) last)
+unfolding tag_shown
+list_ends ts ts' block l entries before last rest e d f g h =
+    end_pushed (set ts l.place (tag.Start block)) ts' block (list_of l l.tight) g h
+    ∙ (ap (λ (t : List Tag). t ++ End (list_of l l.tight) ∷ []) (map-set tag_shown ts l.place (tag.Start block)
+    ∙ (ap (λ (t : List Tag). set t l.place (Start (container_block block))) (e ∙ ap (λ (es : List Entry). open_tags es last) d)
+    ∙ (ap (λ (n : ℕ). set (open_tags ((list_of l true, before) ∷ rest) last) n (Start (container_block block))) f
+    ∙ (ap (λ (c : Container). set (open_tags ((list_of l true, before) ∷ rest) last) (length (open_tags rest before)) (Start c)) g
+    ∙ open_turned rest (list_of l true) (list_of l l.tight) before last))))
+    ∙ open_end rest (list_of l l.tight) before last)
+
+-- its start is one of the tags
+pub starts_within : (ts : List code.Tag) (l : OpenList) (entries rest : List Entry) (before last : Blocks)
+    → tags_shown ts ≡ open_tags entries last → entries ≡ (list_of l true, before) ∷ rest → l.place ≡ length (open_tags rest before)
+    → l.place < length ts
+unfolding open_tags
+starts_within ts l entries rest before last e f g =
+    let all : length ts ≡ length (open_tags rest before ++ Start (list_of l true) ∷ tags_of last) =
+    tags_count ts entries last e ∙ ap (λ (es : List Entry). length (open_tags es last)) f in
+    let both = length-append (open_tags rest before) (Start (list_of l true) ∷ tags_of last) in
+    omega (arith, all, both, g)
+
+-- what `finish_list` does where this was read
+abbrev list_finished : List Open → (gap : Bool) → Option OpenList → (blank : Bool) → tags.Open → Stack
+list_finished outer gap list blank state =
+    with_inner_blocks (stack_at outer gap list blank state) (finished (level_at state.0 state.1 gap list))
+
+stack_closed : (outer : List Open) (gap : Bool) (l : OpenList) (blank : Bool) (before last : Blocks) (rest : List Entry) →
+    stack_at outer gap None blank (rest, node before (list_of l l.tight) last)
+    ≡ list_finished outer gap (Some l) blank ((list_of l true, before) ∷ rest, last)
+unfolding paths.finished_list
+stack_closed outer gap l blank before last rest = refl
+
+pub stack_listed : (outer : List Open) (gap : Bool) (list list' : Option OpenList) (l : OpenList) (blank : Bool) (ts ts' : List Tag)
+    (entries : List Entry) (before last : Blocks) (rest : List Entry) →
+    Some l ≡ list → list' ≡ None → ts ≡ open_tags entries last → entries ≡ (list_of l true, before) ∷ rest
+    → ts' ≡ open_tags rest (node before (list_of l l.tight) last)
+    → stack_at outer gap list' blank (read ts') ≡ list_finished outer gap list blank (read ts)
+stack_listed outer gap list list' l blank ts ts' entries before last rest e f g d h =
+    ap (λ (o : Option OpenList). stack_at outer gap o blank (read ts')) f
+    ∙ (stack_read outer gap None blank ts' rest (node before (list_of l l.tight) last) h
+    ∙ (stack_closed outer gap l blank before last rest
+    ∙ (ap (λ (r : tags.Open). list_finished outer gap (Some l) blank r)
+    (sym (ap read g ∙ (read_open entries last ∙ ap (λ (es : List Entry). (es, last)) d)))
+    ∙ ap (λ (o : Option OpenList). list_finished outer gap o blank (read ts)) e)))
 
 -- no list is open
-pub level_bare : (done : List Block) (base : ℕ) (gap : Bool) (list list' : Option OpenList) → list ≡ None → list' ≡ None →
-    level_at done base gap list' ≡ with_blocks (level_at done base gap list) (finished (level_at done base gap list))
+pub stack_bare : (outer : List Open) (gap : Bool) (list list' : Option OpenList) (blank : Bool) (state : tags.Open) → list ≡ None
+    → list' ≡ None → stack_at outer gap list' blank state ≡ list_finished outer gap list blank state
 unfolding paths.finished_list
-level_bare done base gap None None e f = refl
-level_bare done base gap None (Some l) e f = cc
-level_bare done base gap (Some l) list' e f = cc
+stack_bare outer gap None list' blank state e f = ap (λ (o : Option OpenList). stack_at outer gap o blank state) f
+stack_bare outer gap (Some l) list' blank state e f = cc
 
--- the stack in parts
-abbrev pub stack_at : List Open → (base : ℕ) → List Block → (gap : Bool) → Option OpenList → (blank : Bool) → Stack
-stack_at outer base done gap list blank = record {
-  outer = outers_shown outer base done;
-  inner = level_at done base gap list;
-  blank = blank;
-}
-
-pub stack_bare : (outer : List Open) (base : ℕ) (done : List Block) (gap : Bool) (list list' : Option OpenList) (blank : Bool)
-    → list ≡ None → list' ≡ None →
-    stack_at outer base done gap list' blank ≡ with_inner_blocks (stack_at outer base done gap list blank)
-    (finished (level_at done base gap list))
-stack_bare outer base done gap list list' blank e f =
-    ap (λ (l : paths.Level). stack_with (outers_shown outer base done) l blank) (level_bare done base gap list list' e f)
-
--- the open list became a block
-listed_some : (done new : List Block) (base : ℕ) (gap : Bool) (l : OpenList) (items : Children) → base ≤ l.base → l.base ≤ length done
-    → items.items ≡ drop l.base done →
-    new ≡ take l.base done ++ variants.List (list_start (kind_of l.kind) l.start) l.tight items ∷ [] →
-    level_at new base gap None ≡ with_blocks (level_at done base gap (Some l)) (finished (level_at done base gap (Some l)))
+pub finished_bare : (gap : Bool) (list : Option OpenList) (entries : List Entry) (last : Blocks) → list ≡ None
+    → finished (level_at entries last gap list) ≡ last
 unfolding paths.finished_list
-listed_some done new base gap l items low high e f =
-    let start = list_start (kind_of l.kind) l.start in
-    let front = blocks_shown (drop base (take l.base done)) in
-    let fits : base ≤ length (take l.base done) = omega (arith, length-take-le l.base done high) in
-    ap (λ (bs : Blocks). level_with bs gap)
-    (ap (λ (d : List Block). blocks_shown (drop base d)) f
-    ∙ (shown_push base (take l.base done) (variants.List start l.tight items) fits
-    ∙ (behind_list start l.tight items front ∙ ap (λ (d : List Block). node front (ListBlock start l.tight) (blocks_shown d)) e)))
+finished_bare gap None entries last e = refl
+finished_bare gap (Some l) entries last e = cc
 
-front_same : (base n : ℕ) (done new more : List Block) → base ≤ n → n ≤ length done → new ≡ take n done ++ more
-    → take base new ≡ take base done
-front_same base n done new more low high e =
-    ap (take base) e ∙ (take-append-le base (take n done) more (omega (arith, length-take-le n done high)) ∙ take-take base n done low)
+-- what is open where no list is
+pub bare_fits : (list : Option OpenList) (entries : List Entry) (AreSo : List Entry → Type 0) → list ≡ None → LevelFits list entries AreSo
+    → AreSo entries
+bare_fits None entries AreSo e h = h
+bare_fits (Some l) entries AreSo e h = absurd cc
 
-stack_listed_some : (outer : List Open) (base : ℕ) (done new : List Block) (gap : Bool) (l : OpenList) (items : Children) (blank : Bool) →
-    AreSound outer base → base ≤ l.base → l.base ≤ length done → items.items ≡ drop l.base done →
-    new ≡ take l.base done ++ variants.List (list_start (kind_of l.kind) l.start) l.tight items ∷ [] →
-    stack_at outer base new gap None blank ≡ with_inner_blocks (stack_at outer base done gap (Some l) blank)
-    (finished (level_at done base gap (Some l)))
-stack_listed_some outer base done new gap l items blank sound low high e f =
-    ap (λ (os : List Outer). stack_with os (level_at new base gap None) blank)
-    (outers_same outer base done new sound (front_same base l.base done new _ low high f))
-    ∙ ap (λ (level : paths.Level). stack_with (outers_shown outer base done) level blank)
-    (listed_some done new base gap l items low high e f)
+pub bare_blocks : (outer : List Open) (gap : Bool) (list : Option OpenList) (blank : Bool) (ts : List Tag) (entries : List Entry)
+    (last : Blocks) → list ≡ None → ts ≡ open_tags entries last → (stack_at outer gap list blank (read ts)).inner.blocks ≡ last
+bare_blocks outer gap None blank ts entries last e f = ap (λ (r : tags.Open). r.1) (ap read f ∙ read_open entries last)
+bare_blocks outer gap (Some l) blank ts entries last e f = cc
 
-pub stack_listed : (outer : List Open) (base : ℕ) (done new : List Block) (gap : Bool) (list list' : Option OpenList) (l : OpenList)
-    (items : Children) (start : Option ℕ) (blank : Bool) →
-    AreSound outer base → EndsAt (length done) base list → Some l ≡ list → list' ≡ None → items.items ≡ drop l.base done
-    → start ≡ list_start (kind_of l.kind) l.start →
-    new ≡ take l.base done ++ variants.List start l.tight items ∷ [] →
-    stack_at outer base new gap list' blank ≡ with_inner_blocks (stack_at outer base done gap list blank)
-    (finished (level_at done base gap list))
-stack_listed outer base done new gap list list' l items start blank sound ends e f g h k =
-    let E : Option OpenList → Type 0 = EndsAt (length done) base in
-    let ends' : EndsAt (length done) base (Some l) = subst E (sym e) ends in
-    let F : Option OpenList → Type 0 = λ o. stack_at outer base new gap o blank
-    ≡ with_inner_blocks (stack_at outer base done gap list blank) (finished (level_at done base gap list)) in
-    let G : Option OpenList → Type 0 = λ o. stack_at outer base new gap None blank
-    ≡ with_inner_blocks (stack_at outer base done gap o blank) (finished (level_at done base gap o)) in
-    subst F (sym f)
-    (subst G e
-    (stack_listed_some outer base done new gap l items blank sound ends'.0 ends'.1 g (k
-    ∙ ap (λ (n : Option ℕ). take l.base done ++ variants.List n l.tight items ∷ []) h)))
+-- ---- a leaf comes behind the blocks of the innermost level
 
--- a block was pushed
-pub stack_pushed : (outer : List Open) (base : ℕ) (done new : List Block) (gap : Bool) (list : Option OpenList) (blank : Bool)
-    (block : Block) →
-    AreSound outer base → EndsAt (length done) base list → list ≡ None → new ≡ done ++ block ∷ [] →
-    stack_at outer base new gap list blank ≡ with_inner_blocks (stack_at outer base done gap list blank)
-    (behind block (level_at done base gap list).blocks)
-stack_pushed outer base done new gap None blank block sound ends e f =
-    ap (λ (os : List Outer). stack_with os (level_at new base gap None) blank)
-    (outers_same outer base done new sound (ap (take base) f ∙ take-append-le base done (block ∷ []) ends))
-    ∙ ap (λ (bs : Blocks). stack_with (outers_shown outer base done) (level_with bs gap) blank)
-    (ap (λ (d : List Block). blocks_shown (drop base d)) f ∙ shown_push base done block ends)
-stack_pushed outer base done new gap (Some l) blank block sound ends e f = cc
+-- the leaf behind the list that closed
+pub put_behind : (s : Stack) (bs : Blocks) (t : Stack) (leaf : Leaf) (u : Stack) → t ≡ with_inner_blocks s bs
+    → u ≡ with_inner_blocks t (t.inner.blocks ▹ leaf) → u ≡ with_inner_blocks s (bs ▹ leaf)
+put_behind s bs t leaf u e f = f ∙ ap (λ (x : Stack). with_inner_blocks x (x.inner.blocks ▹ leaf)) e
 
--- the block after the list closed
-pub put_behind : (s : Stack) (bs : Blocks) (t : Stack) (block : Block) (u : Stack) → t ≡ with_inner_blocks s bs
-    → u ≡ with_inner_blocks t (behind block t.inner.blocks) → u ≡ with_inner_blocks s (behind block bs)
-put_behind s bs t block u e f = f ∙ ap (λ (x : Stack). with_inner_blocks x (behind block x.inner.blocks)) e
+pub stack_pushed : (outer : List Open) (gap : Bool) (list : Option OpenList) (blank : Bool) (ts ts' : List Tag) (entries : List Entry)
+    (last : Blocks) (leaf : Leaf) → list ≡ None → ts ≡ open_tags entries last → ts' ≡ ts ++ OneLeaf leaf ∷ []
+    → stack_at outer gap list blank (read ts') ≡ with_inner_blocks (stack_at outer gap list blank (read ts))
+    ((stack_at outer gap list blank (read ts)).inner.blocks ▹ leaf)
+stack_pushed outer gap None blank ts ts' entries last leaf e f g =
+    let pushed : ts' ≡ open_tags entries (last ▹ leaf) =
+    g ∙ (ap (λ (t : List Tag). t ++ OneLeaf leaf ∷ []) f ∙ open_leaf entries last leaf) in
+    stack_read outer gap None blank ts' entries (last ▹ leaf) pushed
+    ∙ ap (λ (r : tags.Open). with_inner_blocks (stack_at outer gap None blank r) ((stack_at outer gap None blank r).inner.blocks ▹ leaf))
+    (sym (ap read f ∙ read_open entries last))
+stack_pushed outer gap (Some l) blank ts ts' entries last leaf e f g = cc
 
--- a container opened
-pub stack_opened : (outer outer' : List Open) (done : List Block) (level inner level' : Level) (container : Container) (base : ℕ)
-    (blank : Bool) →
-    level ≡ inner → base ≡ length done → level' ≡ record { base = base; list = None; gap = false }
-    → outer' ≡ outer ++ record { level = level; container = container } ∷ [] →
-    stack_at outer' level'.base done level'.gap level'.list false ≡ container_opened
-    (stack_at outer inner.base done inner.gap inner.list blank) (container_shown container)
-unfolding forest
-stack_opened outer outer' done level inner level' container base blank e f g h =
-    ap (λ (l : Level). stack_at outer' l.base done l.gap l.list false) g
-    ∙ (ap (λ (os : List Open). stack_at os base done false None false) h
-    ∙ (ap (λ (n : ℕ). stack_at (outer ++ record { level = level; container = container } ∷ []) n done false None false) f
-    ∙ (ap (λ (d : List Block). stack_with (outers_shown (outer ++ record { level = level; container = container } ∷ []) (length done) done)
-    (level_with (blocks_shown d) false) false) (drop_all (length done) done (omega arith))
-    ∙ (ap (λ (os : List Outer). stack_with os empty_level false)
-    (outers_push outer (record { level = level; container = container }) (length done) done)
-    ∙ (ap (λ (d : List Block). stack_with (outers_shown outer level.base done ++ (level_shown d level, container_shown container) ∷ [])
-    empty_level false) (take_all (length done) done (omega arith))
-    ∙ ap (λ (l : Level). stack_with (outers_shown outer l.base done ++ (level_shown done l, container_shown container) ∷ []) empty_level
-    false) e)))))
-
-pub sound_opened : (outer outer' : List Open) (done : List Block) (level inner level' : Level) (container : Container) (base : ℕ) →
-    level ≡ inner → base ≡ length done → level' ≡ record { base = base; list = None; gap = false }
-    → outer' ≡ outer ++ record { level = level; container = container } ∷ [] →
-    AreSound outer inner.base → EndsAt (length done) inner.base inner.list
-    → AreSound outer' level'.base × EndsAt (length done) level'.base level'.list
-sound_opened outer outer' done level inner level' container base e f g h sound ends =
-    let o : Open = record { level = level; container = container } in
-    let same : AreSound outer level.base = rw e sound in
-    let fits : EndsAt (length done) level.base level.list = rw e ends in
-    let pushed = sound_push outer o (length done) same fits in
-    rw (g, h, f) (pushed, omega arith)
-
--- the innermost container was taken off
-pub stack_left : (outer outer' : List Open) (o : Open) (done done' : List Block) (blocks : List Block) (base : ℕ) (list : Option OpenList) →
-    AreSound outer base → EndsAt (length done) base list → outer ≡ outer' ++ o ∷ [] → done' ≡ take base done → blocks ≡ drop base done →
-    outers_shown outer base done ≡ outers_shown outer' o.level.base done' ++ (level_shown done' o.level, container_shown o.container) ∷ []
-stack_left outer outer' o done done' blocks base list sound ends e f g =
-    let pair = sound_pop outer' o base (rw (← e) sound) in
-    let low : o.level.base ≤ base = ends_above base o.level.base o.level.list pair.1 in
-    let same : take o.level.base done' ≡ take o.level.base done = ap (take o.level.base) f ∙ take-take o.level.base base done low in
-    ap (λ (os : List Open). outers_shown os base done) e
-    ∙ (outers_push outer' o base done
-    ∙ (ap (λ (os : List Outer). os ++ (level_shown (take base done) o.level, container_shown o.container) ∷ [])
-    (sym (outers_same outer' o.level.base done done' pair.0 same))
-    ∙ ap (λ (d : List Block). outers_shown outer' o.level.base done' ++ (level_shown d o.level, container_shown o.container) ∷ []) (sym f)))
-
-pub sound_left : (outer outer' : List Open) (o : Open) (done done' : List Block) (base : ℕ) (list : Option OpenList) →
-    AreSound outer base → EndsAt (length done) base list → outer ≡ outer' ++ o ∷ [] → done' ≡ take base done
-    → AreSound outer' o.level.base × EndsAt (length done') o.level.base o.level.list
-sound_left outer outer' o done done' base list sound ends e f =
-    let pair = sound_pop outer' o base (rw (← e) sound) in
-    let fits : base ≤ length done = ends_above (length done) base list ends in
-    let count : length done' ≡ base = ap length f ∙ length-take-le base done fits in
-    (pair.0, rw count pair.1)
-
--- an empty list opens at a level
-pub level_listing : (done : List Block) (base n : ℕ) (gap : Bool) (list : Option OpenList) (l : OpenList) → list ≡ None → n ≡ length done
-    → l.base ≡ n →
-    level_at done base gap (Some l) ≡ record (level_at done base gap list) {
-      list = Some
-          (record { kind = kind_of l.kind; start = l.start; tight = l.tight; items = none });
-    }
-unfolding forest
-level_listing done base n gap None l e f g =
-    let all : take l.base done ≡ done = take_all l.base done (omega arith) in
-    let nothing : drop l.base done ≡ [] = drop_all l.base done (omega arith) in
-    ap (λ (d : List Block). level_listed_with (blocks_shown (drop base d)) gap (list_shown (drop l.base done) l)) all
-    ∙ ap (λ (d : List Block). level_listed_with (blocks_shown (drop base done)) gap (list_shown d l)) nothing
-level_listing done base n gap (Some k) l e f g = cc
+-- ---- an item begins
 
 -- no list of the kind is open
 pub item_not_of : (level : paths.Level) (blank : Bool) (kind : ListKind) (start : ℕ) (list : Option paths.OpenList) → IsNotOf kind list →
@@ -298,190 +315,238 @@ item_of_list level blank kind start l h =
     ]) h
 
 -- an item goes on with the open list
-pub stack_going_on : (outer : List Open) (base : ℕ) (done : List Block) (gap : Bool) (list : Option OpenList) (blank : Bool) (l : OpenList)
-    (kind : ListKind) (start : ℕ) →
-    list ≡ Some l → is_same_kind (kind_of l.kind) kind ≡ true →
-    stack_at outer base done gap (Some (record l { tight = l.tight && not blank })) false
-    ≡ item_begun (stack_at outer base done gap list blank) kind start
-stack_going_on outer base done gap list blank l kind start e h =
-    sym (ap (λ (o : Option OpenList). item_begun (stack_at outer base done gap o blank) kind start) e
-    ∙ ap (λ (level : paths.Level). stack_with (outers_shown outer base done) level false)
-    (item_of_list (level_at done base gap (Some l)) blank kind start (list_shown (drop l.base done) l) h))
+going_on : (outer : List Open) (gap : Bool) (blank : Bool) (l : OpenList) (kind : ListKind) (start : ℕ) (state : tags.Open)
+    → is_same_kind (kind_of l.kind) kind ≡ true →
+    stack_at outer gap (Some (record l { tight = l.tight && not blank })) false state
+    ≡ item_begun (stack_at outer gap (Some l) blank state) kind start
+going_on outer gap blank l kind start ([], last) h =
+    ap (λ (level : paths.Level). stack_with (outers_at outer []) level false)
+    (sym (item_of_list (level_at [] last gap (Some l)) blank kind start (list_shown last l) h))
+going_on outer gap blank l kind start (entry ∷ entries, last) h =
+    ap (λ (level : paths.Level). stack_with (outers_at outer entries) level false)
+    (sym (item_of_list (level_at (entry ∷ entries) last gap (Some l)) blank kind start (list_shown last l) h))
+
+pub stack_going_on : (outer : List Open) (gap : Bool) (list : Option OpenList) (blank : Bool) (l : OpenList) (kind : ListKind) (start : ℕ)
+    (state : tags.Open) → list ≡ Some l → is_same_kind (kind_of l.kind) kind ≡ true →
+    stack_at outer gap (Some (record l { tight = l.tight && not blank })) false state
+    ≡ item_begun (stack_at outer gap list blank state) kind start
+stack_going_on outer gap list blank l kind start state e h =
+    going_on outer gap blank l kind start state h
+    ∙ sym (ap (λ (o : Option OpenList). item_begun (stack_at outer gap o blank state) kind start) e)
 
 -- an item begins a list
-pub stack_item_begun : (outer : List Open) (base : ℕ) (done : List Block) (gap : Bool) (list : Option OpenList) (blank : Bool)
-    (l : OpenList) (s : Stack) →
-    list ≡ None → l.base ≡ length done → l.tight ≡ true → stack_at outer base done gap list blank ≡ block_begun s
-    → IsNotOf (kind_of l.kind) s.inner.list →
-    stack_at outer base done gap (Some l) blank ≡ item_begun s (kind_of l.kind) l.start
-stack_item_begun outer base done gap list blank l s e f g h k =
-    ap (λ (level : paths.Level). stack_with (outers_shown outer base done) level blank)
-    (level_listing done base (length done) gap list l e refl f)
+pub stack_item_begun : (outer : List Open) (gap : Bool) (blank : Bool) (l : OpenList) (s : Stack) (state : tags.Open) → l.tight ≡ true
+    → stack_at outer gap None blank state ≡ block_begun s → IsNotOf (kind_of l.kind) s.inner.list →
+    stack_at outer gap (Some l) blank ((list_of l true, state.1) ∷ state.0, none) ≡ item_begun s (kind_of l.kind) l.start
+stack_item_begun outer gap blank l s state e f g =
+    ap (λ (tight : Bool). stack_with (outers_at outer state.0) (record {
+      blocks = state.1;
+      list = Some (record { kind = kind_of l.kind; start = l.start; tight = tight; items = none });
+      gap = gap;
+    }) blank) e
     ∙ (ap (λ (t : Stack). record t {
       inner = record t.inner {
         list = Some
-            (record { kind = kind_of l.kind; start = l.start; tight = l.tight; items = none });
+            (record { kind = kind_of l.kind; start = l.start; tight = true; items = none });
       };
-    }) h
-    ∙ (ap (λ (tight : Bool). record (block_begun s) {
-      inner = record
-          (block_begun s).inner { list = Some (record { kind = kind_of l.kind; start = l.start; tight = tight; items = none }) };
-    }) g
+    }) f
     ∙ sym (ap (λ (level : paths.Level). stack_with s.outer level false)
-    (item_not_of s.inner s.blank (kind_of l.kind) l.start s.inner.list k))))
+    (item_not_of s.inner s.blank (kind_of l.kind) l.start s.inner.list g)))
 
--- what a level without a list shows
-pub bare_blocks : (done : List Block) (base : ℕ) (gap : Bool) (list : Option OpenList) → list ≡ None
-    → (level_at done base gap list).blocks ≡ blocks_shown (drop base done)
-bare_blocks done base gap None e = refl
-bare_blocks done base gap (Some l) e = cc
+pub stack_list_begun : (outer : List Open) (gap : Bool) (list : Option OpenList) (blank : Bool) (l : OpenList) (s : Stack) (ts ts' : List Tag)
+    (entries : List Entry) (last : Blocks) → list ≡ None → ts ≡ open_tags entries last → ts' ≡ ts ++ Start (list_of l true) ∷ []
+    → l.tight ≡ true → stack_at outer gap list blank (read ts) ≡ block_begun s → IsNotOf (kind_of l.kind) s.inner.list →
+    stack_at outer gap (Some l) blank (read ts') ≡ item_begun s (kind_of l.kind) l.start
+unfolding open_tags tags_of
+stack_list_begun outer gap None blank l s ts ts' entries last e f g h k n =
+    let begun : ts' ≡ open_tags ((list_of l true, last) ∷ entries) none = g ∙ ap (λ (t : List Tag). t ++ Start (list_of l true) ∷ []) f in
+    stack_read outer gap (Some l) blank ts' ((list_of l true, last) ∷ entries) none begun
+    ∙ stack_item_begun outer gap blank l s (entries, last) h (sym (stack_read outer gap None blank ts entries last f) ∙ k) n
+stack_list_begun outer gap (Some o) blank l s ts ts' entries last e f g h k n = cc
 
-pub gap_shown : (done : List Block) (base : ℕ) (gap : Bool) (list : Option OpenList) → (level_at done base gap list).gap ≡ gap
-gap_shown done base gap None = refl
-gap_shown done base gap (Some l) = refl
+-- a list that changes its tightness fits where it did
+pub fits_loosened : (l : OpenList) (tight : Bool) (entries : List Entry) (AreSo : List Entry → Type 0) → ListFits l entries AreSo
+    → ListFits (record l { tight = tight }) entries AreSo
+fits_loosened l tight [] AreSo h = h
+fits_loosened l tight (entry ∷ entries) AreSo h = h
 
--- ---- what comes behind a level's blocks
+-- ---- a container opens
 
-pub item_put_bare : (outer : List Open) (base : ℕ) (done : List Block) (gap : Bool) (list : Option OpenList) (blank gap' : Bool)
-    (blocks : Blocks) → list ≡ None →
-    stack_at outer base done gap list blank ≡ item_put (stack_at outer base done gap list blank) gap' blocks
-unfolding list_with
-item_put_bare outer base done gap None blank gap' blocks e = refl
-item_put_bare outer base done gap (Some l) blank gap' blocks e = cc
+pub stack_opened : (outer outer' : List Open) (level inner level' : Level) (container : held.Container) (blank : Bool) (ts ts' : List Tag)
+    (entries : List Entry) (last : Blocks) → level ≡ inner → level' ≡ record { list = None; gap = false }
+    → outer' ≡ outer ++ record { level = level; container = container } ∷ [] → ts ≡ open_tags entries last
+    → ts' ≡ ts ++ Start (block_of container) ∷ [] →
+    stack_at outer' level'.gap level'.list false (read ts')
+    ≡ container_opened (stack_at outer inner.gap inner.list blank (read ts)) (container_shown container)
+unfolding open_tags tags_of
+stack_opened outer outer' level inner level' container blank ts ts' entries last e f g h k =
+    let o : Open = record { level = inner; container = container } in
+    let begun : ts' ≡ open_tags ((block_of container, last) ∷ entries) none =
+    k ∙ ap (λ (t : List Tag). t ++ Start (block_of container) ∷ []) h in
+    ap (λ (l : Level). stack_at outer' l.gap l.list false (read ts')) f
+    ∙ (stack_read outer' false None false ts' ((block_of container, last) ∷ entries) none begun
+    ∙ (ap (λ (os : List Open). stack_at os false None false ((block_of container, last) ∷ entries, none))
+    (g ∙ ap (λ (l : Level). outer ++ record { level = l; container = container } ∷ []) e)
+    ∙ (ap (λ (os : List Outer). stack_with os empty_level false) (outers_push outer o (block_of container, last) entries)
+    ∙ ap (λ (s : Stack). container_opened s (container_shown container))
+    (sym (stack_read outer inner.gap inner.list blank ts entries last h)))))
 
-item_put_some : (outer : List Open) (base : ℕ) (done new : List Block) (gap : Bool) (blank gap' : Bool) (l : OpenList) (blocks : Children) →
-    AreSound outer base → base ≤ l.base → l.base ≤ length done → new ≡ done ++ variants.Item blocks ∷ [] →
-    stack_at outer base new gap (Some (record l { tight = l.tight && not gap' })) blank
-    ≡ item_put (stack_at outer base done gap (Some l) blank) gap' (blocks_shown blocks.items)
-unfolding list_with
-item_put_some outer base done new gap blank gap' l blocks sound low high e =
-    let tight = l.tight && not gap' in
-    let front : take l.base new ≡ take l.base done = ap (take l.base) e ∙ take-append-le l.base done (variants.Item blocks ∷ []) high in
-    let below : take base new ≡ take base done = shorter base l.base done new low front in
-    let items : blocks_shown (drop l.base new) ≡ node (blocks_shown (drop l.base done)) ListItem (blocks_shown blocks.items) =
-    ap (λ (d : List Block). blocks_shown (drop l.base d)) e
-    ∙ (shown_push l.base done (variants.Item blocks) high ∙ behind_item blocks (blocks_shown (drop l.base done))) in
-    ap (λ (os : List Outer). stack_with os (level_at new base gap (Some (record l { tight = tight }))) blank)
-    (outers_same outer base done new sound below)
-    ∙ (ap (λ (d : List Block). stack_with (outers_shown outer base done)
-    (level_listed_with (blocks_shown (drop base d)) gap
-    (record { kind = kind_of l.kind; start = l.start; tight = tight; items = blocks_shown (drop l.base new) })) blank) front
-    ∙ ap (λ (bs : Blocks). stack_with (outers_shown outer base done)
-    (level_listed_with (blocks_shown (drop base (take l.base done))) gap
-    (record { kind = kind_of l.kind; start = l.start; tight = tight; items = bs })) blank) items)
+pub sound_opened : (outer outer' : List Open) (level inner : Level) (container : held.Container) (last : Blocks) (entries : List Entry)
+    → level ≡ inner → outer' ≡ outer ++ record { level = level; container = container } ∷ [] → Suits (block_of container) inner.list
+    → LevelFits inner.list entries (AreSound (frames_of outer)) → AreSound (frames_of outer') ((block_of container, last) ∷ entries)
+sound_opened outer outer' level inner container last entries e g suits fits =
+    let o : Open = record { level = inner; container = container } in
+    rw (g ∙ ap (λ (l : Level). outer ++ record { level = l; container = container } ∷ []) e, frames_push outer o) (refl, (suits, fits))
 
-pub stack_item_put : (outer : List Open) (base : ℕ) (done new : List Block) (gap : Bool) (list : Option OpenList) (blank gap' : Bool)
-    (l : OpenList) (blocks : Children) →
-    AreSound outer base → EndsAt (length done) base list → list ≡ Some l → new ≡ done ++ variants.Item blocks ∷ [] →
-    stack_at outer base new gap (Some (record l { tight = l.tight && not gap' })) blank
-    ≡ item_put (stack_at outer base done gap list blank) gap' (blocks_shown blocks.items)
-stack_item_put outer base done new gap list blank gap' l blocks sound ends e f =
-    let E : Option OpenList → Type 0 = EndsAt (length done) base in
-    let ends' : EndsAt (length done) base (Some l) = subst E e ends in
-    let G : Option OpenList → Type 0 = λ o. stack_at outer base new gap (Some (record l { tight = l.tight && not gap' })) blank
-    ≡ item_put (stack_at outer base done gap o blank) gap' (blocks_shown blocks.items) in
-    subst G (sym e) (item_put_some outer base done new gap blank gap' l blocks sound ends'.0 ends'.1 f)
+-- ---- a container is left
 
-pub quote_behind : (s t : Stack) (blocks : Children) → t ≡ with_inner_blocks s (behind (variants.Quote blocks) (finished s.inner))
-    → record t { blank = false } ≡ quote_put s (blocks_shown blocks.items)
-quote_behind s t blocks e =
-    ap (λ (u : Stack). record u { blank = false }) e
-    ∙ ap (λ (bs : Blocks). stack_with s.outer (level_with bs s.inner.gap) false) (behind_quote blocks (finished s.inner))
+last_is : (o : Open) (frames : List Frame) (entries : List Entry) → AreSound ((o.level, block_of o.container) ∷ frames) entries →
+    (before : Blocks) × ((rest : List Entry) × ((entries ≡ (block_of o.container, before) ∷ rest) × (Suits (block_of o.container) o.level.list
+    × LevelFits o.level.list rest (AreSound frames))))
+last_is o frames [] sound = absurd sound
+last_is o frames (entry ∷ entries) sound =
+    (entry.1, (entries, (ap (λ (c : Container). (c, entry.1) ∷ entries) sound.0, sound.1)))
+
+-- the innermost container, and what stands before it
+pub last_fits : (outer : List Open) (o : Open) (entries : List Entry) → AreSound (frames_of (outer ++ o ∷ [])) entries →
+    (before : Blocks) × ((rest : List Entry) × ((entries ≡ (block_of o.container, before) ∷ rest) × (Suits (block_of o.container) o.level.list
+    × LevelFits o.level.list rest (AreSound (frames_of outer)))))
+last_fits outer o entries sound =
+    let frames : AreSound ((o.level, block_of o.container) ∷ frames_of outer) entries = rw (← frames_push outer o) sound in
+    last_is o (frames_of outer) entries frames
+
+-- the innermost container ends, and its level is the innermost one
+pub inside_put : (container : held.Container) (gap : Bool) (list : Option OpenList) (before inside : Blocks) (entries : List Entry)
+    → Suits (block_of container) list →
+    level_at entries (node before (block_of container) inside) gap list
+    ≡ put_inside (level_at entries before gap list) (container_shown container) inside
+unfolding paths.finished_list
+inside_put Quote gap None before inside entries suits = refl
+inside_put Quote gap (Some l) before inside entries suits = absurd suits
+inside_put (Item columns is_empty) gap None before inside entries suits = absurd suits
+inside_put (Item columns is_empty) gap (Some l) before inside [] suits = refl
+inside_put (Item columns is_empty) gap (Some l) before inside (entry ∷ entries) suits = refl
+
+pub gap_shown : (entries : List Entry) (last : Blocks) (gap : Bool) (list : Option OpenList) → (level_at entries last gap list).gap ≡ gap
+gap_shown entries last gap None = refl
+gap_shown [] last gap (Some l) = refl
+gap_shown (entry ∷ entries) last gap (Some l) = refl
+
+pub last_of : (outer outer' : List Open) (list : Option OpenList) (o : Open) (entries : List Entry) → list ≡ None
+    → LevelFits list entries (AreSound (frames_of outer)) → outer ≡ outer' ++ o ∷ [] →
+    (before : Blocks) × ((rest : List Entry) × ((entries ≡ (block_of o.container, before) ∷ rest) × (Suits (block_of o.container) o.level.list
+    × LevelFits o.level.list rest (AreSound (frames_of outer')))))
+last_of outer outer' list o entries e fits f =
+    let S : List Open → Type 0 = λ os. AreSound (frames_of os) entries in
+    last_fits outer' o entries (subst S f (bare_fits list entries (AreSound (frames_of outer)) e fits))
+
+pub container_ends : (ts ts' : List code.Tag) (block : ContainerBlock) (container : Container) (entries : List Entry) (before last : Blocks)
+    (rest : List Entry) → tags_shown ts ≡ open_tags entries last → entries ≡ (container, before) ∷ rest → container_block block ≡ container
+    → ts' ≡ ts ++ tag.End block ∷ [] → tags_shown ts' ≡ open_tags rest (node before container last)
+container_ends ts ts' block container entries before last rest e d f g =
+    end_pushed ts ts' block container f g
+    ∙ (ap (λ (t : List Tag). t ++ End container ∷ []) (e ∙ ap (λ (es : List Entry). open_tags es last) d)
+    ∙ open_end rest container before last)
+
+-- the innermost container is taken off: `inside` was the level inside it, and `level` is the one that it stands in
+pub leaves_left : (outer outer' : List Open) (gap : Bool) (list : Option OpenList) (blank : Bool) (o : Open) (left inside level : Level)
+    (ts ts' : List code.Tag) (block : ContainerBlock) (entries : List Entry) (last : Blocks) (s : Stack) →
+    stack_at outer gap list blank (read (tags_shown ts)) ≡ with_inner_blocks s (finished s.inner) → list ≡ None
+    → tags_shown ts ≡ open_tags entries last → LevelFits list entries (AreSound (frames_of outer)) → outer ≡ outer' ++ o ∷ []
+    → left ≡ inside → level ≡ o.level → container_block block ≡ block_of o.container → ts' ≡ ts ++ tag.End block ∷ [] →
+    inside.gap ≡ gap →
+    Leaves s (stack_at outer' level.gap level.list blank (read (tags_shown ts'))) (record { container = o.container; gap = left.gap })
+leaves_left outer outer' gap list blank o left inside level ts ts' block entries last s e bare woven fits popped value after shown pushed same =
+    let found = last_of outer outer' list o entries bare fits popped in
+    let before = found.0 in
+    let rest = found.1.0 in
+    let is = found.1.1.0 in
+    let suits = found.1.1.1.0 in
+    let container = block_of o.container in
+    let ended = container_ends ts ts' block container entries before last rest woven is shown pushed in
+    let old : read (tags_shown ts) ≡ (entries, last) = ap read woven ∙ read_open entries last in
+    let new : read (tags_shown ts') ≡ (rest, node before container last) = ap read ended ∙ read_open rest (node before container last) in
+    let O : List Entry → List Outer = λ es. outers_at outer es in
+    let inner_is : last ≡ finished s.inner =
+    sym (bare_blocks outer gap list blank (tags_shown ts) entries last bare woven) ∙ ap (λ (t : Stack). t.inner.blocks) e in
+    record {
+      level = level_at rest before o.level.gap o.level.list;
+      outer = ap (λ (t : Stack). t.outer) (sym e)
+          ∙ (ap (λ (l : Option OpenList). outers_at outer (round l (read (tags_shown ts)).0)) bare
+          ∙ (ap (λ (r : tags.Open). outers_at outer r.0) old
+          ∙ (ap O is
+          ∙ (ap (λ (os : List Open). outers_at os ((container, before) ∷ rest)) popped
+          ∙ (outers_push outer' o (container, before) rest
+          ∙ ap (λ (os : List Outer). os ++ (level_at rest before o.level.gap o.level.list, container_shown o.container) ∷ [])
+          (sym (ap (λ (l : Level). outers_at outer' (round l.list (read (tags_shown ts')).0)) after
+          ∙ ap (λ (r : tags.Open). outers_at outer' (round o.level.list r.0)) new)))))));
+      inner = ap (λ (l : Level). level_at (read (tags_shown ts')).0 (read (tags_shown ts')).1 l.gap l.list) after
+          ∙ (ap (λ (r : tags.Open). level_at r.0 r.1 o.level.gap o.level.list) new
+          ∙ (inside_put o.container o.level.gap o.level.list before last rest suits
+          ∙ ap (λ (bs : Blocks). put_inside (level_at rest before o.level.gap o.level.list) (container_shown o.container) bs) inner_is));
+      gap = ap (λ (l : Level). l.gap) value
+          ∙ (same ∙ (sym (gap_shown (read (tags_shown ts)).0 (read (tags_shown ts)).1 gap list) ∙ ap (λ (t : Stack). t.inner.gap) e));
+      blank = ap (λ (t : Stack). t.blank) e;
+    }
+
+-- a blank line makes the open list loose
+loose : (outer : List Open) (gap : Bool) (blank gap' : Bool) (l : OpenList) (state : tags.Open) →
+    stack_at outer gap (Some (record l { tight = l.tight && not gap' })) blank state
+    ≡ stack_loosened (stack_at outer gap (Some l) blank state) gap'
+unfolding loosened
+loose outer gap blank gap' l ([], last) = refl
+loose outer gap blank gap' l (entry ∷ entries, last) = refl
+
+pub stack_loose : (outer : List Open) (gap : Bool) (list : Option OpenList) (blank gap' : Bool) (l : OpenList) (state : tags.Open)
+    → list ≡ Some l → stack_at outer gap (Some (record l { tight = l.tight && not gap' })) blank state
+    ≡ stack_loosened (stack_at outer gap list blank state) gap'
+stack_loose outer gap list blank gap' l state e =
+    loose outer gap blank gap' l state ∙ sym (ap (λ (o : Option OpenList). stack_loosened (stack_at outer gap o blank state) gap') e)
+
+pub not_loose : (outer : List Open) (gap : Bool) (list : Option OpenList) (blank gap' : Bool) (state : tags.Open) → list ≡ None →
+    stack_at outer gap list blank state ≡ stack_loosened (stack_at outer gap list blank state) gap'
+unfolding loosened
+not_loose outer gap None blank gap' state e = refl
+not_loose outer gap (Some l) blank gap' state e = cc
 
 -- ---- the innermost container closes
 
-list_closed : (level inside : paths.Level) (list : Option paths.OpenList)
-    → list_with level inside.gap (finished inside) list ≡ item_closed level list inside
-unfolding list_with item_closed
-list_closed level inside None = refl
-list_closed level inside (Some l) = refl
+item_is_closed : (level inside : paths.Level) (list : Option paths.OpenList) (l : paths.Level) → level.list ≡ list
+    → l ≡ item_put_in level (finished inside) list → loosened l inside.gap l.list ≡ item_closed level list inside
+unfolding loosened item_closed
+item_is_closed level inside None l h e =
+    ap (λ (x : paths.Level). loosened x inside.gap x.list) e ∙ ap (λ (o : Option paths.OpenList). loosened level inside.gap o) h
+item_is_closed level inside (Some list) l h e = ap (λ (x : paths.Level). loosened x inside.gap x.list) e
 
-pub closes_quote : (old mid new : Stack) (left : Left) → Leaves old mid left → left.container ≡ Quote
-    → new ≡ quote_put mid (blocks_shown left.blocks.items) → ClosesLast old new
+pub closes_quote : (old mid new : Stack) (left : Left) (l : Leaves old mid left) → left.container ≡ Quote
+    → new ≡ record mid { blank = false } → ClosesLast old new
 unfolding container_closed
 closes_quote old mid new left l e f = record {
-  last = (mid.inner, container_shown left.container);
-  outer = l.outer ∙ ap (λ (os : List Outer). os ++ (mid.inner, container_shown left.container) ∷ []) (sym (ap (λ (s : Stack). s.outer) f));
+  last = (l.level, container_shown left.container);
+  outer = l.outer ∙ ap (λ (os : List Outer). os ++ (l.level, container_shown left.container) ∷ []) (sym (ap (λ (s : Stack). s.outer) f));
   inner = ap (λ (s : Stack). s.inner) f
-      ∙ (ap (λ (bs : Blocks). with_blocks mid.inner (node (finished mid.inner) BlockQuote bs)) l.blocks
-      ∙ ap (λ (c : Container). container_closed mid.inner (container_shown c) old.inner) (sym e));
-  blank = ap (λ (s : Stack). s.blank) f ∙ ap (λ (c : Container). container_blank (container_shown c) old.blank) (sym e);
+      ∙ (l.inner ∙ (ap (λ (c : held.Container). put_inside l.level (container_shown c) (finished old.inner)) e
+      ∙ ap (λ (c : held.Container). container_closed l.level (container_shown c) old.inner) (sym e)));
+  blank = ap (λ (s : Stack). s.blank) f ∙ ap (λ (c : held.Container). container_blank (container_shown c) old.blank) (sym e);
 }
 
-pub closes_item : (old mid new : Stack) (left : Left) (columns : ℕ) (is_empty : Bool) → Leaves old mid left
-    → left.container ≡ Item columns is_empty → new ≡ item_put mid left.gap (blocks_shown left.blocks.items) → ClosesLast old new
+pub closes_item : (old mid new : Stack) (left : Left) (columns : ℕ) (is_empty : Bool) (l : Leaves old mid left)
+    → left.container ≡ Item columns is_empty → new ≡ stack_loosened mid left.gap → ClosesLast old new
 unfolding container_closed
 closes_item old mid new left columns is_empty l e f = record {
-  last = (mid.inner, container_shown left.container);
-  outer = l.outer ∙ ap (λ (os : List Outer). os ++ (mid.inner, container_shown left.container) ∷ []) (sym (ap (λ (s : Stack). s.outer) f));
+  last = (l.level, container_shown left.container);
+  outer = l.outer ∙ ap (λ (os : List Outer). os ++ (l.level, container_shown left.container) ∷ []) (sym (ap (λ (s : Stack). s.outer) f));
   inner = ap (λ (s : Stack). s.inner) f
-      ∙ (ap (λ (gap : Bool). list_with mid.inner gap (blocks_shown left.blocks.items) mid.inner.list) l.gap
-      ∙ (ap (λ (bs : Blocks). list_with mid.inner old.inner.gap bs mid.inner.list) l.blocks
-      ∙ (list_closed mid.inner old.inner mid.inner.list
-      ∙ ap (λ (c : Container). container_closed mid.inner (container_shown c) old.inner) (sym e))));
-  blank = ap (λ (s : Stack). s.blank) f ∙ (l.blank ∙ ap (λ (c : Container). container_blank (container_shown c) old.blank) (sym e));
+      ∙ (ap (λ (gap : Bool). loosened mid.inner gap mid.inner.list) l.gap
+      ∙ (item_is_closed l.level old.inner l.level.list mid.inner refl
+      (l.inner ∙ ap (λ (c : held.Container). put_inside l.level (container_shown c) (finished old.inner)) e)
+      ∙ ap (λ (c : held.Container). container_closed l.level (container_shown c) old.inner) (sym e)));
+  blank = ap (λ (s : Stack). s.blank) f ∙ (l.blank ∙ ap (λ (c : held.Container). container_blank (container_shown c) old.blank) (sym e));
 }
 
--- ---- how many containers are open
+-- ---- no container is open
 
-pub length_outers : (outer : List Open) (base : ℕ) (done : List Block) → length (outers_shown outer base done) ≡ length outer
-length_outers [] base done = refl
-length_outers (o ∷ outer) base done = ap suc (length_outers outer base done)
-
--- ---- one of the open containers
-
-outers_here : (outer : List Open) (n base : ℕ) (done : List Block) (o : Open) → n < length outer → o ≡ get_or outer n o →
-    (l : paths.Level) × (drop n (outers_shown outer base done) ≡ (l, container_shown o.container) ∷ drop (suc n)
-    (outers_shown outer base done))
-outers_here [] n base done o h e = absurd (omega arith)
-outers_here (a ∷ outer) zero base done o h e = (
-  level_shown (take (first_base outer base) done) a.level,
-  ap (λ (x : Open). (level_shown (take (first_base outer base) done) a.level, container_shown x.container) ∷ outers_shown outer base done)
-      (sym e),
-)
-outers_here (a ∷ outer) (suc n) base done o h e = outers_here outer n base done o (omega arith) e
-
-pub outers_at : (outer : List Open) (n base : ℕ) (done : List Block) (o : Open) → n < length outer → o ≡ get_or outer n o →
-    (l : paths.Level) × (drop n (outers_shown outer base done) ≡ (l, container_shown o.container) ∷ drop (n + 1)
-    (outers_shown outer base done))
-outers_at outer n base done o h e =
-    let at = outers_here outer n base done o h e in
-    let next : suc n ≡ n + 1 = omega arith in
-    (at.0, at.1 ∙ ap (λ (m : ℕ). (at.0, container_shown o.container) ∷ drop m (outers_shown outer base done)) next)
-
--- its container changes
-first_set : (outer : List Open) (n base : ℕ) (o o' : Open) → o ≡ get_or outer n o → o'.level ≡ o.level
-    → first_base (set outer n o') base ≡ first_base outer base
-first_set [] n base o o' e f = refl
-first_set (a ∷ outer) zero base o o' e f = ap (λ (l : Level). l.base) f ∙ ap (λ (x : Open). x.level.base) e
-first_set (a ∷ outer) (suc n) base o o' e f = refl
-
-pub outers_gone : (outer : List Open) (n base : ℕ) (done : List Block) (o p o' : Open) → n < length outer → o ≡ get_or outer n o
-    → p ≡ get_or outer n p → o'.level ≡ o.level →
-    container_shown o'.container ≡ gone_on (container_shown p.container)
-    → outers_shown (set outer n o') base done ≡ gone_on_at n (outers_shown outer base done)
-outers_gone [] n base done o p o' h e f g k = absurd (omega arith)
-outers_gone (a ∷ outer) zero base done o p o' h e f g k =
-    let level : o'.level ≡ a.level = g ∙ ap (λ (x : Open). x.level) e in
-    let container : container_shown o'.container ≡ gone_on (container_shown a.container) = k
-    ∙ ap (λ (x : Open). gone_on (container_shown x.container)) f in
-    ap (λ (l : Level). (level_shown (take (first_base outer base) done) l, container_shown o'.container) ∷ outers_shown outer base done)
-    level
-    ∙ ap (λ (x : paths.OpenContainer). (level_shown (take (first_base outer base) done) a.level, x) ∷ outers_shown outer base done)
-    container
-outers_gone (a ∷ outer) (suc n) base done o p o' h e f g k =
-    ap (λ (m : ℕ). (level_shown (take m done) a.level, container_shown a.container) ∷ outers_shown (set outer n o') base done)
-    (first_set outer n base o o' e g)
-    ∙ ap (λ (os : List Outer). (level_shown (take (first_base outer base) done) a.level, container_shown a.container) ∷ os)
-    (outers_gone outer n base done o p o' (omega arith) e f g k)
-
-pub sound_gone : (outer : List Open) (n base : ℕ) (o o' : Open) → o ≡ get_or outer n o → o'.level ≡ o.level → AreSound outer base
-    → AreSound (set outer n o') base
-sound_gone [] n base o o' e f sound = tt
-sound_gone (a ∷ outer) zero base o o' e f sound =
-    let level : a.level ≡ o'.level = sym (f ∙ ap (λ (x : Open). x.level) e) in
-    let P : Level → Type 0 = λ l. EndsAt (first_base outer base) l.base l.list in
-    (subst P level sound.0, sound.1)
-sound_gone (a ∷ outer) (suc n) base o o' e f sound =
-    let P : ℕ → Type 0 = λ m. EndsAt m a.level.base a.level.list in
-    (subst P (sym (first_set outer n base o o' e f)) sound.0, sound_gone outer n base o o' e f sound.1)
+pub none_sound : (outer : List Open) (entries : List Entry) → length outer ≡ 0 → AreSound (frames_of outer) entries → entries ≡ []
+none_sound [] [] h sound = refl
+none_sound [] (entry ∷ entries) h sound = absurd sound
+none_sound (o ∷ outer) entries h sound = absurd (omega (arith, h))

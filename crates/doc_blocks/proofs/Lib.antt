@@ -4,4 +4,6 @@ pub mod PlainLaws
 pub mod StateLaws
 pub mod LeafLaws
 pub mod ContentLaws
+pub mod Forests
 pub mod BuilderLaws
+pub mod TreeLaws

@@ -6,3 +6,5 @@ pub mod LevelSteps
 pub mod PathSteps
 pub mod StateSteps
 pub mod BuilderSteps
+pub mod Views
+pub mod TreeSteps

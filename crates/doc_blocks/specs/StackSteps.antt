@@ -1,10 +1,9 @@
 -- A path as the containers that are open, the outermost first, and the level inside them; words in which the steps on it are said.
 use Rattle.std.specs.Prelude.{◌≡◌, Bool, false, ◌&&◌, not, List, [], ◌∷◌, ◌++◌, ℕ, Option, Some, None}
 use Rattle.doc_rules.specs.ContainerStarts.{ListKind, is_same_kind}
-use Rattle.doc_rules.specs.Forests.{node}
-use Rattle.doc_rules.specs.Blocks.{Blocks, BlockQuote, ListItem}
+use Rattle.doc_rules.specs.Blocks.{Blocks}
 use Rattle.doc_blocks_pass.specs.Leaves.{OpenLeaf}
-use Rattle.doc_blocks_pass.specs.Paths.{OpenList, Level, OpenContainer, OpenQuote, OpenItem, Path, Here, Inside, empty_level, finished}
+use Rattle.doc_blocks_pass.specs.Paths.{OpenList, Level, OpenContainer, OpenQuote, OpenItem, Path, Here, Inside, empty_level}
 use Rattle.doc_blocks_pass.specs.Paths.{with_blocks, begun_at, item_begun_at}
 use Rattle.doc_blocks_pass.specs.Closing.{container_closed}
 
@@ -54,20 +53,13 @@ abbrev pub container_blank : OpenContainer → Bool → Bool
 container_blank OpenQuote blank = false
 container_blank (OpenItem columns is_empty) blank = blank
 
--- a quote of these blocks comes behind the blocks of the innermost level
-abbrev pub quote_put : Stack → Blocks → Stack
-quote_put s blocks = record s { inner = with_blocks s.inner (node (finished s.inner) BlockQuote blocks); blank = false }
+-- a blank line between two blocks of an item makes the list round it loose
+unfoldable pub loosened : Level → (gap : Bool) → Option OpenList → Level
+loosened level gap None = level
+loosened level gap (Some list) = record level { list = Some (record list { tight = list.tight && not gap }) }
 
--- the item of these blocks comes behind the items of this list; a gap among them makes it loose
-unfoldable pub list_with : Level → (gap : Bool) → Blocks → Option OpenList → Level
-list_with level gap blocks None = level
-list_with level gap blocks (Some list) = record level {
-  list = Some
-      (record list { tight = list.tight && not gap; items = node list.items ListItem blocks });
-}
-
-abbrev pub item_put : Stack → (gap : Bool) → Blocks → Stack
-item_put s gap blocks = record s { inner = list_with s.inner gap blocks s.inner.list }
+abbrev pub stack_loosened : Stack → (gap : Bool) → Stack
+stack_loosened s gap = record s { inner = loosened s.inner gap s.inner.list }
 
 -- no list is open, or one of another kind
 abbrev pub IsNotOf : ListKind → Option OpenList → Type 0

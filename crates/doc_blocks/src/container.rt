@@ -5,7 +5,8 @@ ghost use Rattle.doc_rules.specs.Columns.{indent, is_blank_line};
 ghost use Rattle.doc_blocks_pass.specs.Paths.{OpenItem, matched_open, gone_on};
 ghost use Rattle.doc_lines.specs.Cursors.{left_of};
 ghost use Rattle.doc_blocks_starts.specs.Lines.{inside_of};
-ghost use Rattle.doc_blocks.specs.Containers.{container_shown};
+ghost use Rattle.doc_blocks_tags.specs.Tags as tags;
+ghost use Rattle.doc_blocks.specs.Containers.{container_shown, block_of};
 
 use doc_blocks_starts::indentation::{indent_up_to, is_blank_line};
 use doc_blocks_starts::quote::take_quote;
@@ -35,7 +36,10 @@ impl Container {
     }
 
     /// The container as a block.
-    pub(crate) fn block(self) -> ContainerBlock {
+    #[tactic(auto, unfolding(doc_blocks_tags::specs::Tags::container_shown))]
+    pub(crate) fn block(self) -> ContainerBlock
+        ensures { tags.container_shown result ≡ block_of self }
+    {
         match self {
             Container::Quote => ContainerBlock::Quote,
             Container::Item { .. } => ContainerBlock::Item,

@@ -6,7 +6,7 @@ ghost use Rattle.doc_blocks.specs.Views.{blocks_shown};
 
 use crate::block::Block;
 use crate::tagged::tags;
-use crate::tree::tree;
+use crate::tree::tree_of;
 use doc_blocks_tags::texts::Texts;
 use doc_heap::{Heap, Vec};
 use doc_lines::entities::Entities;
@@ -32,7 +32,7 @@ pub fn blocks(heap: Heap, text: &str, entities: &Entities) -> Result<Document, M
     let texts = Texts::new(heap);
     let tagged = tags(heap, &texts, text, entities)?;
     Ok(Document {
-        blocks: tree(heap, tagged.tags.as_slice())?,
+        blocks: tree_of(heap, tagged.tags.as_slice())?,
         refs: tagged.refs,
     })
 }

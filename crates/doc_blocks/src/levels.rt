@@ -1,30 +1,31 @@
-//! The open containers of a document that is read line by line, with the finished blocks of all levels on one stack.
+//! The open containers of a document that is read line by line, with the tags of all levels in a row.
 //!
 //! A *level* is what stands at one depth: its finished blocks, behind them perhaps a list that the next item may go on with, and whether a
 //! blank line stands between two of the blocks (`gap`). There is one level more than open containers: `outer` has each container with the
-//! level that it stands in, and `inner` is the one inside the last. The finished blocks of all levels lie on one stack, `done`:
+//! level that it stands in, and `inner` is the one inside the last. The tags of all levels lie in one row, `tags`, in the order of the
+//! text:
 //!
-//!     blocks of the outermost level, items of its open list | blocks of the next, items of its open list | .. | blocks of `inner`, ..
-//!     ^ base                         ^ list.base              ^ base
+//!     tags of the outermost level, start of its open list, tags of its items | start of the container in it, tags of the next level, ..
 //!
-//! So what closes takes its own off the end and puts one block there: an open list its items (`finish_list`), a container the blocks of
-//! the level inside it (`leave`). `blank` says that a blank line stands behind the last block of the innermost level: the next block there
-//! makes a gap of it, the next item of the list makes the list loose. An item that closes leaves it to the level round it, a quote that
-//! closes clears it.
+//! So what closes puts its end there: an open list (`finish_list`), a container (`leave`). Whether a list is tight is known at its end
+//! alone, so its start, which stands at `place`, is put once more then. `blank` says that a blank line stands behind the last block of the
+//! innermost level: the next block there makes a gap of it, the next item of the list makes the list loose. An item that closes leaves it
+//! to the level round it, a quote that closes clears it.
 //!
-//! That the bases stand within the stack and ascend (`IsSound`) is asked and ensured by each call that changes it. A call that answers
-//! `Memory` ensures nothing, and may have let blocks go already.
+//! That the tags are those of the open containers (`IsSound`) is asked and ensured by each call that changes them. A call that answers
+//! `Memory` ensures nothing, and may have put tags already.
 ghost use Rattle.std.specs.Prelude.{◌≡◌, ◌+◌, ◌<◌, ◌≤◌, ℕ, false, None, OnOk, IfOk, IsTrue, vec_len};
 ghost use Rattle.doc_blocks_starts.specs.Items.{kind_of};
-ghost use Rattle.doc_rules.specs.Blocks.{list_start};
+ghost use Rattle.doc_rules.specs.Blocks.{ListItem, list_start};
 ghost use Rattle.doc_blocks_pass.specs.Paths.{finished};
-ghost use Rattle.doc_blocks_leaves.specs.Views.{with_block, blocks_shown};
-ghost use Rattle.doc_blocks.specs.StackSteps.{empty_stack, with_inner_blocks, block_begun, item_begun, container_opened, quote_put, item_put, IsNotOf, ClosesLast};
+ghost use Rattle.doc_blocks_leaves.specs.Views.{with_block};
+ghost use Rattle.doc_blocks_tags.specs.Tags as tags;
+ghost use Rattle.doc_blocks.specs.StackSteps.{empty_stack, with_inner_blocks, block_begun, item_begun, container_opened, stack_loosened, IsNotOf, ClosesLast};
 ghost use Rattle.doc_blocks.specs.PathSteps.{gone_on_at, closed_to, GoesDown, MatchesAt};
 ghost use Rattle.doc_lines.specs.Cursors.{left_of};
 ghost use Rattle.doc_blocks_starts.specs.Lines.{inside_of};
-ghost use Rattle.doc_blocks.specs.Containers.{container_shown};
-ghost use Rattle.doc_blocks.specs.LevelSteps.{stack_of, IsSound, Leaves};
+ghost use Rattle.doc_blocks.specs.Containers.{container_shown, block_of};
+ghost use Rattle.doc_blocks.specs.LevelSteps.{stack_of, list_of, Suits, IsSound, Leaves};
 
 use crate::container::Container;
 use doc_blocks_starts::item::ListKind;
@@ -57,8 +58,6 @@ pub(crate) struct Open {
     pub(crate) container: Container,
 }
 
-/// The open containers, the outermost first, the level inside them, whether a blank line stands behind the last block there, and the
-/// tags so far.
 /// A container that was left, and whether a blank line stands between two of its blocks.
 #[derive(Drop)]
 struct Left {
@@ -66,6 +65,8 @@ struct Left {
     gap: bool,
 }
 
+/// The open containers, the outermost first, the level inside them, whether a blank line stands behind the last block there, and the
+/// tags so far.
 #[derive(Drop)]
 pub(crate) struct Levels<'t> {
     outer: Vec<Open>,
@@ -75,7 +76,6 @@ pub(crate) struct Levels<'t> {
 }
 
 impl<'t> Levels<'t> {
-    #[tactic(auto, unfolding(doc_blocks_leaves::specs::Views::forest))]
     pub(crate) fn new(heap: Heap) -> Levels<'t>
         ensures stack { stack_of result ≡ empty_stack }
         ensures sound { IsSound result }
@@ -116,7 +116,7 @@ impl<'t> Levels<'t> {
         requires { IsSound self.old }
         ensures stack { OnOk result (stack_of self.new
             ≡ with_inner_blocks (stack_of self.old)
-            (with_block block (finished (stack_of self.old).inner))) }
+            (with_block leaf.entry (finished (stack_of self.old).inner))) }
         ensures sound { OnOk result (IsSound self.new) }
         ensures outer { OnOk result (self.new.outer ≡ self.old.outer) }
     {
@@ -146,6 +146,7 @@ impl<'t> Levels<'t> {
         requires { IsSound self.old }
         ensures stack { OnOk result (stack_of self.new
             ≡ item_begun (stack_of self.old) (kind_of kind) start) }
+        ensures listed { OnOk result (Suits ListItem self.new.inner.list) }
         ensures sound { OnOk result (IsSound self.new) }
         ensures outer { OnOk result (self.new.outer ≡ self.old.outer) }
     {
@@ -170,6 +171,7 @@ impl<'t> Levels<'t> {
         requires { IsSound self.old }
         ensures yes { IsTrue result → (start : ℕ)
             → stack_of self.new ≡ item_begun (stack_of self.old) (kind_of kind) start }
+        ensures listed { IsTrue result → Suits ListItem self.new.inner.list }
         ensures no { result ≡ false → (self.new ≡ self.old)
             × IsNotOf (kind_of kind) (stack_of self.old).inner.list }
         ensures sound { IsSound self.new }
@@ -186,9 +188,10 @@ impl<'t> Levels<'t> {
         true
     }
 
-    /// A container opens at the innermost level.
+    /// A container opens at the innermost level: an item in the list that is open there, a quote where none is.
     pub(crate) fn open(&mut self, container: Container) -> Result<(), Memory>
-        requires { IsSound self.old }
+        requires sound { IsSound self.old }
+        requires suits { Suits (block_of container) self.old.inner.list }
         ensures stack { OnOk result (stack_of self.new
             ≡ container_opened (stack_of self.old) (container_shown container)) }
         ensures sound { OnOk result (IsSound self.new) }
@@ -240,7 +243,12 @@ impl<'t> Levels<'t> {
     }
 
     /// A blank line between two blocks of an item makes the list round it loose.
-    fn loosen(&mut self, gap: bool) {
+    fn loosen(&mut self, gap: bool)
+        requires { IsSound self.old }
+        ensures stack { stack_of self.new ≡ stack_loosened (stack_of self.old) gap }
+        ensures sound { IsSound self.new }
+        ensures outer { self.new.outer ≡ self.old.outer }
+    {
         if let Some(list) = &mut self.inner.list {
             list.tight &= !gap;
         }
@@ -307,7 +315,12 @@ impl<'t> Levels<'t> {
     }
 
     /// All tags, where no container is open. The list of the innermost level closes.
-    pub(crate) fn into_tags(mut self) -> Result<Vec<Tag<'t>>, Memory> {
+    pub(crate) fn into_tags(mut self) -> Result<Vec<Tag<'t>>, Memory>
+        requires sound { IsSound self }
+        requires closed { vec_len self.outer ≡ 0 }
+        ensures { IfOk result (λ found. tags.tags_shown found.items
+            ≡ tags.tags_of (finished (stack_of self.entry).inner)) }
+    {
         self.finish_list()?;
         Ok(self.tags)
     }
@@ -328,7 +341,10 @@ impl<'t> Levels<'t> {
 
 impl OpenList {
     /// The list as a block.
-    fn block(&self, tight: bool) -> ContainerBlock {
+    #[tactic(auto, unfolding(doc_blocks_tags::specs::Tags::container_shown))]
+    fn block(&self, tight: bool) -> ContainerBlock
+        ensures { tags.container_shown result ≡ list_of self.now tight }
+    {
         ContainerBlock::List {
             start: start_of(self.kind, self.start),
             tight,

@@ -4,7 +4,7 @@ ghost use Rattle.doc_rules.specs.Blocks.{document_of};
 ghost use Rattle.doc_rules.specs.Columns.{cells_of};
 ghost use Rattle.doc_rules.specs.Lines.{secure_char};
 ghost use Rattle.doc_refs.specs.Targets.{targets_of};
-ghost use Rattle.doc_blocks_leaves.specs.Views.{blocks_shown};
+ghost use Rattle.doc_blocks_tags.specs.Tags.{tags_of, tags_shown};
 ghost use Rattle.doc_blocks.specs.StateSteps.{shown, after_line, document_left};
 ghost use Rattle.doc_blocks.specs.BuilderSteps.{state_of};
 ghost use Rattle.doc_blocks.specs.LevelSteps.{IsSound};
@@ -26,15 +26,15 @@ pub struct Tagged<'t> {
     pub refs: RefMap,
 }
 
-/// The blocks of a text (CommonMark 0.31.2, sections 4 and 5) as [`blocks`](crate::blocks) has them, as tags whose texts are kept in `texts`.
+/// The blocks of a text (CommonMark 0.31.2, sections 4 and 5), those of [`blocks`](crate::blocks), as tags whose texts stand in `texts`.
 pub fn tags<'t>(
     heap: Heap,
     texts: &'t Texts,
     text: &str,
     entities: &Entities,
 ) -> Result<Tagged<'t>, Memory>
-    ensures tags { IfOk result (λ tagged. map tag_shown tagged.tags.items
-        ≡ flat (document_of entities.now (chars text.now)).blocks) }
+    ensures tags { IfOk result (λ tagged. tags_shown tagged.tags.items
+        ≡ tags_of (document_of entities.now (chars text.now)).blocks) }
     ensures refs { IfOk result (λ tagged. tagged.refs
         ≡ targets_of (document_of entities.now (chars text.now)).refs) }
 {
@@ -73,14 +73,12 @@ fn add_line(
 }
 
 /// All that is still open closes.
-fn finish<'t>(
-    builder: Builder<'t>,
-    heap: Heap,
-    entities: &Entities,
-) -> Result<Tagged<'t>, Memory>
+fn finish<'t>(builder: Builder<'t>, heap: Heap, entities: &Entities) -> Result<Tagged<'t>, Memory>
     requires { IsSound builder.levels }
-    ensures { IfOk result (λ tagged. (map tag_shown tagged.tags.items, tagged.refs)
-        ≡ document_left entities.now [] (shown (state_of builder))) }
+    ensures tags { IfOk result (λ tagged. tags_shown tagged.tags.items
+        ≡ tags_of (document_left entities.now [] (shown (state_of builder.entry))).0) }
+    ensures refs { IfOk result (λ tagged. tagged.refs
+        ≡ (document_left entities.now [] (shown (state_of builder.entry))).1) }
 {
     let mut builder = builder;
     builder.close_to(heap, entities, 0)?;

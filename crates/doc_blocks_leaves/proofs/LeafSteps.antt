@@ -1,6 +1,6 @@
 -- What an open leaf becomes, and what a line makes of it.
-use Rattle.std.proofs.Common.{◌≡◌, ℕ, Bool, true, false, List, [], ◌∷◌, chars, refl, ap, sym, ◌∙◌}
-use Rattle.std.specs.Prelude.{Option, Some, None, option_map}
+use Rattle.std.proofs.Common.{Bor, ◌≡◌, ℕ, Bool, true, false, [], ◌∷◌, chars, refl, ap, sym, ◌∙◌}
+use Rattle.std.specs.Prelude.{Option, Some, None}
 use Rattle.doc_rules.specs.Characters.{Text}
 use Rattle.doc_rules.specs.Columns.{Line, text_of, is_blank_line}
 use Rattle.doc_rules.specs.Entities.{Table}
@@ -13,67 +13,69 @@ use Rattle.doc_rules.specs.Trees.{AtxLine, FencedLines, HtmlLines, BreakLine}
 use Rattle.doc_rules.specs.Blocks.{Leaf, Paragraph, Heading, IndentedCode, FencedCode, HtmlBlock, Blocks, ended, joined, with_text}
 use Rattle.doc_rules.specs.Blocks.{with_leaf}
 use Rattle.doc_blocks_pass.specs.Leaves.{OpenLeaf, NoLeaf, OpenParagraph, OpenCode, OpenFence, OpenHtml, open_of, with_open}
+use Rattle.doc_lines.specs.RestSteps.{rest_of}
 use Rattle.doc_refs.specs.Targets.{Targets, targets_of}
 use Rattle.doc_refs.specs.Targets as maps
 use Rattle.doc_refs_parts.proofs.MapLaws.{joined-empty}
-use Rattle.doc_blocks_leaves.specs.declared.block.Block.TheVariants as variants
+use Rattle.doc_blocks_tags.specs.Tags.{leaf_shown}
+use Rattle.doc_blocks_tags.specs.declared.tag.LeafBlock.TheVariants as leaves
 use Rattle.doc_blocks_leaves.specs.OpenLeaves.{paragraph_text, with_leaf_of, underlined, with_underlined, underlined_references, with_begun}
 use Rattle.doc_blocks_leaves.specs.Views.{with_block}
-use Rattle.doc_blocks_leaves.proofs.Forests.{behind_para, behind_heading, behind_code, behind_fence, behind_html, behind_break}
 use Rattle.doc_blocks_leaves.proofs.LineSteps.{first_is_kept}
 
 -- ---- blocks
 
--- a text, copied, is what was gathered
-copied : (text shown : List ℕ) (all : Text) → text ≡ shown → chars shown ≡ all → chars text ≡ all
-copied text shown all e f = ap chars e ∙ f
+-- a text, kept, is what was gathered
+kept_text : (text shown : Bor Text) (all : Text) → text.now ≡ shown.now → chars shown.now ≡ all → chars text.now ≡ all
+kept_text text shown all e f = ap chars e ∙ f
 
-pub code_closed : (table : Table) (all kept : Text) (text shown : List ℕ) (before : Blocks) → text ≡ shown → chars shown ≡ kept →
-    with_block (Some (variants.Code text)) before ≡ with_open table (OpenCode all kept) before
-unfolding with_block with_open
-code_closed table all kept text shown before e f = behind_code text before ∙ ap (λ t. before ▹ IndentedCode t) (copied text shown kept e f)
+pub code_closed : (table : Table) (all kept : Text) (text shown : Bor Text) (before : Blocks) → text.now ≡ shown.now
+    → chars shown.now ≡ kept →
+    with_block (Some (leaves.Code text)) before ≡ with_open table (OpenCode all kept) before
+unfolding with_block leaf_shown with_open
+code_closed table all kept text shown before e f = ap (λ t. before ▹ IndentedCode t) (kept_text text shown kept e f)
 
-pub fence_closed : (table : Table) (fence : fences.Fence) (info : List ℕ) (all : Text) (text shown : List ℕ) (before : Blocks)
-    → text ≡ shown → chars shown ≡ all →
-    with_block (Some (variants.Fence info text)) before ≡ with_open table (OpenFence fence (chars info) all) before
-unfolding with_block with_open
-fence_closed table fence info all text shown before e f = behind_fence info text before
-    ∙ ap (λ t. before ▹ FencedCode (chars info) t) (copied text shown all e f)
+pub fence_closed : (table : Table) (fence : fences.Fence) (read all : Text) (info text shown : Bor Text) (before : Blocks)
+    → info.now ≡ read → text.now ≡ shown.now → chars shown.now ≡ all →
+    with_block (Some (leaves.Fence info text)) before ≡ with_open table (OpenFence fence (chars read) all) before
+unfolding with_block leaf_shown with_open
+fence_closed table fence read all info text shown before d e f =
+    ap (λ t. before ▹ FencedCode (chars t) (chars text.now)) d
+    ∙ ap (λ t. before ▹ FencedCode (chars read) t) (kept_text text shown all e f)
 
-pub html_closed : (table : Table) (kind : kinds_of.HtmlKind) (all kept : Text) (text shown : List ℕ) (before : Blocks) → text ≡ shown
-    → chars shown ≡ kept →
-    with_block (Some (variants.Html text)) before ≡ with_open table (OpenHtml kind all kept) before
-unfolding with_block with_open
-html_closed table kind all kept text shown before e f = behind_html text before
-    ∙ ap (λ t. before ▹ HtmlBlock t) (copied text shown kept e f)
+pub html_closed : (table : Table) (kind : kinds_of.HtmlKind) (all kept : Text) (text shown : Bor Text) (before : Blocks)
+    → text.now ≡ shown.now → chars shown.now ≡ kept →
+    with_block (Some (leaves.Html text)) before ≡ with_open table (OpenHtml kind all kept) before
+unfolding with_block leaf_shown with_open
+html_closed table kind all kept text shown before e f = ap (λ t. before ▹ HtmlBlock t) (kept_text text shown kept e f)
 
 -- what definitions leave of a paragraph, where they leave a text
-abbrev pub Leaves : Option (List ℕ) → Table → Text → Type 0
+abbrev pub Leaves : Option (Bor Text) → Table → Text → Type 0
 Leaves rest table text = (leaf : Text → Leaf) (before : Blocks)
-    → with_leaf_of leaf (option_map chars rest) before ≡ with_text leaf (definitions_of table text).1 before
+    → with_leaf_of leaf (rest_of rest) before ≡ with_text leaf (definitions_of table text).1 before
 
-pub paragraph_closed : (table : Table) (all : Text) (text shown : List ℕ) (before : Blocks) → Leaves (Some text) table (chars shown)
-    → chars shown ≡ all →
-    with_block (Some (variants.Para text)) before ≡ with_open table (OpenParagraph all) before
-unfolding with_block with_open with_leaf_of
-paragraph_closed table all text shown before h f = behind_para text before
-    ∙ (h Paragraph before ∙ ap (λ t. with_text Paragraph (definitions_of table t).1 before) f)
+pub paragraph_closed : (table : Table) (all : Text) (text shown : Bor Text) (before : Blocks)
+    → Leaves (Some text) table (chars shown.now) → chars shown.now ≡ all →
+    with_block (Some (leaves.Para text)) before ≡ with_open table (OpenParagraph all) before
+unfolding with_block leaf_shown with_open with_leaf_of
+paragraph_closed table all text shown before h f = h Paragraph before
+    ∙ ap (λ t. with_text Paragraph (definitions_of table t).1 before) f
 
-pub definitions_closed : (table : Table) (all : Text) (shown : List ℕ) (before : Blocks) → Leaves None table (chars shown)
-    → chars shown ≡ all →
+pub definitions_closed : (table : Table) (all : Text) (shown : Bor Text) (before : Blocks) → Leaves None table (chars shown.now)
+    → chars shown.now ≡ all →
     with_block None before ≡ with_open table (OpenParagraph all) before
 unfolding with_block with_open with_leaf_of
 definitions_closed table all shown before h f = h Paragraph before ∙ ap (λ t. with_text Paragraph (definitions_of table t).1 before) f
 
-pub heading_made : (table : Table) (level : ℕ) (all : Text) (text shown : List ℕ) (before : Blocks)
-    → Leaves (Some text) table (chars shown) → chars shown ≡ all →
-    with_block (Some (variants.Heading level text)) before ≡ with_underlined table level (OpenParagraph all) before
-unfolding with_block with_underlined with_leaf_of
-heading_made table level all text shown before h f = behind_heading level text before
-    ∙ (h (Heading level) before ∙ ap (λ t. with_text (Heading level) (definitions_of table t).1 before) f)
+pub heading_made : (table : Table) (level : ℕ) (all : Text) (text shown : Bor Text) (before : Blocks)
+    → Leaves (Some text) table (chars shown.now) → chars shown.now ≡ all →
+    with_block (Some (leaves.Heading level text)) before ≡ with_underlined table level (OpenParagraph all) before
+unfolding with_block leaf_shown with_underlined with_leaf_of
+heading_made table level all text shown before h f = h (Heading level) before
+    ∙ ap (λ t. with_text (Heading level) (definitions_of table t).1 before) f
 
-pub no_heading_made : (table : Table) (level : ℕ) (all : Text) (shown : List ℕ) (before : Blocks) → Leaves None table (chars shown)
-    → chars shown ≡ all →
+pub no_heading_made : (table : Table) (level : ℕ) (all : Text) (shown : Bor Text) (before : Blocks) → Leaves None table (chars shown.now)
+    → chars shown.now ≡ all →
     with_block None before ≡ with_underlined table level (OpenParagraph all) before
 unfolding with_block with_underlined with_leaf_of
 no_heading_made table level all shown before h f = h (Heading level) before
@@ -91,16 +93,16 @@ those_join table old new text all e f = e ∙ ap (λ t. maps.joined old (targets
 
 -- ---- a leaf that begins
 
-pub heading_begun : (table : Table) (level : ℕ) (text shown : List ℕ) (before : Blocks) → text ≡ shown →
-    with_block (Some (variants.Heading level text)) before ≡ with_begun table (AtxLine level (chars shown))
-    (open_of table (AtxLine level (chars shown))) before
-unfolding with_block with_begun open_of with_leaf
-heading_begun table level text shown before e = behind_heading level text before ∙ ap (λ t. before ▹ Heading level t) (ap chars e)
+pub heading_begun : (table : Table) (level : ℕ) (text shown : Bor Text) (before : Blocks) → text.now ≡ shown.now →
+    with_block (Some (leaves.Heading level text)) before ≡ with_begun table (AtxLine level (chars shown.now))
+    (open_of table (AtxLine level (chars shown.now))) before
+unfolding with_block leaf_shown with_begun open_of with_leaf
+heading_begun table level text shown before e = ap (λ t. before ▹ Heading level (chars t)) e
 
-pub break_begun : (table : Table) (before : Blocks) → with_block (Some variants.Break) before
+pub break_begun : (table : Table) (before : Blocks) → with_block (Some leaves.Break) before
     ≡ with_begun table BreakLine (open_of table BreakLine) before
-unfolding with_block with_begun open_of with_leaf
-break_begun table before = behind_break before
+unfolding with_block leaf_shown with_begun open_of with_leaf
+break_begun table before = refl
 
 pub fence_begun : (table : Table) (fence : fences.Fence) (info : Text) (before : Blocks)
     → before ≡ with_begun table (FencedLines true fence info []) (open_of table (FencedLines true fence info [])) before
@@ -113,13 +115,13 @@ unfolding open_of ended
 fence_opened table fence info read all e f = ap (λ t. OpenFence fence t all) e ∙ ap (λ t. OpenFence fence (unescape table info) t) f
 
 -- an HTML block of one line
-pub html_begun : (table : Table) (kind : kinds_of.HtmlKind) (line : Line) (kept : Text) (text shown : List ℕ) (before : Blocks) →
-    text ≡ shown → chars shown ≡ kept → kept ≡ elim (is_blank_line line) [ true ↦ [] | false ↦ text_of line ] →
-    with_block (Some (variants.Html text)) before ≡ with_begun table (HtmlLines false kind (text_of line ∷ []))
+pub html_begun : (table : Table) (kind : kinds_of.HtmlKind) (line : Line) (kept : Text) (text shown : Bor Text) (before : Blocks) →
+    text.now ≡ shown.now → chars shown.now ≡ kept → kept ≡ elim (is_blank_line line) [ true ↦ [] | false ↦ text_of line ] →
+    with_block (Some (leaves.Html text)) before ≡ with_begun table (HtmlLines false kind (text_of line ∷ []))
     (open_of table (HtmlLines false kind (text_of line ∷ []))) before
-unfolding with_block with_begun open_of with_leaf
+unfolding with_block leaf_shown with_begun open_of with_leaf
 html_begun table kind line kept text shown before e f g =
-    behind_html text before ∙ ap (λ t. before ▹ HtmlBlock t) (copied text shown kept e f ∙ (g ∙ sym (first_is_kept line)))
+    ap (λ t. before ▹ HtmlBlock t) (kept_text text shown kept e f ∙ (g ∙ sym (first_is_kept line)))
 
 pub html_opened : (table : Table) (kind : kinds_of.HtmlKind) (line : Line) (all kept : Text) →
     all ≡ text_of line → kept ≡ elim (is_blank_line line) [ true ↦ [] | false ↦ text_of line ]
@@ -179,19 +181,19 @@ pub paragraph_goes : (leaf new : OpenLeaf) (text : Text) → Some text ≡ parag
 unfolding underlined
 paragraph_goes leaf new text e f = f ∙ ap underlined (sym (is_paragraph leaf text e))
 
-pub heading_of_paragraph : (table : Table) (level : ℕ) (leaf : OpenLeaf) (text shown : List ℕ) (before : Blocks)
-    → Some (chars shown) ≡ paragraph_text leaf → Leaves (Some text) table (chars shown) →
-    with_block (Some (variants.Heading level text)) before ≡ with_underlined table level leaf before
+pub heading_of_paragraph : (table : Table) (level : ℕ) (leaf : OpenLeaf) (text shown : Bor Text) (before : Blocks)
+    → Some (chars shown.now) ≡ paragraph_text leaf → Leaves (Some text) table (chars shown.now) →
+    with_block (Some (leaves.Heading level text)) before ≡ with_underlined table level leaf before
 heading_of_paragraph table level leaf text shown before e h =
-    heading_made table level (chars shown) text shown before h refl
-    ∙ ap (λ l. with_underlined table level l before) (sym (is_paragraph leaf (chars shown) e))
+    heading_made table level (chars shown.now) text shown before h refl
+    ∙ ap (λ l. with_underlined table level l before) (sym (is_paragraph leaf (chars shown.now) e))
 
-pub no_heading_of_paragraph : (table : Table) (level : ℕ) (leaf : OpenLeaf) (shown : List ℕ) (before : Blocks)
-    → Some (chars shown) ≡ paragraph_text leaf → Leaves None table (chars shown) →
+pub no_heading_of_paragraph : (table : Table) (level : ℕ) (leaf : OpenLeaf) (shown : Bor Text) (before : Blocks)
+    → Some (chars shown.now) ≡ paragraph_text leaf → Leaves None table (chars shown.now) →
     with_block None before ≡ with_underlined table level leaf before
 no_heading_of_paragraph table level leaf shown before e h =
-    no_heading_made table level (chars shown) shown before h refl
-    ∙ ap (λ l. with_underlined table level l before) (sym (is_paragraph leaf (chars shown) e))
+    no_heading_made table level (chars shown.now) shown before h refl
+    ∙ ap (λ l. with_underlined table level l before) (sym (is_paragraph leaf (chars shown.now) e))
 
 pub paragraph_defines : (table : Table) (old new : Targets) (leaf : OpenLeaf) (text : Text) → Some text ≡ paragraph_text leaf
     → new ≡ maps.joined old (targets_of (definitions_of table text).0) →

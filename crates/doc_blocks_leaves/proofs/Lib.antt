@@ -1,5 +1,4 @@
 pub mod DefinitionSteps
-pub mod Forests
 pub mod GatheredSteps
 pub mod LeafSteps
 pub mod LineSteps

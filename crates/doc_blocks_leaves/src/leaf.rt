@@ -40,7 +40,8 @@ pub use take::LineTaken;
 use take::{take_code, take_fenced, take_html};
 
 /// The last block of a document so far, where it may take the next line, or none. Its text is gathered as the document will hold it,
-/// in one room that is used again for the next leaf. Contracts see it as `doc_blocks_pass` does.
+/// in one room that is used again for the next leaf, and kept in [`Texts`] when it becomes a block. Contracts see it as
+/// `doc_blocks_pass` does.
 ///
 /// Where a call answers [`Memory`], nothing is known of the leaf from then on.
 #[derive(Drop)]
@@ -60,7 +61,7 @@ impl<'t> Model for OpenLeaf<'t> {
 }
 
 impl<'t> OpenLeaf<'t> {
-    /// No open leaf. Takes no memory.
+    /// No open leaf. The blocks that it answers will have their texts in `texts`. Takes no memory.
     #[tactic(auto, unfolding(crate::specs::OpenLeaves::leaf_shown))]
     pub fn new(heap: Heap, texts: &'t Texts) -> OpenLeaf<'t>
         ensures { result ≡ NoLeaf }
@@ -198,8 +199,7 @@ impl<'t> OpenLeaf<'t> {
     }
 
     /// Begins the leaf that this line begins, as [`crate::start::leaf_start`] answered for it. A leaf of one line is no open one: the
-    /// answer is its
-    /// block.
+    /// answer is its block.
     #[tactic(auto, unfolding(crate::specs::OpenLeaves::leaf_shown))]
     pub fn begin(
         &mut self,

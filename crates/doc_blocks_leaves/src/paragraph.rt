@@ -1,9 +1,10 @@
 //! A paragraph's text and the definitions at its front (CommonMark 0.31.2, sections 4.7 and 4.8).
-ghost use Rattle.std.specs.Prelude.{◌≡◌, ◌==◌, [], false, length, chars, option_map, IfOk, OnOk};
+ghost use Rattle.std.specs.Prelude.{◌≡◌, ◌==◌, [], false, length, chars, IfOk, OnOk};
 ghost use Rattle.doc_rules.specs.Characters.{Text};
 ghost use Rattle.doc_rules.specs.Entities.{Table};
 ghost use Rattle.doc_rules.specs.Definitions.{definitions_of};
 ghost use Rattle.doc_rules.specs.Blocks.{Leaf, Blocks, with_text};
+ghost use Rattle.doc_lines.specs.RestSteps.{rest_of};
 ghost use Rattle.doc_refs.specs.Targets.{targets_of, joined};
 ghost use Rattle.doc_blocks_leaves.specs.OpenLeaves.{with_leaf_of};
 
@@ -15,8 +16,8 @@ use doc_lines::scan::character::next_char;
 use doc_page::failure::Memory;
 use doc_refs::{RefMap, take_definitions};
 
-/// The text that definitions leave of a paragraph, if they leave any, without spaces and tabs at its end. What the definitions name
-/// joins `refs`.
+/// The text that definitions leave of a paragraph, if they leave any, without spaces and tabs at its end. It stands in `texts`. What
+/// the definitions name joins `refs`.
 #[tactic(auto, unfolding(doc_rules::specs::Blocks::with_text))]
 pub fn paragraph_text<'t>(
     heap: Heap,
@@ -26,7 +27,7 @@ pub fn paragraph_text<'t>(
     refs: &mut RefMap,
 ) -> Result<Option<&'t str>, Memory>
     ensures text { IfOk result (λ rest. (leaf : Text → Leaf) (before : Blocks) →
-        with_leaf_of leaf (option_map chars rest) before
+        with_leaf_of leaf (rest_of rest) before
         ≡ with_text leaf (definitions_of entities.now (chars text.now)).1 before) }
     ensures refs { OnOk result (refs.new ≡ joined refs.old
         (targets_of (definitions_of entities.now (chars text.now)).0)) }

@@ -16,7 +16,7 @@ use doc_lines::entities::Entities;
 use doc_page::failure::Memory;
 use doc_refs::RefMap;
 
-/// The block that an open leaf of these lines is, if it is one. The definitions that leave it join `refs`.
+/// The block that an open leaf of these lines is, if it is one, with its texts in `texts`. The definitions that leave it join `refs`.
 #[tactic(auto, unfolding(doc_blocks_pass::specs::Leaves::with_open, doc_blocks_pass::specs::Leaves::open_references))]
 pub fn closed<'t>(
     heap: Heap,

@@ -1,57 +1,13 @@
-use Rattle.std.proofs.Common.{rules, ◌≡◌, ◌∙◌, List, [], map, chars, ap, sym}
-use Rattle.doc_lines.proofs.Ends.{empty_chars}
-use Rattle.doc_refs_parts.proofs.SpaceLaws.{is_none, is_some}
-use Rattle.doc_rules.specs.Characters.{Text}
-use Rattle.doc_rules.specs.Columns.{cells_of}
-use Rattle.doc_rules.specs.Lines.{lines_of, secure_char}
-use Rattle.doc_blocks_leaves.specs.Views.{blocks_shown}
-use Rattle.doc_blocks.specs.StateSteps.{State, shown, after_line, document_left}
-use Rattle.doc_blocks.specs.BuilderSteps.{state_of}
-use Rattle.doc_blocks.proofs.LeafLaws.{one_line, document_is}
+use Rattle.std.proofs.Common.{◌∙◌, ap, List}
+use Rattle.doc_blocks_tags.specs.Tags.{Tag, tags_shown}
+use Rattle.doc_blocks_tags.specs.OpenTags.{Open, read}
+use Rattle.doc_blocks_tags.specs.declared.tag.Tag as code
+use Rattle.doc_blocks_tags.proofs.TagLaws.{read_tags}
 use Rattle.doc_blocks.proofs.document.blocks.Goals as goal
 
-pub lines-init : goal.lines-init
-lines-init c =
-    let table = c.args.entities.now in
-    record {
-      is_text = search rules;
-      sound = c.new-builder.ensures.ready.sound;
-      left = ap (λ (s : State). document_left table (lines_of (chars c.args.text.now)) (shown s)) (sym c.new-builder.ensures.state);
-    }
-
-pub lines-preserved : goal.lines-preserved
-lines-preserved c =
-    let table = c.args.entities.now in
-    let s = state_of c.lines.builder in
-    let f = c.first_line-first.ensures.line in
-    record {
-      is_text = search rules;
-      sound = c.in_ok-add_line.ensures.sound;
-      left = c.lines.invariant.left
-          ∙ (ap (λ (ls : List Text). document_left table ls (shown s)) f.first
-          ∙ one_line table s (state_of c.add_line.new.builder) f.whole (lines_of (chars c.first_line-first.result.rest.now))
-          (ap (λ (t : Text). after_line table s (cells_of (map secure_char t))) (sym f.content) ∙ c.in_ok-add_line.ensures.line));
-    }
-
-pub first_line-first-requires : goal.first_line-first-requires
-first_line-first-requires c = is_some _ _ c.is_empty.ensures c.lines-test.true
-
 pub returns-clause-blocks : goal.returns-clause-blocks
-unfolding lines_of
 returns-clause-blocks c =
-    let table = c.args.entities.now in
-    let s = state_of c.lines.builder in
-    let d = c.in_ok-document.document in
-    let none : chars c.lines.rest.now ≡ [] = empty_chars _ (is_none _ _ c.is_empty.ensures c.lines-test.false) in
-    (document_is table (chars c.args.text.now) (blocks_shown d.blocks.items, d.refs)
-    (c.in_ok-document.ensures ∙ (ap (λ (t : Text). document_left table (lines_of t) (shown s)) (sym none) ∙ sym c.lines.invariant.left))).0
-
-pub returns-clause-refs : goal.returns-clause-refs
-unfolding lines_of
-returns-clause-refs c =
-    let table = c.args.entities.now in
-    let s = state_of c.lines.builder in
-    let d = c.in_ok-document.document in
-    let none : chars c.lines.rest.now ≡ [] = empty_chars _ (is_none _ _ c.is_empty.ensures c.lines-test.false) in
-    (document_is table (chars c.args.text.now) (blocks_shown d.blocks.items, d.refs)
-    (c.in_ok-document.ensures ∙ (ap (λ (t : Text). document_left table (lines_of t) (shown s)) (sym none) ∙ sym c.lines.invariant.left))).1
+    c.in_ok-tree_of.ensures
+    ∙ (ap (λ (t : List code.Tag). (read (tags_shown t)).1) c.as_slice.ensures.value
+    ∙ (ap (λ (t : List Tag). (read t).1) c.in_ok-tagged.ensures.tags
+    ∙ ap (λ (o : Open). o.1) (read_tags _)))

@@ -5,7 +5,7 @@ use Rattle.doc_lines.specs.Cursors.{left_of}
 use Rattle.doc_blocks.specs.StateSteps.{State, below, met, shown, reached}
 use Rattle.doc_blocks.specs.BuilderSteps.{state_of}
 use Rattle.doc_blocks.specs.LevelSteps.{stack_of}
-use Rattle.doc_blocks.proofs.LevelLemmas.{length_outers}
+use Rattle.doc_blocks.proofs.LevelLemmas.{length_stack}
 use Rattle.doc_blocks.proofs.LeafLaws as leaves
 use Rattle.doc_blocks_pass.specs.OpenBlocks.{start_step}
 use Rattle.doc_blocks.proofs.builder.Builder.add.Goals as goal
@@ -16,10 +16,10 @@ returns-then-depth-clause-line c =
     let old = state_of c.args.self.now in
     let s : State = record old { stack = stack_of g } in
     let depth = c.go_down-depth.result in
-    let within : depth ≤ length s.stack.outer = omega (arith, length_outers g.outer.items g.inner.base g.done.items) in
+    let within : depth ≤ length s.stack.outer = omega (arith, length_stack g) in
     leaves.line_begins c.args.entities.now (left_of c.args.line.now) (left_of c.go_down-depth.new.line) depth old s
     (state_of c.begin.new.self) c.go_down-depth.ensures.goes refl refl within
-    (λ e. absurd (omega (arith, ap length e, length-drop depth s.stack.outer, length_outers g.outer.items g.inner.base g.done.items)))
+    (λ e. absurd (omega (arith, ap length e, length-drop depth s.stack.outer, length_stack g)))
     c.in_ok-begin.ensures.reached
 
 pub returns-then-branch-clause-line : goal.returns-then-branch-clause-line
@@ -28,8 +28,8 @@ returns-then-branch-clause-line c =
     let old = state_of c.args.self.now in
     let s : State = record old { stack = stack_of g } in
     let depth = c.go_down-depth.result in
-    let within : depth ≤ length s.stack.outer = omega (arith, length_outers g.outer.items g.inner.base g.done.items) in
-    let all : length s.stack.outer ≤ depth = omega (arith, length_outers g.outer.items g.inner.base g.done.items) in
+    let within : depth ≤ length s.stack.outer = omega (arith, length_stack g) in
+    let all : length s.stack.outer ≤ depth = omega (arith, length_stack g) in
     leaves.line_taken c.args.entities.now (left_of c.args.line.now) (left_of c.go_down-depth.new.line) depth old s
     (state_of c.is_taken.new.self) c.go_down-depth.ensures.goes refl refl within all
     (λ room nothing. c.in_ok-is_taken.ensures.yes c.if-branch.true room depth nothing)
@@ -43,7 +43,7 @@ returns-clause-line c =
     let rest = left_of c.go_down-depth.new.line in
     let table = c.args.entities.now in
     let n = state_of c.begin-2.new.self in
-    let within : depth ≤ length s.stack.outer = omega (arith, length_outers g.outer.items g.inner.base g.done.items) in
+    let within : depth ≤ length s.stack.outer = omega (arith, length_stack g) in
     let no = c.in_ok-is_taken.ensures.no c.if-branch.false in
     let R : State → Type 0 = λ t. reached depth t (start_step (100 - depth) table (met depth t) rest (below depth t)) ≡ shown n in
     leaves.line_begins table (left_of c.args.line.now) rest depth old s n c.go_down-depth.ensures.goes refl refl within (λ e. no.1)

@@ -6,7 +6,7 @@ use Rattle.doc_blocks_starts.specs.Items.{item_shown}
 use Rattle.doc_lines.specs.Cursors.{left_of}
 use Rattle.doc_blocks.specs.StateSteps.{State, StepsTo, item_opened, item_met, met}
 use Rattle.doc_blocks.specs.BuilderSteps.{state_of}
-use Rattle.doc_blocks.proofs.LevelLemmas.{length_outers}
+use Rattle.doc_blocks.proofs.LevelLemmas.{length_stack}
 use Rattle.doc_blocks.proofs.StateLaws as states
 use Rattle.doc_blocks.proofs.builder.Builder.begin_item_or_text.Goals as goal
 
@@ -24,7 +24,7 @@ returns-then-is_blank_line-clause-steps c =
     let l = c.args.self.now.levels in
     let line = left_of c.args.line.now in
     let table = c.args.entities.now in
-    let within : c.args.depth ≤ length s.stack.outer = omega (arith, length_outers l.outer.items l.inner.base l.done.items) in
+    let within : c.args.depth ≤ length s.stack.outer = omega (arith, length_stack l) in
     let item = item_shown c.in-Some.item c.take_item.new.line in
     let blank : is_blank_line item.first ≡ true = sym c.is_blank_line.ensures ∙ c.if-is_blank_line.true in
     let same : _ = ap (λ here. item_met (met c.args.depth s) (item_start (left_of here))) c.copy-inside.ensures in
@@ -40,7 +40,7 @@ returns-clause-steps c =
     let l = c.args.self.now.levels in
     let line = left_of c.args.line.now in
     let table = c.args.entities.now in
-    let within : c.args.depth ≤ length s.stack.outer = omega (arith, length_outers l.outer.items l.inner.base l.done.items) in
+    let within : c.args.depth ≤ length s.stack.outer = omega (arith, length_stack l) in
     let item = item_shown c.in-Some.item c.take_item.new.line in
     let some : is_blank_line item.first ≡ false = sym c.is_blank_line.ensures ∙ c.if-is_blank_line.false in
     let same : _ = ap (λ here. item_met (met c.args.depth s) (item_start (left_of here))) c.copy-inside.ensures in

@@ -7,7 +7,7 @@ use Rattle.doc_blocks_starts.specs.Lines.{inside_of}
 use Rattle.doc_blocks_leaves.specs.Starts.{start_of, start_shown}
 use Rattle.doc_blocks.specs.StateSteps.{State, met, item_met, StepsTo}
 use Rattle.doc_blocks.specs.BuilderSteps.{state_of}
-use Rattle.doc_blocks.proofs.LevelLemmas.{length_outers}
+use Rattle.doc_blocks.proofs.LevelLemmas.{length_stack}
 use Rattle.doc_blocks.proofs.StateLaws as states
 use Rattle.doc_blocks.proofs.builder.Builder.begin_one.Goals as goal
 
@@ -27,7 +27,7 @@ returns-then-take_quote-clause-steps c =
     let line = left_of c.args.line.now in
     let table = c.args.entities.now in
     let inside = left_of c.take_quote.new.line in
-    let within : c.args.depth ≤ length s.stack.outer = omega (arith, length_outers l.outer.items l.inner.base l.done.items) in
+    let within : c.args.depth ≤ length s.stack.outer = omega (arith, length_stack l) in
     let quote : quote_start line ≡ Some inside = sym c.take_quote.ensures.inside
     ∙ ap (λ (b : Bool). inside_of b c.take_quote.new.line) c.if-take_quote.true in
     λ room.

@@ -2,7 +2,7 @@ use Rattle.std.proofs.Common.{◌<◌, ◌≤◌, drop, length}
 use Rattle.std.proofs.Common.{sym, arith}
 use Rattle.std.proofs.lemmas.List.{length-drop}
 use Rattle.doc_blocks.specs.BuilderSteps.{state_of}
-use Rattle.doc_blocks.proofs.LevelLemmas.{length_outers}
+use Rattle.doc_blocks.proofs.LevelLemmas.{length_stack}
 use Rattle.doc_blocks.proofs.BuilderLaws as laws
 use Rattle.doc_blocks.proofs.builder.Builder.met.Goals as goal
 
@@ -16,7 +16,7 @@ returns-then-depth c =
     let s = state_of c.args.self.now in
     let l = c.args.self.now.levels in
     let some : 0 < length (drop c.args.depth s.stack.outer) = omega
-    (arith, length-drop c.args.depth s.stack.outer, length_outers l.outer.items l.inner.base l.done.items) in
+    (arith, length-drop c.args.depth s.stack.outer, length_stack l) in
     sym (laws.met_lazy (drop c.args.depth s.stack.outer) s.leaf _ (sym c.in-Some.ensures) some)
 
 pub returns : goal.returns
@@ -24,5 +24,5 @@ returns c =
     let s = state_of c.args.self.now in
     let l = c.args.self.now.levels in
     let none : length (drop c.args.depth s.stack.outer) ≤ 0 = omega
-    (arith, length-drop c.args.depth s.stack.outer, length_outers l.outer.items l.inner.base l.done.items) in
+    (arith, length-drop c.args.depth s.stack.outer, length_stack l) in
     sym (laws.met_in (drop c.args.depth s.stack.outer) s.leaf _ (sym c.in-Some.ensures) none)

@@ -1,6 +1,6 @@
 use Rattle.std.proofs.Common.{◌≤◌, ◌∙◌, sym, arith, length, refl}
 use Rattle.doc_blocks.specs.LevelSteps.{stack_of}
-use Rattle.doc_blocks.proofs.LevelLemmas.{length_outers}
+use Rattle.doc_blocks.proofs.LevelLemmas.{length_stack}
 use Rattle.doc_blocks.proofs.PathLaws.{closes_one_more, closes_no_more}
 use Rattle.doc_blocks.proofs.levels.Levels.close_to.Goals as goal
 
@@ -8,7 +8,7 @@ pub containers-preserved : goal.containers-preserved
 containers-preserved c =
     let n = c.close_last.new.self in
     let within : c.args.depth ≤ length (stack_of n).outer = omega
-    (arith, length_outers n.outer.items n.inner.base n.done.items, c.in_ok-close_last.ensures.depth) in
+    (arith, length_stack n, c.in_ok-close_last.ensures.depth) in
     record {
       sound = c.in_ok-close_last.ensures.sound;
       within = omega (arith, c.in_ok-close_last.ensures.depth);
@@ -19,5 +19,5 @@ containers-preserved c =
 pub returns-clause-stack : goal.returns-clause-stack
 returns-clause-stack c =
     let n = c.containers.self in
-    let all : length (stack_of n).outer ≤ c.args.depth = omega (arith, length_outers n.outer.items n.inner.base n.done.items) in
+    let all : length (stack_of n).outer ≤ c.args.depth = omega (arith, length_stack n) in
     sym (closes_no_more c.args.depth (stack_of n) all) ∙ (c.containers.invariant.closes ∙ refl)

@@ -5,7 +5,7 @@ use Rattle.doc_blocks.specs.PathSteps.{Descent}
 use Rattle.doc_blocks_starts.specs.Lines.{inside_of}
 use Rattle.std.specs.Prelude.{List}
 use Rattle.doc_lines.specs.Cursors.{Position, left_of}
-use Rattle.doc_blocks.proofs.LevelLemmas.{length_outers}
+use Rattle.doc_blocks.proofs.LevelLemmas.{length_stack}
 use Rattle.doc_blocks.proofs.PathLaws.{goes_further, goes_no_further, goes_through}
 use Rattle.doc_blocks.proofs.levels.Levels.go_down.Goals as goal
 
@@ -47,7 +47,7 @@ returns-then-not-matched_at-clause-goes c =
 pub returns-clause-goes : goal.returns-clause-goes
 returns-clause-goes c =
     let s = c.containers.self in
-    let all : length (stack_of s).outer ≤ c.containers.depth = omega (arith, length_outers s.outer.items s.inner.base s.done.items) in
+    let all : length (stack_of s).outer ≤ c.containers.depth = omega (arith, length_stack s) in
     record {
       descent = goes_through c.containers.depth (stack_of s).outer (left_of c.containers.line) _ all c.containers.invariant.descent;
       inner = c.containers.invariant.inner;

@@ -1,7 +1,12 @@
-use Rattle.std.proofs.Common.{◌<◌, List, ap, arith, length, refl}
+use Rattle.std.proofs.Common.{◌<◌, ◌∙◌, List, ap, arith, length, refl}
+use Rattle.doc_blocks_pass.specs.Paths.{gone_on}
+use Rattle.doc_blocks_tags.specs.Tags.{tags_shown}
+use Rattle.doc_blocks_tags.specs.OpenTags.{read}
+use Rattle.doc_blocks.specs.Containers.{container_shown}
 use Rattle.doc_blocks.specs.StackSteps.{Outer}
-use Rattle.doc_blocks.specs.LevelSteps.{stack_of}
-use Rattle.doc_blocks.proofs.LevelLemmas.{outers_gone, sound_gone}
+use Rattle.doc_blocks.specs.LevelSteps.{stack_of, round}
+use Rattle.doc_blocks.specs.declared.levels.Open.{Open}
+use Rattle.doc_blocks.proofs.LevelLemmas.{outers_gone, frames_gone, same_item}
 use Rattle.doc_blocks.proofs.levels.Levels.go_on_at.Goals as goal
 
 pub returns-clause-stack : goal.returns-clause-stack
@@ -9,17 +14,23 @@ returns-clause-stack c =
     let s = c.args.self.now in
     let o = c.index_mut.result.now in
     let within : c.args.place < length s.outer.items = omega arith in
+    let same = same_item s.outer.items c.args.place o c.index.result.now within c.index_mut.ensures.value c.index.ensures in
     ap (λ (os : List Outer). record (stack_of s) { outer = os })
-    (outers_gone s.outer.items c.args.place s.inner.base s.done.items o c.index.result.now
-    (record { level = o.level; container = c.gone_on.result }) within
-    c.index_mut.ensures.value c.index.ensures refl c.gone_on.ensures)
+    (outers_gone s.outer.items (round s.inner.list (read (tags_shown s.tags.items)).0) c.args.place o
+    (record { level = o.level; container = c.gone_on.result }) within c.index_mut.ensures.value refl
+    (c.gone_on.ensures ∙ ap (λ (x : Open). gone_on (container_shown x.container)) same))
 
 pub returns-clause-sound : goal.returns-clause-sound
 returns-clause-sound c =
     let s = c.args.self.now in
+    let h = c.requires.sound in
     let o = c.index_mut.result.now in
+    let within : c.args.place < length s.outer.items = omega arith in
+    let same = same_item s.outer.items c.args.place o c.index.result.now within c.index_mut.ensures.value c.index.ensures in
     record {
-      outer = sound_gone s.outer.items c.args.place s.inner.base o (record { level = o.level; container = c.gone_on.result })
-          c.index_mut.ensures.value refl c.requires.sound.outer;
-      inner = c.requires.sound.inner;
+      entries = h.entries;
+      last = h.last;
+      woven = h.woven;
+      fits = rw (frames_gone s.outer.items c.args.place o (record { level = o.level; container = c.gone_on.result })
+          c.index_mut.ensures.value refl (c.gone_on.ensures ∙ ap (λ (x : Open). gone_on (container_shown x.container)) same)) h.fits;
     }

@@ -1,20 +1,37 @@
-use Rattle.std.proofs.Common.{◌∙◌, ap, sym}
-use Rattle.std.proofs.Common.{Option}
+use Rattle.std.proofs.Common.{◌∙◌, ap, sym, List, [], ◌∷◌, ◌++◌, Option}
+use Rattle.doc_rules.specs.Forests.{◌▹◌}
 use Rattle.doc_blocks_pass.specs.Paths as paths
-use Rattle.doc_blocks_leaves.specs.declared.block.Block.{Block}
+use Rattle.doc_blocks_tags.specs.Tags.{Tag, OneLeaf, leaf_shown, tags_shown}
+use Rattle.doc_blocks_tags.specs.declared.tag.LeafBlock.{LeafBlock}
+use Rattle.doc_blocks_tags.proofs.TagLaws.{open_leaf}
 use Rattle.doc_blocks_leaves.specs.Views.{with_block}
 use Rattle.doc_blocks.specs.StackSteps.{with_inner_blocks}
 use Rattle.doc_blocks.specs.LevelSteps.{stack_of}
-use Rattle.doc_blocks.proofs.LevelLemmas.{stack_pushed, put_behind}
+use Rattle.doc_blocks.proofs.LevelLemmas.{leaf_pushed, stack_pushed, put_behind}
 use Rattle.doc_blocks.proofs.levels.Levels.put.Goals as goal
 
 pub returns-in_ok-push-clause-stack : goal.returns-in_ok-push-clause-stack
 unfolding with_block
 returns-in_ok-push-clause-stack c =
-    let s = c.finish_list.new.self in
-    put_behind (stack_of c.args.self.now) _ (stack_of s) c.in-Some.block _ c.in_ok-finish_list.ensures.stack
-    (stack_pushed s.outer.items s.inner.base s.done.items c.push.new.self.items s.inner.gap s.inner.list s.blank c.in-Some.block
-    c.in_ok-finish_list.ensures.sound.outer c.in_ok-finish_list.ensures.sound.inner c.in_ok-finish_list.ensures.bare
-    c.in_ok-push.ensures.items)
-    ∙ ap (λ (b : Option Block). with_inner_blocks (stack_of c.args.self.now)
-    (with_block b (paths.finished (stack_of c.args.self.now).inner))) (sym c.in-Some.is)
+    let f = c.finish_list.new.self in
+    let h = c.in_ok-finish_list.ensures.sound in
+    let leaf = leaf_shown c.in-Some.leaf in
+    put_behind (stack_of c.args.self.now) _ (stack_of f) leaf _ c.in_ok-finish_list.ensures.stack
+    (stack_pushed f.outer.items f.inner.gap f.inner.list f.blank (tags_shown f.tags.items) (tags_shown c.push.new.self.items) h.entries h.last
+    leaf c.in_ok-finish_list.ensures.bare h.woven
+    (leaf_pushed f.tags.items c.push.new.self.items c.in-Some.leaf c.in_ok-push.ensures.items))
+    ∙ ap (λ (l : Option LeafBlock). with_inner_blocks (stack_of c.args.self.now)
+    (with_block l (paths.finished (stack_of c.args.self.now).inner))) (sym c.in-Some.is)
+
+pub returns-in_ok-push-clause-sound : goal.returns-in_ok-push-clause-sound
+returns-in_ok-push-clause-sound c =
+    let f = c.finish_list.new.self in
+    let h = c.in_ok-finish_list.ensures.sound in
+    let leaf = leaf_shown c.in-Some.leaf in
+    record {
+      entries = h.entries;
+      last = h.last ▹ leaf;
+      woven = leaf_pushed f.tags.items c.push.new.self.items c.in-Some.leaf c.in_ok-push.ensures.items
+          ∙ (ap (λ (t : List Tag). t ++ OneLeaf leaf ∷ []) h.woven ∙ open_leaf h.entries h.last leaf);
+      fits = h.fits;
+    }

@@ -7,15 +7,15 @@ use Rattle.doc_blocks_leaves.specs.Views.{with_block}
 use Rattle.doc_blocks_leaves.proofs.LeafSteps.{heading_begun, break_begun, fence_begun, fence_opened}
 use Rattle.doc_blocks_leaves.proofs.leaf.OpenLeaf.begin.Goals as goal
 
-pub returns-in_ok-copy_of-in-Heading-clause-leaf : goal.returns-in_ok-copy_of-in-Heading-clause-leaf
+pub returns-in_ok-keep-in-Heading-clause-leaf : goal.returns-in_ok-keep-in-Heading-clause-leaf
 unfolding leaf_shown leaf_lines open_of
-returns-in_ok-copy_of-in-Heading-clause-leaf c = rw c.in-Heading.is refl
+returns-in_ok-keep-in-Heading-clause-leaf c = rw c.in-Heading.is refl
 
-pub returns-in_ok-copy_of-in-Heading-clause-block : goal.returns-in_ok-copy_of-in-Heading-clause-block
+pub returns-in_ok-keep-in-Heading-clause-block : goal.returns-in_ok-keep-in-Heading-clause-block
 unfolding leaf_lines
-returns-in_ok-copy_of-in-Heading-clause-block c =
-    rw c.in-Heading.is (λ before. heading_begun c.args.entities.now c.in-Heading.heading.level c.in_ok-copy_of-in-Heading.field-0
-    c.in-Heading.heading.text.now before c.in_ok-copy_of-in-Heading.ensures)
+returns-in_ok-keep-in-Heading-clause-block c =
+    rw c.in-Heading.is (λ before. heading_begun c.args.entities.now c.in-Heading.heading.level c.in_ok-keep-in-Heading.field-0
+    c.in-Heading.heading.text before c.in_ok-keep-in-Heading.ensures)
 
 pub returns-in_ok-info-in-Fenced-clause-leaf : goal.returns-in_ok-info-in-Fenced-clause-leaf
 unfolding leaf_shown leaf_lines

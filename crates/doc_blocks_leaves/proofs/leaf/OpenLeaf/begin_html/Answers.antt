@@ -32,5 +32,5 @@ returns-clause-block c = λ table before.
     let all : c.add_rest.new.self.all ≡ text_of line = c.in_ok-add_rest.ensures.all ∙ ap (λ xs. xs ++ text_of line) c.clear.ensures.all in
     let kept = first_kept line c.is_blank_line.result c.add_rest.new.self.kept c.add_rest.new.self.all c.keep.new.self.kept
     c.is_blank_line.ensures (c.add_rest.ensures.kept ∙ c.clear.ensures.kept) all c.keep.ensures.kept in
-    rw c.if-goes_on.false (html_begun table (kind_of c.args.kind) line c.keep.new.self.kept c.in_ok-copy_of.field-0 c.kept.result.now
-    before c.in_ok-copy_of.ensures c.kept.ensures kept)
+    rw c.if-goes_on.false (html_begun table (kind_of c.args.kind) line c.keep.new.self.kept c.in_ok-keep.field-0 c.kept.result
+    before c.in_ok-keep.ensures c.kept.ensures kept)

@@ -1,5 +1,6 @@
-use Rattle.std.proofs.Common.{rules, ◌≡◌, ℕ, List, subst, chars}
+use Rattle.std.proofs.Common.{Bor, rules, ◌≡◌, subst, chars}
 use Rattle.std.specs.Prelude.{Option, None}
+use Rattle.doc_rules.specs.Characters.{Text}
 use Rattle.doc_blocks_leaves.proofs.LeafSteps.{Leaves, other_stays, other_makes_none, other_defines_none, paragraph_goes}
 use Rattle.doc_blocks_leaves.proofs.LeafSteps.{heading_of_paragraph, no_heading_of_paragraph, paragraph_defines}
 use Rattle.doc_blocks_leaves.proofs.leaf.OpenLeaf.underline.Goals as goal
@@ -19,8 +20,8 @@ returns-in_default-text-clause-leaf c = paragraph_goes c.args.self.now _ _ c.in-
 pub returns-in_default-text-clause-block : goal.returns-in_default-text-clause-block
 returns-in_default-text-clause-block c =
     let none : c.in_ok-text.text ≡ None = search rules in
-    λ before. no_heading_of_paragraph c.args.entities.now c.args.level c.args.self.now c.in-Some.above.now before c.in-Some.ensures
-    (subst (λ (r : Option (List ℕ)). Leaves r c.args.entities.now (chars c.in-Some.above.now)) none c.in_ok-text.ensures.text)
+    λ before. no_heading_of_paragraph c.args.entities.now c.args.level c.args.self.now c.in-Some.above before c.in-Some.ensures
+    (subst (λ (r : Option (Bor Text)). Leaves r c.args.entities.now (chars c.in-Some.above.now)) none c.in_ok-text.ensures.text)
 
 pub returns-in_default-text-clause-refs : goal.returns-in_default-text-clause-refs
 returns-in_default-text-clause-refs c = paragraph_defines c.args.entities.now _ _ c.args.self.now (chars c.in-Some.above.now)
@@ -30,8 +31,8 @@ pub returns-clause-leaf : goal.returns-clause-leaf
 returns-clause-leaf c = paragraph_goes c.args.self.now _ _ c.in-Some.ensures c.clear.ensures
 
 pub returns-clause-block : goal.returns-clause-block
-returns-clause-block c = λ before. heading_of_paragraph c.args.entities.now c.args.level c.args.self.now _ c.in-Some.above.now before
-    c.in-Some.ensures (subst (λ (r : Option (List ℕ)). Leaves r c.args.entities.now (chars c.in-Some.above.now)) c.in-Some-text.is
+returns-clause-block c = λ before. heading_of_paragraph c.args.entities.now c.args.level c.args.self.now _ c.in-Some.above before
+    c.in-Some.ensures (subst (λ (r : Option (Bor Text)). Leaves r c.args.entities.now (chars c.in-Some.above.now)) c.in-Some-text.is
     c.in_ok-text.ensures.text)
 
 pub returns-clause-refs : goal.returns-clause-refs

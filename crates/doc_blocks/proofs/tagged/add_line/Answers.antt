@@ -4,7 +4,7 @@ use Rattle.doc_rules.specs.Columns.{cells_of}
 use Rattle.doc_lines.specs.Cursors.{Position, left_of}
 use Rattle.doc_blocks.specs.StateSteps.{after_line}
 use Rattle.doc_blocks.specs.BuilderSteps.{state_of}
-use Rattle.doc_blocks.proofs.document.add_line.Goals as goal
+use Rattle.doc_blocks.proofs.tagged.add_line.Goals as goal
 
 pub returns-then-not-first-clause-line : goal.returns-then-not-first-clause-line
 returns-then-not-first-clause-line c =

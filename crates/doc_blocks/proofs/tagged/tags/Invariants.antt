@@ -7,7 +7,7 @@ use Rattle.doc_blocks_pass.specs.Paths.{empty_path}
 use Rattle.doc_blocks.specs.StateSteps.{shown, document_left}
 use Rattle.doc_blocks.specs.BuilderSteps.{state_of}
 use Rattle.doc_blocks.specs.LevelSteps.{IsSound}
-use Rattle.doc_blocks.proofs.document.blocks.Given as goal
+use Rattle.doc_blocks.proofs.tagged.tags.Given as goal
 
 abbrev pub invariant-lines : goal.invariant-lines
 invariant-lines l = record {

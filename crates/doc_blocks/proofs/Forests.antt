@@ -4,10 +4,10 @@ use Rattle.std.specs.Prelude.{Option}
 use Rattle.doc_rules.specs.Forests.{none, ◌▹◌, node}
 use Rattle.doc_rules.specs.Blocks.{Paragraph, Heading, IndentedCode, FencedCode, HtmlBlock, ThematicBreak, BlockQuote, ListBlock, ListItem}
 use Rattle.doc_rules.specs.Blocks.{Blocks}
-use Rattle.doc_blocks_leaves.specs.declared.block.Block.{Block, fold-roll-Block}
-use Rattle.doc_blocks_leaves.specs.declared.block.Block.TheOpen.{Block-F}
-use Rattle.doc_blocks_leaves.specs.declared.block.Block.TheVariants as variants
-use Rattle.doc_blocks_leaves.specs.Views.{run, step, behind, forest, blocks_shown}
+use Rattle.doc_blocks.specs.declared.block.Block.{Block, fold-roll-Block}
+use Rattle.doc_blocks.specs.declared.block.Block.TheOpen.{Block-F}
+use Rattle.doc_blocks.specs.declared.block.Block.TheVariants as variants
+use Rattle.doc_blocks.specs.Views.{run, step, behind, forest, blocks_shown}
 
 -- ---- several blocks
 

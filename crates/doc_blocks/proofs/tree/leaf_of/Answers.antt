@@ -1,0 +1,45 @@
+use Rattle.std.proofs.Common.{◌∙◌, ap, sym, chars, List, ℕ}
+use Rattle.doc_rules.specs.Forests.{◌▹◌}
+use Rattle.doc_rules.specs.Blocks.{Paragraph, Heading, IndentedCode, FencedCode, HtmlBlock}
+use Rattle.doc_blocks_tags.specs.Tags.{leaf_shown}
+use Rattle.doc_blocks_tags.specs.declared.tag.LeafBlock.{LeafBlock}
+use Rattle.doc_blocks.proofs.Forests.{behind_para, behind_heading, behind_code, behind_fence, behind_html, behind_break}
+use Rattle.doc_blocks.proofs.tree.leaf_of.Goals as goal
+
+pub returns-in_ok-copy_of-in-Para : goal.returns-in_ok-copy_of-in-Para
+unfolding leaf_shown
+returns-in_ok-copy_of-in-Para c = λ before. behind_para c.in_ok-copy_of-in-Para.field-0 before
+    ∙ (ap (λ (t : List ℕ). before ▹ Paragraph (chars t)) c.in_ok-copy_of-in-Para.ensures
+    ∙ sym (ap (λ (l : LeafBlock). before ▹ leaf_shown l) c.in-Para.is))
+
+pub returns-in_ok-copy_of-in-Heading : goal.returns-in_ok-copy_of-in-Heading
+unfolding leaf_shown
+returns-in_ok-copy_of-in-Heading c = λ before. behind_heading c.in-Heading.level c.in_ok-copy_of-in-Heading.field-0 before
+    ∙ (ap (λ (t : List ℕ). before ▹ Heading c.in-Heading.level (chars t)) c.in_ok-copy_of-in-Heading.ensures
+    ∙ sym (ap (λ (l : LeafBlock). before ▹ leaf_shown l) c.in-Heading.is))
+
+pub returns-in_ok-copy_of-in-Code : goal.returns-in_ok-copy_of-in-Code
+unfolding leaf_shown
+returns-in_ok-copy_of-in-Code c = λ before. behind_code c.in_ok-copy_of-in-Code.field-0 before
+    ∙ (ap (λ (t : List ℕ). before ▹ IndentedCode (chars t)) c.in_ok-copy_of-in-Code.ensures
+    ∙ sym (ap (λ (l : LeafBlock). before ▹ leaf_shown l) c.in-Code.is))
+
+pub returns-in_ok-copy_of-in-Fence-2 : goal.returns-in_ok-copy_of-in-Fence-2
+unfolding leaf_shown
+returns-in_ok-copy_of-in-Fence-2 c =
+    let info = c.in_ok-copy_of-in-Fence.field-0 in
+    let text = c.in_ok-copy_of-in-Fence-2.field-0 in
+    λ before. behind_fence info text before
+    ∙ (ap (λ (t : List ℕ). before ▹ FencedCode (chars t) (chars text)) c.in_ok-copy_of-in-Fence.ensures
+    ∙ (ap (λ (t : List ℕ). before ▹ FencedCode (chars c.in-Fence.info.now) (chars t)) c.in_ok-copy_of-in-Fence-2.ensures
+    ∙ sym (ap (λ (l : LeafBlock). before ▹ leaf_shown l) c.in-Fence.is)))
+
+pub returns-in_ok-copy_of-in-Html : goal.returns-in_ok-copy_of-in-Html
+unfolding leaf_shown
+returns-in_ok-copy_of-in-Html c = λ before. behind_html c.in_ok-copy_of-in-Html.field-0 before
+    ∙ (ap (λ (t : List ℕ). before ▹ HtmlBlock (chars t)) c.in_ok-copy_of-in-Html.ensures
+    ∙ sym (ap (λ (l : LeafBlock). before ▹ leaf_shown l) c.in-Html.is))
+
+pub returns-in-Break : goal.returns-in-Break
+unfolding leaf_shown
+returns-in-Break c = λ before. behind_break before ∙ sym (ap (λ (l : LeafBlock). before ▹ leaf_shown l) c.in-Break.is)
