@@ -10,9 +10,10 @@
 //!    went down closes first;
 //! 4. and where it begins nothing, is text (`Builder::put_text`): blank, a line of the open paragraph, indented code, or a new paragraph.
 //!
-//! A finished block goes onto one stack, of which a container that closes takes its own off the end, so nothing is moved twice. That one
-//! pass gives the document of the rules is the law of `doc_blocks_pass`; here each call is tied to its step there. Where a call answers
-//! `Memory`, nothing is known of what is open: `blocks` lets all of it go.
+//! What is finished stands as tags in a row, in the order of the text (`levels`): a leaf block is one, and a container has one where it
+//! starts and one where it ends, so nothing is moved. `tags` answers that row, and `blocks` the tree that it makes (`tree`). That one pass
+//! gives the document of the rules is the law of `doc_blocks_pass`; here each call is tied to its step there. Where a call answers
+//! `Memory`, nothing is known of what is open: `tags` lets all of it go.
 #![tactic(auto)]
 
 mod block;
