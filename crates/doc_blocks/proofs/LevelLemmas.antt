@@ -1,6 +1,6 @@
 -- What each level has of the tags, as tags and open containers change.
-use Rattle.std.proofs.Common.{◌≡◌, ◌∙◌, ℕ, suc, ◌+◌, ◌<◌, Bool, true, false, ◌&&◌, not, List, [], ◌∷◌, ◌++◌, map, reverse, drop, length, refl}
-use Rattle.std.proofs.Common.{ap, sym, subst, arith, zero, get_or, set, Option, Some, None}
+use Rattle.std.proofs.Common.{◌≡◌, ◌∙◌, ℕ, suc, ◌+◌, ◌<◌, Bool, true, false, ◌&&◌, not, List, [], ◌∷◌, ◌++◌, map, reverse, drop, length}
+use Rattle.std.proofs.Common.{refl, ap, sym, subst, arith, zero, get_or, set, Option, Some, None}
 use Rattle.std.proofs.lemmas.List.{reverse-append, map-append, map-set, length-append, length-map, length-reverse}
 use Rattle.std.proofs.Math.Seq.{map-set_same}
 use Rattle.doc_rules.specs.Forests.{none, ◌▹◌, node}
@@ -26,7 +26,8 @@ use Rattle.doc_blocks.specs.declared.levels.Left.{Left}
 use Rattle.doc_blocks.specs.declared.levels.Levels.{Levels}
 use Rattle.doc_blocks.specs.declared.container.Container as held
 use Rattle.doc_blocks.specs.declared.container.Container.TheVariants.{Quote, Item}
-use Rattle.doc_blocks.specs.StackSteps.{Outer, Stack, empty_stack, with_inner_blocks, block_begun, item_begun, container_opened, stack_loosened, loosened}
+use Rattle.doc_blocks.specs.StackSteps.{Outer, Stack, empty_stack, with_inner_blocks, block_begun, item_begun, container_opened}
+use Rattle.doc_blocks.specs.StackSteps.{stack_loosened, loosened}
 use Rattle.doc_blocks.specs.StackSteps.{container_blank, IsNotOf, ClosesLast}
 use Rattle.doc_blocks.specs.Containers.{container_shown, block_of}
 use Rattle.doc_blocks.specs.PathSteps.{gone_on_at}
@@ -92,7 +93,8 @@ length_stack s = length_outers s.outer.items (round s.inner.list (read (tags_sho
 
 container_here : (levels : List paths.Level) (outer : List Open) (n : ℕ) (o : Open) → length levels ≡ length outer → n < length outer
     → o ≡ get_or outer n o →
-    (l : paths.Level) × (drop n (with_containers levels outer) ≡ (l, container_shown o.container) ∷ drop (suc n) (with_containers levels outer))
+    (l : paths.Level)
+    × (drop n (with_containers levels outer) ≡ (l, container_shown o.container) ∷ drop (suc n) (with_containers levels outer))
 container_here [] [] n o e h f = absurd (omega (arith, h))
 container_here [] (a ∷ outer) n o e h f = absurd (omega (arith, e))
 container_here (l ∷ levels) [] n o e h f = absurd (omega (arith, h))
@@ -353,7 +355,8 @@ stack_item_begun outer gap blank l s state e f g =
     ∙ sym (ap (λ (level : paths.Level). stack_with s.outer level false)
     (item_not_of s.inner s.blank (kind_of l.kind) l.start s.inner.list g)))
 
-pub stack_list_begun : (outer : List Open) (gap : Bool) (list : Option OpenList) (blank : Bool) (l : OpenList) (s : Stack) (ts ts' : List Tag)
+pub stack_list_begun : (outer : List Open) (gap : Bool) (list : Option OpenList) (blank : Bool) (l : OpenList) (s : Stack)
+    (ts ts' : List Tag)
     (entries : List Entry) (last : Blocks) → list ≡ None → ts ≡ open_tags entries last → ts' ≡ ts ++ Start (list_of l true) ∷ []
     → l.tight ≡ true → stack_at outer gap list blank (read ts) ≡ block_begun s → IsNotOf (kind_of l.kind) s.inner.list →
     stack_at outer gap (Some l) blank (read ts') ≡ item_begun s (kind_of l.kind) l.start
@@ -400,17 +403,19 @@ sound_opened outer outer' level inner container last entries e g suits fits =
 
 -- ---- a container is left
 
+abbrev LastFits : Open → List Frame → List Entry → Type 0
+LastFits o frames entries = (before : Blocks) × ((rest : List Entry) × ((entries ≡ (block_of o.container, before) ∷ rest)
+    × (Suits (block_of o.container) o.level.list × LevelFits o.level.list rest (AreSound frames))))
+
 last_is : (o : Open) (frames : List Frame) (entries : List Entry) → AreSound ((o.level, block_of o.container) ∷ frames) entries →
-    (before : Blocks) × ((rest : List Entry) × ((entries ≡ (block_of o.container, before) ∷ rest) × (Suits (block_of o.container) o.level.list
-    × LevelFits o.level.list rest (AreSound frames))))
+    LastFits o frames entries
 last_is o frames [] sound = absurd sound
 last_is o frames (entry ∷ entries) sound =
     (entry.1, (entries, (ap (λ (c : Container). (c, entry.1) ∷ entries) sound.0, sound.1)))
 
 -- the innermost container, and what stands before it
 pub last_fits : (outer : List Open) (o : Open) (entries : List Entry) → AreSound (frames_of (outer ++ o ∷ [])) entries →
-    (before : Blocks) × ((rest : List Entry) × ((entries ≡ (block_of o.container, before) ∷ rest) × (Suits (block_of o.container) o.level.list
-    × LevelFits o.level.list rest (AreSound (frames_of outer)))))
+    LastFits o (frames_of outer) entries
 last_fits outer o entries sound =
     let frames : AreSound ((o.level, block_of o.container) ∷ frames_of outer) entries = rw (← frames_push outer o) sound in
     last_is o (frames_of outer) entries frames
@@ -434,8 +439,7 @@ gap_shown (entry ∷ entries) last gap (Some l) = refl
 
 pub last_of : (outer outer' : List Open) (list : Option OpenList) (o : Open) (entries : List Entry) → list ≡ None
     → LevelFits list entries (AreSound (frames_of outer)) → outer ≡ outer' ++ o ∷ [] →
-    (before : Blocks) × ((rest : List Entry) × ((entries ≡ (block_of o.container, before) ∷ rest) × (Suits (block_of o.container) o.level.list
-    × LevelFits o.level.list rest (AreSound (frames_of outer')))))
+    LastFits o (frames_of outer') entries
 last_of outer outer' list o entries e fits f =
     let S : List Open → Type 0 = λ os. AreSound (frames_of os) entries in
     last_fits outer' o entries (subst S f (bare_fits list entries (AreSound (frames_of outer)) e fits))
@@ -456,7 +460,7 @@ pub leaves_left : (outer outer' : List Open) (gap : Bool) (list : Option OpenLis
     → left ≡ inside → level ≡ o.level → container_block block ≡ block_of o.container → ts' ≡ ts ++ tag.End block ∷ [] →
     inside.gap ≡ gap →
     Leaves s (stack_at outer' level.gap level.list blank (read (tags_shown ts'))) (record { container = o.container; gap = left.gap })
-leaves_left outer outer' gap list blank o left inside level ts ts' block entries last s e bare woven fits popped value after shown pushed same =
+leaves_left outer outer' gap list blank o left inside level ts ts' block entries last s e bare woven fits popped was after shown pushed g =
     let found = last_of outer outer' list o entries bare fits popped in
     let before = found.0 in
     let rest = found.1.0 in
@@ -484,8 +488,8 @@ leaves_left outer outer' gap list blank o left inside level ts ts' block entries
           ∙ (ap (λ (r : tags.Open). level_at r.0 r.1 o.level.gap o.level.list) new
           ∙ (inside_put o.container o.level.gap o.level.list before last rest suits
           ∙ ap (λ (bs : Blocks). put_inside (level_at rest before o.level.gap o.level.list) (container_shown o.container) bs) inner_is));
-      gap = ap (λ (l : Level). l.gap) value
-          ∙ (same ∙ (sym (gap_shown (read (tags_shown ts)).0 (read (tags_shown ts)).1 gap list) ∙ ap (λ (t : Stack). t.inner.gap) e));
+      gap = ap (λ (l : Level). l.gap) was
+          ∙ (g ∙ (sym (gap_shown (read (tags_shown ts)).0 (read (tags_shown ts)).1 gap list) ∙ ap (λ (t : Stack). t.inner.gap) e));
       blank = ap (λ (t : Stack). t.blank) e;
     }
 

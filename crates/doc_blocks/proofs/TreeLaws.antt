@@ -1,5 +1,6 @@
 -- What a tree shows of tags, tag by tag.
-use Rattle.std.proofs.Common.{◌≡◌, ◌∙◌, ℕ, ◌+◌, ◌<◌, List, [], ◌∷◌, ◌++◌, map, reverse, take, length, get_or, refl, ap, sym, arith, Vec, Global}
+use Rattle.std.proofs.Common.{◌≡◌, ◌∙◌, ℕ, ◌+◌, ◌<◌, List, [], ◌∷◌, ◌++◌, map, reverse, take, length, get_or, refl, ap, sym, arith}
+use Rattle.std.proofs.Common.{Vec, Global}
 use denote.Bor.{Bor}
 use Rattle.std.proofs.lemmas.List.{reverse-append, map-append, take_more}
 use Rattle.doc_heap.specs.declared.refusing.Refusing.{Refusing}
@@ -73,7 +74,8 @@ shows_no_end tree tree' container (entry ∷ entries) last h e f g =
     sym (ap (λ (outer : List Children). befores outer) (no_items tree.before.items e)) ∙ h.before in
     absurd cc
 
-pub shows_end : (tree tree' : Tree) (container : Container) (entries : List Entry) (last : Blocks) (before inside : Children) (block : Block)
+pub shows_end : (tree tree' : Tree) (container : Container) (entries : List Entry) (last : Blocks) (before inside : Children)
+    (block : Block)
     → Shows tree (entries, last) → tree.before.items ≡ tree'.before.items ++ before ∷ [] → inside ≡ tree.blocks
     → tree'.blocks.items ≡ before.items ++ block ∷ []
     → ((bs : Blocks) → behind block bs ≡ node bs container (blocks_shown inside.items))

@@ -29,7 +29,8 @@ returns-clause-stack c =
     let h = c.requires in
     let F : Option OpenList → Type 0 = λ o. LevelFits o h.entries (AreSound (frames_of s.outer.items)) in
     let first = first_fits l h.entries (AreSound (frames_of s.outer.items)) (subst F (sym c.in-Some.ensures.value) h.fits) in
-    stack_listed s.outer.items s.inner.gap s.inner.list c.take.new.self l s.blank (tags_shown s.tags.items) (tags_shown c.push.new.self.items)
+    stack_listed s.outer.items s.inner.gap s.inner.list c.take.new.self l s.blank (tags_shown s.tags.items) (tags_shown
+    c.push.new.self.items)
     h.entries first.0 h.last first.1.0 c.in-Some.ensures.value c.in-Some.ensures.after h.woven first.1.1.0
     (list_ends s.tags.items c.push.new.self.items c.block-block.result l h.entries first.0 h.last first.1.0 h.woven first.1.1.0
     first.1.1.1.0 c.block-block.ensures c.in_ok-push.ensures.items)

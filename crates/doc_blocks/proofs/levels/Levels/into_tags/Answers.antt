@@ -16,8 +16,10 @@ returns c =
     let f = c.finish_list.new.self in
     let e = c.in_ok-finish_list.ensures in
     let h = e.sound in
-    let none : length f.outer.items ≡ 0 = ap (λ (v : Vec Open (Bor (Refusing Global))). length v.items) e.outer ∙ omega (arith, c.requires.closed) in
-    let nothing = none_sound f.outer.items h.entries none (bare_fits f.inner.list h.entries (AreSound (frames_of f.outer.items)) e.bare h.fits)
+    let none : length f.outer.items ≡ 0 = ap (λ (v : Vec Open (Bor (Refusing Global))). length v.items) e.outer
+    ∙ omega (arith, c.requires.closed) in
+    let nothing = none_sound f.outer.items h.entries none (bare_fits f.inner.list h.entries (AreSound (frames_of f.outer.items)) e.bare
+    h.fits)
     in
     h.woven
     ∙ (ap (λ (es : List Entry). open_tags es h.last) nothing

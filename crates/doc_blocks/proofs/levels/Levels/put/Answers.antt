@@ -17,7 +17,8 @@ returns-in_ok-push-clause-stack c =
     let h = c.in_ok-finish_list.ensures.sound in
     let leaf = leaf_shown c.in-Some.leaf in
     put_behind (stack_of c.args.self.now) _ (stack_of f) leaf _ c.in_ok-finish_list.ensures.stack
-    (stack_pushed f.outer.items f.inner.gap f.inner.list f.blank (tags_shown f.tags.items) (tags_shown c.push.new.self.items) h.entries h.last
+    (stack_pushed f.outer.items f.inner.gap f.inner.list f.blank (tags_shown f.tags.items) (tags_shown c.push.new.self.items) h.entries
+    h.last
     leaf c.in_ok-finish_list.ensures.bare h.woven
     (leaf_pushed f.tags.items c.push.new.self.items c.in-Some.leaf c.in_ok-push.ensures.items))
     ∙ ap (λ (l : Option LeafBlock). with_inner_blocks (stack_of c.args.self.now)
