@@ -4,6 +4,8 @@ pub mod CutSteps
 pub mod InlineLaws
 pub mod PlainTextSteps
 pub mod TellingSteps
+pub mod TagSteps
+pub mod FlatteningSteps
 pub mod WordSteps
 pub mod WriterSteps
 pub mod WrittenSteps

@@ -21,7 +21,7 @@ use Rattle.doc_page.specs.declared.linker.Shown.TheVariants.{Href}
 use Rattle.doc_rules.specs.Characters.{Text, one_of}
 use Rattle.doc_rules.specs.Escaping.{percent, url_char, url_escape}
 use Rattle.doc_rules.specs.Entities.{Table}
-use Rattle.doc_rules.specs.Blocks.{Blocks, document_of}
+use Rattle.doc_rules.specs.Blocks.{document_of}
 use Rattle.doc_rules.specs.Html.{plain_linker, html_of, rendered_plain}
 use Rattle.doc_rules.specs.Pages.{encoded_shown}
 use Rattle.doc_rules.specs.Laws.{ShowsAlike}
@@ -165,7 +165,6 @@ pub plain_alike : ShowsAlike plain_shown plain_linker
 unfolding plain_shown plain_linker encoded_shown
 plain_alike dest = ap (λ u. Href (encode_utf8_all u)) (sym (url_by_bytes dest))
 
-pub plain_told : (table : Table) (text : Text) (blocks : Blocks) → blocks ≡ (document_of table text).blocks →
-    html_of table plain_linker [] (record { blocks = blocks; refs = (document_of table text).refs }) ≡ rendered_plain table text
+pub plain_told : (table : Table) (text : Text) → html_of table plain_linker [] (document_of table text) ≡ rendered_plain table text
 unfolding rendered_plain
-plain_told table text blocks e = ap (λ b. html_of table plain_linker [] (record { blocks = b; refs = (document_of table text).refs })) e
+plain_told table text = refl

@@ -1,25 +1,16 @@
 -- Blocks as they are written, step by step.
-use Rattle.std.proofs.Common.{◌≡◌, ℕ, ◌<◌, Bool, true, false, List, [], ◌∷◌, ◌++◌, ap, sym, ◌∙◌, subst, append_assoc, ◌+◌, length, take}
-use Rattle.std.proofs.Common.{get_or}
+use Rattle.std.proofs.Common.{◌≡◌, ℕ, ◌<◌, Bool, true, false, List, [], ◌∷◌, ◌++◌, ap, sym, subst, append_assoc}
 use Rattle.std.specs.Prelude.{codes, decimal, ◌^◌}
 use Rattle.std.specs.Str.{chars}
 use Rattle.std.proofs.lemmas.Str.{chars-IsAscii}
 use Rattle.std.proofs.lemmas.Fmt.{IsAscii-decimal}
-use Rattle.std.proofs.lemmas.List.{take_more}
-use Rattle.doc_blocks_leaves.proofs.Forests.{forest_push}
 use Rattle.doc_rules.specs.Characters.{Text}
-use Rattle.doc_rules.specs.Definitions.{Definition}
-use Rattle.doc_rules.specs.Entities.{Table}
 use Rattle.doc_rules.specs.Escaping.{html_escape}
-use Rattle.doc_rules.specs.Forests.{none, ◌▹◌, node}
-use Rattle.doc_rules.specs.Blocks.{Leaf, Container, Blocks}
 use Rattle.doc_rules.specs.Inlines.{Inline}
 use Rattle.doc_rules.specs.PlainTexts.{plain_text}
-use Rattle.doc_rules.specs.Html.{Output, characters, inlines_html, language_class, is_tight_inside}
-use Rattle.doc_blocks_leaves.specs.declared.block.Block.{Block}
-use Rattle.doc_blocks_leaves.specs.Views.{behind, forest, blocks_shown}
+use Rattle.doc_rules.specs.Html.{Output, characters, inlines_html, language_class}
 use Rattle.doc_html.specs.ProgressSteps.{Progress, told, on_new_line, text_met, heading_met, Goes, Writes}
-use Rattle.doc_html.specs.TellingSteps.{paragraph_told, heading_told, code_told, leaf_told, start_told, end_told, blocks_told}
+use Rattle.doc_html.specs.TellingSteps.{paragraph_told, heading_told, code_told}
 use Rattle.doc_html.proofs.WriterSteps.{nothing, both, same, texts}
 
 pub three : {W : Type 0} (holds : W → Progress → Type 0) (a b c d : W) (x y z : Output) → Writes holds a b x → Writes holds b c y
@@ -114,48 +105,3 @@ some_class holds a b c d word rest first e f g h =
     subst (λ t. Writes holds a d (characters (language_class t))) (sym e)
     (texts holds a c d (codes " class=\"language-" ++ html_escape (first ∷ rest)) (codes "\"")
     (texts holds a b c (codes " class=\"language-") (html_escape (first ∷ rest)) f word_is) h)
-
--- ---- blocks
-
-pub none_told : (P : Progress → Type 0) (table : Table) (refs : List Definition) (tight : Bool) (p : Progress) → P p
-    → P (blocks_told table refs tight none p)
-unfolding blocks_told
-none_told P table refs tight p h = h
-
-module _ {W : Type 0} (holds : W → Progress → Type 0) (table : Table) (refs : List Definition) (tight : Bool) (p : Progress) where
-  pub leaf_block : (a b : W) (block : Block) (leaf : Leaf) (before : Blocks) → behind block before ≡ before ▹ leaf →
-      holds a (blocks_told table refs tight before p) → Goes holds a b (leaf_told table refs tight leaf)
-      → holds b (blocks_told table refs tight (behind block before) p)
-  unfolding blocks_told
-  leaf_block a b block leaf before e h f = subst (λ t. holds b (blocks_told table refs tight t p)) (sym e)
-      (f (blocks_told table refs tight before p) h)
-
-  pub node_block : (a b c d : W) (block : Block) (container : Container) (items : List Block) (before : Blocks)
-      → behind block before ≡ node before container (blocks_shown items) →
-      holds a (blocks_told table refs tight before p) → Goes holds a b (start_told container) →
-      ((q : Progress) → holds b (blocks_told table refs (is_tight_inside tight container) none q)
-      → holds c (blocks_told table refs (is_tight_inside tight container) (forest items none) q)) →
-      Goes holds c d (end_told container) → holds d (blocks_told table refs tight (behind block before) p)
-  unfolding blocks_told
-  node_block a b c d block container items before e h start inside end =
-      let here : Progress = start_told container (blocks_told table refs tight before p) in
-      subst (λ t. holds d (blocks_told table refs tight t p)) (sym e)
-      (end (blocks_told table refs (is_tight_inside tight container) (forest items none) here)
-      (inside here (start (blocks_told table refs tight before p) h)))
-
-  pub forest_begins : (a : W) (before : Blocks) → holds a (blocks_told table refs tight before p)
-      → holds a (blocks_told table refs tight (forest [] before) p)
-  unfolding forest
-  forest_begins a before h = h
-
-  pub forest_goes_on : (a b : W) (items : List Block) (i : ℕ) (block : Block) (before : Blocks) → i < length items
-      → block ≡ get_or items i block →
-      (holds a (blocks_told table refs tight (forest (take i items) before) p)
-      → holds b (blocks_told table refs tight (behind block (forest (take i items) before)) p)) →
-      holds a (blocks_told table refs tight (forest (take i items) before) p)
-      → holds b (blocks_told table refs tight (forest (take (i + 1) items) before) p)
-  forest_goes_on a b items i block before l e step h =
-      let more : forest (take (i + 1) items) before ≡ behind block (forest (take i items) before)
-      = ap (λ some. forest some before) (take_more items i block l)
-      ∙ (forest_push (take i items) (get_or items i block) before ∙ ap (λ one. behind one (forest (take i items) before)) (sym e)) in
-      subst (λ f. holds b (blocks_told table refs tight f p)) (sym more) (step h)

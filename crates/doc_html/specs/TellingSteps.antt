@@ -1,5 +1,5 @@
 -- Blocks as they are written, step by step, the anchors of headings with them.
-use Rattle.std.specs.Prelude.{ℕ, Bool, true, false, List, [], ◌++◌, codes, decimal}
+use Rattle.std.specs.Prelude.{ℕ, Bool, true, false, List, [], ◌∷◌, ◌++◌, codes, decimal}
 use Rattle.doc_rules.specs.Characters.{Text}
 use Rattle.doc_rules.specs.Entities.{Table}
 use Rattle.doc_rules.specs.Definitions.{Definition}
@@ -10,6 +10,7 @@ use Rattle.doc_rules.specs.Blocks.{Leaf, Paragraph, Heading, IndentedCode, Fence
 use Rattle.doc_rules.specs.Blocks.{ListBlock, ListItem, Blocks}
 use Rattle.doc_rules.specs.Html.{Output, characters, inlines_html, class_attribute, is_tight_inside, list_tag, list_end}
 use Rattle.doc_rules.specs.PlainTexts.{text_in}
+use Rattle.doc_blocks_tags.specs.Tags.{Tag, OneLeaf, Start, End}
 use Rattle.doc_html.specs.ProgressSteps.{Progress, told, on_new_line, text_met, heading_met}
 
 -- ---- leaves
@@ -55,3 +56,43 @@ blocks_told table refs tight (before ▹ leaf) p = leaf_told table refs tight le
 blocks_told table refs tight (node before container inside) p =
     end_told container (blocks_told table refs (is_tight_inside tight container) inside
     (start_told container (blocks_told table refs tight before p)))
+
+-- ---- tags
+
+-- whether what is written stands directly in an item of a tight list, and the same outside each container block round it, the innermost one
+-- first
+pub record Nested : Type 0 where
+  pub tight : Bool
+  pub outer : List Bool
+
+-- in no container block
+abbrev pub outside : Nested
+outside = record { tight = false; outer = [] }
+
+abbrev pub entered : Container → Nested → Nested
+entered container nested = record { tight = is_tight_inside nested.tight container; outer = nested.tight ∷ nested.outer }
+
+-- an end that no start stands before counts for nothing
+unfoldable pub left_at : Bool → List Bool → Nested
+left_at tight [] = record { tight = tight; outer = [] }
+left_at tight (around ∷ outer) = record { tight = around; outer = outer }
+
+abbrev pub left : Nested → Nested
+left nested = left_at nested.tight nested.outer
+
+-- what stands behind a tag is nested like this
+unfoldable pub nested_behind : Tag → Nested → Nested
+nested_behind (OneLeaf leaf) nested = nested
+nested_behind (Start container) nested = entered container nested
+nested_behind (End container) nested = left nested
+
+-- a tag that stands directly in an item of a tight list or not
+unfoldable pub tag_told : Table → List Definition → Bool → Tag → Progress → Progress
+tag_told table refs tight (OneLeaf leaf) p = leaf_told table refs tight leaf p
+tag_told table refs tight (Start container) p = start_told container p
+tag_told table refs tight (End container) p = end_told container p
+
+unfoldable pub tags_told : Table → List Definition → List Tag → Nested × Progress → Nested × Progress
+tags_told table refs [] told = told
+tags_told table refs (tag ∷ more) told =
+    tags_told table refs more (nested_behind tag told.0, tag_told table refs told.0.tight tag told.1)

@@ -1,21 +1,23 @@
 //! Documents as HTML.
 ghost use Rattle.std.specs.Prelude.{◌≡◌, [], List, encode_utf8_all, IfOk};
+ghost use Rattle.doc_rules.specs.Blocks.{Blocks};
 ghost use Rattle.doc_rules.specs.Definitions.{Definition};
 ghost use Rattle.doc_rules.specs.Html.{html_of};
 ghost use Rattle.doc_rules.specs.Html as rules;
 ghost use Rattle.doc_rules.specs.Laws.{ShowsAlike};
 ghost use Rattle.doc_refs.specs.Targets.{targets_of};
-ghost use Rattle.doc_blocks_leaves.specs.Views.{blocks_shown};
+ghost use Rattle.doc_blocks_tags.specs.Tags.{tags_of, tags_shown};
+ghost use Rattle.doc_blocks.specs.Views.{blocks_shown};
 ghost use Rattle.doc_html.specs.HtmlBytes.{html_bytes};
 
 use crate::blocks::push_all;
-use crate::flattening::push_tags;
+use crate::flattening::tags_of;
 use crate::html_writer::HtmlWriter;
 use crate::links::{ByLinker, Links};
 use crate::reading::Source;
 use doc_blocks::Document;
 use doc_blocks_tags::tag::Tag;
-use doc_heap::{Heap, Vec};
+use doc_heap::Heap;
 use doc_inlines_marks::arena::Arena;
 use doc_lines::entities::Entities;
 use doc_page::failure::Memory;
@@ -40,8 +42,7 @@ pub fn to_html<L: Linker>(
         (html_of entities.now rule []
         (record { blocks = blocks_shown document.now.blocks.items; refs = definitions }))) }
 {
-    let mut tags = Vec::new(heap);
-    push_tags(&mut tags, document.blocks.as_slice())?;
+    let tags = tags_of(heap, document.blocks.as_slice())?;
     let html = write_html(
         heap,
         tags.as_slice(),
@@ -53,7 +54,7 @@ pub fn to_html<L: Linker>(
     Ok(html)
 }
 
-/// The document as HTML, its links as these are shown, with room for so many bytes: a guess, on which nothing rests.
+/// The document with these tags as HTML, its links as these are shown, with room for so many bytes: a guess, on which nothing rests.
 pub(crate) fn write_html<K: Links>(
     heap: Heap,
     tags: &[Tag],
@@ -62,9 +63,10 @@ pub(crate) fn write_html<K: Links>(
     links: &K,
     room: usize,
 ) -> Result<Text, Memory>
-    ensures { (definitions : List Definition) → document.now.refs ≡ targets_of definitions →
+    ensures { (definitions : List Definition) (blocks : Blocks)
+        → refs.now ≡ targets_of definitions → tags_shown tags.now ≡ tags_of blocks →
         IfOk result (λ html. html ≡ html_bytes entities.now (K.shown links.now) []
-        (record { blocks = blocks_shown document.now.blocks.items; refs = definitions })) }
+        (record { blocks = blocks; refs = definitions })) }
 {
     let arena = Arena::new(heap);
     let source = Source {

@@ -1,13 +1,32 @@
 //! The tags of trees of blocks.
+ghost use Rattle.std.specs.Prelude.{◌≡◌, ◌∷◌, List, IfOk, OnOk};
+ghost use Rattle.doc_rules.specs.Forests.{none, ◌▹◌, node};
+ghost use Rattle.doc_rules.specs.Blocks.{Blocks};
+ghost use Rattle.doc_blocks_tags.specs.Tags.{container_shown, leaf_shown, tags_of, tags_shown};
+ghost use Rattle.doc_blocks_tags.specs.OpenTags.{Entry, open_tags};
+ghost use Rattle.doc_blocks.specs.Views.{behind, blocks_shown, forest};
 
 use doc_blocks::Block;
 use doc_blocks_tags::tag::{ContainerBlock, LeafBlock, Tag};
-use doc_heap::Vec;
+use doc_heap::{Heap, Vec};
 use doc_page::failure::Memory;
+
+/// The tags of blocks.
+pub(crate) fn tags_of<'d>(heap: Heap, blocks: &'d [Block]) -> Result<Vec<Tag<'d>>, Memory>
+    ensures { IfOk result (λ tags. tags_shown tags.items ≡ tags_of (blocks_shown blocks.now)) }
+{
+    let mut tags: Vec<Tag<'d>> = Vec::new(heap);
+    push_tags(&mut tags, blocks)?;
+    Ok(tags)
+}
 
 /// Puts the tags of blocks behind these.
 #[cycle(blocks)]
-pub(crate) fn push_tags<'d>(tags: &mut Vec<Tag<'d>>, blocks: &'d [Block]) -> Result<(), Memory> {
+fn push_tags<'d>(tags: &mut Vec<Tag<'d>>, blocks: &'d [Block]) -> Result<(), Memory>
+    ensures { (outer : List Entry) (before : Blocks)
+        → tags_shown tags.old.items ≡ open_tags outer before →
+        OnOk result (tags_shown tags.new.items ≡ open_tags outer (forest blocks.now before)) }
+{
     for block in blocks {
         push_block(tags, block)?;
     }
@@ -16,20 +35,30 @@ pub(crate) fn push_tags<'d>(tags: &mut Vec<Tag<'d>>, blocks: &'d [Block]) -> Res
 
 /// Puts the tags of a block behind these.
 #[cycle(blocks)]
-fn push_block<'d>(tags: &mut Vec<Tag<'d>>, block: &'d Block) -> Result<(), Memory> {
+fn push_block<'d>(tags: &mut Vec<Tag<'d>>, block: &'d Block) -> Result<(), Memory>
+    ensures { (outer : List Entry) (before : Blocks)
+        → tags_shown tags.old.items ≡ open_tags outer before →
+        OnOk result (tags_shown tags.new.items ≡ open_tags outer (behind block.now before)) }
+{
     match block {
-        Block::Para(text) => Ok(tags.push(Tag::Leaf(LeafBlock::Para(text.get())))?),
-        Block::Heading { level, text } => Ok(tags.push(Tag::Leaf(LeafBlock::Heading {
-            level: *level,
-            text: text.get(),
-        }))?),
-        Block::Code(text) => Ok(tags.push(Tag::Leaf(LeafBlock::Code(text.get())))?),
-        Block::Fence { info, text } => Ok(tags.push(Tag::Leaf(LeafBlock::Fence {
-            info: info.get(),
-            text: text.get(),
-        }))?),
-        Block::Html(text) => Ok(tags.push(Tag::Leaf(LeafBlock::Html(text.get())))?),
-        Block::Break => Ok(tags.push(Tag::Leaf(LeafBlock::Break))?),
+        Block::Para(text) => push_leaf(tags, LeafBlock::Para(text.get())),
+        Block::Heading { level, text } => push_leaf(
+            tags,
+            LeafBlock::Heading {
+                level: *level,
+                text: text.get(),
+            },
+        ),
+        Block::Code(text) => push_leaf(tags, LeafBlock::Code(text.get())),
+        Block::Fence { info, text } => push_leaf(
+            tags,
+            LeafBlock::Fence {
+                info: info.get(),
+                text: text.get(),
+            },
+        ),
+        Block::Html(text) => push_leaf(tags, LeafBlock::Html(text.get())),
+        Block::Break => push_leaf(tags, LeafBlock::Break),
         Block::Quote(inside) => push_container(tags, ContainerBlock::Quote, inside),
         Block::List {
             start,
@@ -53,9 +82,48 @@ fn push_container<'d>(
     tags: &mut Vec<Tag<'d>>,
     container: ContainerBlock,
     inside: &'d [Block],
-) -> Result<(), Memory> {
-    tags.push(Tag::Start(container))?;
+) -> Result<(), Memory>
+    ensures { (outer : List Entry) (before : Blocks)
+        → tags_shown tags.old.items ≡ open_tags outer before →
+        OnOk result (tags_shown tags.new.items
+        ≡ open_tags outer (node before (container_shown container) (blocks_shown inside.now))) }
+{
+    push_start(tags, container)?;
     push_tags(tags, inside)?;
+    push_end(tags, container)?;
+    Ok(())
+}
+
+/// Puts the tag of a leaf block behind these.
+fn push_leaf<'d>(tags: &mut Vec<Tag<'d>>, leaf: LeafBlock<'d>) -> Result<(), Memory>
+    ensures { (outer : List Entry) (before : Blocks)
+        → tags_shown tags.old.items ≡ open_tags outer before →
+        OnOk result (tags_shown tags.new.items
+        ≡ open_tags outer (before ▹ leaf_shown leaf.entry)) }
+{
+    tags.push(Tag::Leaf(leaf))?;
+    Ok(())
+}
+
+/// Puts the start of a container block behind these.
+fn push_start(tags: &mut Vec<Tag>, container: ContainerBlock) -> Result<(), Memory>
+    ensures { (outer : List Entry) (before : Blocks)
+        → tags_shown tags.old.items ≡ open_tags outer before →
+        OnOk result (tags_shown tags.new.items
+        ≡ open_tags ((container_shown container, before) ∷ outer) none) }
+{
+    tags.push(Tag::Start(container))?;
+    Ok(())
+}
+
+/// Puts the end of a container block behind these.
+fn push_end(tags: &mut Vec<Tag>, container: ContainerBlock) -> Result<(), Memory>
+    ensures { (outer : List Entry) (before inside : Blocks)
+        → tags_shown tags.old.items
+        ≡ open_tags ((container_shown container, before) ∷ outer) inside →
+        OnOk result (tags_shown tags.new.items
+        ≡ open_tags outer (node before (container_shown container) inside)) }
+{
     tags.push(Tag::End(container))?;
     Ok(())
 }

@@ -7,12 +7,14 @@ ghost use Rattle.doc_rules.specs.Entities.{Table};
 ghost use Rattle.doc_rules.specs.Escaping.{html_escape};
 ghost use Rattle.doc_rules.specs.Html.{characters, class_attribute, first_word, language_class};
 ghost use Rattle.doc_refs.specs.Targets.{targets_of};
+ghost use Rattle.doc_blocks_tags.specs.Tags.{leaf_shown};
 ghost use Rattle.doc_html.specs.ProgressSteps.{Goes, Writes};
 ghost use Rattle.doc_html.specs.TellingSteps.{leaf_told, code_told};
 
 use crate::inlines::push_marks;
 use crate::reading::Source;
 use crate::writer::{Writer, markup};
+use doc_blocks_tags::tag::LeafBlock;
 use doc_heap::Heap;
 use doc_inlines::Reader;
 use doc_lines::scan::character::next_char;
@@ -21,8 +23,31 @@ use doc_lines::scan::run::many;
 use doc_lines::scan::white_space::is_space_or_tab;
 use doc_page::failure::Memory;
 
+/// Writes a leaf block, which stands directly in an item of a tight list or not.
+#[tactic(auto, unfolding(doc_blocks_tags::specs::Tags::leaf_shown, crate::specs::TellingSteps::leaf_told))]
+pub(crate) fn push_leaf<'d, W: Writer>(
+    writer: &mut W,
+    source: &Source<'d>,
+    reader: &mut Reader<'d, 'd>,
+    leaf: LeafBlock<'d>,
+    tight: bool,
+) -> Result<(), Memory>
+    ensures { (definitions : List Definition) → source.now.refs.now ≡ targets_of definitions →
+        OnOk result (Goes W.holds writer.old writer.new
+        (leaf_told source.now.entities.now definitions tight (leaf_shown leaf.entry))) }
+{
+    match leaf {
+        LeafBlock::Para(text) => push_paragraph(writer, source, reader, text, tight),
+        LeafBlock::Heading { level, text } => push_heading(writer, source, reader, level, text),
+        LeafBlock::Code(text) => push_indented(writer, text),
+        LeafBlock::Fence { info, text } => push_fenced(writer, info, text),
+        LeafBlock::Html(text) => push_html_block(writer, text),
+        LeafBlock::Break => push_break(writer),
+    }
+}
+
 /// Writes a paragraph. Directly in an item of a tight list it is its inlines alone (section 5.3).
-pub(crate) fn push_paragraph<'d, W: Writer>(
+fn push_paragraph<'d, W: Writer>(
     writer: &mut W,
     source: &Source<'d>,
     reader: &mut Reader<'d, 'd>,
@@ -48,7 +73,7 @@ pub(crate) fn push_paragraph<'d, W: Writer>(
 }
 
 /// Writes a heading.
-pub(crate) fn push_heading<'d, W: Writer>(
+fn push_heading<'d, W: Writer>(
     writer: &mut W,
     source: &Source<'d>,
     reader: &mut Reader<'d, 'd>,
@@ -98,7 +123,7 @@ pub(crate) fn push_decimal<W: Writer>(writer: &mut W, heap: Heap, n: u32) -> Res
 }
 
 /// Writes indented code.
-pub(crate) fn push_indented<W: Writer>(writer: &mut W, text: &str) -> Result<(), Memory>
+fn push_indented<W: Writer>(writer: &mut W, text: &str) -> Result<(), Memory>
     ensures { OnOk result (Goes W.holds writer.old writer.new (code_told [] (chars text.now))) }
 {
     writer.meet_text(text)?;
@@ -109,7 +134,7 @@ pub(crate) fn push_indented<W: Writer>(writer: &mut W, text: &str) -> Result<(),
 }
 
 /// Writes fenced code.
-pub(crate) fn push_fenced<W: Writer>(writer: &mut W, info: &str, text: &str) -> Result<(), Memory>
+fn push_fenced<W: Writer>(writer: &mut W, info: &str, text: &str) -> Result<(), Memory>
     ensures { OnOk result (Goes W.holds writer.old writer.new
         (code_told (class_attribute (chars info.now)) (chars text.now))) }
 {
@@ -162,7 +187,7 @@ fn is_in_word(c: char) -> bool
 }
 
 /// Writes an HTML block.
-pub(crate) fn push_html_block<W: Writer>(writer: &mut W, text: &str) -> Result<(), Memory>
+fn push_html_block<W: Writer>(writer: &mut W, text: &str) -> Result<(), Memory>
     ensures { (table : Table) (definitions : List Definition) (tight : Bool) →
         OnOk result (Goes W.holds writer.old writer.new
         (leaf_told table definitions tight (HtmlBlock (chars text.now)))) }
@@ -174,7 +199,7 @@ pub(crate) fn push_html_block<W: Writer>(writer: &mut W, text: &str) -> Result<(
 }
 
 /// Writes a thematic break.
-pub(crate) fn push_break<W: Writer>(writer: &mut W) -> Result<(), Memory>
+fn push_break<W: Writer>(writer: &mut W) -> Result<(), Memory>
     ensures { (table : Table) (definitions : List Definition) (tight : Bool) →
         OnOk result (Goes W.holds writer.old writer.new
         (leaf_told table definitions tight ThematicBreak)) }

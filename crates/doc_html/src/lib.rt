@@ -4,6 +4,7 @@
 mod blocks;
 mod code;
 mod common_mark;
+mod containers;
 mod destinations;
 mod document;
 mod escaping;

@@ -1,9 +1,10 @@
 //! Pages of texts (this project's choice).
 ghost use Rattle.std.specs.Prelude.{◌≡◌, List, chars, IfOk};
+ghost use Rattle.doc_rules.specs.Blocks.{Blocks};
 ghost use Rattle.doc_rules.specs.Definitions.{Definition};
 ghost use Rattle.doc_rules.specs.Pages.{document_page, encoded, rendered_of};
 ghost use Rattle.doc_refs.specs.Targets.{targets_of};
-ghost use Rattle.doc_blocks_leaves.specs.Views.{blocks_shown};
+ghost use Rattle.doc_blocks_tags.specs.Tags.{tags_of, tags_shown};
 
 use crate::blocks::push_all;
 use crate::page_writer::PageWriter;
@@ -28,17 +29,17 @@ pub(crate) fn page_of(heap: Heap, text: &str, entities: &Entities) -> Result<Ren
     Ok(page)
 }
 
-/// The page of a document.
+/// The page of a document with these tags.
 fn page_of_tags(
     heap: Heap,
     tags: &[Tag],
     refs: &RefMap,
     entities: &Entities,
 ) -> Result<Rendered, Memory>
-    ensures { (definitions : List Definition) → document.now.refs ≡ targets_of definitions →
+    ensures { (definitions : List Definition) (blocks : Blocks)
+        → refs.now ≡ targets_of definitions → tags_shown tags.now ≡ tags_of blocks →
         IfOk result (λ page. page ≡ encoded
-        (document_page entities.now
-        (record { blocks = blocks_shown document.now.blocks.items; refs = definitions }))) }
+        (document_page entities.now (record { blocks = blocks; refs = definitions }))) }
 {
     let arena = Arena::new(heap);
     let source = Source {

@@ -1,5 +1,5 @@
 use Rattle.doc_html.specs.TellingSteps.{end_told}
-use Rattle.doc_html.proofs.blocks.end_item.Goals as goal
+use Rattle.doc_html.proofs.containers.end_item.Goals as goal
 
 pub returns : goal.returns
 unfolding end_told

@@ -1,6 +1,6 @@
 use Rattle.std.specs.Prelude.{codes}
 use Rattle.doc_html.proofs.WriterSteps.{texts}
-use Rattle.doc_html.proofs.blocks.push_start.Goals as goal
+use Rattle.doc_html.proofs.containers.push_start.Goals as goal
 
 pub returns : goal.returns
 returns g c =

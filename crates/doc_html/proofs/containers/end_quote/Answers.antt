@@ -1,5 +1,5 @@
 use Rattle.doc_html.specs.TellingSteps.{end_told}
-use Rattle.doc_html.proofs.blocks.end_quote.Goals as goal
+use Rattle.doc_html.proofs.containers.end_quote.Goals as goal
 
 pub returns : goal.returns
 unfolding end_told

@@ -1,5 +1,5 @@
 use Rattle.doc_html.specs.TellingSteps.{start_told}
-use Rattle.doc_html.proofs.blocks.begin_list.Goals as goal
+use Rattle.doc_html.proofs.containers.begin_list.Goals as goal
 
 pub returns : goal.returns
 unfolding start_told

@@ -1,0 +1,38 @@
+-- Tags of blocks, put behind others.
+use Rattle.std.proofs.Common.{◌≡◌, ℕ, ◌<◌, ◌+◌, List, [], ◌∷◌, ◌++◌, ap, sym, ◌∙◌, subst, length, take, get_or}
+use Rattle.std.specs.Prelude.{Result, OnOk}
+use Rattle.std.proofs.lemmas.List.{take_more, map-append}
+use Rattle.doc_rules.specs.Blocks.{Blocks}
+use Rattle.doc_blocks_tags.specs.declared.tag.Tag as code
+use Rattle.doc_blocks_tags.specs.Tags.{Tag, tag_shown, tags_shown}
+use Rattle.doc_blocks_tags.specs.OpenTags.{Entry, open_tags}
+use Rattle.doc_blocks.specs.declared.block.Block.{Block}
+use Rattle.doc_blocks.specs.Views.{behind, forest}
+use Rattle.doc_blocks.proofs.Forests.{forest_push}
+
+-- one more tag
+pub tag_pushed : (old new : List code.Tag) (tag : code.Tag) (front back : List Tag) → new ≡ old ++ tag ∷ []
+    → tags_shown old ≡ front → front ++ tag_shown tag ∷ [] ≡ back → tags_shown new ≡ back
+tag_pushed old new tag front back e f g = ap tags_shown e ∙ (map-append tag_shown old (tag ∷ [])
+    ∙ (ap (λ (ts : List Tag). ts ++ tag_shown tag ∷ []) f ∙ g))
+
+-- ---- blocks in a row
+
+-- the same blocks, said in another way
+pub as_blocks : {X E : Type 0} (result : Result X E) (tags : List code.Tag) (outer : List Entry) (blocks same : Blocks) → blocks ≡ same
+    → OnOk result (tags_shown tags ≡ open_tags outer same) → OnOk result (tags_shown tags ≡ open_tags outer blocks)
+as_blocks result tags outer blocks same e h = subst (λ b. OnOk result (tags_shown tags ≡ open_tags outer b)) (sym e) h
+
+pub forest_begins : {tags : List Tag} (outer : List Entry) (before : Blocks) → tags ≡ open_tags outer before
+    → tags ≡ open_tags outer (forest [] before)
+unfolding forest
+forest_begins outer before is = is
+
+pub forest_goes_on : {tags : List Tag} (outer : List Entry) (items : List Block) (i : ℕ) (block : Block) (before : Blocks)
+    → i < length items → block ≡ get_or items i block → tags ≡ open_tags outer (behind block (forest (take i items) before))
+    → tags ≡ open_tags outer (forest (take (i + 1) items) before)
+forest_goes_on outer items i block before l e is =
+    let more : forest (take (i + 1) items) before ≡ behind block (forest (take i items) before)
+    = ap (λ some. forest some before) (take_more items i block l)
+    ∙ (forest_push (take i items) (get_or items i block) before ∙ ap (λ one. behind one (forest (take i items) before)) (sym e)) in
+    is ∙ ap (open_tags outer) (sym more)
