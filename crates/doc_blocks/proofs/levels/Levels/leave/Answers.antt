@@ -32,7 +32,7 @@ returns-clause-sound c =
       entries = last.1.0;
       last = node last.0 (block_of o.container) h.last;
       woven = lemmas.container_ends f.tags.items c.push.new.self.items c.block.result (block_of o.container) h.entries last.0 h.last
-      last.1.0
+          last.1.0
           h.woven last.1.1.0 c.block.ensures c.in_ok-push.ensures.items;
       fits = rw c.replace-inside.ensures.after last.1.1.1.1;
     }

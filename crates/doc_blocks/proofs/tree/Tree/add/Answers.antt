@@ -13,8 +13,11 @@ returns-in_ok-push-in-Leaf c =
 pub returns-in_ok-push-in-Start : goal.returns-in_ok-push-in-Start
 unfolding tag_shown
 returns-in_ok-push-in-Start c =
-    rw c.in-Start.is (λ state h. shows_start c.args.self.now (record { before = c.push-in-Start.new.self; blocks =
-    c.replace-blocks.new.dest })
+    rw c.in-Start.is (λ state h. shows_start c.args.self.now (record {
+      before = c.push-in-Start.new.self;
+      blocks =
+          c.replace-blocks.new.dest;
+    })
     state (container_shown c.in-Start.field-0) c.replace-blocks.result h c.replace-blocks.ensures.value c.in_ok-push-in-Start.ensures.items
     (ap (λ (v : Children). v.items) c.replace-blocks.ensures.after ∙ c.new.ensures.items))
 
