@@ -1,7 +1,7 @@
 use Rattle.std.proofs.Common.{◌≡◌, map, take}
 use Rattle.doc_links_pages.specs.Links.{entry_of}
 use Rattle.doc_links_seen.specs.SeenPages.{seen_page}
-use Rattle.doc_links_seen.proofs.seen.entries_of.Given as goal
+use Rattle.doc_links.proofs.entries.entries_of.Given as goal
 
 -- the pages so far
 abbrev pub invariant-loop-page : goal.invariant-loop-page

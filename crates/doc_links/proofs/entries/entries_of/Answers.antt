@@ -1,6 +1,6 @@
 use Rattle.std.proofs.Common.{arith, ◌∙◌}
-use Rattle.doc_links_seen.proofs.AnswerSteps.{all_entries}
-use Rattle.doc_links_seen.proofs.seen.entries_of.Goals as goal
+use Rattle.doc_links.proofs.EntrySteps.{all_entries}
+use Rattle.doc_links.proofs.entries.entries_of.Goals as goal
 
 pub returns : goal.returns
 returns c =
