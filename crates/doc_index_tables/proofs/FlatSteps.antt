@@ -112,7 +112,8 @@ module _ (places : NumberTable) where
   all_tagged t row stands (x ∷ xs) got rest all =
       (ap (λ r. number_in r x.0) stands ∙ map.get-entries row x.0 ∙ got.0, all_tagged t row stands xs got.1 rest all)
 
-  pub all_flat : (es : List (List ℕ × NumberMap ℕ)) → AllByRecursion (λ e. map.find (slice_cmp nat_cmp) e.0 (map.entries places) ≡ Some e.1) es
+  pub all_flat : (es : List (List ℕ × NumberMap ℕ))
+      → AllByRecursion (λ e. map.find (slice_cmp nat_cmp) e.0 (map.entries places) ≡ Some e.1) es
       → AllByRecursion (λ x. number_at places x.0.0 x.0.1 ≡ Some x.1) (flat es)
   all_flat [] got = tt
   all_flat (e ∷ es) got =
