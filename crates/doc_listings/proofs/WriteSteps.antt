@@ -1,6 +1,6 @@
 -- What is written at the end of a buffer.
-use Rattle.std.proofs.Common.{◌≡◌, ℕ, List, ◌++◌, ap, ◌∙◌}
-use Rattle.std.specs.Prelude.{OnErr, Result, Ok, Err}
+use Rattle.std.proofs.Common.{◌≡◌, ℕ, List, [], ◌++◌, append-nil, ap, sym, ◌∙◌}
+use Rattle.std.specs.Prelude.{OnErr, OnOk, Result, Ok, Err}
 use Rattle.std.proofs.lemmas.List.{append_assoc}
 
 -- three texts were written, one behind the other
@@ -27,3 +27,11 @@ fourfold old one two three four a b c d first second third fourth =
 pub on_err : {X E P : Type 0} (r : Result X E) → P → OnErr r P
 on_err (Ok x) p = tt
 on_err (Err e) p = p
+
+-- a text that begins anew, with what a call writes behind its start
+pub begun : {X E : Type 0} (r : Result X E) (cleared one new start text path : List ℕ) (written : List ℕ → List ℕ) → cleared ≡ []
+    → one ≡ cleared ++ start → text ≡ path → OnOk r (new ≡ one ++ written text) → OnOk r (new ≡ start ++ written path ++ [])
+begun (Ok x) cleared one new start text path written empty first same is =
+    is ∙ ap (λ front. front ++ written text) (first ∙ ap (λ front. front ++ start) empty) ∙ ap (λ t. start ++ written t) same
+    ∙ sym (append-nil (start ++ written path))
+begun (Err e) cleared one new start text path written empty first same is = tt
