@@ -5,7 +5,7 @@ use std::error::Error;
 use std::fmt;
 
 /// Why no cache could be made.
-#[derive(Clone, Copy, Debug, PartialEq, Eq)]
+#[derive(Clone, Copy, Debug)]
 pub enum CacheError {
     /// Not 1 to 4,096 texts.
     BadCapacity,

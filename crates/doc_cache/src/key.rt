@@ -4,7 +4,7 @@ use doc_page::list::List;
 use doc_page::path::Path;
 
 /// What a text is kept under: the page at one revision, and where its links lead one reader.
-#[derive(Debug, PartialEq, Eq, Hash, Drop)]
+#[derive(PartialEq, Eq, Hash, Drop)]
 pub struct Key {
     /// The stamp of the page.
     pub stamp: u64,

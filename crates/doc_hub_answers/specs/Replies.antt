@@ -28,7 +28,7 @@ use Rattle.doc_http_targets.specs.Targets as routes
 use Rattle.doc_http_targets.specs.WrittenPaths.{path_written}
 use Rattle.doc_shelf_views.specs.Views.{backlinks_body, contents_body, report_body, search_body}
 use Rattle.doc_words.specs.Words.{query_of}
-use Rattle.doc_words_text.specs.declared.query.QueryError.{QueryError}
+use Rattle.doc_words_search.specs.declared.query.QueryError.{QueryError}
 use Rattle.doc_hub_answers.specs.declared.answer.Answer.{Answer}
 use Rattle.doc_hub_answers.specs.declared.method.Method.{Method}
 use Rattle.doc_hub_answers.specs.declared.method.Method.TheVariants.{Get, Head, Put, Delete, Other}

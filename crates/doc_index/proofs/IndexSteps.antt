@@ -6,10 +6,10 @@ use Rattle.std.specs.FinMap as map
 use Rattle.doc_index.specs.declared.held.Held.{Held}
 use Rattle.doc_index.specs.Held.{AreApart, count_in, held, known, slot_at}
 use Rattle.doc_index.specs.IndexSteps.{IsIndex}
-use Rattle.doc_index.specs.TableSteps.{HasCounts, LacksCounts, NumberTable, number_at, same_number, with_number, without_number}
-use Rattle.doc_index.proofs.CountSteps.{at_set, at_taken, number_is, number_itself}
+use Rattle.doc_index_tables.specs.TableSteps.{HasCounts, LacksCounts, NumberTable, number_at, same_number, with_number, without_number}
+use Rattle.doc_index_tables.proofs.CountSteps.{at_set, at_taken, number_is, number_itself}
 use Rattle.doc_index.proofs.HeldSteps.{both_same, held_at, known_at, not_some, pair_is, pair_itself, pair_of, pairs_exact, pairs_total, same_pair, some_is}
-use Rattle.doc_index.proofs.TableSteps.{none_is}
+use Rattle.doc_index_tables.proofs.TableSteps.{none_is}
 
 -- by pairs
 place_set : (places : NumberTable) (p q : List ℕ × ℕ) (v : ℕ)

@@ -1,8 +1,6 @@
 mod Examples
-pub mod CountSteps
 pub mod HeldSteps
 pub mod IndexSteps
 pub mod OrderSteps
-pub mod PackedSteps
-pub mod RowSteps
-pub mod TableSteps
+pub use Rattle.doc_index_tables.proofs.CountSteps
+pub use Rattle.doc_index_tables.proofs.TableSteps

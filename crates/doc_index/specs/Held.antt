@@ -3,7 +3,7 @@ use Rattle.std.specs.Prelude.{◌≡◌, ℕ, List, [], ◌∷◌, Option, Some,
 use Rattle.std.specs.Coded.{Coded, code_by, coded×, coded_list, coded_ℕ}
 use Rattle.std.specs.FinMap as map
 use Rattle.doc_index.specs.declared.held.Held.{Held}
-use Rattle.doc_index.specs.Maps.{PairMap, TextMap}
+use Rattle.doc_index_tables.specs.Maps.{PairMap, TextMap}
 
 abbrev pub held_code : {T : Type 0} → Coded T → Coded (Held T)
 held_code {T} code =

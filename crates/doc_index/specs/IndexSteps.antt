@@ -2,7 +2,7 @@
 use Rattle.std.specs.Prelude.{◌≡◌, ◌<◌, ℕ, List, Option, Some, None}
 use Rattle.doc_index.specs.declared.held.Held.{Held}
 use Rattle.doc_index.specs.Held.{count_in, slot_at}
-use Rattle.doc_index.specs.TableSteps.{NumberTable, number_at}
+use Rattle.doc_index_tables.specs.TableSteps.{NumberTable, number_at}
 
 pub record IsIndex {T : Type 0} (last : ℕ) (slots : List (Option (Held T))) (places postings : NumberTable) : Type 0 where
   -- no page has a slot after the last

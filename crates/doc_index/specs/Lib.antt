@@ -1,5 +1,4 @@
 pub mod Held
 pub mod IndexSteps
-pub mod Maps
-pub mod Packed
-pub mod TableSteps
+pub use Rattle.doc_index_tables.specs.Maps
+pub use Rattle.doc_index_tables.specs.TableSteps

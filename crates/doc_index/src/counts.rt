@@ -2,12 +2,12 @@
 
 ghost use Rattle.std.specs.Prelude.{◌≡◌, List as Seq, ℕ, None, IfOk, OnOk, OnErr};
 ghost use Rattle.std.specs.FinMap as map;
-ghost use Rattle.doc_index.specs.Maps.{text_map};
-ghost use Rattle.doc_index.specs.TableSteps.{HasCounts, HasSame, LacksCounts, number_at};
+ghost use Rattle.doc_index_tables.specs.Maps.{text_map};
+ghost use Rattle.doc_index_tables.specs.TableSteps.{HasCounts, HasSame, LacksCounts, number_at};
 
-use crate::packed::Packed;
-use crate::table::Table;
 use doc_heap::{BTreeMap, Heap, String};
+use doc_index_tables::packed::Packed;
+use doc_index_tables::table::Table;
 use doc_page::failure::Memory;
 use std::marker::Model;
 
@@ -21,7 +21,7 @@ impl Model for Counts {
     ghost use Rattle.std.specs.Prelude.{ℕ};
     ghost use Rattle.std.specs.Coded.{coded_ℕ, coded_list};
     ghost use Rattle.std.specs.FinMap as map;
-    ghost use Rattle.doc_index.specs.Maps.{TextMap};
+    ghost use Rattle.doc_index_tables.specs.Maps.{TextMap};
 
     ghost Value = { TextMap ℕ };
 

@@ -4,14 +4,14 @@ ghost use Rattle.std.specs.Prelude.{◌≡◌, ◌<◌, ◌≤◌, ℕ, List as 
 ghost use Rattle.std.specs.Prelude.{map as mapped, count_by, is_some, option_copied, option_map};
 ghost use Rattle.std.specs.FinMap as map;
 ghost use Rattle.doc_index.specs.Held.{AreApart, count_in, counts_of, entries_of, held, known, known_as, slot_at};
-ghost use Rattle.doc_index.specs.Maps.{text_map};
-ghost use Rattle.doc_index.specs.TableSteps.{HasCounts, HasSame, number_at, number_in, with_number};
+ghost use Rattle.doc_index_tables.specs.Maps.{text_map};
+ghost use Rattle.doc_index_tables.specs.TableSteps.{HasCounts, HasSame, number_at, number_in, with_number};
 
 use crate::counts::Counts;
 use crate::held::Held;
-use crate::row::Row;
-use crate::table::Table;
 use doc_heap::{BTreeMap, Heap, String, Vec};
+use doc_index_tables::row::Row;
+use doc_index_tables::table::Table;
 use doc_page::failure::Memory;
 use doc_page::path::Path;
 use slab::Slab;

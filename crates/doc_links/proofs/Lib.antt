@@ -1,3 +1,4 @@
+pub mod EntrySteps
 pub mod HeldSteps
 pub mod KeySteps
 pub mod MapSteps

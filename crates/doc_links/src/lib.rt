@@ -4,6 +4,7 @@
 //! of the pages that the reader doesn't see nothing is told, and a link to one of them is as a link to none.
 #![tactic(auto)]
 
+mod entries;
 mod link_index;
 mod sources;
 mod tally;

@@ -9,6 +9,7 @@ ghost use Rattle.doc_links_pages.specs.Names.{AreNames};
 ghost use Rattle.doc_links_pages.specs.PageLinks.{IsOnce, page_links, pages_of};
 ghost use Rattle.doc_links_seen.specs.SeenPages.{seen_pages};
 
+use crate::entries::entries_of;
 use crate::sources::sources_in;
 use crate::tally::tally_of;
 use doc_heap::{Heap, Vec};
@@ -17,7 +18,7 @@ use doc_links_pages::answers::{Broken, Entry};
 use doc_links_pages::keys::keys_of;
 use doc_links_pages::known::Known;
 use doc_links_seen::report::broken_in;
-use doc_links_seen::seen::{SeenPage, entries_of, seen_in};
+use doc_links_seen::seen::{SeenPage, seen_in};
 use doc_page::failure::Memory;
 use doc_page::list::List;
 use doc_page::path::Path;

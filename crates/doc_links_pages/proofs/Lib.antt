@@ -1,3 +1,4 @@
 pub mod AnchorSteps
 pub mod CountSteps
 mod Examples
+pub mod HeadingSteps

@@ -6,7 +6,7 @@ use doc_page::rendered::Heading;
 use doc_page::text::Text;
 
 /// Why a link is broken.
-#[derive(Clone, Copy, Debug, PartialEq, Eq)]
+#[derive(Clone, Copy)]
 pub enum Reason {
     /// Its path leads to no page that is seen.
     Page,
@@ -17,7 +17,7 @@ pub enum Reason {
 }
 
 /// A broken link.
-#[derive(Debug, PartialEq, Eq, Drop)]
+#[derive(Drop)]
 pub struct Broken {
     /// The page that has the link.
     pub source: Path,
@@ -30,7 +30,7 @@ pub struct Broken {
 }
 
 /// A page and its headings, in their order.
-#[derive(Debug, PartialEq, Eq, Drop)]
+#[derive(Drop)]
 pub struct Entry {
     pub path: Path,
     pub headings: List<Heading>,

@@ -9,7 +9,7 @@ use doc_page::rendered::Heading;
 use doc_resolve::LinkKind;
 
 /// What each link of a page leads to, in order, also out of the site; and the page's headings, in order.
-#[derive(Debug, PartialEq, Eq, Drop)]
+#[derive(Drop)]
 pub struct PageLinks {
     pub links: List<LinkKind>,
     pub headings: List<Heading>,

@@ -1,20 +1,19 @@
 //! Broken links.
 
-ghost use Rattle.std.specs.Prelude.{◌≡◌, ◌++◌, [], ◌∷◌, IfOk, OnOk, option_and_then, option_copied, option_map, codes};
-ghost use Rattle.doc_page_encoding.specs.Encoding.{encoded};
+ghost use Rattle.std.specs.Prelude.{◌≡◌, ◌++◌, [], ◌∷◌, IfOk, OnOk, option_and_then, option_copied, option_map};
 ghost use Rattle.doc_links_seen.specs.SeenSteps.{IsInOrder};
 ghost use Rattle.doc_links_pages.specs.Links.{broken, broken_by, broken_from, fault_in, fault_of, page_at};
 ghost use Rattle.doc_links_seen.specs.SeenPages.{seen_page, seen_pages};
 
 use crate::seen::{SeenPage, page_at};
-use doc_heap::{Heap, String, Vec};
+use doc_heap::{Heap, Vec};
 use doc_links_pages::answers::{Broken, Reason};
+use doc_links_pages::reference::with_anchor;
 use doc_page::failure::Memory;
 use doc_page::list::List;
 use doc_page::path::Path;
 use doc_page::sight::Sight;
 use doc_page::text::Text;
-use doc_page_encoding::encoding::push_encoded;
 use doc_resolve::LinkKind;
 
 /// The broken links of these pages, which are all that the sight sees and stand in the order of their paths.
@@ -130,23 +129,4 @@ fn fault_in(
         return Ok(None);
     }
     Ok(Some((Reason::Anchor, with_anchor(heap, path, anchor)?)))
-}
-
-/// A path and an anchor, as a reference to it is written.
-fn with_anchor(heap: Heap, path: &Path, anchor: &Text) -> Result<Text, Memory>
-    ensures { IfOk result (λ text. text ≡ path.now ++ codes "#" ++ encoded anchor.now) }
-{
-    let mut out = String::with_capacity(heap, room_of(path, anchor))?;
-    out.push_str(path.text())?;
-    out.push_str("#")?;
-    push_encoded(&mut out, anchor.get())?;
-    Ok(Text::new(out))
-}
-
-/// How many bytes these take, where none of the anchor has to be encoded: a guess, on which nothing rests.
-fn room_of(path: &Path, anchor: &Text) -> usize {
-    path.text()
-        .len()
-        .saturating_add(anchor.get().len())
-        .saturating_add(1)
 }

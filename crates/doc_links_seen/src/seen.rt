@@ -5,17 +5,14 @@ ghost use Rattle.std.specs.List.{flat_map};
 ghost use Rattle.doc_index.specs.Held.{slot_at};
 ghost use Rattle.doc_page.specs.Sights.{seen};
 ghost use Rattle.doc_links_seen.specs.SeenSteps.{IsInOrder, page_in};
-ghost use Rattle.doc_links_pages.specs.Links.{contents, entry_of, page_at};
+ghost use Rattle.doc_links_pages.specs.Links.{page_at};
 ghost use Rattle.doc_links_seen.specs.SeenPages.{seen_page, seen_pages};
 
 use doc_heap::{Heap, Vec};
 use doc_index::held::Held;
 use doc_index::index::Index;
-use doc_links_pages::answers::Entry;
 use doc_links_pages::known::Known;
-use doc_links_pages::page_links::copy_of_headings;
 use doc_page::failure::Memory;
-use doc_page::list::List;
 use doc_page::path::Path;
 use doc_page::rendered::Heading;
 use doc_page::sight::Sight;
@@ -53,16 +50,6 @@ impl<'a> SeenPage<'a> {
         ensures { result.now ≡ self.now.known.now }
     {
         self.known
-    }
-
-    /// A copy of the path and the headings.
-    fn entry(&self, heap: Heap) -> Result<Entry, Memory>
-        ensures { IfOk result (λ entry. entry ≡ entry_of (seen_page self.now)) }
-    {
-        Ok(Entry {
-            path: self.path.copy(heap)?,
-            headings: copy_of_headings(heap, self.headings())?,
-        })
     }
 }
 
@@ -103,17 +90,6 @@ fn push_seen<'a, S: Sight>(
         known: &page.value,
     })?;
     Ok(())
-}
-
-/// Copies of the pages' paths and headings.
-pub fn entries_of(heap: Heap, pages: &[SeenPage]) -> Result<List<Entry>, Memory>
-    ensures { IfOk result (λ all. all ≡ contents (seen_pages pages.now)) }
-{
-    let mut all = Vec::with_capacity(heap, pages.len())?;
-    for page in pages {
-        all.push(page.entry(heap)?)?;
-    }
-    Ok(List::new(all))
 }
 
 /// The page at a path, where it is one of these, which stand in the order of their paths.

@@ -1,3 +1,3 @@
 pub use Rattle.doc_words_search.specs.Held
 pub use Rattle.doc_words_search.specs.Searches
-pub use Rattle.doc_words_text.specs.Words
+pub use Rattle.doc_words_search.specs.Words

@@ -5,7 +5,7 @@ ghost use Rattle.std.specs.FinMap as map;
 ghost use Rattle.doc_page.specs.Sights.{seen};
 ghost use Rattle.doc_words_search.specs.Held.{counts_or_none};
 ghost use Rattle.doc_words_search.specs.Searches.{pages_of, search};
-ghost use Rattle.doc_words_text.specs.Words.{word_counts};
+ghost use Rattle.doc_words_search.specs.Words.{word_counts};
 
 use doc_heap::Heap;
 use doc_index::index::Index;
@@ -17,8 +17,8 @@ use doc_page::sight::Sight;
 use doc_words_search::hit::Hit;
 use doc_words_search::marking::slots_for;
 use doc_words_search::search::{search_among, search_in, seen_among};
-use doc_words_text::word::Word;
-use doc_words_text::words::counted;
+use doc_words_search::word::Word;
+use doc_words_search::words::counted;
 use std::marker::Model;
 
 /// Pages, each held under a path and a stamp with the counts of its words. Contracts see the map.

@@ -1,11 +1,10 @@
 //! An index of words: pages held under a path and a stamp with the counts of their words, and the search for those that hold each
 //! word of a query, among the pages that a reader sees.
 //!
-//! What a word is and how words are read stands in `doc_words_text`, and the search itself in `doc_words_search`; hits, queries and
-//! words can be named here too.
+//! What a word is, how words are read and the search itself stand in `doc_words_search`; hits, queries and words can be named here
+//! too.
 #![tactic(auto)]
 
 pub mod index;
 
-pub use doc_words_search::hit;
-pub use doc_words_text::{query, word, words};
+pub use doc_words_search::{hit, query, word, words};

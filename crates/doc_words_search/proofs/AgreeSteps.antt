@@ -9,7 +9,7 @@ use Rattle.doc_index.specs.Maps.{TextMap}
 use Rattle.doc_page.specs.Sights.{leads_to_itself, seen}
 use Rattle.doc_words_search.specs.Searches.{holds_all, search}
 use Rattle.doc_words_search.specs.SearchSteps.{Agree, AgreeEach, AgreeFor, has_word, hits_by, rarity_in, score_by, search_by, weight_by}
-use Rattle.doc_words_text.specs.Words.{capped}
+use Rattle.doc_words_search.specs.Words.{capped}
 use Rattle.doc_words_search.specs.declared.hit.Hit.{Hit}
 use Rattle.doc_words_search.proofs.RankSteps.{HasSame, same_ranked}
 

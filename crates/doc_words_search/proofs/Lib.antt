@@ -1,6 +1,10 @@
 pub mod AgreeSteps
+pub mod CountSteps
 mod Examples
 pub mod HeldSteps
+pub mod MapSteps
 pub mod MarkSteps
 pub mod RankSteps
+pub mod RunSteps
 pub mod SearchSteps
+mod WordExamples

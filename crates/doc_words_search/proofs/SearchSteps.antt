@@ -11,7 +11,7 @@ use Rattle.doc_index.specs.Held.{count_in, slot_at}
 use Rattle.doc_page.specs.Sights.{leads_to_itself, seen}
 use Rattle.doc_words_search.specs.Searches.{holders, holds_all, ranked}
 use Rattle.doc_words_search.specs.SearchSteps.{AreWeighed, IsWeighed, count_at, hit_at, hit_in, hits_by, onto_page, pages_at, rarity_in, score_at, score_by, search_by, sees_at, weight_at, weight_by}
-use Rattle.doc_words_text.specs.Words.{capped}
+use Rattle.doc_words_search.specs.Words.{capped}
 use Rattle.doc_words_search.specs.declared.hit.Hit.{Hit}
 use Rattle.doc_words_search.specs.declared.weighing.Weighed.{Weighed}
 

@@ -1,3 +1,5 @@
 pub mod Held
 pub mod SearchSteps
 pub mod Searches
+pub mod WordSteps
+pub mod Words

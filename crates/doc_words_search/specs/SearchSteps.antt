@@ -9,7 +9,7 @@ use Rattle.doc_index.specs.Maps.{TextMap}
 use Rattle.doc_index.specs.TableSteps.{number_in}
 use Rattle.doc_page.specs.Sights.{leads_to_itself}
 use Rattle.doc_words_search.specs.Searches.{holders, holds_all, ranked}
-use Rattle.doc_words_text.specs.Words.{capped}
+use Rattle.doc_words_search.specs.Words.{capped}
 use Rattle.doc_words_search.specs.declared.hit.Hit.{Hit}
 use Rattle.doc_words_search.specs.declared.search.Found.{Found}
 use Rattle.doc_words_search.specs.declared.weighing.Postings.{Postings}

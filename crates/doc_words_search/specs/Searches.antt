@@ -8,7 +8,7 @@ use Rattle.std.specs.Ordering.{is_lt, nat_cmp, ordering_then}
 use Rattle.std.specs.declared.cmp.Ordering.{Ordering}
 use Rattle.doc_index.specs.Maps.{PairMap, TextMap}
 use Rattle.doc_words_search.specs.declared.hit.Hit.{Hit}
-use Rattle.doc_words_text.specs.Words.{capped}
+use Rattle.doc_words_search.specs.Words.{capped}
 
 -- Pages stand in a list, each under its path with what is known of it, and `count` tells how often that has a word: `None` where it
 -- hasn't. All of this is this project's choice.

@@ -3,7 +3,7 @@
 use doc_page::path::Path;
 
 /// A page that a search found, with its score.
-#[derive(Debug, PartialEq, Eq, Drop)]
+#[derive(Drop)]
 pub struct Hit {
     pub path: Path,
     pub score: u64,

@@ -1,10 +1,18 @@
-//! The search for pages by words, among pages in slots of an index.
+//! What a word of a text is, how the words of texts and queries are read and counted, and the search for pages by words, among pages
+//! in slots of an index.
 //!
-//! The pages that have one of the words are marked, the words are weighed by how rare they are among the pages that are seen, and of
-//! the pages that have each word the first 100 are answered, by score falling and then by path.
+//! A word is a run of letters, marks and numbers with its case folded. A page's words are those of its texts, each once with its
+//! count; a query has 1 to 16 different ones. The pages that have one of the words are marked, the words are weighed by how rare they
+//! are among the pages that are seen, and of the pages that have each word the first 100 are answered, by score falling and then by
+//! path.
 #![tactic(auto)]
 
+mod characters;
+pub mod counter;
 pub mod hit;
 pub mod marking;
+pub mod query;
 pub mod search;
 mod weighing;
+pub mod word;
+pub mod words;

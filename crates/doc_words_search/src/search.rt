@@ -8,13 +8,13 @@ ghost use Rattle.doc_words_search.specs.SearchSteps.{hit_at, hit_in, hit_of, pag
 
 use crate::hit::Hit;
 use crate::weighing::{Weighed, score_of, weigh_all};
+use crate::word::Word;
 use doc_heap::{Heap, Vec};
 use doc_index::index::Index;
 use doc_page::failure::Memory;
 use doc_page::list::List;
 use doc_page::path::Path;
 use doc_page::sight::Sight;
-use doc_words_text::word::Word;
 use std::cmp::Reverse;
 
 /// At most so many hits are answered.

@@ -1,7 +1,7 @@
 use Rattle.std.proofs.Common.{◌≡◌, is_some, sum_by, take, true}
 use Rattle.std.specs.List.{list_all}
 use Rattle.doc_words_search.specs.SearchSteps.{count_at, weight_at}
-use Rattle.doc_words_text.specs.Words.{capped}
+use Rattle.doc_words_search.specs.Words.{capped}
 use Rattle.doc_words_search.proofs.weighing.score_of.Given as goal
 
 -- each word so far is there, with its weight in the score

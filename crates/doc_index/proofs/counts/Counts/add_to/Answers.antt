@@ -1,5 +1,5 @@
 use Rattle.std.proofs.Common.{arith, drop, sym, subst, refl, ◌∙◌}
-use Rattle.doc_index.proofs.CountSteps.{HasEntries, err_then, ok_then, set_next, set_first, undone}
+use Rattle.doc_index_tables.proofs.CountSteps.{HasEntries, err_then, ok_then, set_next, set_first, undone}
 use Rattle.doc_index.proofs.counts.Counts.add_to.Goals as goal
 
 pub returns-then-is_err-clause-err : goal.returns-then-is_err-clause-err

@@ -1,5 +1,5 @@
 use Rattle.std.proofs.Common.{◌≤◌, drop, length}
-use Rattle.doc_index.proofs.CountSteps.{HasEntries}
+use Rattle.doc_index_tables.proofs.CountSteps.{HasEntries}
 use Rattle.doc_index.proofs.counts.Counts.add_to.Given as goal
 
 -- the keys from here on are done

@@ -1,5 +1,5 @@
 use Rattle.std.proofs.Common.{arith, refl}
-use Rattle.doc_index.proofs.CountSteps.{taken_next, taken_first}
+use Rattle.doc_index_tables.proofs.CountSteps.{taken_next, taken_first}
 use Rattle.doc_index.proofs.counts.Counts.take_from.Goals as goal
 
 pub loop-left-preserved : goal.loop-left-preserved

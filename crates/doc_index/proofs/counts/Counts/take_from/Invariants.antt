@@ -1,5 +1,5 @@
 use Rattle.std.proofs.Common.{◌≤◌, drop, length}
-use Rattle.doc_index.proofs.CountSteps.{LacksEntries}
+use Rattle.doc_index_tables.proofs.CountSteps.{LacksEntries}
 use Rattle.doc_index.proofs.counts.Counts.take_from.Given as goal
 
 -- the keys from here on are done

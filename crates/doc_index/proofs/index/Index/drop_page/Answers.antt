@@ -1,7 +1,7 @@
 use Rattle.std.proofs.Common.{ap, sym, is_some, ◌∙◌}
 use Rattle.std.specs.FinMap as map
 use Rattle.doc_index.specs.Held.{held}
-use Rattle.doc_index.specs.TableSteps.{number_at, without_number}
+use Rattle.doc_index_tables.specs.TableSteps.{number_at, without_number}
 use Rattle.doc_index.proofs.HeldSteps.{known_none}
 use Rattle.doc_index.proofs.IndexSteps.{absent, held_left, left, stands}
 use Rattle.doc_index.proofs.index.Index.drop_page.Goals as goal

@@ -2,7 +2,7 @@ use Rattle.std.proofs.Common.{◌≡◌, ap, subst, ◌∙◌}
 use Rattle.std.specs.Prelude.{map as mapped}
 use Rattle.std.specs.FinMap as map
 use Rattle.doc_index.specs.Held.{entries_of, held, slot_at}
-use Rattle.doc_index.specs.TableSteps.{numbers_of}
+use Rattle.doc_index_tables.specs.TableSteps.{numbers_of}
 use Rattle.doc_index.proofs.OrderSteps.{in_order, told}
 use Rattle.doc_index.proofs.index.Index.in_order.Goals as goal
 

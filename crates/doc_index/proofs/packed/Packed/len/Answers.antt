@@ -1,8 +1,0 @@
-use Rattle.std.proofs.Common.{length, ap, sym, string_bytes, ◌∙◌}
-use Rattle.doc_index.proofs.PackedSteps.{length_unpacked}
-use Rattle.doc_index.proofs.packed.Packed.len.Goals as goal
-
-pub returns : goal.returns
-returns c =
-    ap length c.as_slice.ensures.value
-    ∙ sym (length_unpacked (string_bytes c.self.inside.texts) 0 c.self.inside.ends.items) ∙ ap length c.self.view_is

@@ -1,0 +1,7 @@
+pub mod CountSteps
+pub mod EntrySteps
+pub mod FlatSteps
+pub mod PackedSteps
+pub mod PairSteps
+pub mod RowSteps
+pub mod TableSteps

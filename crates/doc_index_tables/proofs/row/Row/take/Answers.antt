@@ -1,0 +1,12 @@
+use Rattle.std.proofs.Common.{◌∙◌, ap}
+use Rattle.std.specs.FinMap as map
+use Rattle.std.proofs.lemmas.Cmp.{nat_cmp_total}
+use Rattle.std.proofs.lemmas.Map.Lookups.{exact_unsigned}
+use Rattle.doc_page.proofs.Maps.{removed}
+use Rattle.doc_index_tables.proofs.row.Row.take.Goals as goal
+
+pub returns : goal.returns
+returns c =
+    removed nat_cmp_total exact_unsigned c.self.inside.entries.entries c.remove.new.self.entries c.args.number
+    c.remove.ensures.updates.0
+    ∙ ap (λ m. map.remove m c.args.number) c.self.view_is

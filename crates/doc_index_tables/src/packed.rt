@@ -1,0 +1,115 @@
+//! Texts with numbers, packed.
+
+ghost use Rattle.std.specs.Prelude.{◌≡◌, ◌∷◌, ◌++◌, ◌<◌, [], IfOk, OnOk, length, slice_index_or, string_bytes};
+ghost use Rattle.doc_index_tables.specs.Maps.{by_bytes};
+ghost use Rattle.doc_index_tables.specs.Packed.{IsPacked, start_of, unpacked};
+
+use doc_heap::{BTreeMap, Heap, String, Vec};
+use doc_page::failure::Memory;
+use std::marker::Model;
+
+/// Texts, each with a number, one after another in one text with their ends. Contracts see the list.
+#[derive(Drop)]
+pub struct Packed {
+    texts: String,
+    ends: Vec<(usize, u64)>,
+}
+
+impl Model for Packed {
+    ghost use Rattle.std.specs.Prelude.{ℕ, List as Seq, string_bytes};
+    ghost use Rattle.doc_index_tables.specs.Packed.{IsPacked, unpacked};
+
+    ghost Value = { Seq (Seq ℕ × ℕ) };
+
+    ghost view = { λ p. unpacked (string_bytes p.texts) 0 p.ends.items };
+
+    ghost invariant = { λ p. IsPacked (string_bytes p.texts) 0 p.ends.items };
+}
+
+impl Packed {
+    /// Nothing yet. It takes no memory.
+    pub fn new(heap: Heap) -> Packed
+        ensures { result ≡ [] }
+    {
+        Packed {
+            texts: String::new(heap),
+            ends: Vec::new(heap),
+        }
+    }
+
+    /// The texts of a map with their numbers, in its order.
+    pub fn copy_of(heap: Heap, keys: &BTreeMap<String, u64>) -> Result<Packed, Memory>
+        ensures { IfOk result (λ packed. packed ≡ by_bytes keys.now.entries) }
+    {
+        let mut texts = String::with_capacity(heap, room_of(keys))?;
+        let mut ends = Vec::with_capacity(heap, keys.len())?;
+        for (key, count) in keys.iter() {
+            push(&mut texts, &mut ends, key.as_str(), *count)?;
+        }
+        Ok(Packed { texts, ends })
+    }
+
+    /// The same again.
+    pub fn copy(&self, heap: Heap) -> Result<Packed, Memory>
+        ensures { IfOk result (λ packed. packed ≡ self.now) }
+    {
+        Ok(Packed {
+            texts: String::from_str(heap, self.texts.as_str())?,
+            ends: Vec::from_slice(heap, &self.ends)?,
+        })
+    }
+
+    /// How many texts there are.
+    pub fn len(&self) -> usize
+        ensures { result ≡ length self.now }
+    {
+        self.ends.as_slice().len()
+    }
+
+    /// The text and the number at a place.
+    pub fn get(&self, at: usize) -> (&str, u64)
+        requires { at < length self.now }
+        ensures { (result.0.now, result.1)
+            ≡ slice_index_or self.now at (result.0.now, result.1) }
+    {
+        let start = start_of(&self.ends, at);
+        let (end, number) = self.ends[at];
+        (&self.texts.as_str()[start..end], number)
+    }
+}
+
+/// Where the text of a place begins: where the one before it ends.
+fn start_of(ends: &[(usize, u64)], at: usize) -> usize
+    requires { at < length ends.now }
+    ensures { result ≡ start_of 0 ends.now at }
+{
+    if at == 0 {
+        return 0;
+    }
+    ends[at - 1].0
+}
+
+/// How many bytes the texts take.
+fn room_of(keys: &BTreeMap<String, u64>) -> usize {
+    let mut room: usize = 0;
+    for key in keys.keys() {
+        room = room.saturating_add(key.len());
+    }
+    room
+}
+
+/// Adds a text with its number.
+fn push(
+    texts: &mut String,
+    ends: &mut Vec<(usize, u64)>,
+    text: &str,
+    number: u64,
+) -> Result<(), Memory>
+    requires { IsPacked (string_bytes texts.old) 0 ends.old.items }
+    ensures packed { OnOk result (IsPacked (string_bytes texts.new) 0 ends.new.items) }
+    ensures added { OnOk result (unpacked (string_bytes texts.new) 0 ends.new.items
+        ≡ unpacked (string_bytes texts.old) 0 ends.old.items ++ (text.now, number) ∷ []) }
+{
+    texts.push_str(text)?;
+    Ok(ends.push((texts.as_str().len(), number))?)
+}

@@ -1,4 +1,0 @@
-pub mod CountSteps
-mod Examples
-pub mod MapSteps
-pub mod RunSteps

@@ -1,9 +1,0 @@
-use Rattle.std.proofs.Common.{rules, string_bytes}
-use Rattle.std.proofs.lemmas.Str.{IsUtf8-string_bytes}
-use Rattle.doc_words_text.proofs.RunSteps.{chars_pushed}
-use Rattle.doc_words_text.proofs.characters.push_char.Goals as goal
-
-pub returns : goal.returns
-returns c =
-    let pushed : _ = chars_pushed (string_bytes c.args.out.now) c.args.c (IsUtf8-string_bytes c.args.out.now) c.ranges.c.0 in
-    search rules
