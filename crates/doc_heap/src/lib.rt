@@ -8,8 +8,6 @@
 
 mod plan;
 mod refusing;
-#[cfg(test)]
-mod tests;
 
 pub use refusing::Refusing;
 use std::alloc::{AllocError, Global};

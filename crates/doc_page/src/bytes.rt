@@ -1,20 +1,15 @@
 //! Bytes that contracts see as a list.
 
 ghost use Rattle.std.specs.Prelude.{◌≡◌, ◌==◌, ◌++◌, [], OnOk, OnErr, IfOk};
-ghost use Rattle.std.proofs.Common.{rules};
 ghost use Rattle.std.specs.Cmp;
 ghost use Rattle.std.specs.Cmp.{on_equiv};
 ghost use Rattle.std.specs.Cmp.Lexicographic.{pointwise, nat_list_eq_equiv};
-ghost use Rattle.std.specs.Cmp.Rules.{hashing};
-ghost use Rattle.std.specs.Hash as fed;
-ghost use Rattle.std.specs.Hash.{on_Alike};
 
 use crate::failure::Memory;
 use doc_heap::{Heap, Vec};
-use std::hash::{Hash, Hasher};
 use std::marker::Model;
 
-/// Bytes, which need not be a text. Contracts see their list; they are equal and hashed by it.
+/// Bytes, which need not be a text. Contracts see their list; they are equal by it.
 #[derive(Debug, Drop)]
 pub struct Bytes {
     inner: Vec<u8>,
@@ -84,14 +79,4 @@ impl PartialEq for Bytes {
 
 impl Eq for Bytes {
     ghost laws = { nat_list_eq_equiv };
-}
-
-impl Hash for Bytes {
-    ghost hash_input = { fed.slice fed.u8 };
-
-    ghost respects_eq = { Prim.search (hashing, rules) };
-
-    fn hash<H: Hasher>(&self, state: &mut H) {
-        self.inner.hash(state);
-    }
 }

@@ -4,7 +4,7 @@ use crate::list::List;
 use crate::text::Text;
 
 /// The place of a link's opening tag in a page. The tag itself depends on what the reader sees.
-#[derive(Debug, PartialEq, Eq, Hash, Drop)]
+#[derive(Debug, PartialEq, Eq, Drop)]
 pub struct LinkSpot {
     /// The destination, with its escapes and character references read.
     pub dest: Text,
@@ -13,7 +13,7 @@ pub struct LinkSpot {
 }
 
 /// A piece of a page.
-#[derive(Debug, PartialEq, Eq, Hash, Drop)]
+#[derive(Debug, PartialEq, Eq, Drop)]
 pub enum Piece {
     /// HTML that is the same for every reader.
     Html(Text),
@@ -22,7 +22,7 @@ pub enum Piece {
 }
 
 /// A heading of a page.
-#[derive(Debug, PartialEq, Eq, Hash, Drop)]
+#[derive(Debug, PartialEq, Eq, Drop)]
 pub struct Heading {
     /// From 1 to 6, as in `<h1>` to `<h6>`.
     pub level: u8,
@@ -33,7 +33,7 @@ pub struct Heading {
 }
 
 /// A page, rendered once for all readers.
-#[derive(Debug, PartialEq, Eq, Hash, Drop)]
+#[derive(Debug, PartialEq, Eq, Drop)]
 pub struct Rendered {
     /// In order. No `Html` is empty, and no two stand side by side.
     pub pieces: List<Piece>,
