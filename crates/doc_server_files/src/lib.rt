@@ -4,5 +4,3 @@
 pub mod fault;
 pub mod file_device;
 pub mod names;
-#[cfg(test)]
-mod tests;

@@ -5,10 +5,10 @@
 //! - `server CONNECTIONS IDLE CALLS` begins a server at a port that the system chooses, with at most so many connections, each of which
 //!   ends after so many seconds of silence. Its journal is an empty file in memory, of which so many calls go well and the next one fails.
 //!   Its site has no pages, and three readers: an owner (`tok-owner`), one of the group `staff` (`tok-ann`), one of `ops` (`tok-bob`). The
-//!   calls below it are of this server. The lines in front of the first one are printed as they stand, and so are those of one that can't
-//!   be made.
+//!   calls below it are of this server. The lines of one that can't be made are printed as they stand.
 //! - `server CONNECTIONS IDLE CALLS again` begins one with the file that the server before has left, and with the pages of its edits.
-//! - The calls: `calls`.
+//! - The calls of a server: `calls`.
+//! - The calls in front of the first server are of files: `files`. Other lines there are printed as they stand.
 //!
 //! Values that own memory go by calls of `drop`, once on each way: that is much cheaper to prove than what the end of a scope does, which
 //! is written out at each exit.
@@ -17,6 +17,7 @@
 ghost use Rattle.std.specs.Prelude.{◌≡◌, ◌<◌};
 
 mod calls;
+mod files;
 mod journals;
 mod peer;
 mod scene;
@@ -28,11 +29,13 @@ use doc_heap::{Heap, String, Vec, heap};
 use doc_page::failure::Memory;
 use doc_page::plain::PlainRenderer;
 use doc_page::renderer::Renderer;
+use files::files_called;
 use scene::{Scene, new_scene};
+use std::fs::File;
 use std::io;
 use std::marker::Brand;
 use std::net::Net;
-use std::rt::Clock;
+use std::rt::{Clock, Files};
 use std::sync::ledger::{Blank, Ledger};
 use trial::answer::no_call;
 use trial::line::{Line, read_line};
@@ -44,15 +47,39 @@ fn main(rt: HostRuntime) -> io::Result<()> {
     ran
 }
 
-/// Prints the lines in front of the first server, and then what those of each server answer.
-fn run<P: AllocGlobal + Clock + Net + Print>(rt: &P, text: &str) -> io::Result<()> {
+/// Prints what the lines in front of the first server answer, and then what those of each server do.
+fn run<P: AllocGlobal + Clock + Files<File = File> + Net + Print>(
+    rt: &P,
+    text: &str,
+) -> io::Result<()> {
     let (front, servers) = text.split_once("\nserver ").unwrap_or((text, ""));
-    print_lines(rt, front)?;
-    let mut file = Vec::new(heap(rt.alloc(), u64::MAX)?);
+    let heap = heap(rt.alloc(), u64::MAX)?;
+    call_files(rt, heap, front)?;
+    let mut file = Vec::new(heap);
     for lines in servers.split("\nserver ") {
         begin(rt, lines, &mut file)?;
     }
     Ok(())
+}
+
+/// Prints what lines without a server answer.
+fn call_files<P: AllocGlobal + Files<File = File> + Print>(
+    rt: &P,
+    heap: Heap,
+    text: &str,
+) -> io::Result<()> {
+    for line in text.lines() {
+        print_answer(rt, files_called(rt, heap, line))?;
+    }
+    Ok(())
+}
+
+/// Prints what a line answers.
+fn print_answer<P: Print>(rt: &P, answer: Result<String, Memory>) -> io::Result<()> {
+    match answer {
+        Ok(answer) => println!(rt; "{answer}"),
+        Err(Memory) => println!(rt; "no memory for the line"),
+    }
 }
 
 /// Prints lines as they stand.
@@ -117,10 +144,7 @@ fn run_calls<R: Renderer + Drop, P: Clock + Net + Print>(
 ) -> io::Result<()> {
     println!(rt; "()")?;
     for line in calls.lines() {
-        match answer_of(rt, scene, line) {
-            Ok(answer) => println!(rt; "{answer}")?,
-            Err(Memory) => println!(rt; "no memory for the line")?,
-        }
+        print_answer(rt, answer_of(rt, scene, line))?;
     }
     Ok(())
 }
