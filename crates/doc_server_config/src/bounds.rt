@@ -22,7 +22,7 @@ const MOST_CONNECTIONS: u32 = 65_535;
 const MOST_SECONDS: u32 = 86_400;
 
 /// The bounds of a server that runs.
-#[derive(Clone, Copy, Debug, PartialEq, Eq)]
+#[derive(Clone, Copy)]
 pub struct Bounds {
     /// How many connections stand at most.
     pub connections: usize,

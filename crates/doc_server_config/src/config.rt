@@ -19,7 +19,7 @@ use std::fmt;
 use toml::Table;
 
 /// Why a text is no configuration. Pages are counted from 1.
-#[derive(Clone, Copy, Debug, PartialEq, Eq)]
+#[derive(Clone, Copy, Debug)]
 pub enum ConfigError {
     /// The text is no TOML document.
     BadToml,

@@ -36,18 +36,13 @@ pub fn is_prefix(heap: Heap, text: &str) -> Result<bool, Memory>
 }
 
 /// A name behind a prefix and a slash, or alone where the prefix is empty.
-fn joined(heap: Heap, prefix: &str, name: &str) -> Result<String, Memory>
+pub(crate) fn joined(heap: Heap, prefix: &str, name: &str) -> Result<String, Memory>
     ensures { IfOk result (λ text. string_bytes text ≡ joined prefix.now name.now) }
 {
-    let mut text = String::new(heap);
     if prefix.is_empty() {
-        text.push_str(name)?;
-        return Ok(text);
+        return Ok(String::from_str(heap, name)?);
     }
-    text.push_str(prefix)?;
-    text.push_str("/")?;
-    text.push_str(name)?;
-    Ok(text)
+    Ok(format!(in heap; "{prefix}/{name}")?)
 }
 
 /// Whether a file of this name is a page.

@@ -18,7 +18,7 @@ use std::fmt;
 use toml::Value;
 
 /// Why a table is no folder.
-#[derive(Clone, Copy, Debug, PartialEq, Eq)]
+#[derive(Clone, Copy, Debug)]
 pub enum FolderFault {
     /// It has a key other than `path`, `prefix` and `groups`.
     OtherKey,
@@ -42,7 +42,7 @@ impl fmt::Display for FolderFault {
 }
 
 /// A folder whose files are pages.
-#[derive(Debug, Drop)]
+#[derive(Drop)]
 pub struct Folder {
     /// The name of the folder, as it is to be opened.
     pub file: Text,

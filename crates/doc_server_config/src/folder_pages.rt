@@ -26,7 +26,7 @@ use std::rt::Files;
 const TEXT_LIMIT: usize = 1_048_576;
 
 /// A page of a folder.
-#[derive(Debug, Drop)]
+#[derive(Drop)]
 pub struct FolderPage {
     pub path: Path,
     pub groups: Groups,
@@ -118,10 +118,22 @@ fn read_page<R: AllocGlobal + Files + Clone + Drop>(
     requires { path_in_folder folder.now.prefix file.now ≡ Ok (Some path) }
     ensures { IfOk result (IsPageOf folder.now) }
 {
-    let name = joined(heap, folder.file.get(), file)?;
-    let text = read_file(rt, heap, name.as_str())?;
+    let text = read_text(rt, heap, folder, file)?;
     let groups = folder.groups.copy(heap)?;
     Ok(FolderPage { path, groups, text })
+}
+
+/// The text of a file of the folder.
+fn read_text<R: AllocGlobal + Files>(
+    rt: &R,
+    heap: Heap,
+    folder: &Folder,
+    file: &str,
+) -> Result<Text, Fault>
+    ensures { IfOk result (λ text. length text ≤ text_limit) }
+{
+    let name = joined(heap, folder.file.get(), file)?;
+    read_file(rt, heap, name.as_str())
 }
 
 /// The text of a file.
@@ -132,11 +144,18 @@ fn read_file<R: AllocGlobal + Files>(rt: &R, heap: Heap, name: &str) -> Result<T
     let Ok(file) = File::open(rt, name) else {
         return Err(cannot_read(heap, name));
     };
-    let bytes = match read_whole(heap, name, &mut ReadFrom::new(file), TEXT_LIMIT) {
-        Ok(bytes) => bytes,
-        Err(Fault::Refused) => return Err(cannot_read(heap, name)),
-        Err(fault) => return Err(fault),
-    };
+    let read = read_whole(heap, name, &mut ReadFrom::new(file), TEXT_LIMIT);
+    match read {
+        Ok(bytes) => text_of(heap, name, bytes),
+        Err(Fault::Refused) => Err(cannot_read(heap, name)),
+        Err(fault) => Err(fault),
+    }
+}
+
+/// The bytes as a text.
+fn text_of(heap: Heap, name: &str, bytes: Vec<u8>) -> Result<Text, Fault>
+    ensures { IfOk result (λ text. text ≡ bytes.entry.items) }
+{
     match String::from_utf8(bytes) {
         Ok(text) => Ok(Text::new(text)),
         Err(_) => Err(cannot_read(heap, name)),

@@ -16,7 +16,7 @@ use std::fmt;
 use toml::Table;
 
 /// Why a text says nothing that `listen` could go by. Folders are counted from 1.
-#[derive(Clone, Copy, Debug, PartialEq, Eq)]
+#[derive(Clone, Copy, Debug)]
 pub enum ListeningError {
     /// The text is no TOML document.
     BadToml,
@@ -61,7 +61,7 @@ impl From<Memory> for ListeningError {
 }
 
 /// What `listen` goes by.
-#[derive(Debug, Drop)]
+#[derive(Drop)]
 pub struct Listening {
     /// How many connections stand at most, 1 to 65,535.
     pub connections: usize,

@@ -16,7 +16,7 @@ use doc_store::tables::groups_in;
 use toml::Value;
 
 /// Where the text of a page stands.
-#[derive(Debug, Drop)]
+#[derive(Drop)]
 pub enum Source {
     /// In the configuration: this is the text.
     Text(Text),
@@ -25,7 +25,7 @@ pub enum Source {
 }
 
 /// A page of a configuration.
-#[derive(Debug, Drop)]
+#[derive(Drop)]
 pub struct PageRow {
     pub path: Path,
     /// The groups whose readers see the page.

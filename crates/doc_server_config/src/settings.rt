@@ -1,20 +1,21 @@
 //! The settings of a site.
 
-ghost use Rattle.std.specs.Prelude.{◌≡◌, IfOk, codes, option_map};
+ghost use Rattle.std.specs.Prelude.{◌≡◌, IfOk, codes};
 ghost use Rattle.toml.specs.Data.{as_integer, get_member};
-ghost use Rattle.toml.specs.View.{table_view, view};
+ghost use Rattle.toml.specs.View.{table_view};
 ghost use Rattle.doc_server_config.specs.Settings.{cache_at, capacity_of, entities_at, keep_alive_at, settings_in};
 
+pub use crate::table::value_at;
 use doc_heap::Heap;
 use doc_page::failure::Memory;
 use doc_page::text::Text;
-use toml::{Table, Value};
+use toml::Table;
 
 /// How many filled pages a cache keeps, where a configuration doesn't say.
 const CACHE: usize = 64;
 
 /// The settings of a site.
-#[derive(Debug, Drop)]
+#[derive(Drop)]
 pub struct Settings {
     /// Whether connections are kept after a reply. Without the key they are.
     pub keep_alive: bool,
@@ -42,14 +43,6 @@ pub fn settings_in(heap: Heap, document: &Table) -> Result<Option<Settings>, Mem
         cache,
         entities,
     }))
-}
-
-/// What a key of a document holds.
-pub fn value_at<'a>(document: &'a Table, key: &str) -> Option<&'a Value>
-    ensures { option_map (λ value. view value.now) result
-        ≡ get_member key.now (table_view document.now) }
-{
-    document.get(key)
 }
 
 fn keep_alive_in(document: &Table) -> Option<bool>

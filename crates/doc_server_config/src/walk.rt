@@ -1,11 +1,13 @@
 //! The files of a folder and of those below it.
 
+use crate::file_name;
 use doc_heap::{Heap, String, Vec};
 use doc_page::failure::Memory;
 use doc_server_input::fault::Fault;
 use doc_server_input::input::cannot_read;
 use std::alloc::AllocGlobal;
-use std::fs::{DirEntry, read_dir};
+use std::fs::{DirEntry, FileType, ReadDir, read_dir};
+use std::io;
 use std::rt::Files;
 
 /// What was found so far: folders that are still to be looked into, and files. Each is named from the folder that the walk began in.
@@ -26,16 +28,30 @@ pub fn files_in<R: AllocGlobal + Files + Clone + Drop>(
         folders: Vec::new(heap),
         files: Vec::new(heap),
     };
+    look_below(rt, heap, root, &mut found)?;
+    Ok(sorted(found.files)?)
+}
+
+/// Notes what the folder that the walk begins in holds, and the folders below it.
+fn look_below<R: AllocGlobal + Files + Clone + Drop>(
+    rt: &R,
+    heap: Heap,
+    root: &str,
+    found: &mut Found,
+) -> Result<(), Fault> {
     add(&mut found.folders, String::new(heap))?;
     for _ in 0..u64::MAX {
         let Some(folder) = found.folders.pop() else {
-            break;
+            return Ok(());
         };
-        look_into(rt, heap, root, &folder, &mut found)?;
+        look_into(rt, heap, root, &folder, found)?;
     }
-    let mut files = found.files;
-    files.sort().map_err(Memory::from)?;
-    Ok(files)
+    Ok(())
+}
+
+fn sorted(mut names: Vec<String>) -> Result<Vec<String>, Memory> {
+    names.sort()?;
+    Ok(names)
 }
 
 /// Notes what a folder holds.
@@ -47,16 +63,38 @@ fn look_into<R: AllocGlobal + Files + Clone + Drop>(
     found: &mut Found,
 ) -> Result<(), Fault> {
     let name = joined(heap, root, folder)?;
-    let Ok(entries) = read_dir(rt, name.as_str()) else {
-        return Err(cannot_read(heap, name.as_str()));
-    };
+    match read_dir(rt, name.as_str()) {
+        Ok(entries) => note_all(heap, name.as_str(), folder, entries, found),
+        Err(_) => Err(cannot_read(heap, name.as_str())),
+    }
+}
+
+/// Notes the entries of the folder of this name.
+fn note_all<R: AllocGlobal + Files + Clone + Drop>(
+    heap: Heap,
+    name: &str,
+    folder: &str,
+    entries: ReadDir<R>,
+    found: &mut Found,
+) -> Result<(), Fault> {
     for entry in entries {
-        match entry {
-            Ok(entry) => note(heap, folder, &entry, found)?,
-            Err(_) => return Err(cannot_read(heap, name.as_str())),
-        }
+        note_entry(heap, name, folder, entry, found)?;
     }
     Ok(())
+}
+
+/// Notes an entry of the folder of this name, where it can be read.
+fn note_entry<R: AllocGlobal + Files + Clone + Drop>(
+    heap: Heap,
+    name: &str,
+    folder: &str,
+    entry: io::Result<DirEntry<R>>,
+    found: &mut Found,
+) -> Result<(), Fault> {
+    match entry {
+        Ok(entry) => note(heap, folder, &entry, found),
+        Err(_) => Err(cannot_read(heap, name)),
+    }
 }
 
 /// Notes a file or a folder.
@@ -71,14 +109,19 @@ fn note<R: AllocGlobal + Files + Clone + Drop>(
         return Ok(());
     }
     let path = joined(heap, folder, name)?;
-    let Ok(kind) = entry.file_type() else {
-        return Err(cannot_read(heap, path.as_str()));
-    };
-    if kind.is_dir() {
-        return Ok(add(&mut found.folders, path)?);
+    match entry.file_type() {
+        Ok(kind) => Ok(add_by_kind(found, kind, path)?),
+        Err(_) => Err(cannot_read(heap, path.as_str())),
     }
-    if kind.is_file() && name.ends_with(".md") {
-        return Ok(add(&mut found.files, path)?);
+}
+
+/// Adds a folder, or a file whose name ends in `.md`.
+fn add_by_kind(found: &mut Found, kind: FileType, path: String) -> Result<(), Memory> {
+    if kind.is_dir() {
+        return add(&mut found.folders, path);
+    }
+    if kind.is_file() && path.as_str().ends_with(".md") {
+        return add(&mut found.files, path);
     }
     Ok(())
 }
@@ -90,10 +133,8 @@ fn add(names: &mut Vec<String>, name: String) -> Result<(), Memory> {
 
 /// A name behind a folder and a slash; without a folder or a name the other alone.
 pub fn joined(heap: Heap, folder: &str, name: &str) -> Result<String, Memory> {
-    let mut whole = String::from_str(heap, folder)?;
-    if !folder.is_empty() && !name.is_empty() {
-        whole.push('/')?;
+    if name.is_empty() {
+        return Ok(String::from_str(heap, folder)?);
     }
-    whole.push_str(name)?;
-    Ok(whole)
+    file_name::joined(heap, folder, name)
 }
