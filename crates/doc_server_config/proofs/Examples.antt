@@ -1,6 +1,6 @@
 -- The definitions on worked examples.
-use Rattle.std.proofs.Common.{◌≡◌, ℕ, List, [], ◌∷◌, true, false, codes, refl}
-use Rattle.std.specs.Prelude.{Some, None, Result, Ok, Err}
+use Rattle.std.proofs.Common.{◌≡◌, [], ◌∷◌, true, false, codes, refl}
+use Rattle.std.specs.Prelude.{Some, None, Ok, Err}
 use Rattle.std.specs.FinMap as map
 use Rattle.std.specs.Str.{chars}
 use Rattle.toml.proofs.OnLiterals.{toml_on_literals}

@@ -1,5 +1,5 @@
 -- What stops the reading of an input or the writing of an output, and how many calls of it failed then.
-use Rattle.std.specs.Prelude.{◌≡◌, ◌<◌, ◌≤◌, ◌^◌, ⊤, ◌⊎◌, ℕ, List, length, string_bytes, Option, IfSome, Result, Ok, Err}
+use Rattle.std.specs.Prelude.{◌≡◌, ◌<◌, ◌≤◌, ◌^◌, ⊤, ◌⊎◌, ℕ, List, length, string_bytes, Option, IfSome, Result, Err}
 use Rattle.std.specs.Str.{IsUtf8}
 use Rattle.doc_server_streams.specs.Streams.{one_more}
 use Rattle.doc_server_input.specs.declared.fault.Fault.{Fault}
