@@ -8,7 +8,7 @@ use std::error::Error;
 use std::fmt;
 
 /// Why the peers of a listener were not served.
-#[derive(Clone, Copy, Debug, PartialEq, Eq)]
+#[derive(Clone, Copy, Debug)]
 pub enum ServeFault {
     /// The listener gave no connection.
     Accept,

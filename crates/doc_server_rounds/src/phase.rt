@@ -1,7 +1,7 @@
 //! What a link does in its next pass.
 
 /// What a link does in its next pass.
-#[derive(Clone, Copy, Debug, PartialEq, Eq)]
+#[derive(Clone, Copy, PartialEq, Eq)]
 pub enum Phase {
     /// It reads, where nothing is pending.
     Reads,

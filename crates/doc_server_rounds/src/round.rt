@@ -12,7 +12,7 @@ use doc_page::renderer::Renderer;
 use doc_server_streams::stream::Stream;
 
 /// What a round did.
-#[derive(Debug, Drop)]
+#[derive(Drop)]
 pub struct Round {
     pub passes: u32,
     /// The places of the links whose stream failed in the round.
