@@ -9,7 +9,7 @@ use doc_page::failure::Memory;
 use std::fmt::Write;
 
 /// How many examples passed, and how many did not.
-#[derive(Clone, Copy, Debug, PartialEq, Eq)]
+#[derive(Clone, Copy)]
 pub struct Count {
     pub passed: usize,
     pub failed: usize,

@@ -8,7 +8,7 @@ use doc_heap::{Heap, String};
 use doc_page::failure::Memory;
 
 /// Where a line stands.
-#[derive(Clone, Copy, Debug, PartialEq, Eq)]
+#[derive(Clone, Copy)]
 enum Part {
     Between,
     Input,
