@@ -33,7 +33,8 @@ pub fn run_lines<R: AllocGlobal + Print, C: Calls>(
     Ok(())
 }
 
-fn print_answer<R: Print>(rt: &R, answer: Result<String, Memory>) -> io::Result<()> {
+/// Prints what a line answers.
+pub fn print_answer<R: Print>(rt: &R, answer: Result<String, Memory>) -> io::Result<()> {
     match answer {
         Ok(answer) => {
             let printed = println!(rt; "{answer}");

@@ -39,6 +39,7 @@ use std::rt::{Clock, Files};
 use std::sync::ledger::{Blank, Ledger};
 use trial::answer::no_call;
 use trial::line::{Line, read_line};
+use trial::run::print_answer;
 
 fn main(rt: HostRuntime) -> io::Result<()> {
     let text = io::read_to_string(rt.alloc(), rt.reader())?;
@@ -72,14 +73,6 @@ fn call_files<P: AllocGlobal + Files<File = File> + Print>(
         print_answer(rt, files_called(rt, heap, line))?;
     }
     Ok(())
-}
-
-/// Prints what a line answers.
-fn print_answer<P: Print>(rt: &P, answer: Result<String, Memory>) -> io::Result<()> {
-    match answer {
-        Ok(answer) => println!(rt; "{answer}"),
-        Err(Memory) => println!(rt; "no memory for the line"),
-    }
 }
 
 /// Prints lines as they stand.
