@@ -156,7 +156,9 @@ fn tried_once<T: PartialEq + Drop, F: Fn(Refusal) -> Result<T, Memory>>(
     match answer {
         Err(Memory) => Outcome::Memory,
         Ok(answer) => {
-            if answer == *right {
+            let is_right = answer == *right;
+            drop(answer);
+            if is_right {
                 Outcome::Right
             } else {
                 Outcome::Wrong

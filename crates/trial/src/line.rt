@@ -20,7 +20,12 @@ pub fn read_line<'a>(heap: Heap, line: &'a str) -> Result<Line<'a>, Memory> {
     if line.is_empty() || line.starts_with('#') {
         return Ok(Line::Comment);
     }
-    let (name, given) = line.split_once(' ').unwrap_or((line, ""));
+    let Some((name, given)) = line.split_once(' ') else {
+        return Ok(Line::Call {
+            name: line,
+            given: String::new(heap),
+        });
+    };
     match text_of(heap, given)? {
         Some(given) => Ok(Line::Call { name, given }),
         None => Ok(Line::Wrong),

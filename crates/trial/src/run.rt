@@ -28,12 +28,20 @@ pub fn run_lines<R: AllocGlobal + Print, C: Calls>(
 ) -> io::Result<()> {
     let heap = heap(rt.alloc(), u64::MAX)?;
     for line in text.lines() {
-        match answer_of(heap, line, calls) {
-            Ok(answer) => println!(rt; "{answer}")?,
-            Err(Memory) => println!(rt; "no memory for the line")?,
-        }
+        print_answer(rt, answer_of(heap, line, calls))?;
     }
     Ok(())
+}
+
+fn print_answer<R: Print>(rt: &R, answer: Result<String, Memory>) -> io::Result<()> {
+    match answer {
+        Ok(answer) => {
+            let printed = println!(rt; "{answer}");
+            drop(answer);
+            printed
+        }
+        Err(Memory) => println!(rt; "no memory for the line"),
+    }
 }
 
 /// What is printed for a line.

@@ -66,9 +66,21 @@ fn push_numbered(out: &mut String, written: &str, count: usize) -> Result<bool, 
 /// Adds a text without a number so many times, and answers whether it is written so.
 fn push_equal(heap: Heap, out: &mut String, written: &str, count: usize) -> Result<bool, Memory> {
     let mut text = String::new(heap);
-    let is_written = count == 0 || push_all(&mut text, written, 0)?;
+    let pushed = push_copies(out, &mut text, written, count);
+    drop(text);
+    pushed
+}
+
+/// The same, with an empty text for what is added each time.
+fn push_copies(
+    out: &mut String,
+    text: &mut String,
+    written: &str,
+    count: usize,
+) -> Result<bool, Memory> {
+    let is_written = count == 0 || push_all(text, written, 0)?;
     for _ in 0..count {
-        out.push_str(&text)?;
+        out.push_str(text)?;
     }
     Ok(is_written)
 }

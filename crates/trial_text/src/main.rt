@@ -1,5 +1,6 @@
-//! Tries the calls from a text to its HTML, as `trial` says: those of `doc_lines`, `doc_blocks_starts`, `doc_refs`, `doc_blocks`,
-//! `doc_inlines`, `doc_html_anchors` and `doc_html`, and those of `doc_page` on texts and pages. A page is printed on several lines.
+//! Tries the calls from a text to its HTML, as `trial` says: those of `doc_heap`, `doc_lines`, `doc_blocks_starts`, `doc_refs`,
+//! `doc_blocks`, `doc_inlines`, `doc_html_anchors` and `doc_html`, and those of `doc_page` on texts and pages. A page is printed on
+//! several lines.
 //!
 //! A value that owns memory goes by a call of `drop`, once on each way, and a call's answer is handed on as it is: that is much cheaper
 //! to prove than `?` where such a value is alive.
@@ -10,6 +11,7 @@ mod hides;
 mod of_anchors;
 mod of_blocks;
 mod of_filling;
+mod of_heap;
 mod of_html;
 mod of_inlines;
 mod of_lines;
@@ -40,8 +42,11 @@ impl Calls for TextCalls {
             desk: heap,
             entities: &self.entities,
         };
-        match name.strip_prefix("grow_") {
-            Some(name) => growing::called(tools, name, given),
+        if let Some(name) = name.strip_prefix("grow_") {
+            return growing::called(tools, name, given);
+        }
+        match name.strip_prefix("heap_") {
+            Some(name) => of_heap::called(tools, name, given),
             None => of_lines::called(tools, name, given),
         }
     }
