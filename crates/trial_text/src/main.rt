@@ -1,5 +1,6 @@
-//! Tries the calls from a text to its HTML, as `trial` says: those of `doc_heap`, `doc_lines`, `doc_blocks_starts`, `doc_refs`, `doc_blocks`,
-//! `doc_inlines`, `doc_html_anchors` and `doc_html`, and those of `doc_page` on texts and pages. A page is printed on several lines.
+//! Tries the calls from a text to its HTML, as `trial` says: those of `doc_heap`, `doc_lines`, `doc_blocks_starts`, `doc_refs`,
+//! `doc_blocks`, `doc_inlines`, `doc_html_anchors` and `doc_html`, and those of `doc_page` on texts and pages. A page is printed on
+//! several lines.
 //!
 //! A value that owns memory goes by a call of `drop`, once on each way, and a call's answer is handed on as it is: that is much cheaper
 //! to prove than `?` where such a value is alive.
