@@ -7,7 +7,7 @@ use std::fs::TryLockError;
 use std::{fmt, io};
 
 /// Why a file isn't opened, or none takes its place.
-#[derive(Clone, Copy, Debug, PartialEq, Eq)]
+#[derive(Clone, Copy, Debug)]
 pub enum FileFault {
     /// Another process has it open as a device.
     InUse,

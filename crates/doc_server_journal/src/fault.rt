@@ -5,11 +5,11 @@ use std::error::Error;
 use std::fmt;
 
 /// A call of a device failed.
-#[derive(Clone, Copy, Debug, PartialEq, Eq)]
+#[derive(Clone, Copy)]
 pub struct DeviceFault;
 
 /// Why a file isn't read whole.
-#[derive(Clone, Copy, Debug, PartialEq, Eq)]
+#[derive(Clone, Copy)]
 pub enum LoadError {
     /// No memory was left.
     Memory,
@@ -31,7 +31,7 @@ impl From<Memory> for LoadError {
 }
 
 /// Why the bytes of a journal aren't read.
-#[derive(Clone, Copy, Debug, PartialEq, Eq)]
+#[derive(Clone, Copy, Debug)]
 pub enum ReadError {
     /// The record of this number, counted from 1, is damaged.
     Damaged(usize),
@@ -61,7 +61,7 @@ impl From<Memory> for ReadError {
 }
 
 /// Why a record isn't added.
-#[derive(Clone, Copy, Debug, PartialEq, Eq)]
+#[derive(Clone, Copy)]
 pub enum AppendError {
     /// No memory was left. Nothing was written.
     Memory,

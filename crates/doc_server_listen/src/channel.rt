@@ -7,7 +7,7 @@ ghost use Rattle.doc_server_listen.specs.Channels.{came_len, took_len};
 use doc_server_streams::fault::StreamFault;
 
 /// What a read gave.
-#[derive(Clone, Copy, Debug, PartialEq, Eq)]
+#[derive(Clone, Copy)]
 pub enum Came {
     /// So many bytes.
     Bytes(usize),

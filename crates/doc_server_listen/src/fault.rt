@@ -6,7 +6,7 @@ use std::error::Error;
 use std::fmt;
 
 /// Why a turn ends a server.
-#[derive(Clone, Copy, Debug, PartialEq, Eq)]
+#[derive(Clone, Copy, Debug)]
 pub enum TurnFault {
     /// No memory was left for the edits of the turn.
     Memory,

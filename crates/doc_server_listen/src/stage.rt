@@ -1,7 +1,7 @@
 //! What a client does in its next pass.
 
 /// What a client does in its next pass.
-#[derive(Clone, Copy, Debug, PartialEq, Eq)]
+#[derive(Clone, Copy, PartialEq, Eq)]
 pub enum Stage {
     /// It reads.
     Reads,

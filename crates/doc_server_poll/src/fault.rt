@@ -7,7 +7,7 @@ use std::error::Error;
 use std::fmt;
 
 /// Why a server doesn't run.
-#[derive(Clone, Copy, Debug, PartialEq, Eq)]
+#[derive(Clone, Copy, Debug)]
 pub enum PollFault {
     /// The address can't be listened at, or the system can't be asked for events or for the time.
     Socket,

@@ -13,7 +13,7 @@ use std::time::{Duration, Instant};
 const LINGERS: u64 = 2;
 
 /// What becomes of a client behind a turn.
-#[derive(Clone, Copy, Debug, PartialEq, Eq)]
+#[derive(Clone, Copy)]
 pub enum Fate {
     /// It waits for an event of its stream.
     Waits,

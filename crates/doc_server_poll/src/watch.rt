@@ -4,7 +4,7 @@ use doc_hub::event::ConnId;
 use std::time::Instant;
 
 /// A reply that was handed over.
-#[derive(Clone, Copy, Debug, PartialEq, Eq)]
+#[derive(Clone, Copy)]
 pub struct Handed {
     /// The code of its status line.
     pub code: u16,
@@ -34,7 +34,7 @@ pub trait Watch {
 }
 
 /// Nobody watches.
-#[derive(Clone, Copy, Debug, PartialEq, Eq)]
+#[derive(Clone, Copy)]
 pub struct Unwatched;
 
 impl Watch for Unwatched {

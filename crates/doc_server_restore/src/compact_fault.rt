@@ -7,7 +7,7 @@ use std::error::Error;
 use std::fmt;
 
 /// Why the edits that lead from one site to another aren't written to a journal.
-#[derive(Clone, Copy, Debug, PartialEq, Eq)]
+#[derive(Clone, Copy, Debug)]
 pub enum CompactFault {
     /// The device holds something already.
     NotEmpty,

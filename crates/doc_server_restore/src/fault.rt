@@ -5,7 +5,7 @@ use std::error::Error;
 use std::fmt;
 
 /// Why the edits of a journal's records aren't restored. Records are counted from 1.
-#[derive(Clone, Copy, Debug, PartialEq, Eq)]
+#[derive(Clone, Copy, Debug)]
 pub enum RestoreFault {
     /// This record is no text of edits.
     BadRecord(usize),

@@ -39,7 +39,7 @@ pub struct Scene<R: Renderer + Drop> {
 }
 
 /// What is waited for of a peer.
-#[derive(Clone, Copy, Debug, PartialEq, Eq)]
+#[derive(Clone, Copy, PartialEq, Eq)]
 pub enum Awaited {
     /// So many bytes, or the end of the stream.
     Bytes(usize),
