@@ -24,7 +24,7 @@ struct Given<'a> {
 }
 
 /// Why no further turn is made.
-#[derive(Clone, Copy, Debug, PartialEq, Eq)]
+#[derive(Clone, Copy, Debug)]
 enum End {
     /// A read gave nothing.
     Read0,
@@ -65,22 +65,18 @@ fn echoed(heap: Heap, given: &Given<'_>) -> Result<String, Memory> {
     heap.refuse_after(given.growths);
     let told = echo(&mut stream, given.streamed.text.as_bytes());
     heap.refuse_after(u64::MAX);
-    let mut out = String::new(heap);
-    let pushed = push_told(&mut out, told, &stream);
+    let printed = printed(heap, told, &stream);
     drop(stream);
-    pushed?;
-    Ok(out)
+    printed
 }
 
-fn push_told(out: &mut String, told: Told, stream: &MemoryStream) -> Result<(), Memory> {
+fn printed(heap: Heap, told: Told, stream: &MemoryStream) -> Result<String, Memory> {
     let Told { reads, writes, end } = told;
     let failures = stream.failures();
     let wrote = from_utf8(stream.written()).unwrap_or("no text");
-    write!(
-        out,
+    Ok(format!(in heap;
         "{reads} reads, {writes} writes, {end:?}, {failures} failures, wrote {wrote:?}"
-    )?;
-    Ok(())
+    )?)
 }
 
 /// Writes the bytes, and makes turns until one is the last.
@@ -90,24 +86,20 @@ fn echo(stream: &mut MemoryStream, bytes: &[u8]) -> Told {
         writes: 0,
         end: End::TooMany,
     };
-    if let Some(end) = write(stream, bytes, &mut told) {
-        told.end = end;
-        return told;
-    }
-    if let Some(end) = echo_turns(stream, &mut told) {
-        told.end = end;
-    }
+    told.end = match write(stream, bytes, &mut told) {
+        Some(end) => end,
+        None => echo_turns(stream, &mut told),
+    };
     told
 }
 
-fn echo_turns(stream: &mut MemoryStream, told: &mut Told) -> Option<End> {
+fn echo_turns(stream: &mut MemoryStream, told: &mut Told) -> End {
     'turns: for _ in 0..MANY {
-        let end = turn(stream, told);
-        if end.is_some() {
+        if let Some(end) = turn(stream, told) {
             return end;
         }
     }
-    None
+    End::TooMany
 }
 
 /// Reads once, and writes what was read by one call.

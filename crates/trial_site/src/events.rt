@@ -11,8 +11,10 @@ use doc_page::path::Path;
 /// Events with ` ; ` between two.
 pub fn events_of(desk: Heap, given: &str) -> Result<Vec<Event>, Stop> {
     let mut events = Vec::new(desk);
-    push_events(desk, &mut events, given)?;
-    Ok(events)
+    match push_events(desk, &mut events, given) {
+        Ok(()) => Ok(events),
+        Err(stop) => Err(stop),
+    }
 }
 
 fn push_events(desk: Heap, events: &mut Vec<Event>, given: &str) -> Result<(), Stop> {
@@ -23,12 +25,9 @@ fn push_events(desk: Heap, events: &mut Vec<Event>, given: &str) -> Result<(), S
 }
 
 fn push_event(desk: Heap, events: &mut Vec<Event>, line: &str) -> Result<(), Stop> {
-    events.push(event_in(desk, line)?).map_err(Stop::from)
-}
-
-fn event_in(desk: Heap, line: &str) -> Result<Event, Stop> {
     let (name, given) = line.split_once(' ').unwrap_or((line, ""));
-    event_of(desk, name, given)
+    events.push(event_of(desk, name, given)?)?;
+    Ok(())
 }
 
 /// The event of this name.
@@ -36,8 +35,8 @@ pub fn event_of(desk: Heap, name: &str, given: &str) -> Result<Event, Stop> {
     match name {
         "connect" => Ok(Event::Connect),
         "push" => push(desk, given),
-        "step" => step(given),
-        "disconnect" => disconnect(given),
+        "step" => Ok(Event::Step(connection(given)?)),
+        "disconnect" => Ok(Event::Disconnect(connection(given)?)),
         _ => edit_of(desk, name, given),
     }
 }
@@ -46,10 +45,10 @@ pub fn event_of(desk: Heap, name: &str, given: &str) -> Result<Event, Stop> {
 fn edit_of(desk: Heap, name: &str, given: &str) -> Result<Event, Stop> {
     match name {
         "put" => put(desk, given),
-        "remove" => remove(desk, given),
+        "remove" => Ok(Event::Remove(path_of(desk, given)?)),
         "move" => move_page(desk, given),
         "reader" => set_reader(desk, given),
-        "unreader" => remove_reader(desk, given),
+        "unreader" => Ok(Event::RemoveReader(text_of(desk, given)?)),
         _ => Err(Stop::NoCall),
     }
 }
@@ -57,14 +56,6 @@ fn edit_of(desk: Heap, name: &str, given: &str) -> Result<Event, Stop> {
 fn push(desk: Heap, given: &str) -> Result<Event, Stop> {
     let (id, bytes) = id_and_bytes(desk, given)?;
     Ok(Event::Push(id, Bytes::new(bytes)))
-}
-
-fn step(given: &str) -> Result<Event, Stop> {
-    Ok(Event::Step(connection(given)?))
-}
-
-fn disconnect(given: &str) -> Result<Event, Stop> {
-    Ok(Event::Disconnect(connection(given)?))
 }
 
 fn put(desk: Heap, given: &str) -> Result<Event, Stop> {
@@ -78,10 +69,6 @@ fn put_at(desk: Heap, path: Path, groups: &str, text: &str) -> Result<Event, Sto
     Ok(Event::Put(path, groups, text))
 }
 
-fn remove(desk: Heap, given: &str) -> Result<Event, Stop> {
-    Ok(Event::Remove(path_of(desk, given)?))
-}
-
 fn move_page(desk: Heap, given: &str) -> Result<Event, Stop> {
     let (from, to) = two(given)?;
     let (from, to) = both(path_of(desk, from), path_of(desk, to))?;
@@ -92,8 +79,4 @@ fn set_reader(desk: Heap, given: &str) -> Result<Event, Stop> {
     let (token, reader) = two(given)?;
     let (token, reader) = both(text_of(desk, token), reader_of(desk, reader))?;
     Ok(Event::SetReader(token, reader))
-}
-
-fn remove_reader(desk: Heap, given: &str) -> Result<Event, Stop> {
-    Ok(Event::RemoveReader(text_of(desk, given)?))
 }

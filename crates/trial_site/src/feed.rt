@@ -1,29 +1,31 @@
 //! The reader that a command is tried with.
 
-use crate::ways::Way;
+use crate::ways::{Given, Way};
 use std::io;
 use std::io::{ErrorKind, Read};
 
-/// Bytes, behind which the input ends or breaks. The first read is interrupted or not.
+/// Bytes, behind which the input ends or breaks, or a byte that isn't UTF-8 stands. The first read is interrupted or not.
 #[derive(Drop)]
 pub struct Feed<'a> {
     rest: &'a [u8],
     interrupts: bool,
+    strays: bool,
     breaks: bool,
 }
 
 impl<'a> Feed<'a> {
-    pub fn new(way: Way, bytes: &'a [u8]) -> Feed<'a> {
+    pub fn new(given: Given<'a>) -> Feed<'a> {
         Feed {
-            rest: bytes,
-            interrupts: way == Way::Interrupted,
-            breaks: way == Way::Unread,
+            rest: given.text.as_bytes(),
+            interrupts: given.way == Way::Interrupted,
+            strays: given.way == Way::Stray,
+            breaks: given.way == Way::Unread,
         }
     }
 
     /// Whether bytes are left.
     pub fn is_left(&self) -> bool {
-        !self.rest.is_empty()
+        self.strays || !self.rest.is_empty()
     }
 }
 
@@ -35,6 +37,10 @@ impl Read for Feed<'_> {
         }
         if self.rest.is_empty() && self.breaks {
             return Err(io::Error::from(ErrorKind::BrokenPipe));
+        }
+        if self.rest.is_empty() && self.strays {
+            self.strays = false;
+            self.rest = b"\xFF";
         }
         self.rest.read(buf)
     }

@@ -43,15 +43,15 @@ pub fn both<A: Drop, B: Drop>(a: Result<A, Stop>, b: Result<B, Stop>) -> Result<
 }
 
 pub fn text_of(desk: Heap, given: &str) -> Result<Text, Stop> {
-    Text::copy_of(desk, given).map_err(Stop::from)
+    Ok(Text::copy_of(desk, given)?)
 }
 
 pub fn path_of(desk: Heap, given: &str) -> Result<Path, Stop> {
-    Path::new(desk, given).map_err(Stop::from)
+    Ok(Path::new(desk, given)?)
 }
 
 pub fn groups_of(desk: Heap, given: &str) -> Result<Groups, Stop> {
-    Groups::new(desk, given).map_err(Stop::from)
+    Ok(Groups::new(desk, given)?)
 }
 
 /// The reader that a text names: `owner`, or a reader of groups.
@@ -64,8 +64,10 @@ pub fn reader_of(desk: Heap, text: &str) -> Result<Reader, Stop> {
 /// The bytes of a text, in which `\xff` is one of that hexadecimal number.
 pub fn bytes_of(desk: Heap, text: &str) -> Result<Vec<u8>, Stop> {
     let mut bytes = Vec::with_capacity(desk, text.len())?;
-    push_bytes(&mut bytes, text)?;
-    Ok(bytes)
+    match push_bytes(&mut bytes, text) {
+        Ok(()) => Ok(bytes),
+        Err(stop) => Err(stop),
+    }
 }
 
 fn push_bytes(bytes: &mut Vec<u8>, text: &str) -> Result<(), Stop> {

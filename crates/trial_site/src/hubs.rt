@@ -2,7 +2,7 @@
 
 use crate::events::{event_of, events_of};
 use crate::given::id_and_bytes;
-use crate::outcomes::{all_said, one_said};
+use crate::outcomes::said_of;
 use crate::stop::{Answer, Stop};
 use crate::world::{World, asked, set_witness};
 use crate::written::push_after;
@@ -12,6 +12,7 @@ use doc_hub::hub::Hub;
 use doc_hub::outcome::Outcome;
 use doc_page::renderer::Renderer;
 use doc_page::text::Text;
+use std::slice::from_ref;
 
 /// What a call of this name answers: that of an event, or of one of these.
 pub fn called<R: Renderer + Drop>(
@@ -39,7 +40,7 @@ fn call<R: Renderer + Drop>(
     let event = event_of(desk, name, given)?;
     let outcome = happened(hub, &event);
     drop(event);
-    let said = one_said(desk, &outcome);
+    let said = said_of(desk, from_ref(&outcome));
     drop(outcome);
     said
 }
@@ -64,7 +65,7 @@ fn ask<R: Renderer + Drop>(desk: Heap, hub: &mut Hub<R>, given: &str) -> Result<
     let (id, bytes) = id_and_bytes(desk, given)?;
     let outcome = asked(hub, id, &bytes);
     drop(bytes);
-    let said = one_said(desk, &outcome);
+    let said = said_of(desk, from_ref(&outcome));
     drop(outcome);
     said
 }
@@ -82,8 +83,7 @@ fn reported(desk: Heap, report: Text) -> Result<Answer, Stop> {
     let mut text = String::new(desk);
     let pushed = push_after(&mut text, "report ", report.get().as_bytes());
     drop(report);
-    pushed?;
-    Ok(Answer::of(text))
+    Answer::if_written(text, pushed)
 }
 
 /// `EVENT ; EVENT ..`: a run of these events.
@@ -103,7 +103,7 @@ pub fn run_of<R: Renderer + Drop>(
     let Ok(outcomes) = hub.run(events) else {
         return Answer::memory(desk);
     };
-    let said = all_said(desk, outcomes.get());
+    let said = said_of(desk, outcomes.get());
     drop(outcomes);
     said
 }

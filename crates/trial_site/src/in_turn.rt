@@ -22,7 +22,7 @@ struct Faulty<'a> {
 }
 
 /// What came of a script in which one call fails.
-#[derive(Clone, Copy, PartialEq, Eq)]
+#[derive(Clone, Copy)]
 enum End {
     /// The call never came, and all links wrote the whole reply.
     Whole,
@@ -118,13 +118,6 @@ fn len_of(link: &Link<MemoryStream>, reply: &[u8]) -> Option<usize> {
     Some(written.len())
 }
 
-/// Which growths of a round are refused: those after so many, or the one after so many alone.
-#[derive(Clone, Copy)]
-enum Way {
-    After,
-    Only,
-}
-
 /// What the links are in the end, whether one was open behind the round whose growths were refused, and how many growths that had left.
 #[derive(Drop)]
 struct Ended {
@@ -133,20 +126,10 @@ struct Ended {
     left: u64,
 }
 
-/// What came of a round whose growths were refused, and of one with ample memory behind it.
-#[derive(Clone, Copy, PartialEq, Eq)]
-enum Short {
-    /// A link was left open, and in the end all is as with ample memory.
-    Waits,
-    /// No link was, and all is.
-    Right,
-    Wrong,
-}
-
 /// What is printed for `TURNS SCRIPT`: what the links are behind the script and a round of so many passes whose growths are refused in
 /// turn, alone and with all that follow, and a round with ample memory; and whether the first of these always left a link open.
 pub fn grown(heaps: Heaps, given: &str) -> Result<String, Memory> {
-    let Some(right) = last_round(heaps, given, Way::After, MANY)? else {
+    let Some(right) = last_round(heaps, given, "after", MANY)? else {
         return no_call(heaps.desk);
     };
     let told = refuse_each(heaps, given, &right);
@@ -158,9 +141,8 @@ fn refuse_each(heaps: Heaps, given: &str, right: &Ended) -> Result<String, Memor
     let mut always = true;
     for growth in 0..MANY.saturating_sub(right.left) {
         match refused_at(heaps, given, growth, right)? {
-            Short::Waits => {}
-            Short::Right => always = false,
-            Short::Wrong => return wrong_at(heaps.desk, growth),
+            Some(waits) => always = always && waits,
+            None => return wrong_at(heaps.desk, growth),
         }
     }
     let waits = if always { "each time" } else { "or not" };
@@ -168,38 +150,35 @@ fn refuse_each(heaps: Heaps, given: &str, right: &Ended) -> Result<String, Memor
     Ok(format!(in heaps.desk; "waits {waits}{text}")?)
 }
 
-/// With this growth refused, and then with this one alone.
-fn refused_at(heaps: Heaps, given: &str, growth: u64, right: &Ended) -> Result<Short, Memory> {
-    let after = short_of(last_round(heaps, given, Way::After, growth)?, right);
-    let only = short_of(last_round(heaps, given, Way::Only, growth)?, right);
-    Ok(match (after, only) {
-        (Short::Waits, Short::Waits) => Short::Waits,
-        (Short::Wrong, _) => Short::Wrong,
-        (_, Short::Wrong) => Short::Wrong,
-        _ => Short::Right,
-    })
-}
-
-fn short_of(ended: Option<Ended>, right: &Ended) -> Short {
-    match ended {
-        Some(ended) if ended.text == right.text => {
-            if ended.waits {
-                Short::Waits
-            } else {
-                Short::Right
-            }
-        }
-        _ => Short::Wrong,
+/// Whether a link was left open both times: with this growth and all that follow refused, and then with this one alone. `None` where
+/// the end isn't that with ample memory.
+fn refused_at(
+    heaps: Heaps,
+    given: &str,
+    growth: u64,
+    right: &Ended,
+) -> Result<Option<bool>, Memory> {
+    let after = waits_in(last_round(heaps, given, "after", growth)?, right);
+    let only = waits_in(last_round(heaps, given, "only", growth)?, right);
+    match (after, only) {
+        (Some(after), Some(only)) => Ok(Some(after && only)),
+        _ => Ok(None),
     }
 }
 
-fn last_round(heaps: Heaps, given: &str, way: Way, growth: u64) -> Result<Option<Ended>, Memory> {
+/// Whether a link was left open, where all is in the end as with ample memory.
+fn waits_in(ended: Option<Ended>, right: &Ended) -> Option<bool> {
+    let ended = ended?;
+    let waits = ended.waits;
+    let is_right = ended.text == right.text;
+    drop(ended);
+    if is_right { Some(waits) } else { None }
+}
+
+/// What comes of the script and a round whose growths are refused as this part of a script says.
+fn last_round(heaps: Heaps, given: &str, name: &str, growth: u64) -> Result<Option<Ended>, Memory> {
     let Some((turns, script)) = given.split_once(' ') else {
         return Ok(None);
-    };
-    let name = match way {
-        Way::After => "after",
-        Way::Only => "only",
     };
     let script = format!(in heaps.desk;
         "{script} ; {name} {growth} ; round {turns} ; ample ; round 200"
@@ -207,19 +186,29 @@ fn last_round(heaps: Heaps, given: &str, way: Way, growth: u64) -> Result<Option
     let scene = played(heaps, &script);
     drop(script);
     match scene {
-        Some(scene) => Ok(Some(end_in(&scene)?)),
+        Some(scene) => {
+            let ended = end_in(&scene);
+            drop(scene);
+            ended
+        }
         None => Ok(None),
     }
 }
 
-fn end_in(scene: &Scene) -> Result<Ended, Memory> {
+fn end_in(scene: &Scene) -> Result<Option<Ended>, Memory> {
     let mut text = String::new(scene.heaps.desk);
+    match push_end(&mut text, scene) {
+        Ok(()) => Ok(Some(Ended {
+            text,
+            waits: scene.waits,
+            left: scene.left,
+        })),
+        Err(Memory) => Err(Memory),
+    }
+}
+
+fn push_end(out: &mut String, scene: &Scene) -> Result<(), Memory> {
     let faults = scene.faults.as_slice();
-    write!(text, ", faults {faults:?}")?;
-    push_links(&mut text, &scene.links)?;
-    Ok(Ended {
-        text,
-        waits: scene.waits,
-        left: scene.left,
-    })
+    write!(out, ", faults {faults:?}")?;
+    push_links(out, &scene.links)
 }

@@ -13,22 +13,12 @@ use doc_store::store::Put;
 /// Writes an outcome: a word, and of a connection its number, of a step its bytes, and of a refusal what it prints.
 fn push_outcome(out: &mut String, outcome: &Outcome) -> Result<(), Memory> {
     match outcome {
-        Outcome::Conn(ConnId(number)) => push_connection(out, *number),
+        Outcome::Conn(ConnId(number)) => Ok(write!(out, "connection {number}")?),
         Outcome::Stepped(Step::Sent(reply)) => push_after(out, "sent ", reply.get()),
         Outcome::Stepped(Step::Last(reply)) => push_after(out, "last ", reply.get()),
-        Outcome::Refused(refusal) => push_refusal(out, *refusal),
+        Outcome::Refused(refusal) => Ok(write!(out, "refused: {refusal}")?),
         other => push(out, word_of(other)),
     }
-}
-
-fn push_connection(out: &mut String, number: u64) -> Result<(), Memory> {
-    write!(out, "connection {number}")?;
-    Ok(())
-}
-
-fn push_refusal(out: &mut String, refusal: Refusal) -> Result<(), Memory> {
-    write!(out, "refused: {refusal}")?;
-    Ok(())
 }
 
 /// The word for what came of an event.
@@ -38,10 +28,9 @@ fn word_of(outcome: &Outcome) -> &'static str {
         Outcome::Stepped(Step::More) => "more",
         Outcome::Stepped(_) => "closed",
         Outcome::Edited(Put::Created) => "created",
-        Outcome::Edited(Put::Replaced) => "replaced",
         Outcome::Moved => "moved",
         Outcome::ReaderSet(Set::Added) => "added",
-        Outcome::ReaderSet(Set::Replaced) => "replaced",
+        Outcome::Edited(_) | Outcome::ReaderSet(_) => "replaced",
         Outcome::Disconnected(true) | Outcome::Removed(true) | Outcome::ReaderRemoved(true) => {
             "true"
         }
@@ -54,22 +43,14 @@ fn is_memory(outcome: &Outcome) -> bool {
     matches!(outcome, Outcome::Refused(Refusal::Memory))
 }
 
-/// The answer that came of one event.
-pub fn one_said(desk: Heap, outcome: &Outcome) -> Result<Answer, Stop> {
-    let mut text = String::new(desk);
-    push_outcome(&mut text, outcome)?;
-    Ok(Answer {
-        text,
-        memory: is_memory(outcome),
-    })
-}
-
 /// The outcomes with ` | ` between two, and whether memory ran out in one of them.
-pub fn all_said(desk: Heap, outcomes: &[Outcome]) -> Result<Answer, Stop> {
-    let mut text = String::new(desk);
-    push_all(&mut text, outcomes)?;
+pub fn said_of(desk: Heap, outcomes: &[Outcome]) -> Result<Answer, Stop> {
     let memory = outcomes.iter().any(is_memory);
-    Ok(Answer { text, memory })
+    let mut text = String::new(desk);
+    match push_all(&mut text, outcomes) {
+        Ok(()) => Ok(Answer { text, memory }),
+        Err(Memory) => Err(Stop::Memory),
+    }
 }
 
 fn push_all(out: &mut String, outcomes: &[Outcome]) -> Result<(), Memory> {

@@ -9,13 +9,10 @@
 //! and `faults PLACE REPLY | SCRIPT` and `grow_rounds TURNS SCRIPT` play a script with calls of a stream, or growths, failing in turn
 //! (`in_turn`).
 
-use crate::commands::Command;
-use crate::tried::{answer, grown};
 use crate::world::Heaps;
-use crate::{echo, in_turn, scripts};
+use crate::{echo, in_turn, scripts, tried};
 use doc_heap::{Heap, String};
 use doc_page::failure::Memory;
-use trial::answer::no_call;
 use trial::run::Calls;
 
 impl Calls for Heaps {
@@ -25,21 +22,8 @@ impl Calls for Heaps {
             "rounds" => scripts::answer(heaps, given),
             "grow_rounds" => in_turn::grown(heaps, given),
             "faults" => in_turn::faults(heaps, given),
-            _ => commanded(heap, name, given),
+            "echo" => echo::answer(heap, given),
+            _ => tried::called(heap, name, given),
         }
-    }
-}
-
-/// What a call of a command or of a stream answers.
-fn commanded(heap: Heap, name: &str, given: &str) -> Result<String, Memory> {
-    match name {
-        "demo" => answer(heap, Command::Demo, given),
-        "grow_demo" => grown(heap, Command::Demo, given),
-        "render" => answer(heap, Command::Render, given),
-        "grow_render" => grown(heap, Command::Render, given),
-        "examples" => answer(heap, Command::Examples, given),
-        "grow_examples" => grown(heap, Command::Examples, given),
-        "echo" => echo::answer(heap, given),
-        _ => no_call(heap),
     }
 }

@@ -25,8 +25,8 @@ pub fn next(heaps: Heaps, given: &str) -> Result<Answer, Stop> {
 /// What bytes begin with, behind how many decide it, where that is told.
 fn found(desk: Heap, count: Option<usize>, next: &Next) -> Result<Answer, Stop> {
     let mut out = String::new(desk);
-    push_found(&mut out, count, next)?;
-    Ok(Answer::of(out))
+    let pushed = push_found(&mut out, count, next);
+    Answer::if_written(out, pushed)
 }
 
 fn push_found(out: &mut String, count: Option<usize>, next: &Next) -> Result<(), Memory> {
@@ -73,26 +73,18 @@ fn next_with(unread: &mut Unread, byte: u8) -> Result<Next, Memory> {
 fn push_next(out: &mut String, next: &Next) -> Result<(), Memory> {
     match next {
         Next::More => push(out, "more"),
-        Next::Fault { code, bare } => push_fault(out, *code, *bare),
+        Next::Fault { code, bare } => {
+            let bare = if *bare { "bare " } else { "" };
+            Ok(write!(out, "{bare}fault {code}")?)
+        }
         Next::Request { used, request } => push_request(out, *used, request),
     }
 }
 
-fn push_fault(out: &mut String, code: u16, bare: bool) -> Result<(), Memory> {
-    push(out, if bare { "bare fault " } else { "fault " })?;
-    write!(out, "{code}")?;
-    Ok(())
-}
-
+/// Writes a request's length, method and target, and where it has them the value of its Authorization, that it closes, and its body.
 fn push_request(out: &mut String, used: usize, request: &Request) -> Result<(), Memory> {
-    write!(out, "request {used} ")?;
-    push_parts(out, request)
-}
-
-/// Writes a request's method and target, and where it has them the value of its Authorization, that it closes, and its body.
-fn push_parts(out: &mut String, request: &Request) -> Result<(), Memory> {
-    push(out, request.method.get())?;
-    push(out, " ")?;
+    let method = request.method.get();
+    write!(out, "request {used} {method} ")?;
     push_bytes(out, request.target.get().as_bytes())?;
     if let Some(value) = &request.authorization {
         push_after(out, " by ", value.get())?;

@@ -60,8 +60,10 @@ fn called<R: Renderer + Drop>(world: &mut World<R>, call: Call) -> Result<Answer
 fn times<R: Renderer + Drop>(world: &mut World<R>, given: &str) -> Result<Answer, Stop> {
     let (count, text) = number_first(given)?;
     let mut last = Answer::of(String::new(world.heaps.desk));
-    call_each(world, count, text, &mut last)?;
-    Ok(last)
+    match call_each(world, count, text, &mut last) {
+        Ok(()) => Ok(last),
+        Err(stop) => Err(stop),
+    }
 }
 
 /// Makes so many calls, and leaves the last answer.
@@ -93,7 +95,7 @@ fn numbered(desk: Heap, text: &str, number: u64) -> Result<String, Stop> {
     let number = format!(in desk; "{number}")?;
     let text = text.replace(desk, '#', &number);
     drop(number);
-    text.map_err(Stop::from)
+    Ok(text?)
 }
 
 fn only<R: Renderer + Drop>(world: &mut World<R>, given: &str) -> Result<Answer, Stop> {
@@ -188,7 +190,13 @@ fn refused_twice<R: Renderer + Drop>(
     }
     drop(alone);
     is_left(world, before)?;
-    refused_from(world, call, growth, before)
+    let all = refused(world, call, Refusal::After(growth))?;
+    if !all.memory {
+        return Ok(Some((true, all)));
+    }
+    drop(all);
+    is_left(world, before)?;
+    Ok(None)
 }
 
 /// The answer with one growth refused. Where that growth is asked for, memory runs out.
@@ -211,22 +219,6 @@ fn if_memory(answer: Answer, was_asked: bool) -> Result<Answer, Stop> {
     } else {
         Err(Stop::Failed("an answer without memory"))
     }
-}
-
-/// Refuses this growth and all that follow, and answers where memory doesn't run out then.
-fn refused_from<R: Renderer + Drop>(
-    world: &mut World<R>,
-    call: Call,
-    growth: u64,
-    before: &str,
-) -> Result<Option<(bool, Answer)>, Stop> {
-    let all = refused(world, call, Refusal::After(growth))?;
-    if !all.memory {
-        return Ok(Some((true, all)));
-    }
-    drop(all);
-    is_left(world, before)?;
-    Ok(None)
 }
 
 /// That the witness is answered as before.

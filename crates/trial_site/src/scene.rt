@@ -38,10 +38,6 @@ impl Scene {
             out: String::new(heaps.desk),
         }
     }
-
-    pub fn into_text(self) -> String {
-        self.out
-    }
 }
 
 /// Does what a part of a script says; `None` where it says nothing.

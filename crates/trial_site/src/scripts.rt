@@ -24,7 +24,7 @@ use trial::answer::no_call;
 /// what it wrote.
 pub fn answer(heaps: Heaps, script: &str) -> Result<String, Memory> {
     match played(heaps, script) {
-        Some(scene) => Ok(scene.into_text()),
+        Some(scene) => Ok(scene.out),
         None => no_call(heaps.desk),
     }
 }

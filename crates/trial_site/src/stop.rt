@@ -24,6 +24,14 @@ impl Answer {
         }
     }
 
+    /// The text, where memory did not run out for it.
+    pub fn if_written(text: String, written: Result<(), Memory>) -> Result<Answer, Stop> {
+        match written {
+            Ok(()) => Ok(Answer::of(text)),
+            Err(Memory) => Err(Stop::Memory),
+        }
+    }
+
     pub fn memory(desk: Heap) -> Result<Answer, Stop> {
         Ok(Answer {
             text: String::from_str(desk, "refused: out of memory")?,
@@ -41,7 +49,7 @@ pub fn said(desk: Heap, answer: Result<Answer, Stop>) -> Result<String, Memory> 
 }
 
 /// Why a line has no answer.
-#[derive(Clone, Copy, Debug, PartialEq, Eq)]
+#[derive(Clone, Copy)]
 pub enum Stop {
     /// No memory was left for the line.
     Memory,

@@ -3,7 +3,7 @@
 use crate::commands::Command;
 use crate::feed::Feed;
 use crate::sink::Sink;
-use crate::ways::{Given, bytes_of, read_given};
+use crate::ways::{Given, read_given};
 use doc_heap::{Heap, String};
 use doc_page::failure::Memory;
 use doc_server::fault::Fault;
@@ -20,20 +20,36 @@ struct Came {
     wrote: String,
 }
 
-/// What is printed for a command.
-pub fn answer(heap: Heap, command: Command, given: &str) -> Result<String, Memory> {
-    match read_given(given) {
-        Some(given) => told(heap, run(heap, command, given, Refusal::After(u64::MAX))?),
-        None => no_call(heap),
+/// What is printed for a call of this name.
+pub fn called(heap: Heap, name: &str, given: &str) -> Result<String, Memory> {
+    let Some(given) = read_given(given) else {
+        return no_call(heap);
+    };
+    match name {
+        "demo" => answer(heap, Command::Demo, given),
+        "grow_demo" => grown(heap, Command::Demo, given),
+        "render" => answer(heap, Command::Render, given),
+        "grow_render" => grown(heap, Command::Render, given),
+        "examples" => answer(heap, Command::Examples, given),
+        "grow_examples" => grown(heap, Command::Examples, given),
+        _ => no_call(heap),
     }
 }
 
-fn told(heap: Heap, came: Came) -> Result<String, Memory> {
-    let mut out = String::new(heap);
-    let pushed = push_told(&mut out, &came);
+/// What is printed for a command.
+fn answer(heap: Heap, command: Command, given: Given<'_>) -> Result<String, Memory> {
+    let came = run(heap, command, given, Refusal::After(u64::MAX))?;
+    let told = told(heap, &came);
     drop(came);
-    pushed?;
-    Ok(out)
+    told
+}
+
+fn told(heap: Heap, came: &Came) -> Result<String, Memory> {
+    let mut out = String::new(heap);
+    match push_told(&mut out, came) {
+        Ok(()) => Ok(out),
+        Err(Memory) => Err(Memory),
+    }
 }
 
 fn push_told(out: &mut String, came: &Came) -> Result<(), Memory> {
@@ -50,10 +66,7 @@ fn push_told(out: &mut String, came: &Came) -> Result<(), Memory> {
 }
 
 /// What is printed for a command whose growths are refused in turn.
-pub fn grown(heap: Heap, command: Command, given: &str) -> Result<String, Memory> {
-    if read_given(given).is_none() {
-        return no_call(heap);
-    }
+fn grown(heap: Heap, command: Command, given: Given<'_>) -> Result<String, Memory> {
     refused_each(
         heap,
         move |refusal| run_refused(heap, command, given, refusal),
@@ -64,12 +77,9 @@ pub fn grown(heap: Heap, command: Command, given: &str) -> Result<String, Memory
 fn run_refused(
     heap: Heap,
     command: Command,
-    given: &str,
+    given: Given<'_>,
     refusal: Refusal,
 ) -> Result<Came, Memory> {
-    let Some(given) = read_given(given) else {
-        return Err(Memory);
-    };
     let came = run(heap, command, given, refusal)?;
     match &came.ended {
         Err(Fault::Memory) if came.wrote.is_empty() => Err(Memory),
@@ -79,24 +89,15 @@ fn run_refused(
 
 /// Runs a command, with growths refused from its beginning on.
 fn run(heap: Heap, command: Command, given: Given<'_>, refusal: Refusal) -> Result<Came, Memory> {
-    let bytes = bytes_of(heap, given)?;
-    let feed = Feed::new(given.way, &bytes);
-    let sink = Sink::new(heap, given)?;
+    let mut output = WriteTo::new(Sink::new(heap, given)?);
+    let mut input = ReadFrom::new(Feed::new(given));
     refusal.begin(heap);
-    let came = run_on(heap, command, feed, sink);
-    drop(bytes);
-    Ok(came)
-}
-
-fn run_on(heap: Heap, command: Command, feed: Feed<'_>, sink: Sink) -> Came {
-    let mut input = ReadFrom::new(feed);
-    let mut output = WriteTo::new(sink);
     let ended = command.run(heap, &mut input, &mut output);
     let leaves = input.reader().is_left();
     drop(input);
-    Came {
+    Ok(Came {
         ended,
         leaves,
         wrote: output.into_writer().into_text(heap),
-    }
+    })
 }

@@ -1,10 +1,7 @@
 //! What a call is given.
 
-use doc_heap::{Heap, Vec};
-use doc_page::failure::Memory;
-
 /// What happens besides.
-#[derive(Clone, Copy, Debug, PartialEq, Eq)]
+#[derive(Clone, Copy, PartialEq, Eq)]
 pub enum Way {
     Plain,
     Stray,
@@ -42,19 +39,4 @@ fn way_of(name: &str) -> Option<Way> {
         "interrupted" => Some(Way::Interrupted),
         _ => None,
     }
-}
-
-/// The bytes of the input.
-pub fn bytes_of(heap: Heap, given: Given<'_>) -> Result<Vec<u8>, Memory> {
-    let mut bytes = Vec::new(heap);
-    push_bytes(&mut bytes, given)?;
-    Ok(bytes)
-}
-
-fn push_bytes(bytes: &mut Vec<u8>, given: Given<'_>) -> Result<(), Memory> {
-    bytes.extend_from_slice(given.text.as_bytes())?;
-    if given.way == Way::Stray {
-        bytes.push(0xFF)?;
-    }
-    Ok(())
 }

@@ -10,6 +10,7 @@ use doc_hub::hub::Hub;
 use doc_hub::outcome::Outcome;
 use doc_page::renderer::Renderer;
 use doc_store::readers::Readers;
+use trial::written::text_of;
 
 /// The heap of the crates under trial, whose growths may be refused, and the heap of what is given and answered, whose growths never
 /// are.
@@ -34,32 +35,42 @@ pub fn new_world<R: Renderer + Drop>(
     renderer: R,
     line: &str,
 ) -> Result<World<R>, Stop> {
-    let Some(given) = trial::written::text_of(heaps.desk, line)? else {
-        return Err(Stop::NoCall);
-    };
-    let world = world_of(heaps, renderer, &given);
-    drop(given);
-    world
-}
-
-fn world_of<R: Renderer + Drop>(heaps: Heaps, renderer: R, given: &str) -> Result<World<R>, Stop> {
-    let (kind, rest) = given.split_once(' ').unwrap_or((given, ""));
+    let Begin {
+        keep_alive,
+        cache,
+        readers,
+    } = read_begin(heaps, line)?;
     Ok(World {
         heaps,
-        hub: new_hub(heaps.tried, renderer, kind == "keep", rest)?,
+        hub: Hub::new(heaps.tried, renderer, readers, keep_alive, cache)?,
         witness: None,
     })
 }
 
-fn new_hub<R: Renderer + Drop>(
-    tried: Heap,
-    renderer: R,
+/// What the line of a world says of its hub.
+struct Begin {
     keep_alive: bool,
-    given: &str,
-) -> Result<Hub<R>, Stop> {
-    let (cache, readers) = number_first(given)?;
-    let readers = Readers::from_toml(tried, readers)?;
-    Hub::new(tried, renderer, readers, keep_alive, cache as usize).map_err(Stop::from)
+    cache: usize,
+    readers: Readers,
+}
+
+fn read_begin(heaps: Heaps, line: &str) -> Result<Begin, Stop> {
+    let Some(given) = text_of(heaps.desk, line)? else {
+        return Err(Stop::NoCall);
+    };
+    let begin = begin_of(heaps.tried, &given);
+    drop(given);
+    begin
+}
+
+fn begin_of(tried: Heap, given: &str) -> Result<Begin, Stop> {
+    let (kind, rest) = given.split_once(' ').unwrap_or((given, ""));
+    let (cache, readers) = number_first(rest)?;
+    Ok(Begin {
+        keep_alive: kind == "keep",
+        cache: cache as usize,
+        readers: Readers::from_toml(tried, readers)?,
+    })
 }
 
 /// What comes of the witness's events, with ample memory; empty where there is no witness.

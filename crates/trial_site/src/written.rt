@@ -41,22 +41,18 @@ pub fn push_bytes(out: &mut String, bytes: &[u8]) -> Result<(), Memory> {
     push_run(out, run)
 }
 
+/// Writes a run, a long one as a repetition.
 fn push_run(out: &mut String, run: Run) -> Result<(), Memory> {
-    if run.count >= LONG_RUN {
-        return push_long(out, run);
+    let Run { byte, count } = run;
+    if count >= LONG_RUN {
+        write!(out, "{{{count}*")?;
+        push_byte(out, byte)?;
+        return push(out, "}");
     }
-    for _ in 0..run.count {
-        push_byte(out, run.byte)?;
+    for _ in 0..count {
+        push_byte(out, byte)?;
     }
     Ok(())
-}
-
-/// Writes a run as a repetition.
-fn push_long(out: &mut String, run: Run) -> Result<(), Memory> {
-    let count = run.count;
-    write!(out, "{{{count}*")?;
-    push_byte(out, run.byte)?;
-    push(out, "}")
 }
 
 fn push_byte(out: &mut String, byte: u8) -> Result<(), Memory> {
@@ -65,13 +61,7 @@ fn push_byte(out: &mut String, byte: u8) -> Result<(), Memory> {
         b'\r' => push(out, "\\r"),
         b'\t' => push(out, "\\t"),
         b'\\' => push(out, "\\\\"),
-        b'{' | b'}' | 0..=31 | 127..=255 => push_number(out, byte),
+        b'{' | b'}' | 0..=31 | 127..=255 => Ok(write!(out, "\\x{byte:02x}")?),
         _ => Ok(out.push(char::from(byte))?),
     }
-}
-
-/// Writes a byte by its hexadecimal number.
-fn push_number(out: &mut String, byte: u8) -> Result<(), Memory> {
-    write!(out, "\\x{byte:02x}")?;
-    Ok(())
 }
