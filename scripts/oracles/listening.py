@@ -7,7 +7,7 @@ with the journal that another left has the pages of its edits.
 
     python3 scripts/oracles/listening.py
 
-writes its lines into stdin and stdout of crates/trial_listen.
+writes its lines into stdin and stdout of crates/trial_site.
 """
 
 import re
@@ -303,4 +303,4 @@ def left(texts, text, well):
 
 if __name__ == "__main__":
     parts = [readers(), bound(), slow(), silent(), *map(failing, range(17))]
-    write("listening", [line for part in parts for line in [*part, ""]], "trial_listen")
+    write("listening", [line for part in parts for line in [*part, ""]], "trial_site")

@@ -8,7 +8,7 @@ use Rattle.doc_rules.specs.Blocks.{Blocks, Leaf, Container}
 use Rattle.doc_rules.specs.ContainerStarts.{ListKind, is_same_kind}
 use Rattle.doc_blocks_starts.specs.Items.{kind_of}
 use Rattle.doc_blocks_pass.specs.Paths as paths
-use Rattle.doc_blocks_pass.specs.Paths.{empty_level, gone_on, finished, with_blocks}
+use Rattle.doc_blocks_pass.specs.Paths.{empty_level, gone_on, finished}
 use Rattle.doc_blocks_pass.specs.Closing.{container_closed, item_closed}
 use Rattle.doc_blocks_tags.specs.Tags.{Tag, OneLeaf, Start, End, tags_of, leaf_shown, tag_shown, tags_shown}
 use Rattle.doc_blocks_tags.specs.Tags.{container_shown as container_block}

@@ -1,6 +1,6 @@
 -- What the router finds, in closed form.
 use Rattle.std.proofs.Common.{◌≡◌, ℕ, zero, suc, ◌-◌, ◌==◌, ◌&&◌, not, Bool, true, false, cond, List, [], ◌∷◌, ◌++◌, length, Option, Some}
-use Rattle.std.proofs.Common.{None, Result, Ok, Err, option_map, option_and_then, codes, refl, sym, ap, ◌∙◌, subst, inl, inr}
+use Rattle.std.proofs.Common.{None, Result, Ok, Err, option_map, codes, refl, sym, ap, ◌∙◌, subst, inl, inr}
 use Rattle.std.specs.Bool.{⊤}
 use Rattle.std.specs.Option.{option_or}
 use Rattle.std.specs.Str.{bytes_eq}
@@ -13,7 +13,7 @@ use Rattle.matchit.specs.Seek.{seek, step, or_else, param_step, has_slash}
 use Rattle.matchit.specs.declared.error.InsertError.{InsertError}
 use Rattle.matchit.specs.declared.error.InsertError.TheVariants.{Conflict, InvalidParam, InvalidParamSegment, InvalidCatchAll, OutOfMemory}
 use Rattle.doc_http_targets.specs.RouteSteps.{CanStand, leads_to, place_of, route_table}
-use Rattle.doc_http_targets.specs.Targets.{Route, after, at_path, if_not_empty, rest_behind}
+use Rattle.doc_http_targets.specs.Targets.{Route, after, at_path, if_not_empty}
 use Rattle.doc_http_targets.specs.Targets.{route_at}
 use Rattle.doc_http_targets.specs.Targets as targets
 use Rattle.doc_http_targets.specs.declared.routes.Place.{Place}

@@ -3,7 +3,7 @@ use Rattle.std.proofs.Common.{◌≡◌, ℕ, zero, suc, ◌-◌, ◌<◌, ◌�
 use Rattle.std.proofs.Common.{◌∙◌, subst, None, arith}
 use Rattle.std.specs.Prelude.{flat_map, chars}
 use Rattle.std.proofs.lemmas.List.{length-map}
-use Rattle.doc_rules.specs.Inlines.{Inline, Literal}
+use Rattle.doc_rules.specs.Inlines.{Inline}
 use Rattle.doc_rules.specs.Inlines as rules
 use Rattle.doc_inlines_pass.specs.OnePass.{passed}
 use Rattle.doc_inlines_pass.specs.Marks.{ArePlaced, ArePlain, IsFinal, stretch, seen}

@@ -7,7 +7,7 @@ use Rattle.std.proofs.Math.ListN.{drop_of_length-le}
 use Rattle.doc_rules.specs.Inlines.{Inline, as_text}
 use Rattle.doc_rules.specs.Emphasis.{emphasis_of}
 use Rattle.doc_inlines_pass.specs.OnePass.{passed, passed_once}
-use Rattle.doc_inlines_pass.specs.Openers.{closer_kind, IsCloser, NearestIs, AreBounds, Ascend, StandBefore, AllOpen, ReachTo}
+use Rattle.doc_inlines_pass.specs.Openers.{closer_kind, IsCloser, NearestIs, AreBounds, ReachTo}
 use Rattle.doc_inlines_pass.specs.Marks.{Marks, Placed, stretch, seen, ArePlaced, ArePlain, IsPaired}
 use Rattle.doc_inlines_pass.specs.NumberSteps.{no_run, numbered, run_numbered, stack_of, paired_runs, paired_openers, joined_openers}
 use Rattle.doc_inlines_pass.proofs.OnePassLaws.{one_pass_suffices}

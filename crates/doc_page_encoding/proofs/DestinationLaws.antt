@@ -1,5 +1,5 @@
 -- A destination in HTML, byte by byte.
-use Rattle.std.proofs.Common.{◌≡◌, ℕ, lit<, ◌==◌, Bool, true, false, not, cond, List, [], ◌∷◌, ◌++◌, codes, refl, sym, ap, ◌∙◌, arith, inl, inr}
+use Rattle.std.proofs.Common.{◌≡◌, ℕ, lit<, ◌==◌, Bool, true, false, not, cond, [], ◌∷◌, ◌++◌, codes, refl, sym, ap, ◌∙◌, arith, inl, inr}
 use Rattle.std.specs.List.{flat_map}
 use Rattle.std.proofs.lemmas.Bool.{cases_Bool}
 use Rattle.std.proofs.lemmas.Bool.Decides.{nat_tests}

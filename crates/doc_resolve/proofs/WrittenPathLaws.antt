@@ -1,5 +1,5 @@
 -- The path that segments write, by what they are decoded to.
-use Rattle.std.proofs.Common.{◌≡◌, ℕ, ◌+◌, lit<, not, ◌&&◌, ◌||◌, Bool, true, false, cond, List, [], ◌∷◌, ◌++◌, length, get_or, drop, map}
+use Rattle.std.proofs.Common.{◌≡◌, ℕ, ◌+◌, lit<, not, ◌&&◌, ◌||◌, true, false, cond, List, [], ◌∷◌, ◌++◌, length, get_or, drop, map}
 use Rattle.std.proofs.Common.{Option, Some, None, option_map, option_and_then, refl, sym, ap, ◌∙◌, subst, arith}
 use Rattle.std.specs.List.{join_with_byte, flat_map, list_all, list_any}
 use Rattle.std.specs.Str.{IsUtf8, is_utf8}

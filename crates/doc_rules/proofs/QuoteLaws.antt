@@ -1,6 +1,6 @@
 -- The tree of a quoted text is one quote over the tree of the text: each of its lines goes into that quote, and inside is the line itself.
 use Rattle.std.proofs.Common.{◌≡◌, ℕ, suc, ◌+◌, ◌-◌, Bool, true, false, List, [], ◌∷◌, ◌++◌, map, refl, ap, sym, ◌∙◌, Some, None, arith}
-use Rattle.std.specs.Prelude.{◌||◌, ◌&&◌, ◌==◌, nat_le, ◌%◌, if◌then◌else◌}
+use Rattle.std.specs.Prelude.{◌||◌, ◌==◌, nat_le, ◌%◌, if◌then◌else◌}
 use Rattle.std.specs.List.{AllByRecursion}
 use Rattle.doc_rules.specs.Characters.{Text}
 use Rattle.doc_rules.specs.Lines.{ends_line, onto_first, lines_of, without_ending, secure_char, line_content}

@@ -1,75 +1,61 @@
--- The readers and the puts of the demonstration site.
+-- The configuration of the demonstration site, and the puts of its pages.
 use Rattle.std.proofs.Common.{◌≡◌, ℕ, ◌+◌, ◌≤◌, List, [], ◌∷◌, codes, length, Bool, true, false, cond, refl, sym, ap, ◌∙◌, subst, arith}
-use Rattle.std.specs.Prelude.{Result, Ok, Err, not, ◌&&◌, ◌||◌, nat_lt, nat_le, if◌then◌else◌, ⊤}
+use Rattle.std.specs.Prelude.{Option, Some, None, Result, Ok, Err, IfOk, IfErr, not, ◌&&◌, ◌||◌, nat_lt, nat_le, if◌then◌else◌, ⊤}
 use Rattle.std.specs.FinMap as map
+use Rattle.std.specs.Option.{ok_or}
 use Rattle.std.specs.Str.{chars}
 use Rattle.std.proofs.lemmas.Bool.{false≢true}
 use Rattle.std.proofs.lemmas.Cmp.{nat_list_cmp_total}
+use Rattle.std.proofs.lemmas.Result.{IfOk-weaker}
 use Rattle.toml.proofs.OnLiterals.{toml_on_literals}
-use Rattle.doc_page.specs.Paths.{is_path, path_of}
+use Rattle.doc_page.specs.Paths.{is_path}
 use Rattle.doc_page.specs.Tokens.{is_token}
-use Rattle.doc_store.specs.Groups.{groups_of_names, groups_of}
+use Rattle.doc_store.specs.Groups.{groups_of_names}
 use Rattle.doc_store.specs.Pages.{Page}
-use Rattle.doc_store.specs.Readers.{readers_of}
-use Rattle.doc_store_readers.specs.declared.readers.ReadersError.{ReadersError}
-use Rattle.doc_store_readers.specs.declared.readers.ReadersError.TheVariants as readers_errors
 use Rattle.doc_store.specs.declared.store.EditError.{EditError}
 use Rattle.doc_store.specs.declared.store.EditError.TheVariants.{TooLong, StoreFull}
 use Rattle.doc_store.specs.declared.store.Put.TheVariants.{Created, Replaced}
 use Rattle.doc_store.specs.Store.{text_limit, page_limit, put_limit, fits, put_by}
 use Rattle.doc_hub.specs.Worlds.{World, store_of}
-use Rattle.doc_server.specs.DemoSite.{demo_readers, demo_world, site_of_none, site_of_one, site_of_two, with_page, IsAccepted}
+use Rattle.doc_server_config.specs.Configurations.{config_of}
+use Rattle.doc_server_config.specs.declared.config.ConfigError.{ConfigError}
+use Rattle.doc_server_config.specs.declared.config.ConfigError.TheVariants as config_errors
+use Rattle.doc_server_config.specs.declared.config.SiteConfig.{SiteConfig}
+use Rattle.doc_server_config.specs.declared.page_row.PageRow.{PageRow}
+use Rattle.doc_server_input.proofs.Results.{then_err}
+use Rattle.doc_server_input.specs.declared.fault.Fault.{Fault}
+use Rattle.doc_server_input.specs.declared.fault.Fault.TheVariants as faults
+use Rattle.doc_server.specs.DemoSite.{demo_config, demo_page, demo_world, site_of_none, site_of_one, site_of_two, page_put, with_page, IsAccepted}
+use Rattle.doc_server.specs.Sites as sites
 
--- ---- the readers
+-- ---- the configuration
 
 abbrev demo_text : List ℕ
 demo_text = codes
-    "\n[[reader]]\ntoken = \"tok-owner\"\nowner = true\n\n[[reader]]\ntoken = \"tok-ann\"\ngroups = [\"staff\"]\n\n[[reader]]\ntoken = \"tok-bob\"\ngroups = [\"ops\"]\n"
+    "\ncache = 4\nreader = [\n    { token = \"tok-owner\", owner = true },\n    { token = \"tok-ann\", groups = [\"staff\"] },\n    { token = \"tok-bob\", groups = [\"ops\"] },\n]\npage = [\n    { path = \"a.md\", groups = [\"staff\"], text = \"Hello\\n\" },\n    { path = \"b.md\", groups = [\"staff\"], text = \"[c](c.md) [d](d.md)\\n\" },\n    { path = \"c.md\", groups = [\"ops\"], text = \"See [b](b.md), [b](b.md).\\n\" },\n]\n"
 
-readers_of_text : readers_of demo_text ≡ Ok demo_readers
-unfolding toml_on_literals is_token groups_of_names
-readers_of_text = refl
+config_of_text : config_of demo_text ≡ Ok demo_config
+unfolding toml_on_literals is_token is_path chars groups_of_names
+config_of_text = refl
 
 same_ok : {X E : Type 0} (r : Result X E) (x y : X) → r ≡ Ok x → r ≡ Ok y → y ≡ x
 same_ok r x y a b = cc
 
-pub these_readers : (readers : _) → readers_of demo_text ≡ Ok readers → readers ≡ demo_readers
-these_readers readers is = same_ok (readers_of demo_text) demo_readers readers readers_of_text is
+pub this_configuration : (config : SiteConfig) → config_of demo_text ≡ Ok config → config ≡ demo_config
+this_configuration config is = same_ok (config_of demo_text) demo_config config config_of_text is
 
 no_error : {X E : Type 0} (r : Result X E) (x : X) (e : E) → r ≡ Ok x → r ≡ Err e → ⊥
 no_error r x e a b = cc
 
-abbrev IsMemory : ReadersError → Type 0
-IsMemory readers_errors.Memory = ⊤
+abbrev IsMemory : ConfigError → Type 0
+IsMemory config_errors.Memory = ⊤
 IsMemory other = ⊥
 
--- these readers are not refused
-pub not_refused : (e other : ReadersError) → e ≡ other → ¬ (IsMemory other)
-    → (¬ (e ≡ readers_errors.Memory) → readers_of demo_text ≡ Err e) → ⊥
-not_refused e other same unlike h = no_error (readers_of demo_text) demo_readers e readers_of_text
+-- it is not refused
+pub not_refused : (e other : ConfigError) → e ≡ other → ¬ (IsMemory other)
+    → (¬ (e ≡ config_errors.Memory) → config_of demo_text ≡ Err e) → ⊥
+not_refused e other same unlike h = no_error (config_of demo_text) demo_config e config_of_text
     (h (λ is. unlike (subst IsMemory (sym is ∙ same) tt)))
-
--- ---- the names
-
-pub path_a : path_of (codes "a.md") ≡ Ok (codes "a.md")
-unfolding is_path chars
-path_a = refl
-
-pub path_b : path_of (codes "b.md") ≡ Ok (codes "b.md")
-unfolding is_path chars
-path_b = refl
-
-pub path_c : path_of (codes "c.md") ≡ Ok (codes "c.md")
-unfolding is_path chars
-path_c = refl
-
-pub staff : groups_of (codes "staff") ≡ Ok (codes "staff" ∷ [])
-unfolding groups_of_names
-staff = refl
-
-pub ops : groups_of (codes "ops") ≡ Ok (codes "ops" ∷ [])
-unfolding groups_of_names
-ops = refl
 
 -- ---- the puts
 
@@ -123,6 +109,15 @@ accepted n w path group text le (few, little) short =
 nothing_put : IsSmall 0 site_of_none
 nothing_put = (subst (λ n. n ≤ 0) (sym (map.len-empty _ _)) (omega arith), omega arith)
 
+abbrev page_a : PageRow
+page_a = demo_page (codes "a.md") (codes "staff") (codes "Hello\n")
+
+abbrev page_b : PageRow
+page_b = demo_page (codes "b.md") (codes "staff") (codes "[c](c.md) [d](d.md)\n")
+
+abbrev page_c : PageRow
+page_c = demo_page (codes "c.md") (codes "ops") (codes "See [b](b.md), [b](b.md).\n")
+
 first_put : IsAccepted site_of_none (codes "a.md") (codes "staff") (codes "Hello\n") × IsSmall 1 site_of_one
 unfolding text_limit
 first_put = accepted 0 site_of_none (codes "a.md") (codes "staff") (codes "Hello\n") (omega arith) nothing_put refl
@@ -135,31 +130,47 @@ third_put : IsAccepted site_of_two (codes "c.md") (codes "ops") (codes "See [b](
 unfolding text_limit demo_world
 third_put = accepted 2 site_of_two (codes "c.md") (codes "ops") (codes "See [b](b.md), [b](b.md).\n") (omega arith) second_put.1 refl
 
-pub first_accepted : (w : World) → w ≡ site_of_none → IsAccepted w (codes "a.md") (codes "staff") (codes "Hello\n")
-first_accepted w is = subst (λ v. IsAccepted v (codes "a.md") (codes "staff") (codes "Hello\n")) (sym is) first_put.0
+-- ---- the site
 
-after_one : (w v : World) → w ≡ site_of_none → v ≡ with_page w (codes "a.md") (codes "staff") (codes "Hello\n") → v ≡ site_of_one
-after_one w v is put = put ∙ ap (λ u. with_page u (codes "a.md") (codes "staff") (codes "Hello\n")) is
+put_one : (w : World) (path group text : List ℕ) → IsAccepted w path group text
+    → sites.with_page w (demo_page path group text) (Some text) ≡ Some (with_page w path group text)
+put_one w path group text (answer, is) = ap (sites.accepted (page_put w path group text).0) is
 
-pub second_accepted : (w v : World) → w ≡ site_of_none → v ≡ with_page w (codes "a.md") (codes "staff") (codes "Hello\n")
-    → IsAccepted v (codes "b.md") (codes "staff") (codes "[c](c.md) [d](d.md)\n")
-second_accepted w v is put = subst (λ u. IsAccepted u (codes "b.md") (codes "staff") (codes "[c](c.md) [d](d.md)\n"))
-    (sym (after_one w v is put)) second_put.0
+next : (w v : World) (page : PageRow) (more : List PageRow) → sites.with_page w page (sites.text_of page.source []) ≡ Some v
+    → sites.with_pages w (page ∷ more) [] ≡ sites.with_pages v more (sites.texts_behind page.source [])
+next w v page more is =
+    ap (λ (o : Option World). elim o [ None ↦ None | Some u ↦ sites.with_pages u more (sites.texts_behind page.source []) ]) is
 
-after_two : (w v u : World) → w ≡ site_of_none → v ≡ with_page w (codes "a.md") (codes "staff") (codes "Hello\n")
-    → u ≡ with_page v (codes "b.md") (codes "staff") (codes "[c](c.md) [d](d.md)\n") → u ≡ site_of_two
-after_two w v u is put also = also ∙ ap (λ x. with_page x (codes "b.md") (codes "staff") (codes "[c](c.md) [d](d.md)\n"))
-    (after_one w v is put)
-
-pub third_accepted : (w v u : World) → w ≡ site_of_none → v ≡ with_page w (codes "a.md") (codes "staff") (codes "Hello\n")
-    → u ≡ with_page v (codes "b.md") (codes "staff") (codes "[c](c.md) [d](d.md)\n")
-    → IsAccepted u (codes "c.md") (codes "ops") (codes "See [b](b.md), [b](b.md).\n")
-third_accepted w v u is put also = subst (λ x. IsAccepted x (codes "c.md") (codes "ops") (codes "See [b](b.md), [b](b.md).\n"))
-    (sym (after_two w v u is put also)) third_put.0
-
-pub after_three : (w v u t : World) → w ≡ site_of_none → v ≡ with_page w (codes "a.md") (codes "staff") (codes "Hello\n")
-    → u ≡ with_page v (codes "b.md") (codes "staff") (codes "[c](c.md) [d](d.md)\n")
-    → t ≡ with_page u (codes "c.md") (codes "ops") (codes "See [b](b.md), [b](b.md).\n") → t ≡ demo_world
+all_pages : sites.with_pages site_of_none demo_config.pages [] ≡ Some demo_world
 unfolding demo_world
-after_three w v u t is put also last = last ∙ ap (λ x. with_page x (codes "c.md") (codes "ops") (codes "See [b](b.md), [b](b.md).\n"))
-    (after_two w v u is put also)
+all_pages =
+    next site_of_none site_of_one page_a (page_b ∷ page_c ∷ [])
+    (put_one site_of_none (codes "a.md") (codes "staff") (codes "Hello\n") first_put.0)
+    ∙ next site_of_one site_of_two page_b (page_c ∷ [])
+    (put_one site_of_one (codes "b.md") (codes "staff") (codes "[c](c.md) [d](d.md)\n") second_put.0)
+    ∙ next site_of_two demo_world page_c []
+    (put_one site_of_two (codes "c.md") (codes "ops") (codes "See [b](b.md), [b](b.md).\n") third_put.0)
+
+-- the site of the configuration is the demonstration site
+pub demo_site : sites.site_world demo_config [] ≡ Ok demo_world
+demo_site = ap (λ o. ok_or o faults.Refused) all_pages
+
+-- a fault that can't be another one is want of memory
+abbrev IsMemoryFault : Fault → Type 0
+IsMemoryFault faults.Memory = ⊤
+IsMemoryFault other = ⊥
+
+memory_alone : (fault : Fault) → (¬ (fault ≡ faults.Memory) → ⊥) → fault ≡ faults.Memory
+memory_alone faults.Memory h = refl
+memory_alone other h = absurd (h (λ is. subst IsMemoryFault (sym is) tt))
+
+-- nothing but want of memory stops the hub of the configuration
+pub stopped_hub : {V : Type 0} (config : SiteConfig) → config ≡ demo_config → (r : Result (V × World) Fault)
+    → IfErr r (λ fault. ¬ (fault ≡ faults.Memory) → sites.site_world config [] ≡ Err fault) → IfErr r (λ fault. fault ≡ faults.Memory)
+stopped_hub config same r = then_err _ _ r (λ fault h. memory_alone fault (λ other.
+    no_error (sites.site_world demo_config []) demo_world fault demo_site (subst (λ c. sites.site_world c [] ≡ Err fault) same (h other))))
+
+pub made_hub : {V : Type 0} (config : SiteConfig) → config ≡ demo_config → (r : Result (V × World) Fault)
+    → IfOk r (λ hub. sites.site_world config [] ≡ Ok hub.1) → IfOk r (λ hub. hub.1 ≡ demo_world)
+made_hub config same r = IfOk-weaker r _ _ (λ hub made.
+    same_ok (sites.site_world demo_config []) demo_world hub.1 demo_site (subst (λ c. sites.site_world c [] ≡ Ok hub.1) same made))

@@ -1,10 +1,13 @@
 -- The demonstration site, all of which is this project's choice.
-use Rattle.std.specs.Prelude.{◌≡◌, ℕ, List, [], ◌∷◌, true, false, codes, Result, Ok}
+use Rattle.std.specs.Prelude.{◌≡◌, ℕ, List, [], ◌∷◌, true, false, codes, None, Result, Ok}
 use Rattle.std.specs.FinMap as map
 use Rattle.doc_store.specs.Readers.{ReaderTable}
 use Rattle.doc_store.specs.declared.store.EditError.{EditError}
 use Rattle.doc_store.specs.declared.store.Put.{Put}
 use Rattle.doc_hub.specs.Worlds.{World, new_world, world_put}
+use Rattle.doc_server_config.specs.declared.config.SiteConfig.{SiteConfig}
+use Rattle.doc_server_config.specs.declared.page_row.PageRow.{PageRow}
+use Rattle.doc_server_config.specs.declared.page_row.Source.TheVariants.{Text}
 
 -- an owner, a reader of the group `staff` and one of the group `ops`, by their tokens
 abbrev pub demo_readers : ReaderTable
@@ -13,6 +16,22 @@ demo_readers = map.from_entries (
     ∷ (codes "tok-ann", record { owner = false; groups = codes "staff" ∷ [] })
     ∷ (codes "tok-bob", record { owner = false; groups = codes "ops" ∷ [] })
     ∷ [])
+
+-- a page of one group, with its text
+abbrev pub demo_page : List ℕ → List ℕ → List ℕ → PageRow
+demo_page path group text = record { path = path; groups = group ∷ []; source = Text text }
+
+-- the configuration of the demonstration site
+abbrev pub demo_config : SiteConfig
+demo_config = record {
+  keep_alive = true;
+  cache = 4;
+  entities = None;
+  readers = demo_readers;
+  pages = demo_page (codes "a.md") (codes "staff") (codes "Hello\n")
+      ∷ demo_page (codes "b.md") (codes "staff") (codes "[c](c.md) [d](d.md)\n")
+      ∷ demo_page (codes "c.md") (codes "ops") (codes "See [b](b.md), [b](b.md).\n") ∷ [];
+}
 
 -- a put of a page of one group
 abbrev pub page_put : World → List ℕ → List ℕ → List ℕ → World × Result Put EditError

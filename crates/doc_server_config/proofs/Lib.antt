@@ -2,3 +2,4 @@ mod Examples
 mod ListeningExamples
 mod KeySteps
 mod FolderPageSteps
+mod RowSteps

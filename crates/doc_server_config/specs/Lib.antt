@@ -1,7 +1,9 @@
 pub mod Configurations
+pub mod ConfigurationSteps
 pub mod PageRows
 pub mod Settings
 pub mod Bounds
+pub mod BoundSteps
 pub mod FileNames
 pub mod Folders
 pub mod Keys

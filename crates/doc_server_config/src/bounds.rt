@@ -1,19 +1,20 @@
 //! The bounds of a server that runs.
 
-ghost use Rattle.std.specs.Prelude.{◌≡◌, Ok, Err, codes};
-ghost use Rattle.toml.specs.Data.{as_integer, get_member};
+ghost use Rattle.std.specs.Prelude.{◌≡◌};
+ghost use Rattle.toml.specs.Data.{get_member};
 ghost use Rattle.toml.specs.View.{table_view};
-ghost use Rattle.doc_server_config.specs.Bounds.{bounds_of, bounds_in, connections_at, idle_seconds_at, within};
+ghost use Rattle.doc_server_config.specs.Bounds.{bounds_of, bounds_in, within};
+ghost use Rattle.doc_server_config.specs.BoundSteps.{number_at};
 
 use crate::listening::ListeningError;
 use crate::table::{has_only, value_at};
 use toml::{Table, Value};
 
 /// How many connections stand at most, where a configuration doesn't say.
-const CONNECTIONS: usize = 1_024;
+const CONNECTIONS: u32 = 1_024;
 
 /// After how many seconds without a byte a connection ends, where a configuration doesn't say.
-const IDLE_SECONDS: u64 = 30;
+const IDLE_SECONDS: u32 = 30;
 
 /// How many connections may be asked for.
 const MOST_CONNECTIONS: u32 = 65_535;
@@ -31,13 +32,13 @@ pub struct Bounds {
 }
 
 /// The bounds of a document, or the first refusal.
-pub fn bounds_in(document: &Table) -> Result<Bounds, ListeningError>
+pub(crate) fn bounds_in(document: &Table) -> Result<Bounds, ListeningError>
     ensures { result ≡ bounds_in (table_view document.now) }
 {
     let Some(value) = value_at(document, "listen") else {
         return Ok(Bounds {
-            connections: CONNECTIONS,
-            idle_seconds: IDLE_SECONDS,
+            connections: CONNECTIONS as usize,
+            idle_seconds: IDLE_SECONDS as u64,
         });
     };
     match value.as_table() {
@@ -53,33 +54,25 @@ fn bounds_of(table: &Table) -> Result<Bounds, ListeningError>
     if !has_only(table, &["connections", "idle_seconds"]) {
         return Err(ListeningError::BadListen);
     }
-    let Some(connections) = connections_in(table) else {
+    let Some(connections) = number_at(table, "connections", MOST_CONNECTIONS, CONNECTIONS) else {
         return Err(ListeningError::BadConnections);
     };
-    let Some(idle_seconds) = idle_seconds_in(table) else {
+    let Some(idle_seconds) = number_at(table, "idle_seconds", MOST_SECONDS, IDLE_SECONDS) else {
         return Err(ListeningError::BadIdleSeconds);
     };
     Ok(Bounds {
-        connections,
-        idle_seconds,
+        connections: connections as usize,
+        idle_seconds: idle_seconds as u64,
     })
 }
 
-fn connections_in(table: &Table) -> Option<usize>
-    ensures { result ≡ connections_at (get_member (codes "connections") (table_view table.now)) }
+/// The number that a key holds, from 1 to a bound, or the one that stands for it where the key is missing.
+fn number_at(table: &Table, key: &str, most: u32, missing: u32) -> Option<u32>
+    ensures { result ≡ number_at most missing (get_member key.now (table_view table.now)) }
 {
-    match value_at(table, "connections") {
-        None => Some(CONNECTIONS),
-        Some(value) => Some(within(MOST_CONNECTIONS, value.as_integer()?)? as usize),
-    }
-}
-
-fn idle_seconds_in(table: &Table) -> Option<u64>
-    ensures { result ≡ idle_seconds_at (get_member (codes "idle_seconds") (table_view table.now)) }
-{
-    match value_at(table, "idle_seconds") {
-        None => Some(IDLE_SECONDS),
-        Some(value) => Some(within(MOST_SECONDS, value.as_integer()?)? as u64),
+    match value_at(table, key) {
+        None => Some(missing),
+        Some(value) => within(most, value.as_integer()?),
     }
 }
 

@@ -3,8 +3,9 @@
 ghost use Rattle.std.specs.Prelude.{◌≡◌, ◌≢◌, Ok, Err, IfOk, IfErr, Some, None};
 ghost use Rattle.toml.specs.Parse.{parse_document};
 ghost use Rattle.toml.specs.View.{table_view};
-ghost use Rattle.doc_store.specs.Readers.{readers_of_document};
+ghost use Rattle.doc_store.specs.Readers.{ReaderTable};
 ghost use Rattle.doc_server_config.specs.Configurations.{config_of, config_of_document, config_with};
+ghost use Rattle.doc_server_config.specs.ConfigurationSteps.{config_beside};
 
 use crate::page_row::{PageRow, pages_of};
 use crate::settings::{Settings, settings_in};
@@ -12,8 +13,8 @@ use doc_heap::Heap;
 use doc_page::failure::Memory;
 use doc_page::list::List;
 use doc_page::text::Text;
-use doc_store::readers::{Readers, ReadersError};
-use doc_store::tables::{document_of, tables_at};
+use doc_store::readers::{Readers, ReadersError, readers_of_document};
+use doc_store_readers::tables::{document_of, tables_at};
 use std::error::Error;
 use std::fmt;
 use toml::Table;
@@ -35,9 +36,9 @@ pub enum ConfigError {
 impl fmt::Display for ConfigError {
     fn fmt<W: fmt::Write>(&self, f: &mut fmt::Formatter<W>) -> fmt::Result {
         match self {
-            ConfigError::BadToml => write!(f, "no TOML"),
+            ConfigError::BadToml => f.write_str("no TOML"),
             ConfigError::BadReaders(e) => write!(f, "{e}"),
-            ConfigError::BadSetting => write!(f, "a setting is bad"),
+            ConfigError::BadSetting => f.write_str("a setting is bad"),
             ConfigError::BadPage(n) => write!(f, "page {n} is bad"),
             ConfigError::Memory => write!(f, "{Memory}"),
         }
@@ -96,30 +97,39 @@ impl SiteConfig {
         ensures refused { IfErr result (λ e. e ≢ ConfigError.Memory
             → config_of_document (table_view document.now) ≡ Err e) }
     {
-        let readers = match Readers::from_document(heap, document) {
+        let readers = match readers_of_document(heap, document) {
             Ok(readers) => readers,
             Err(ReadersError::Memory) => return Err(ConfigError::Memory),
             Err(e) => return Err(ConfigError::BadReaders(e)),
         };
-        let Some(settings) = settings_in(heap, document)? else {
-            return Err(ConfigError::BadSetting);
-        };
-        let Some(tables) = tables_at(document, "page") else {
-            return Err(ConfigError::BadSetting);
-        };
-        let pages = pages_of(heap, tables)?;
-        Ok(SiteConfig::of_parts(settings, readers, pages))
-    }
-
-    fn of_parts(settings: Settings, readers: Readers, pages: List<PageRow>) -> SiteConfig
-        ensures { result ≡ config_with settings readers pages }
-    {
-        SiteConfig {
+        let (settings, pages) = settings_and_pages(heap, document)?;
+        Ok(SiteConfig {
             keep_alive: settings.keep_alive,
             cache: settings.cache,
             entities: settings.entities,
             readers,
             pages,
-        }
+        })
     }
+}
+
+/// The settings and the pages of a document, whatever its readers are.
+fn settings_and_pages(
+    heap: Heap,
+    document: &Table,
+) -> Result<(Settings, List<PageRow>), ConfigError>
+    ensures read { IfOk result (λ parts. (readers : ReaderTable)
+        → config_beside readers (table_view document.now)
+        ≡ Ok (config_with parts.0 readers parts.1)) }
+    ensures refused { IfErr result (λ e. e ≢ ConfigError.Memory → (readers : ReaderTable)
+        → config_beside readers (table_view document.now) ≡ Err e) }
+{
+    let Some(settings) = settings_in(heap, document)? else {
+        return Err(ConfigError::BadSetting);
+    };
+    let Some(tables) = tables_at(document, "page") else {
+        return Err(ConfigError::BadSetting);
+    };
+    let pages = pages_of(heap, tables)?;
+    Ok((settings, pages))
 }

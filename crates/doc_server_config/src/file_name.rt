@@ -1,7 +1,6 @@
 //! The paths of pages that stand in files of a folder.
 
-ghost use Rattle.std.specs.Prelude.{◌≡◌, ◌≢◌, ◌==◌, Ok, Err, IfOk, IfErr, codes, string_bytes};
-ghost use Rattle.std.specs.List.{ends_with};
+ghost use Rattle.std.specs.Prelude.{◌≡◌, ◌≢◌, Ok, Err, IfOk, IfErr, string_bytes};
 ghost use Rattle.doc_server_config.specs.FileNames.{is_page_name, is_prefix, is_shown, is_shown_part, joined, path_in_folder};
 
 use doc_heap::{Heap, String};
@@ -49,7 +48,7 @@ pub(crate) fn joined(heap: Heap, prefix: &str, name: &str) -> Result<String, Mem
 fn is_page_name(name: &str) -> bool
     ensures { result ≡ is_page_name name.now }
 {
-    is_shown(name) && has_page_ending(name)
+    is_shown(name) && name.as_bytes().ends_with(b".md")
 }
 
 /// Whether neither the file nor a folder that it stands in is hidden.
@@ -66,10 +65,4 @@ fn is_shown_part(part: &str) -> bool
         [first, ..] => *first != b'.',
         [] => true,
     }
-}
-
-fn has_page_ending(name: &str) -> bool
-    ensures { result ≡ ends_with ◌==◌ name.now (codes ".md") }
-{
-    name.as_bytes().ends_with(b".md")
 }

@@ -6,6 +6,7 @@ ghost use Rattle.toml.specs.View.{items_view, view};
 ghost use Rattle.doc_server_config.specs.Folders.{file_at, folder_of, folders_from, has_other_key, prefix_at};
 
 use crate::file_name::is_prefix;
+use crate::growth::push;
 use crate::listening::ListeningError;
 use crate::table::has_only;
 use doc_heap::{Heap, String, Vec};
@@ -13,7 +14,7 @@ use doc_page::failure::Memory;
 use doc_page::list::List;
 use doc_page::text::Text;
 use doc_store::groups::Groups;
-use doc_store::tables::groups_in;
+use doc_store_readers::tables::groups_in;
 use std::fmt;
 use toml::Value;
 
@@ -32,12 +33,12 @@ pub enum FolderFault {
 
 impl fmt::Display for FolderFault {
     fn fmt<W: fmt::Write>(&self, f: &mut fmt::Formatter<W>) -> fmt::Result {
-        match self {
-            FolderFault::OtherKey => write!(f, "a key is unknown"),
-            FolderFault::BadFile => write!(f, "`path` is bad"),
-            FolderFault::BadPrefix => write!(f, "`prefix` is bad"),
-            FolderFault::BadGroups => write!(f, "`groups` is bad"),
-        }
+        f.write_str(match self {
+            FolderFault::OtherKey => "a key is unknown",
+            FolderFault::BadFile => "`path` is bad",
+            FolderFault::BadPrefix => "`prefix` is bad",
+            FolderFault::BadGroups => "`groups` is bad",
+        })
     }
 }
 
@@ -53,7 +54,7 @@ pub struct Folder {
 }
 
 /// The folders of tables, or the first table that is none, counted from 1.
-pub fn folders_of(heap: Heap, tables: &[Value]) -> Result<List<Folder>, ListeningError>
+pub(crate) fn folders_of(heap: Heap, tables: &[Value]) -> Result<List<Folder>, ListeningError>
     ensures read { IfOk result (λ folders. folders_from [] 1 (items_view tables.now) ≡ Ok folders) }
     ensures refused { IfErr result (λ e. e ≢ ListeningError.Memory
         → folders_from [] 1 (items_view tables.now) ≡ Err e) }
@@ -61,7 +62,7 @@ pub fn folders_of(heap: Heap, tables: &[Value]) -> Result<List<Folder>, Listenin
     let mut folders = Vec::with_capacity(heap, tables.len()).map_err(Memory::from)?;
     for (index, table) in tables.iter().enumerate() {
         match folder_of(heap, table)? {
-            Ok(folder) => folders.push(folder).map_err(Memory::from)?,
+            Ok(folder) => push(&mut folders, folder)?,
             Err(fault) => return Err(ListeningError::BadFolder(index + 1, fault)),
         }
     }

@@ -1,6 +1,6 @@
 //! The pages of a folder.
 
-ghost use Rattle.std.specs.Prelude.{◌≡◌, ◌≤◌, ◌++◌, ◌∷◌, [], Ok, Some, IfOk, OnOk, length};
+ghost use Rattle.std.specs.Prelude.{◌≡◌, ◌≤◌, Ok, Some, IfOk, OnOk, length};
 ghost use Rattle.std.specs.List.{All};
 ghost use Rattle.doc_store.specs.Store.{text_limit};
 ghost use Rattle.doc_server_config.specs.FileNames.{path_in_folder};
@@ -8,9 +8,9 @@ ghost use Rattle.doc_server_config.specs.FolderPages.{IsPageOf};
 
 use crate::file_name::path_in_folder;
 use crate::folder::Folder;
+use crate::growth::push;
 use crate::walk::{files_in, joined};
 use doc_heap::{Heap, String, Vec};
-use doc_page::failure::Memory;
 use doc_page::list::List;
 use doc_page::path::{Path, PathError};
 use doc_page::text::Text;
@@ -44,27 +44,15 @@ pub fn read_folder<R: AllocGlobal + Files + Clone + Drop>(
     ensures { IfOk result (λ pages. All (IsPageOf folder.now) pages) }
 {
     let files = files_in(rt, heap, folder.file.get())?;
-    read_files(rt, heap, folder, files.as_slice())
-}
-
-/// The pages of these files.
-fn read_files<R: AllocGlobal + Files + Clone + Drop>(
-    rt: &R,
-    heap: Heap,
-    folder: &Folder,
-    files: &[String],
-) -> Result<List<FolderPage>, Fault>
-    ensures { IfOk result (λ pages. All (IsPageOf folder.now) pages) }
-{
     let mut pages = Vec::new(heap);
-    for file in files {
-        add_page(rt, heap, folder, file.as_str(), &mut pages)?;
+    for file in files.as_slice() {
+        add_file(rt, heap, folder, file.as_str(), &mut pages)?;
     }
     Ok(List::new(pages))
 }
 
 /// Adds the page in a file, where it isn't passed over.
-fn add_page<R: AllocGlobal + Files + Clone + Drop>(
+fn add_file<R: AllocGlobal + Files + Clone + Drop>(
     rt: &R,
     heap: Heap,
     folder: &Folder,
@@ -74,18 +62,10 @@ fn add_page<R: AllocGlobal + Files + Clone + Drop>(
     ensures { All (IsPageOf folder.now) pages.old.items
         → OnOk result (All (IsPageOf folder.now) pages.new.items) }
 {
-    let Some(path) = path_of(heap, folder, file)? else {
-        return Ok(());
-    };
-    let page = read_page(rt, heap, folder, path, file)?;
-    Ok(push(pages, page)?)
-}
-
-fn push(pages: &mut Vec<FolderPage>, page: FolderPage) -> Result<(), Memory>
-    ensures { OnOk result (pages.new.items ≡ pages.old.items ++ page ∷ []) }
-{
-    pages.push(page)?;
-    Ok(())
+    match path_of(heap, folder, file)? {
+        Some(path) => add_page(rt, heap, folder, path, file, pages),
+        None => Ok(()),
+    }
 }
 
 /// The path of the page in a file; none where the file is passed over.
@@ -107,20 +87,22 @@ fn no_page(heap: Heap, folder: &Folder, file: &str) -> Fault {
     }
 }
 
-/// The page in a file.
-fn read_page<R: AllocGlobal + Files + Clone + Drop>(
+/// Adds the page in a file, which stands under this path.
+fn add_page<R: AllocGlobal + Files + Clone + Drop>(
     rt: &R,
     heap: Heap,
     folder: &Folder,
     path: Path,
     file: &str,
-) -> Result<FolderPage, Fault>
+    pages: &mut Vec<FolderPage>,
+) -> Result<(), Fault>
     requires { path_in_folder folder.now.prefix file.now ≡ Ok (Some path) }
-    ensures { IfOk result (IsPageOf folder.now) }
+    ensures { All (IsPageOf folder.now) pages.old.items
+        → OnOk result (All (IsPageOf folder.now) pages.new.items) }
 {
     let text = read_text(rt, heap, folder, file)?;
     let groups = folder.groups.copy(heap)?;
-    Ok(FolderPage { path, groups, text })
+    Ok(push(pages, FolderPage { path, groups, text })?)
 }
 
 /// The text of a file of the folder.

@@ -11,6 +11,7 @@ pub mod config;
 pub mod file_name;
 pub mod folder;
 pub mod folder_pages;
+mod growth;
 pub mod listening;
 pub mod page_row;
 pub mod settings;

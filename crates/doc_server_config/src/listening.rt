@@ -2,15 +2,15 @@
 
 ghost use Rattle.std.specs.Prelude.{◌≡◌, ◌≢◌, Ok, Err, IfOk, IfErr};
 ghost use Rattle.toml.specs.View.{table_view};
-ghost use Rattle.doc_server_config.specs.Listenings.{listening_of, listening_of_document, listening_with};
+ghost use Rattle.doc_server_config.specs.Listenings.{listening_of, listening_of_document};
 
-use crate::bounds::{Bounds, bounds_in};
+use crate::bounds::bounds_in;
 use crate::folder::{Folder, FolderFault, folders_of};
 use doc_heap::Heap;
 use doc_page::failure::Memory;
 use doc_page::list::List;
 use doc_store::readers::ReadersError;
-use doc_store::tables::{document_of, tables_at};
+use doc_store_readers::tables::{document_of, tables_at};
 use std::error::Error;
 use std::fmt;
 use toml::Table;
@@ -35,15 +35,16 @@ pub enum ListeningError {
 
 impl fmt::Display for ListeningError {
     fn fmt<W: fmt::Write>(&self, f: &mut fmt::Formatter<W>) -> fmt::Result {
-        match self {
-            ListeningError::BadToml => write!(f, "no TOML"),
-            ListeningError::BadListen => write!(f, "`listen` is bad"),
-            ListeningError::BadConnections => write!(f, "`connections` is bad"),
-            ListeningError::BadIdleSeconds => write!(f, "`idle_seconds` is bad"),
-            ListeningError::BadFolders => write!(f, "`folder` is bad"),
-            ListeningError::BadFolder(n, fault) => write!(f, "folder {n}: {fault}"),
-            ListeningError::Memory => write!(f, "{Memory}"),
-        }
+        let text = match self {
+            ListeningError::BadToml => "no TOML",
+            ListeningError::BadListen => "`listen` is bad",
+            ListeningError::BadConnections => "`connections` is bad",
+            ListeningError::BadIdleSeconds => "`idle_seconds` is bad",
+            ListeningError::BadFolders => "`folder` is bad",
+            ListeningError::BadFolder(n, fault) => return write!(f, "folder {n}: {fault}"),
+            ListeningError::Memory => return write!(f, "{Memory}"),
+        };
+        f.write_str(text)
     }
 }
 
@@ -102,16 +103,10 @@ impl Listening {
             return Err(ListeningError::BadFolders);
         };
         let folders = folders_of(heap, tables)?;
-        Ok(Listening::of_parts(bounds, folders))
-    }
-
-    fn of_parts(bounds: Bounds, folders: List<Folder>) -> Listening
-        ensures { result ≡ listening_with bounds folders }
-    {
-        Listening {
+        Ok(Listening {
             connections: bounds.connections,
             idle_seconds: bounds.idle_seconds,
             folders,
-        }
+        })
     }
 }

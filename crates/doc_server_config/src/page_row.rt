@@ -6,13 +6,14 @@ ghost use Rattle.toml.specs.View.{items_view, view};
 ghost use Rattle.doc_server_config.specs.PageRows.{page_of, pages_from, path_at, source_of};
 
 use crate::config::ConfigError;
+use crate::growth::push;
 use doc_heap::{Heap, Vec};
 use doc_page::failure::Memory;
 use doc_page::list::List;
 use doc_page::path::{Path, PathError};
 use doc_page::text::Text;
 use doc_store::groups::Groups;
-use doc_store::tables::groups_in;
+use doc_store_readers::tables::groups_in;
 use toml::Value;
 
 /// Where the text of a page stands.
@@ -34,7 +35,7 @@ pub struct PageRow {
 }
 
 /// The pages of tables, or the first table that is none, counted from 1.
-pub fn pages_of(heap: Heap, tables: &[Value]) -> Result<List<PageRow>, ConfigError>
+pub(crate) fn pages_of(heap: Heap, tables: &[Value]) -> Result<List<PageRow>, ConfigError>
     ensures read { IfOk result (λ pages. pages_from [] 1 (items_view tables.now) ≡ Ok pages) }
     ensures refused { IfErr result (λ e. e ≢ ConfigError.Memory
         → pages_from [] 1 (items_view tables.now) ≡ Err e) }
@@ -44,7 +45,7 @@ pub fn pages_of(heap: Heap, tables: &[Value]) -> Result<List<PageRow>, ConfigErr
         let Some(page) = page_of(heap, table)? else {
             return Err(ConfigError::BadPage(index + 1));
         };
-        pages.push(page).map_err(Memory::from)?;
+        push(&mut pages, page)?;
     }
     Ok(List::new(pages))
 }

@@ -5,7 +5,7 @@ ghost use Rattle.toml.specs.Data.{as_integer, get_member};
 ghost use Rattle.toml.specs.View.{table_view};
 ghost use Rattle.doc_server_config.specs.Settings.{cache_at, capacity_of, entities_at, keep_alive_at, settings_in};
 
-pub use crate::table::value_at;
+use crate::table::value_at;
 use doc_heap::Heap;
 use doc_page::failure::Memory;
 use doc_page::text::Text;
@@ -26,7 +26,7 @@ pub struct Settings {
 }
 
 /// The settings of a document. `None` says that one of their keys holds what it may not.
-pub fn settings_in(heap: Heap, document: &Table) -> Result<Option<Settings>, Memory>
+pub(crate) fn settings_in(heap: Heap, document: &Table) -> Result<Option<Settings>, Memory>
     ensures { IfOk result (λ settings. settings ≡ settings_in (table_view document.now)) }
 {
     let Some(keep_alive) = keep_alive_in(document) else {

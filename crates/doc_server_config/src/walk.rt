@@ -1,6 +1,7 @@
 //! The files of a folder and of those below it.
 
 use crate::file_name;
+use crate::growth::push;
 use doc_heap::{Heap, String, Vec};
 use doc_page::failure::Memory;
 use doc_server_input::fault::Fault;
@@ -29,7 +30,8 @@ pub fn files_in<R: AllocGlobal + Files + Clone + Drop>(
         files: Vec::new(heap),
     };
     look_below(rt, heap, root, &mut found)?;
-    Ok(sorted(found.files)?)
+    found.files.sort()?;
+    Ok(found.files)
 }
 
 /// Notes what the folder that the walk begins in holds, and the folders below it.
@@ -39,7 +41,7 @@ fn look_below<R: AllocGlobal + Files + Clone + Drop>(
     root: &str,
     found: &mut Found,
 ) -> Result<(), Fault> {
-    add(&mut found.folders, String::new(heap))?;
+    push(&mut found.folders, String::new(heap))?;
     for _ in 0..u64::MAX {
         let Some(folder) = found.folders.pop() else {
             return Ok(());
@@ -47,11 +49,6 @@ fn look_below<R: AllocGlobal + Files + Clone + Drop>(
         look_into(rt, heap, root, &folder, found)?;
     }
     Ok(())
-}
-
-fn sorted(mut names: Vec<String>) -> Result<Vec<String>, Memory> {
-    names.sort()?;
-    Ok(names)
 }
 
 /// Notes what a folder holds.
@@ -118,16 +115,11 @@ fn note<R: AllocGlobal + Files + Clone + Drop>(
 /// Adds a folder, or a file whose name ends in `.md`.
 fn add_by_kind(found: &mut Found, kind: FileType, path: String) -> Result<(), Memory> {
     if kind.is_dir() {
-        return add(&mut found.folders, path);
+        return push(&mut found.folders, path);
     }
     if kind.is_file() && path.as_str().ends_with(".md") {
-        return add(&mut found.files, path);
+        return push(&mut found.files, path);
     }
-    Ok(())
-}
-
-fn add(names: &mut Vec<String>, name: String) -> Result<(), Memory> {
-    names.push(name)?;
     Ok(())
 }
 

@@ -2,9 +2,9 @@
 use Rattle.std.proofs.Common.{◌≡◌, inl, inr, ℕ, ◌+◌, ◌≤◌, Bool, false, List, [], ◌∷◌, ◌++◌, length, take, drop, Option, Some, None, IfSome, refl, sym, ap, subst, ◌∙◌, arith, length-append}
 use Rattle.std.specs.Option.{option_map}
 use Rattle.doc_server_journal.specs.Devices.{Torn, Writes, LeavesFile, LeavesOnly, Stepped}
-use Rattle.doc_server_journal.specs.Records.{text_limit, seed, digest_behind, record_bytes, chain, journal_bytes}
+use Rattle.doc_server_journal_records.specs.Records.{text_limit, seed, digest_behind, record_bytes, chain, journal_bytes}
 use Rattle.doc_server_journal.specs.Journals.{IsOpen, IsBeforeOrAfter}
-use Rattle.doc_server_journal.proofs.ChainLemmas.{last_push, within_push}
+use Rattle.doc_server_journal_records.proofs.ChainLemmas.{last_push, within_push}
 use Rattle.doc_server_journal.proofs.Moments.{if_known, known, if_mapped, started, weaker, goes_on}
 use Rattle.doc_server_journal.proofs.CrashLemmas.{written, staged, rest_reads, staged_reads, first_torn, first_done, second_torn, second_done, length_staged, length_opened}
 
@@ -26,6 +26,15 @@ module _ {D : Type 0} (seen : D → Option (List ℕ)) (may_leave : D → List �
   nothing = if_known (seen device) (λ file. LeavesOnly moment left_since device device After) (λ file known_is.
       started moment left_since device After (λ c left. rest_reads texts text is.within fits c
       (here file known_is c (only_now device c left))))
+
+  pub first_place : IfSome (seen device) (λ file. end + 1 ≤ length file)
+  first_place = if_known (seen device) (λ file. end + 1 ≤ length file) (λ file known_is.
+      omega (
+        arith,
+        is.end,
+        ap length (known (seen device) file (λ f. f ≡ journal_bytes texts) known_is is.file),
+        length-append (chain seed texts) (0 ∷ []),
+      ))
 
   module _ (bytes_are : bytes ≡ record_bytes digest text ++ 0 ∷ []) where
     bytes_written : bytes ≡ written texts text is.within fits

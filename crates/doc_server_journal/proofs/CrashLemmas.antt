@@ -2,14 +2,14 @@
 use Rattle.std.proofs.Common.{◌≡◌, ◌⊎◌, inl, inr, ℕ, ◌+◌, ◌-◌, ◌≤◌, List, [], ◌∷◌, ◌++◌, length, take, drop, get_or, refl, sym, ap, subst, ◌∙◌, arith, length-append, length-drop, append_assoc}
 use Rattle.std.proofs.lemmas.List.{take_at, drop_at, drop_more, take_all, drop_all, append-nil, take-append-drop}
 use Rattle.doc_server_journal.specs.Devices.{Torn}
-use Rattle.doc_server_journal.specs.Records.{text_limit, seed, record_bytes, chain, last_digest, journal_bytes, AreWithin}
-use Rattle.doc_server_journal.specs.Readings.{IsRecord, tail_limit, ReadsAs, IsTail}
+use Rattle.doc_server_journal_records.specs.Records.{text_limit, seed, record_bytes, chain, last_digest, journal_bytes, AreWithin}
+use Rattle.doc_server_journal_records.specs.Readings.{IsRecord, tail_limit, ReadsAs, IsTail}
 use Rattle.doc_server_journal.specs.Journals.{IsBeforeOrAfter}
-use Rattle.doc_server_journal.proofs.ChainLemmas.{chain_push, within_push}
+use Rattle.doc_server_journal_records.proofs.ChainLemmas.{chain_push, within_push}
 use Rattle.doc_server_journal.proofs.Deciding.{Begins, begins, same_or_not}
-use Rattle.doc_server_journal.proofs.FrontLemmas.{long_enough}
-use Rattle.doc_server_journal.proofs.LawLemmas.{written_is_read}
-use Rattle.doc_server_journal.proofs.RecordLemmas.{length_record}
+use Rattle.doc_server_journal_records.proofs.FrontLemmas.{long_enough}
+use Rattle.doc_server_journal_records.proofs.LawLemmas.{written_is_read}
+use Rattle.doc_server_journal_records.proofs.RecordLemmas.{length_record}
 use Rattle.doc_server_journal.proofs.Tearing.{before_all}
 
 abbrev open_gate : List ℕ

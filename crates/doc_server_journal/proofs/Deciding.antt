@@ -6,9 +6,9 @@ use Rattle.std.proofs.Common.{nat_eq}
 use Rattle.std.proofs.lemmas.Bool.{cases_lt}
 use Rattle.std.proofs.lemmas.Bool.Decides.{Decides-eqb, not_from_Decides}
 use Rattle.std.proofs.lemmas.Slice.Eq.{slice_eq-Decides}
-use Rattle.doc_server_journal.specs.Records.{text_limit, length_bytes, digest_behind}
-use Rattle.doc_server_journal.specs.Readings.{IsRecord, HasNoRecord}
-use Rattle.doc_server_journal.proofs.FrontLemmas.{is_front, len_is, room, right_digest, head_part}
+use Rattle.doc_server_journal_records.specs.Records.{text_limit, length_bytes, digest_behind}
+use Rattle.doc_server_journal_records.specs.Readings.{IsRecord, HasNoRecord}
+use Rattle.doc_server_journal_records.proofs.FrontLemmas.{is_front, len_is, room, right_digest, head_part}
 
 -- equal or not
 pub same_or_not : (x y : List ℕ) → (x ≡ y) ⊎ (x ≡ y → ⊥)

@@ -1,13 +1,8 @@
 mod AppendLemmas
-mod ChainLemmas
 mod CrashLemmas
 mod Deciding
-mod FrontLemmas
-mod LawLemmas
 mod MemoryLemmas
 mod Moments
 mod OpeningLemmas
-mod ReadingLemmas
-mod RecordLemmas
 mod RepairLemmas
 mod Tearing

@@ -1,16 +1,12 @@
 -- One more change of a file in memory.
-use Rattle.std.proofs.Common.{◌≡◌, ◌⊎◌, inl, inr, ℕ, ◌+◌, ◌<◌, ◌≤◌, List, [], ◌∷◌, ◌++◌, length, take, Result, Ok, Err, OnOk, OnErr, sym, subst, arith, length-append}
+use Rattle.std.proofs.Common.{◌≡◌, ◌⊎◌, inl, inr, ℕ, ◌+◌, ◌<◌, ◌≤◌, List, [], ◌∷◌, ◌++◌, length, take, sym, subst, arith, length-append}
 use Rattle.std.proofs.lemmas.Bool.{cases_lt}
 use Rattle.std.proofs.lemmas.List.{take_all, take-append-le}
 use Rattle.doc_server_journal.specs.Devices.{Elapses, Follows, Torn, Shortened}
-use Rattle.doc_server_journal.specs.Memories.{after_change, after_changes, Leaves, LeftSince}
+use Rattle.doc_server_journal.specs.Memories.{after_change, after_changes, Leaves, LeftSince, MayNote}
 use Rattle.doc_server_journal.specs.declared.memory.Change.{Change}
 use Rattle.doc_server_journal.specs.declared.memory.Change.TheVariants.{Write, Cut, Sync}
 use Rattle.doc_server_journal.proofs.Tearing.{torn_same, shortened_same}
-
-pub noted : {X E P Q : Type 0} (r : Result X E) → OnOk r P → OnErr r Q → P ⊎ Q
-noted (Ok x) p q = inl p
-noted (Err e) p q = inr q
 
 pushed : (before : List ℕ → Type 0) (changes : List Change) (change : Change) (c : List ℕ)
     → after_changes before (changes ++ change ∷ []) c → after_change (after_changes before changes) change c
@@ -58,42 +54,25 @@ module _ (first : List ℕ) (changes : List Change) where
     more_time now is =
         subst (λ l. Elapses (length changes) (length l) (LeftSince first changes) (LeftSince first l) (Leaves first l)) (sym is) on
 
-    pub changed : (now : List Change) → now ≡ changes ++ change ∷ [] → (c : List ℕ) → Leaves first now c
+    changed : (now : List Change) → now ≡ changes ++ change ∷ [] → (c : List ℕ) → Leaves first now c
         → after_change (Leaves first changes) change c
     changed now is c left = pushed (λ d. d ≡ first) changes change c (subst (λ l. Leaves first l c) is left)
 
-  torn_step : (at : ℕ) (bytes : List ℕ) (now : List Change) → (now ≡ changes ++ Write at bytes ∷ []) ⊎ (now ≡ changes)
+  pub torn_follows : (at : ℕ) (bytes : List ℕ) (now : List Change) → MayNote (Write at bytes) changes now
       → Follows (Torn at bytes) (Leaves first changes) (Leaves first now)
-  torn_step at bytes now (inl is) c left = changed (Write at bytes) now is c left
-  torn_step at bytes now (inr same) c left = (c, subst (λ l. Leaves first l c) same left, torn_same at bytes c)
+  torn_follows at bytes now (inl is) c left = changed (Write at bytes) now is c left
+  torn_follows at bytes now (inr same) c left = (c, subst (λ l. Leaves first l c) same left, torn_same at bytes c)
 
-  cut_step : (len : ℕ) (now : List Change) → (now ≡ changes ++ Cut len ∷ []) ⊎ (now ≡ changes)
+  pub cut_follows : (len : ℕ) (now : List Change) → MayNote (Cut len) changes now
       → Follows (Shortened len) (Leaves first changes) (Leaves first now)
-  cut_step len now (inl is) c left = changed (Cut len) now is c left
-  cut_step len now (inr same) c left = (c, subst (λ l. Leaves first l c) same left, shortened_same len c)
+  cut_follows len now (inl is) c left = changed (Cut len) now is c left
+  cut_follows len now (inr same) c left = (c, subst (λ l. Leaves first l c) same left, shortened_same len c)
 
-  step_time : (change : Change) (now : List Change) → (now ≡ changes ++ change ∷ []) ⊎ (now ≡ changes)
+  pub noted_time : (change : Change) (now : List Change) → MayNote change changes now
       → Elapses (length changes) (length now) (LeftSince first changes) (LeftSince first now) (Leaves first now)
-  step_time change now (inl is) = more_time change now is
-  step_time change now (inr same) = same_time now same
+  noted_time change now (inl is) = more_time change now is
+  noted_time change now (inr same) = same_time now same
 
-  -- what it held at first stays as it was
-  module _ (now : List Change) (later : List ℕ) (same : later ≡ first) where
-    pub torn_follows : (at : ℕ) (bytes : List ℕ) → (now ≡ changes ++ Write at bytes ∷ []) ⊎ (now ≡ changes)
-        → Follows (Torn at bytes) (Leaves first changes) (Leaves later now)
-    torn_follows at bytes noted = subst (λ f. Follows (Torn at bytes) (Leaves first changes) (Leaves f now)) (sym same)
-        (torn_step at bytes now noted)
-
-    pub cut_follows : (len : ℕ) → (now ≡ changes ++ Cut len ∷ []) ⊎ (now ≡ changes)
-        → Follows (Shortened len) (Leaves first changes) (Leaves later now)
-    cut_follows len noted = subst (λ f. Follows (Shortened len) (Leaves first changes) (Leaves f now)) (sym same) (cut_step len now noted)
-
-    pub noted_time : (change : Change) → (now ≡ changes ++ change ∷ []) ⊎ (now ≡ changes)
-        → Elapses (length changes) (length now) (LeftSince first changes) (LeftSince later now) (Leaves later now)
-    noted_time change noted =
-        subst (λ f. Elapses (length changes) (length now) (LeftSince first changes) (LeftSince f now) (Leaves f now)) (sym same)
-        (step_time change now noted)
-
-    pub settled : (file : List ℕ) → now ≡ changes ++ Sync file ∷ [] → (c : List ℕ) → Leaves later now c → Leaves first changes c
-        × (c ≡ file)
-    settled file is c left = changed (Sync file) now is c (subst (λ f. Leaves f now c) same left)
+  pub settled : (file : List ℕ) (now : List Change) → now ≡ changes ++ Sync file ∷ [] → (c : List ℕ) → Leaves first now c
+      → Leaves first changes c × (c ≡ file)
+  settled file now is c left = changed (Sync file) now is c left

@@ -1,16 +1,18 @@
 -- A journal that is opened, and one that is refused.
-use Rattle.std.proofs.Common.{◌≡◌, inl, inr, ℕ, ◌<◌, Bool, false, List, length, Option, Some, IfSome, Err, refl, sym, subst, ◌∙◌}
+use Rattle.std.proofs.Common.{◌≡◌, inl, inr, ℕ, ◌<◌, Bool, false, List, length, Option, Some, IfSome, Result, Ok, Err, IfErr, IsErrAnd, ◌≢◌, refl, sym, subst, ◌∙◌}
 use Rattle.doc_server_journal.specs.Devices.{LeavesFile, LeavesOnly, is_failed}
-use Rattle.doc_server_journal.specs.Records.{journal_bytes, AreWithin}
-use Rattle.doc_server_journal.specs.Readings.{ReadsAs, IsDamaged, IsWhy, IsFound}
+use Rattle.doc_server_journal_records.specs.Records.{journal_bytes, AreWithin}
+use Rattle.doc_server_journal_records.specs.Readings.{ReadsAs, IsDamaged, IsWhy, IsFound}
 use Rattle.doc_server_journal.specs.Journals.{IsOpen}
 use Rattle.doc_server_journal.specs.Openings.{of_load, of_reading, WasLeftOrReads, IsRefused}
 use Rattle.doc_server_journal.specs.declared.fault.LoadError.{LoadError}
+use Rattle.doc_server_journal.specs.declared.fault.OpenFault.{OpenFault}
+use Rattle.doc_server_journal.specs.declared.fault.OpenFault.TheVariants.{Failed}
 use Rattle.doc_server_journal.specs.declared.fault.LoadError.TheVariants as loads
-use Rattle.doc_server_journal.specs.declared.fault.ReadError.{ReadError}
-use Rattle.doc_server_journal.specs.declared.fault.ReadError.TheVariants as readings
-use Rattle.doc_server_journal.specs.declared.found.Found.{Found}
-use Rattle.doc_server_journal.proofs.LawLemmas.{reads_one_way}
+use Rattle.doc_server_journal_records.specs.declared.read_error.ReadError.{ReadError}
+use Rattle.doc_server_journal_records.specs.declared.read_error.ReadError.TheVariants as readings
+use Rattle.doc_server_journal_records.specs.declared.found.Found.{Found}
+use Rattle.doc_server_journal_records.proofs.LawLemmas.{reads_one_way}
 use Rattle.doc_server_journal.proofs.Moments.{if_known, known, weaker, goes_on}
 
 within_of : (bytes : List ℕ) (texts : List (List ℕ)) → ReadsAs bytes texts → AreWithin texts
@@ -32,6 +34,23 @@ not_read most old new failed bytes (readings.Damaged n) known_is same usable why
   (same, usable),
 )
 not_read most old new failed bytes readings.Memory known_is same usable why = (same, usable)
+
+-- it is refused for that reason
+pub refused_so : {X : Type 0} (r : Result X OpenFault) (fault : OpenFault) (most : ℕ) (old new : Option (List ℕ)) (failed : Bool)
+    → IsErrAnd r (λ e. e ≡ fault) → IsRefused most old new failed fault → IfErr r (λ e. IsRefused most old new failed e)
+refused_so (Ok x) fault most old new failed is refused = tt
+refused_so (Err e) fault most old new failed is refused = subst (λ f. IsRefused most old new failed f) (sym is) refused
+
+module _ {D : Type 0} (moment : D → ℕ) (left_since : D → ℕ → List ℕ → Type 0) (old new : D) (P : List ℕ → Type 0) where
+  pub so_each : {X : Type 0} (r : Result X OpenFault) → LeavesOnly moment left_since old new P
+      → IfErr r (λ e. e ≢ Failed → LeavesOnly moment left_since old new P)
+  so_each (Ok x) run = tt
+  so_each (Err e) run = λ other. run
+
+  pub not_failed : {X : Type 0} (r : Result X OpenFault) → IsErrAnd r (λ e. e ≡ Failed)
+      → IfErr r (λ e. e ≢ Failed → LeavesOnly moment left_since old new P)
+  not_failed (Ok x) is = tt
+  not_failed (Err e) is = λ other. absurd (other is)
 
 module _ {D : Type 0} (seen : D → Option (List ℕ)) (may_leave : D → List ℕ → Type 0) (moment : D → ℕ) (left_since : D → ℕ → List ℕ
     → Type 0) (old mid : D)

@@ -4,14 +4,14 @@ use Rattle.std.specs.Option.{option_map}
 use Rattle.std.proofs.lemmas.List.{take_at, drop_all, take-append-drop}
 use Rattle.std.proofs.Math.Seq.{take-append-add}
 use Rattle.doc_server_journal.specs.Devices.{Torn, Shortened, LeavesFile, LeavesOnly, Stepped}
-use Rattle.doc_server_journal.specs.Records.{seed, record_bytes, chain, last_digest, journal_bytes, AreWithin}
-use Rattle.doc_server_journal.specs.Readings.{IsRecord, IsTail, tail_limit, ReadsAs}
+use Rattle.doc_server_journal_records.specs.Records.{seed, record_bytes, chain, last_digest, journal_bytes, AreWithin}
+use Rattle.doc_server_journal_records.specs.Readings.{IsRecord, IsTail, tail_limit, ReadsAs}
 use Rattle.doc_server_journal.specs.Openings.{WasLeftOrReads}
 use Rattle.doc_server_journal.proofs.Deciding.{Begins, begins}
-use Rattle.doc_server_journal.proofs.FrontLemmas.{long_enough}
-use Rattle.doc_server_journal.proofs.LawLemmas.{none_of}
+use Rattle.doc_server_journal_records.proofs.FrontLemmas.{long_enough}
+use Rattle.doc_server_journal_records.proofs.LawLemmas.{none_of}
 use Rattle.doc_server_journal.proofs.Moments.{if_known, known, if_mapped, weaker, goes_on}
-use Rattle.doc_server_journal.proofs.RecordLemmas.{record_unique}
+use Rattle.doc_server_journal_records.proofs.RecordLemmas.{record_unique}
 
 pub on_ok : {X E P Q : Type 0} (r : Result X E) → OnOk r P → (P → Q) → OnOk r Q
 on_ok (Ok x) p f = f p
@@ -98,6 +98,14 @@ module _ (bytes : List ℕ) (texts : List (List ℕ)) (reads : ReadsAs bytes tex
         record { within = it.within; split = whole },
         (take n it.tail, refl, front_of_tail (last_digest seed texts) it.tail n it.is_tail),
       )
+
+-- nothing but a sync
+pub only_synced : {D : Type 0} (seen : D → Option (List ℕ)) (may_leave : D → List ℕ → Type 0) (moment : D → ℕ)
+    (left_since : D → ℕ → List ℕ → Type 0) (old mid : D) (texts : List (List ℕ)) → LeavesOnly moment left_since old mid (may_leave old)
+    → IfSome (seen old) (λ file. LeavesOnly moment left_since old mid (WasLeftOrReads (may_leave old) texts))
+only_synced seen may_leave moment left_since old mid texts synced =
+    if_known (seen old) (λ file. LeavesOnly moment left_since old mid (WasLeftOrReads (may_leave old) texts))
+    (λ file is. weaker moment left_since old mid (may_leave old) (WasLeftOrReads (may_leave old) texts) synced (λ c left. inl left))
 
 -- a sync, and then a change
 module _ {D : Type 0} (seen : D → Option (List ℕ)) (may_leave : D → List ℕ → Type 0) (moment : D → ℕ) (left_since : D → ℕ → List ℕ

@@ -1,8 +1,8 @@
 -- A journal that is open, and what a crash leaves of it.
 use Rattle.std.specs.Prelude.{◌≡◌, ◌≢◌, ◌⊎◌, ℕ, Bool, false, List, [], ◌∷◌, ◌++◌, length, Option, IfSome}
 use Rattle.doc_server_journal.specs.Devices.{LeavesFile}
-use Rattle.doc_server_journal.specs.Records.{seed, chain, last_digest, journal_bytes, AreWithin}
-use Rattle.doc_server_journal.specs.Readings.{ReadsAs, IsRecord}
+use Rattle.doc_server_journal_records.specs.Records.{seed, chain, last_digest, journal_bytes, AreWithin}
+use Rattle.doc_server_journal_records.specs.Readings.{ReadsAs, IsRecord}
 use Rattle.doc_server_journal.specs.declared.journal.Journal.{Journal}
 
 -- The journal has these records. Where its file is known, it is at rest, and all of it is on the disk.

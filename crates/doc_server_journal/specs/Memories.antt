@@ -1,5 +1,5 @@
 -- A device in memory: the changes that its file has had, and what a crash may leave of it.
-use Rattle.std.proofs.Common.{◌≡◌, ℕ, Bool, Option, Some, ◌≤◌, List, [], ◌∷◌, length, take, sym, arith, subst}
+use Rattle.std.proofs.Common.{◌≡◌, ◌⊎◌, ℕ, Bool, Option, Some, ◌≤◌, List, [], ◌∷◌, ◌++◌, length, take, sym, arith, subst}
 use Rattle.std.proofs.Math.Seq.{take-length}
 use Rattle.doc_server_journal.specs.Devices.{Torn, Shortened}
 use Rattle.doc_server_journal.specs.declared.memory.Change.{Change}
@@ -26,16 +26,20 @@ Leaves first changes c = after_changes (λ d. d ≡ first) changes c
 abbrev pub LeftSince : List ℕ → List Change → ℕ → List ℕ → Type 0
 LeftSince first changes t c = (k : ℕ) × (t ≤ k) × (k ≤ length changes) × Leaves first (take k changes) c
 
+-- a change is noted behind the others, or there was no memory for it
+abbrev pub MayNote : Change → List Change → List Change → Type 0
+MayNote change before now = (now ≡ before ++ change ∷ []) ⊎ (now ≡ before)
+
 -- what a device in memory holds
 abbrev pub memory_bytes : MemoryDevice → List ℕ
-memory_bytes m = m.file.bytes
+memory_bytes m = m.file.bytes.items
 
 abbrev pub memory_seen : MemoryDevice → Option (List ℕ)
 memory_seen m = Some (memory_bytes m)
 
 -- what a crash may leave of it
 abbrev pub memory_leaves : MemoryDevice → List ℕ → Type 0
-memory_leaves m c = Leaves m.file.first m.file.changes.items c
+memory_leaves m c = Leaves m.first m.file.changes.items c
 
 -- whether a call of it has failed
 abbrev pub has_failed : MemoryDevice → Bool

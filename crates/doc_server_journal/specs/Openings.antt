@@ -1,10 +1,10 @@
 -- Opening a journal.
 use Rattle.std.specs.Prelude.{◌≡◌, ◌⊎◌, ◌<◌, ℕ, Bool, true, false, List, length, Option, IfSome}
-use Rattle.doc_server_journal.specs.Readings.{ReadsAs, IsDamaged}
+use Rattle.doc_server_journal_records.specs.Readings.{ReadsAs, IsDamaged}
 use Rattle.doc_server_journal.specs.declared.fault.LoadError.{LoadError}
 use Rattle.doc_server_journal.specs.declared.fault.LoadError.TheVariants as loads
-use Rattle.doc_server_journal.specs.declared.fault.ReadError.{ReadError}
-use Rattle.doc_server_journal.specs.declared.fault.ReadError.TheVariants as reads
+use Rattle.doc_server_journal_records.specs.declared.read_error.ReadError.{ReadError}
+use Rattle.doc_server_journal_records.specs.declared.read_error.ReadError.TheVariants as reads
 use Rattle.doc_server_journal.specs.declared.fault.OpenFault.{OpenFault}
 use Rattle.doc_server_journal.specs.declared.fault.OpenFault.TheVariants.{Damaged, Memory, Long, Failed}
 

@@ -1,6 +1,7 @@
 //! Why a journal can't be read or written.
 
 use doc_page::failure::Memory;
+use doc_server_journal_records::read_error::ReadError;
 use std::error::Error;
 use std::fmt;
 
@@ -27,36 +28,6 @@ impl From<Memory> for LoadError {
 
     fn from(_e: Memory) -> LoadError {
         LoadError::Memory
-    }
-}
-
-/// Why the bytes of a journal aren't read.
-#[derive(Clone, Copy, Debug)]
-pub enum ReadError {
-    /// The record of this number, counted from 1, is damaged.
-    Damaged(usize),
-    Memory,
-}
-
-impl fmt::Display for ReadError {
-    fn fmt<W: fmt::Write>(&self, f: &mut fmt::Formatter<W>) -> fmt::Result {
-        match self {
-            ReadError::Damaged(n) => write!(f, "journal record {n}"),
-            ReadError::Memory => write!(f, "{Memory}"),
-        }
-    }
-}
-
-impl Error for ReadError {}
-
-impl From<Memory> for ReadError {
-    ghost use Rattle.std.specs.Prelude.{◌≡◌};
-    ghost use Rattle.doc_server_journal.specs.declared.fault.ReadError.TheVariants as refusals;
-
-    ghost from_gives = { λ _ e. e ≡ refusals.Memory };
-
-    fn from(_e: Memory) -> ReadError {
-        ReadError::Memory
     }
 }
 
@@ -109,8 +80,8 @@ pub enum OpenFault {
 impl fmt::Display for OpenFault {
     fn fmt<W: fmt::Write>(&self, f: &mut fmt::Formatter<W>) -> fmt::Result {
         match self {
-            OpenFault::Damaged(n) => write!(f, "{}", ReadError::Damaged(*n)),
-            OpenFault::Memory => write!(f, "{Memory}"),
+            OpenFault::Damaged(n) => fmt::Display::fmt(&ReadError::Damaged(*n), f),
+            OpenFault::Memory => fmt::Display::fmt(&Memory, f),
             OpenFault::Long => f.write_str("journal too long"),
             OpenFault::Failed => f.write_str("cannot use journal"),
         }

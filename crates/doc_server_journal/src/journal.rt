@@ -1,15 +1,15 @@
 //! An open journal.
 
 ghost use Rattle.std.specs.Prelude.{◌≡◌, ◌≤◌, ◌^◌, ◌++◌, ◌∷◌, [], List, ℕ, true, length, OnOk, IsErrOf, IfSome};
-ghost use Rattle.doc_server_journal.specs.Records.{text_limit};
+ghost use Rattle.doc_server_journal_records.specs.Records.{text_limit};
 ghost use Rattle.doc_server_journal.specs.Devices.{LeavesOnly};
 ghost use Rattle.doc_server_journal.specs.Journals.{IsOpen, IsBeforeOrAfter};
 
 use crate::device::Device;
 use crate::fault::AppendError;
-use crate::record::Record;
 use crate::writing::write_and_sync;
 use doc_heap::Heap;
+use doc_server_journal_records::record::Record;
 
 /// How many bytes a journal may have before a record.
 const MOST_BYTES: usize = 1 << 60;

@@ -2,7 +2,7 @@
 
 ghost use Rattle.std.specs.Prelude.{◌≡◌, ◌≤◌, ◌++◌, ◌+◌, ◌∷◌, [], List as Seq, ℕ, length, take, drop, false, OnOk, OnErr, IfOk};
 ghost use Rattle.doc_server_journal.specs.declared.memory.Change.TheVariants as changes;
-ghost use Rattle.doc_server_journal.specs.Memories.{memory_bytes, memory_leaves, has_failed};
+ghost use Rattle.doc_server_journal.specs.Memories.{memory_bytes, memory_leaves, has_failed, MayNote};
 
 use crate::device::Device;
 use crate::fault::{DeviceFault, LoadError};
@@ -18,71 +18,65 @@ enum Change {
     Sync(Bytes),
 }
 
+/// Adds a change to those that a file has had.
+fn note(changes: &mut Vec<Change>, change: Change) -> Result<(), Memory>
+    ensures ok { OnOk result (changes.new.items ≡ changes.old.items ++ change ∷ []) }
+    ensures err { OnErr result (changes.new.items ≡ changes.old.items) }
+{
+    changes.push(change)?;
+    Ok(())
+}
+
+/// Writes bytes over those of a file, and past its end.
+fn overwrite(file: &mut Vec<u8>, at: usize, bytes: &[u8]) -> Result<(), Memory>
+    requires { at ≤ length file.old.items }
+    ensures { OnOk result (file.new.items ≡ take at file.old.items ++ bytes.now
+        ++ drop (at + length bytes.now) file.old.items) }
+{
+    let (over, past) = bytes.split_at(bytes.len().min(file.len() - at));
+    file[at..at + over.len()].copy_from_slice(over);
+    file.extend_from_slice(past)?;
+    Ok(())
+}
+
 /// A file with all its changes.
 #[derive(Drop)]
 struct Kept {
-    first: Bytes,
-    bytes: Bytes,
+    bytes: Vec<u8>,
     changes: Vec<Change>,
 }
 
-/// Bytes with others written over them, and past their end.
-fn overwritten(heap: Heap, file: &[u8], at: usize, bytes: &[u8]) -> Result<Bytes, Memory>
-    requires { at ≤ length file.now }
-    ensures { IfOk result (λ new.
-        new ≡ take at file.now ++ bytes.now ++ drop (at + length bytes.now) file.now) }
-{
-    let (front, behind) = file.split_at(at);
-    let mut new = Vec::from_slice(heap, front)?;
-    new.extend_from_slice(bytes)?;
-    if bytes.len() < behind.len() {
-        new.extend_from_slice(&behind[bytes.len()..])?;
-    }
-    Ok(Bytes::new(new))
-}
-
 impl Kept {
-    /// Writes some of the bytes that were to be written.
+    /// Writes some of the bytes that were to be written. Without memory for them all, fewer are written.
     fn write(&mut self, heap: Heap, at: usize, bytes: &[u8], written: &[u8]) -> Result<(), Memory>
-        requires { at ≤ length self.old.bytes }
-        ensures ok { OnOk result (self.new.changes.items
-            ≡ self.old.changes.items ++ changes.Write at bytes.now ∷ []) }
-        ensures bytes { OnOk result (self.new.bytes ≡ take at self.old.bytes ++ written.now
-            ++ drop (at + length written.now) self.old.bytes) }
-        ensures first { self.new.first ≡ self.old.first }
-        ensures err { OnErr result (self.new.changes.items ≡ self.old.changes.items) }
+        requires { at ≤ length self.old.bytes.items }
+        ensures noted { MayNote (changes.Write at bytes.now) self.old.changes.items
+            self.new.changes.items }
+        ensures bytes { OnOk result (self.new.bytes.items ≡ take at self.old.bytes.items
+            ++ written.now ++ drop (at + length written.now) self.old.bytes.items) }
     {
-        let next = overwritten(heap, self.bytes.get(), at, written)?;
         let copy = Bytes::copy_of(heap, bytes)?;
-        self.changes.push(Change::Write(at, copy))?;
-        self.bytes = next;
-        Ok(())
+        note(&mut self.changes, Change::Write(at, copy))?;
+        overwrite(&mut self.bytes, at, written)
     }
 
-    fn cut(&mut self, heap: Heap, len: usize) -> Result<(), Memory>
-        requires { len ≤ length self.old.bytes }
-        ensures ok { OnOk result (self.new.changes.items
-            ≡ self.old.changes.items ++ changes.Cut len ∷ []) }
-        ensures bytes { OnOk result (self.new.bytes ≡ take len self.old.bytes) }
-        ensures first { self.new.first ≡ self.old.first }
-        ensures err { OnErr result (self.new.changes.items ≡ self.old.changes.items) }
+    fn cut(&mut self, len: usize) -> Result<(), Memory>
+        ensures noted { MayNote (changes.Cut len) self.old.changes.items self.new.changes.items }
+        ensures bytes { OnOk result (self.new.bytes.items ≡ take len self.old.bytes.items) }
     {
-        let next = Bytes::copy_of(heap, &self.bytes.get()[..len])?;
-        self.changes.push(Change::Cut(len))?;
-        self.bytes = next;
+        note(&mut self.changes, Change::Cut(len))?;
+        self.bytes.truncate(len);
         Ok(())
     }
 
     fn sync(&mut self, heap: Heap) -> Result<(), Memory>
         ensures ok { OnOk result (self.new.changes.items
-            ≡ self.old.changes.items ++ changes.Sync self.old.bytes ∷ []) }
-        ensures bytes { self.new.bytes ≡ self.old.bytes }
-        ensures first { self.new.first ≡ self.old.first }
+            ≡ self.old.changes.items ++ changes.Sync self.old.bytes.items ∷ []) }
+        ensures bytes { self.new.bytes.items ≡ self.old.bytes.items }
         ensures err { OnErr result (self.new.changes.items ≡ self.old.changes.items) }
     {
-        let copy = Bytes::copy_of(heap, self.bytes.get())?;
-        self.changes.push(Change::Sync(copy))?;
-        Ok(())
+        let copy = Bytes::copy_of(heap, self.bytes.as_slice())?;
+        note(&mut self.changes, Change::Sync(copy))
     }
 }
 
@@ -91,6 +85,7 @@ impl Kept {
 #[derive(Drop)]
 pub struct MemoryDevice {
     heap: Heap,
+    first: Bytes,
     file: Kept,
     left: u64,
     failed: bool,
@@ -103,11 +98,11 @@ impl MemoryDevice {
         ensures durable { IfOk result (λ m. (c : Seq ℕ) → memory_leaves m c → c ≡ first) }
         ensures usable { IfOk result (λ m. has_failed m ≡ false) }
     {
-        let bytes = Bytes::copy_of(heap, first.get())?;
+        let bytes = Vec::from_slice(heap, first.get())?;
         Ok(MemoryDevice {
             heap,
+            first,
             file: Kept {
-                first,
                 bytes,
                 changes: Vec::new(heap),
             },
@@ -120,7 +115,7 @@ impl MemoryDevice {
     pub fn bytes(&self) -> &[u8]
         ensures { result.now ≡ memory_bytes self.now }
     {
-        self.file.bytes.get()
+        self.file.bytes.as_slice()
     }
 }
 
@@ -145,23 +140,23 @@ impl Device for MemoryDevice {
 
     ghost moment = { λ m. length m.file.changes.items };
 
-    ghost left_since = { λ m t c. LeftSince m.file.first m.file.changes.items t c };
+    ghost left_since = { λ m t c. LeftSince m.first m.file.changes.items t c };
 
     ghost failed = { has_failed };
 
-    ghost counts_now = { λ m t c le now. counts m.file.first m.file.changes.items t c le now };
+    ghost counts_now = { λ m t c le now. counts m.first m.file.changes.items t c le now };
 
-    ghost only_now = { λ m c left. only m.file.first m.file.changes.items c left };
+    ghost only_now = { λ m c left. only m.first m.file.changes.items c left };
 
     fn read_whole(&mut self, heap: Heap, most: usize) -> Result<Bytes, LoadError> {
         if !goes_well(&mut self.left) {
             self.failed = true;
             return Err(LoadError::Failed);
         }
-        if self.file.bytes.get().len() > most {
+        if self.file.bytes.len() > most {
             return Err(LoadError::Long);
         }
-        Ok(Bytes::copy_of(heap, self.file.bytes.get())?)
+        Ok(Bytes::copy_of(heap, self.file.bytes.as_slice())?)
     }
 
     fn write_at(&mut self, at: usize, bytes: &[u8]) -> Result<(), DeviceFault> {
@@ -177,7 +172,7 @@ impl Device for MemoryDevice {
 
     fn cut(&mut self, len: usize) -> Result<(), DeviceFault> {
         let well = goes_well(&mut self.left);
-        let kept = self.file.cut(self.heap, len);
+        let kept = self.file.cut(len);
         self.failed = !well || kept.is_err();
         if self.failed {
             return Err(DeviceFault);

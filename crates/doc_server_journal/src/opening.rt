@@ -2,21 +2,21 @@
 
 ghost use Rattle.std.specs.Prelude.{◌≡◌, ◌≢◌, List as Seq, ℕ, false, OnOk, IfOk, IfErr, IfSome};
 ghost use Rattle.doc_server_journal.specs.Journals.{IsOpen};
-ghost use Rattle.doc_server_journal.specs.Readings.{ReadsAs, IsFound};
-ghost use Rattle.doc_server_journal.specs.Records.{journal_bytes};
+ghost use Rattle.doc_server_journal_records.specs.Readings.{ReadsAs, IsFound};
+ghost use Rattle.doc_server_journal_records.specs.Records.{journal_bytes};
 ghost use Rattle.doc_server_journal.specs.Devices.{LeavesFile, LeavesOnly};
 ghost use Rattle.doc_server_journal.specs.Openings.{WasLeftOrReads, IsRefused};
 
 use crate::device::Device;
 use crate::fault::OpenFault;
-use crate::found::Found;
 use crate::journal::Journal;
-use crate::reading::read;
 use crate::repair::repair;
 use crate::writing::load;
 use doc_heap::Heap;
 use doc_page::bytes::Bytes;
 use doc_page::list::List;
+use doc_server_journal_records::found::Found;
+use doc_server_journal_records::reading::read;
 
 /// A journal that was opened, and the texts of its records in their order.
 #[derive(Drop)]

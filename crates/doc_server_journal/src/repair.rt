@@ -1,15 +1,15 @@
 //! The end of a journal, put right.
 
 ghost use Rattle.std.specs.Prelude.{◌≡◌, false, is_err, OnOk, IfSome};
-ghost use Rattle.doc_server_journal.specs.Records.{journal_bytes};
-ghost use Rattle.doc_server_journal.specs.Readings.{IsFound};
+ghost use Rattle.doc_server_journal_records.specs.Records.{journal_bytes};
+ghost use Rattle.doc_server_journal_records.specs.Readings.{IsFound};
 ghost use Rattle.doc_server_journal.specs.Devices.{LeavesFile, LeavesOnly};
 ghost use Rattle.doc_server_journal.specs.Openings.{WasLeftOrReads};
 
 use crate::device::Device;
 use crate::fault::DeviceFault;
-use crate::found::Found;
 use crate::writing::{cut_and_sync, sync, write_and_sync};
+use doc_server_journal_records::found::Found;
 
 /// Cuts off what stands behind the closed gate; a file that was only begun is given its gate. It is on the disk then.
 pub fn repair<D: Device>(device: &mut D, bytes: &[u8], found: &Found) -> Result<(), DeviceFault>

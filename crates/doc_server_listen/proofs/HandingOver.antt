@@ -2,11 +2,12 @@
 use Rattle.std.proofs.Common.{◌≡◌, ◌≤◌, ◌<◌, ◌+◌, ◌-◌, ◌++◌, ℕ, zero, suc, List, [], ◌∷◌, length, take, drop, refl, sym, ap, subst, ◌∙◌, arith}
 use Rattle.std.proofs.Common.{append_assoc, length-append, flat_map}
 use Rattle.std.proofs.lemmas.List.{take-append-drop, drop-drop, take_rest}
-use Rattle.std.specs.Prelude.{Option, slice_index_or}
+use Rattle.std.specs.Prelude.{Option, slice_index_or, slice_set}
 use Rattle.std.specs.Io.KnownBytes.{Appends}
 use Rattle.std.proofs.KnownBytes.{Appends-nil, Appends-trans}
-use Rattle.doc_server_listen.specs.Peers.{left_of, Starts}
+use Rattle.doc_server_listen.specs.Peers.{Peer, left_of, Starts}
 use Rattle.doc_server_listen.specs.Served.{HandsOver}
+use Rattle.doc_server_listen.specs.Turns.{HandOverAll}
 
 pub hands_none : (a b : Option (List ℕ)) (xs : List ℕ) → b ≡ a → HandsOver a b xs xs
 hands_none a b xs same = ([], subst (λ l. Appends a l []) (sym same) (Appends-nil a), refl)
@@ -87,3 +88,24 @@ left_behind sent (x ∷ xs) b starts = ap (λ l. drop sent x ++ l) (append_flat 
 pub starts_none : (xs : List (List ℕ)) → Starts 0 xs
 starts_none [] = refl
 starts_none (x ∷ xs) = tt
+
+-- ---- to each of many streams
+
+pub hand_same : (ps : List Peer) → HandOverAll ps ps
+hand_same [] = tt
+hand_same (p ∷ ps) = (hands_none p.written p.written p.pending refl, hand_same ps)
+
+pub hand_join : (ps qs rs : List Peer) → HandOverAll ps qs → HandOverAll qs rs → HandOverAll ps rs
+hand_join [] [] [] a b = tt
+hand_join [] [] (r ∷ rs) a b = absurd b
+hand_join [] (q ∷ qs) rs a b = absurd a
+hand_join (p ∷ ps) [] rs a b = absurd a
+hand_join (p ∷ ps) (q ∷ qs) [] a b = absurd b
+hand_join (p ∷ ps) (q ∷ qs) (r ∷ rs) a b =
+    (hands_join p.written q.written r.written p.pending q.pending r.pending a.0 b.0, hand_join ps qs rs a.1 b.1)
+
+pub hand_at : (ps : List Peer) (i : ℕ) (d q : Peer)
+    → HandsOver (slice_index_or ps i d).written q.written (slice_index_or ps i d).pending q.pending → HandOverAll ps (slice_set ps i q)
+hand_at [] i d q gives = tt
+hand_at (p ∷ ps) zero d q gives = (gives, hand_same ps)
+hand_at (p ∷ ps) (suc i) d q gives = (hands_none p.written p.written p.pending refl, hand_at ps i d q gives)

@@ -4,5 +4,4 @@ mod MemoryPieces
 mod Pieces
 mod Rows
 mod Serving
-mod Settlements
 mod TurnSteps

@@ -4,5 +4,4 @@ pub mod Edits
 pub mod MemoryChannels
 pub mod Peers
 pub mod Served
-pub mod Settling
 pub mod Turns

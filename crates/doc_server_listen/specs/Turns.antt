@@ -1,11 +1,11 @@
 -- What a turn does to the hub and to its clients.
-use Rattle.std.specs.Prelude.{◌≡◌, ℕ, List, Option, Some, map, slice_get}
+use Rattle.std.specs.Prelude.{◌≡◌, ⊤, ℕ, List, [], ◌∷◌, Option, Some, map, slice_get}
 use Rattle.doc_hub_replies.specs.Replies.{Renders}
 use Rattle.doc_hub.specs.Runs.{Happened, Runs}
 use Rattle.doc_hub.specs.Worlds.{World}
 use Rattle.doc_server_rounds.specs.Rounds.{IsAlone, AreOfAny}
 use Rattle.doc_server_listen.specs.Peers.{Peer}
-use Rattle.doc_server_listen.specs.Served.{Served}
+use Rattle.doc_server_listen.specs.Served.{Served, HandsOver}
 
 -- the numbers of the clients' connections
 abbrev pub ids_of : List Peer → List ℕ
@@ -22,3 +22,9 @@ pub record ServesAll (render : Renders) (w : World) (ps : List Peer) (v : World)
   pub own : AreOfAny (ids_of ps) run
   pub ids : ids_of qs ≡ ids_of ps
   pub each : (i : ℕ) (p q : Peer) → slice_get ps i ≡ Some p → slice_get qs i ≡ Some q → IsAlone (ids_of ps) i → Served p.id w p run v q
+
+-- to each stream some of what was pending was handed over, in order
+abbrev pub HandOverAll : List Peer → List Peer → Type 0
+HandOverAll [] [] = ⊤
+HandOverAll (p ∷ ps) (q ∷ qs) = HandsOver p.written q.written p.pending q.pending × HandOverAll ps qs
+HandOverAll ps qs = ⊥

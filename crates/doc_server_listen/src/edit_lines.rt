@@ -17,7 +17,7 @@ use doc_hub::refusal::StepError;
 use doc_page::failure::Memory;
 use doc_page::path::Path;
 use doc_page::renderer::Renderer;
-use doc_server_journal::record::TEXT_LIMIT;
+use doc_server_journal_records::record::TEXT_LIMIT;
 use doc_server_script::edit::push_put;
 use doc_server_script::page_lines::push_remove_line;
 use doc_store::page::Page;

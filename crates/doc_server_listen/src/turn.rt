@@ -2,8 +2,7 @@
 
 ghost use Rattle.std.specs.Prelude.{◌≡◌, length};
 ghost use Rattle.doc_server_listen.specs.Edits.{AreQuiet, Records};
-ghost use Rattle.doc_server_listen.specs.Settling.{HandOverAll};
-ghost use Rattle.doc_server_listen.specs.Turns.{ServesAll, written_of};
+ghost use Rattle.doc_server_listen.specs.Turns.{HandOverAll, ServesAll, written_of};
 
 use crate::channel::Channel;
 use crate::client::Client;

@@ -1,6 +1,6 @@
 -- Worlds that runs lead to.
 use Rattle.std.proofs.Common.{◌≡◌, ℕ, List, [], ◌∷◌, ◌++◌, refl, subst}
-use Rattle.std.specs.Prelude.{Contains, Option, Some, None}
+use Rattle.std.specs.Prelude.{Contains, Option, Some, None, Result, Ok, Err, IfOk, IfErr}
 use Rattle.std.proofs.lemmas.List.Elements.{All-nil, All-append, All-cons, All-weaker}
 use Rattle.doc_hub.specs.Events.{Said, outcome_of}
 use Rattle.doc_hub_replies.specs.Replies.{Renders}
@@ -8,6 +8,7 @@ use Rattle.doc_hub.specs.Runs.{Happened, Happens, Runs, nothing, first}
 use Rattle.doc_hub.specs.Worlds.{World}
 use Rattle.doc_hub.specs.declared.event.Event.{Event}
 use Rattle.doc_hub.specs.declared.event.Event.TheVariants as events
+use Rattle.doc_hub.specs.declared.refusal.ConnectError.{ConnectError}
 use Rattle.doc_server_rounds.specs.Served.{served_by}
 use Rattle.doc_server_rounds.proofs.RoundLaws.{runs_join}
 use Rattle.doc_server_listen.specs.Peers.{Peer}
@@ -36,6 +37,13 @@ leads_by render w v event said own happens =
       runs = first w v v event (outcome_of event said) [] (said, happens, refl) (nothing v);
       own = All-cons IsOwn h [] own (All-nil IsOwn);
     }
+
+-- a client is made by a connect, granted or refused
+pub leads_connected : (render : Renders) (w v : World) (result : Result Peer ConnectError)
+    → IfOk result (λ client. Happens render w events.Connect v (Ok (record { 0 = client.id })))
+    → IfErr result (λ e. Happens render w events.Connect v (Err e)) → Leads render w v
+leads_connected render w v (Ok client) connects refused = leads_by render w v events.Connect (Ok (record { 0 = client.id })) tt connects
+leads_connected render w v (Err e) connects refused = leads_by render w v events.Connect (Err e) tt refused
 
 none_is : (m : ℕ) → ◌≡◌ {A = Option ℕ} None (Some m) → ⊥
 none_is m e = cc

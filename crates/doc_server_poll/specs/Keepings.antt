@@ -5,11 +5,11 @@ use Rattle.doc_hub.specs.Runs.{Happened}
 use Rattle.doc_hub.specs.Worlds.{World}
 use Rattle.doc_server_journal.specs.Journals.{IsOpen}
 use Rattle.doc_server_listen.specs.Peers.{Peer}
-use Rattle.doc_server_listen.specs.Settling.{GiveFronts, Settles}
-use Rattle.doc_server_listen.specs.declared.fault.TurnFault.{TurnFault}
+use Rattle.doc_server_settling.specs.Settling.{GiveFronts, Settles}
+use Rattle.doc_server_settling.specs.declared.fault.TurnFault.{TurnFault}
 use Rattle.doc_server_poll.specs.declared.keeping.Keeping.{Keeping}
 use Rattle.doc_server_poll.specs.declared.keeping.Keeping.TheVariants as keepings
-use Rattle.doc_server_listen.specs.declared.fault.TurnFault.TheVariants as turns
+use Rattle.doc_server_settling.specs.declared.fault.TurnFault.TheVariants as turns
 use Rattle.doc_server_poll.specs.declared.fault.PollFault.{PollFault}
 use Rattle.doc_server_poll.specs.declared.fault.PollFault.TheVariants as polls
 

@@ -50,18 +50,20 @@ impl Channel for MioChannel {
     ghost failed = { has_failed };
 
     fn read(&mut self, buf: &mut [u8]) -> Result<Came, StreamFault> {
-        let result = self.wire.read(buf);
+        let wire: &Wire = &self.wire;
+        let result = wire.read(buf);
         if let Ok(Came::Bytes(count)) = &result {
-            self.tape.came(self.wire.turn(), &buf[..*count]);
+            self.tape.came(wire.turn(), &buf[..*count]);
         }
         self.is_failed = result.is_err();
         result
     }
 
     fn write(&mut self, buf: &[u8]) -> Result<usize, StreamFault> {
-        let result = self.wire.write(buf);
+        let wire: &Wire = &self.wire;
+        let result = wire.write(buf);
         if let Ok(count) = &result {
-            self.tape.went(self.wire.turn(), buf, *count);
+            self.tape.went(wire.turn(), buf, *count);
         }
         self.is_failed = result.is_err();
         result

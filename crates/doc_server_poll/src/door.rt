@@ -1,6 +1,7 @@
 //! Accepting peers while others are served.
 
-ghost use Rattle.std.specs.Prelude.{◌≡◌, ◌≤◌, ◌<◌, ◌+◌, true, length};
+ghost use Rattle.std.specs.Prelude.{◌≡◌, ◌≤◌, ◌<◌, ◌+◌, true, false, length, IfSome};
+ghost use Rattle.doc_server_poll.specs.MioChannels.{has_failed};
 ghost use Rattle.doc_server_poll.specs.Servers.{Leads};
 
 use crate::channel::MioChannel;
@@ -117,22 +118,19 @@ impl Door {
         ensures leads { Leads (R.page hub.old.0) hub.old.1 hub.new.1 }
         ensures same { R.page hub.new.0 ≡ R.page hub.old.0 }
     {
-        let Some(stream) = self.next() else {
-            return;
-        };
-        let _ = stream.set_nodelay(true);
-        let Some(wires) = wires_of(self.heap, stream, is_watched) else {
+        let Some(wires) = self.next(is_watched) else {
             return;
         };
         keep(self.heap, hub, registry, peers, wires, now);
     }
 
-    /// The next peer's stream, where there is one.
-    fn next(&mut self) -> Option<TcpStream>
-        ensures { self.new.most ≡ self.old.most }
+    /// The next peer's wires, where there is one, and memory for them.
+    fn next(&mut self, is_watched: bool) -> Option<Wires>
+        ensures most { self.new.most ≡ self.old.most }
+        ensures new { IfSome result (λ wires. has_failed wires.channel ≡ false) }
     {
         match self.listener.accept() {
-            Ok((stream, _)) => Some(stream),
+            Ok((stream, _)) => wires_of(self.heap, stream, is_watched),
             Err(e) => {
                 match e.kind() {
                     ErrorKind::WouldBlock => self.is_awaited = false,
@@ -150,25 +148,27 @@ fn both() -> Interest {
     Interest::READABLE | Interest::WRITABLE
 }
 
-/// A stream's wire, for its channel and for the table of peers, and whether what passes is told.
+/// The channel over a stream's wire, and that wire for the table of peers.
 #[derive(Drop)]
 struct Wires {
-    channel: Rc<Wire, Heap>,
+    channel: MioChannel,
     table: Rc<Wire, Heap>,
-    is_watched: bool,
 }
 
-fn wires_of(heap: Heap, stream: TcpStream, is_watched: bool) -> Option<Wires> {
+/// The wires of a stream, which sends what is written at once. `None`: memory is lacking.
+fn wires_of(heap: Heap, stream: TcpStream, is_watched: bool) -> Option<Wires>
+    ensures { IfSome result (λ wires. has_failed wires.channel ≡ false) }
+{
+    let _ = stream.set_nodelay(true);
     let Ok(table) = Rc::new(heap, Wire::new(stream)) else {
         return None;
     };
-    let Ok(channel) = table.clone() else {
+    let Ok(wire) = table.clone() else {
         return None;
     };
     Some(Wires {
-        channel,
+        channel: MioChannel::new(wire, Tape::new(heap, is_watched)),
         table,
-        is_watched,
     })
 }
 
@@ -181,31 +181,25 @@ fn keep<R: Renderer + Drop>(
     wires: Wires,
     now: Instant,
 )
+    requires new { has_failed wires.channel ≡ false }
     ensures one { length peers.new ≤ length peers.old + 1 }
     ensures leads { Leads (R.page hub.old.0) hub.old.1 hub.new.1 }
     ensures same { R.page hub.new.0 ≡ R.page hub.old.0 }
 {
-    let Wires {
-        channel,
-        table,
-        is_watched,
-    } = wires;
-    let Some(client) = client_of(heap, hub, channel, is_watched) else {
+    let Wires { channel, table } = wires;
+    let Ok(client) = Client::new(heap, hub, channel) else {
         return;
     };
     let id = client.id();
-    if !is_registered(registry, &table, id) {
-        drop_connection(hub, id.0);
-        return;
-    }
-    if is_taken(peers, client, table, now) {
+    if is_taken(registry, peers, client, table, now) {
         return;
     }
     drop_connection(hub, id.0);
 }
 
-/// Takes a client into the table, and answers whether memory was left for it.
+/// Has the poll give a client's events and takes the client into the table, and answers whether both were done.
 fn is_taken(
+    registry: &Registry,
     peers: &mut Peers,
     client: Client<MioChannel>,
     wire: Rc<Wire, Heap>,
@@ -213,24 +207,10 @@ fn is_taken(
 ) -> bool
     ensures { length peers.new ≤ length peers.old + 1 }
 {
-    peers.insert(client, wire, now).is_ok()
-}
-
-/// A client over a wire.
-fn client_of<R: Renderer + Drop>(
-    heap: Heap,
-    hub: &mut Hub<R>,
-    wire: Rc<Wire, Heap>,
-    is_watched: bool,
-) -> Option<Client<MioChannel>>
-    ensures leads { Leads (R.page hub.old.0) hub.old.1 hub.new.1 }
-    ensures same { R.page hub.new.0 ≡ R.page hub.old.0 }
-{
-    let channel = MioChannel::new(wire, Tape::new(heap, is_watched));
-    match Client::new(heap, hub, channel) {
-        Ok(client) => Some(client),
-        Err(_) => None,
+    if !is_registered(registry, &wire, client.id()) {
+        return false;
     }
+    peers.insert(client, wire, now).is_ok()
 }
 
 /// Has the poll give the events of a connection, and answers whether it does.

@@ -1,7 +1,7 @@
 //! Why a server doesn't run.
 
 use doc_page::failure::Memory;
-use doc_server_listen::fault::TurnFault;
+use doc_server_settling::fault::TurnFault;
 use std::alloc::AllocError;
 use std::error::Error;
 use std::fmt;
@@ -19,8 +19,8 @@ pub enum PollFault {
 impl fmt::Display for PollFault {
     fn fmt<W: fmt::Write>(&self, f: &mut fmt::Formatter<W>) -> fmt::Result {
         match self {
-            PollFault::Socket => write!(f, "the address can't be listened at"),
-            PollFault::CannotWrite => write!(f, "cannot write"),
+            PollFault::Socket => f.write_str("the address can't be listened at"),
+            PollFault::CannotWrite => f.write_str("cannot write"),
             PollFault::Memory => write!(f, "{Memory}"),
         }
     }

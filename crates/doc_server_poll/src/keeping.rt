@@ -11,17 +11,26 @@ use doc_server_journal::device::Device;
 use doc_server_journal::journal::Journal;
 use doc_server_listen::channel::Channel;
 use doc_server_listen::client::Client;
-use doc_server_listen::fault::TurnFault;
-use doc_server_listen::settling::settled_turn;
 use doc_server_listen::turn::turn;
+use doc_server_settling::fault::TurnFault;
+use doc_server_settling::settling::settled_turn;
 
 /// What becomes of the edits that clients make.
-#[derive(Drop)]
 pub enum Keeping<D: Device> {
     /// They hold until the server ends.
     Forgets,
     /// They are in a journal before a reply tells of them.
     Keeps(Journal<D>),
+}
+
+/// Written out, so that it is proved here once: what a derived drop does is proved wherever a value is let go.
+impl<D: Device + Drop> Drop for Keeping<D> {
+    fn drop(self) {
+        match self {
+            Keeping::Forgets => {}
+            Keeping::Keeps(_) => {}
+        }
+    }
 }
 
 impl<D: Device> Keeping<D> {

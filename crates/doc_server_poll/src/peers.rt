@@ -1,6 +1,6 @@
 //! The table of the clients that are served, and the turns over those that are ready.
 
-ghost use Rattle.std.specs.Prelude.{◌≡◌, ◌≤◌, ◌++◌, ◌∷◌, [], length, IfOk, OnOk, OnErr};
+ghost use Rattle.std.specs.Prelude.{◌≡◌, ◌≤◌, ◌<◌, ◌++◌, ◌∷◌, [], length, OnOk, OnErr};
 ghost use Rattle.doc_server_poll.specs.Keepings.{IsReady};
 ghost use Rattle.doc_server_poll.specs.Servers.{Leads};
 
@@ -12,11 +12,11 @@ use crate::wire::Wire;
 use doc_heap::{BTreeMap, Heap, Vec};
 use doc_hub::event::ConnId;
 use doc_hub::hub::Hub;
-use doc_page::failure::Memory;
 use doc_page::renderer::Renderer;
 use doc_server_journal::device::Device;
 use doc_server_listen::client::Client;
-use doc_server_listen::fault::TurnFault;
+use doc_server_settling::fault::TurnFault;
+use std::alloc::AllocError;
 use std::marker::Model;
 use std::rc::Rc;
 use std::time::{Duration, Instant};
@@ -48,18 +48,29 @@ impl Model for Peers {
 }
 
 impl Peers {
-    /// A table without clients, and with room for so many.
-    pub fn new(heap: Heap, most: usize) -> Result<Peers, Memory>
-        ensures { IfOk result (λ peers. peers ≡ []) }
+    /// A table without clients. It takes no memory.
+    pub fn new(heap: Heap) -> Peers
+        ensures { result ≡ [] }
     {
-        Ok(Peers {
-            clients: Vec::with_capacity(heap, most)?,
-            slots: Vec::with_capacity(heap, most)?,
+        Peers {
+            clients: Vec::new(heap),
+            slots: Vec::new(heap),
             places: BTreeMap::new(heap),
-            ready: Vec::with_capacity(heap, most)?,
-            going: Vec::with_capacity(heap, most)?,
-            gone: Vec::with_capacity(heap, most)?,
-        })
+            ready: Vec::new(heap),
+            going: Vec::new(heap),
+            gone: Vec::new(heap),
+        }
+    }
+
+    /// Makes room for so many more clients. What an `Err` leaves is room for some.
+    pub fn reserve(&mut self, most: usize) -> Result<(), AllocError>
+        ensures { self.new ≡ self.old }
+    {
+        self.clients.reserve_exact(most)?;
+        self.slots.reserve_exact(most)?;
+        self.ready.reserve_exact(most)?;
+        self.going.reserve_exact(most)?;
+        self.gone.reserve_exact(most)
     }
 
     /// How many are served.
@@ -80,7 +91,7 @@ impl Peers {
         client: Client<MioChannel>,
         wire: Rc<Wire, Heap>,
         now: Instant,
-    ) -> Result<(), Memory>
+    ) -> Result<(), AllocError>
         ensures taken { OnOk result (self.new ≡ self.old ++ client ∷ []) }
         ensures refused { OnErr result (self.new ≡ self.old) }
     {
@@ -88,8 +99,7 @@ impl Peers {
         self.clients.reserve(1)?;
         self.slots.reserve(1)?;
         self.going.reserve(1)?;
-        let place = self.clients.len();
-        self.places.insert(number, place)?;
+        self.places.insert(number, self.clients.len())?;
         self.clients.push_reserved(client);
         self.slots.push_reserved(Slot::new(wire, now));
         self.going.push_reserved(number);
@@ -151,12 +161,8 @@ impl Peers {
         ensures none { length self.new ≤ length self.old }
     {
         self.settle(heap, keeping, hub, piece)?;
-        'places: for at in 0..self.ready.len() {
-            self.leave_at(at, piece, now, watch);
-        }
-        self.ready.clear();
-        self.tell_gone(watch);
-        self.let_go(hub);
+        self.leave_all(piece, now, watch);
+        self.let_go(hub, watch);
         watch.end_turn();
         Ok(())
     }
@@ -176,6 +182,16 @@ impl Peers {
         ensures many { length self.new ≡ length self.old }
     {
         keeping.turn(heap, hub, self.clients.as_mut_slice(), &self.ready, piece)
+    }
+
+    /// Ends the part of those that were taken in.
+    fn leave_all<W: Watch>(&mut self, piece: &mut [u8], now: Instant, watch: &mut W)
+        ensures { self.new ≡ self.old }
+    {
+        'places: for at in 0..self.ready.len() {
+            self.leave_at(at, piece, now, watch);
+        }
+        self.ready.clear();
     }
 
     /// Ends the part of one of them in the turn.
@@ -222,19 +238,16 @@ impl Peers {
         'places: for at in 0..self.slots.len() {
             self.sweep_at(at, idle, now);
         }
-        self.tell_gone(watch);
-        self.let_go(hub);
+        self.let_go(hub, watch);
     }
 
     /// Has the client at this place let go, where its time is over.
     fn sweep_at(&mut self, place: usize, idle: Duration, now: Instant)
+        requires { place < length self.old }
         ensures { self.new ≡ self.old }
     {
-        let (Some(client), Some(slot)) = (self.clients.get(place), self.slots.get(place)) else {
-            return;
-        };
-        if slot.is_over(idle, now) {
-            let _ = self.gone.push(client.id().0);
+        if self.slots[place].is_over(idle, now) {
+            let _ = self.gone.push(self.clients[place].id().0);
         }
     }
 
@@ -245,12 +258,13 @@ impl Peers {
         }
     }
 
-    /// Lets those go that are to be.
-    fn let_go<R: Renderer + Drop>(&mut self, hub: &mut Hub<R>)
+    /// Tells who is let go, and lets them go.
+    fn let_go<R: Renderer + Drop, W: Watch>(&mut self, hub: &mut Hub<R>, watch: &mut W)
         ensures leads { Leads (R.page hub.old.0) hub.old.1 hub.new.1 }
         ensures same { R.page hub.new.0 ≡ R.page hub.old.0 }
         ensures none { length self.new ≤ length self.old }
     {
+        self.tell_gone(watch);
         'numbers: for at in 0..self.gone.len() {
             self.let_go_at(hub, at);
         }
@@ -278,7 +292,7 @@ impl Peers {
         let Some(place) = self.places.remove(&number) else {
             return;
         };
-        if place >= self.clients.len() || place >= self.slots.len() {
+        if place >= self.slots.len() {
             return;
         }
         let _ = self.clients.swap_remove(place);

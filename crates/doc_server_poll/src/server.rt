@@ -11,12 +11,12 @@ use crate::peers::Peers;
 use crate::watch::Watch;
 use doc_heap::{Heap, Vec};
 use doc_hub::hub::Hub;
-use doc_page::failure::Memory;
 use doc_page::renderer::Renderer;
 use doc_server_journal::device::Device;
 use mio::net::TcpListener;
 use mio::unix::SourceFd;
 use mio::{Events, Interest, Poll, Token};
+use std::alloc::AllocError;
 use std::marker::Model;
 use std::net::{Net, SocketAddr};
 use std::os::fd::RawFd;
@@ -44,7 +44,6 @@ const WAIT: u64 = 500;
 const SWEEP: u64 = 250;
 
 /// A server that accepts while it serves.
-#[derive(Drop)]
 pub struct Server {
     heap: Heap,
     poll: Poll,
@@ -55,6 +54,22 @@ pub struct Server {
     idle: Duration,
     piece: Vec<u8>,
     swept: Instant,
+}
+
+/// Written out, so that it is proved here once: what a derived drop does is proved wherever a value is let go.
+impl Drop for Server {
+    fn drop(self) {
+        let Server {
+            heap: _,
+            poll: _,
+            events: _,
+            door: _,
+            peers: _,
+            idle: _,
+            piece: _,
+            swept: _,
+        } = self;
+    }
 }
 
 impl Model for Server {
@@ -80,26 +95,42 @@ impl Server {
     ) -> Result<Server, PollFault>
         ensures { IfOk result (λ server. server ≡ record { most = connections; clients = [] }) }
     {
-        let Ok(poll) = Poll::new(rt) else {
+        let mut server = Server::listening(rt, heap, address, connections, idle_seconds)?;
+        server.reserve(connections)?;
+        Ok(server)
+    }
+
+    /// A server that listens, and has no memory yet for its connections and for what it reads.
+    fn listening<R: Clock + Net>(
+        rt: &R,
+        heap: Heap,
+        address: SocketAddr,
+        connections: usize,
+        idle_seconds: u64,
+    ) -> Result<Server, PollFault>
+        ensures { IfOk result (λ server. server ≡ record { most = connections; clients = [] }) }
+    {
+        let Ok((poll, listener, swept)) = opened(rt, address) else {
             return Err(PollFault::Socket);
         };
-        let Ok(listener) = listener_of(rt, &poll, address) else {
-            return Err(PollFault::Socket);
-        };
-        let Ok(swept) = Instant::now(rt) else {
-            return Err(PollFault::Socket);
-        };
-        watch_input(&poll);
         Ok(Server {
             heap,
             poll,
             events: Events::with_capacity(heap, MOST_EVENTS)?,
             door: Door::new(heap, listener, connections),
-            peers: Peers::new(heap, connections)?,
+            peers: Peers::new(heap),
             idle: Duration::from_secs(idle_seconds),
-            piece: Vec::from_elem(heap, 0u8, PIECE)?,
+            piece: Vec::new(heap),
             swept,
         })
+    }
+
+    /// Takes the memory for so many connections, and for what a read gives.
+    fn reserve(&mut self, connections: usize) -> Result<(), AllocError>
+        ensures { self.new ≡ self.old }
+    {
+        self.peers.reserve(connections)?;
+        self.piece.resize(PIECE, 0)
     }
 
     /// The address that it listens at, where the system tells it. It tells the port where the port of the address asked for was 0.
@@ -216,6 +247,18 @@ impl Server {
         self.door.wake();
         self.peers.sweep(hub, self.idle, now, watch);
     }
+}
+
+/// A poll, a listener at this address whose events it gives, and the time. The poll gives the end of standard input, too.
+fn opened<R: Clock + Net>(
+    rt: &R,
+    address: SocketAddr,
+) -> std::io::Result<(Poll, TcpListener, Instant)> {
+    let poll = Poll::new(rt)?;
+    let listener = listener_of(rt, &poll, address)?;
+    let now = Instant::now(rt)?;
+    watch_input(&poll);
+    Ok((poll, listener, now))
 }
 
 /// A listener whose events the poll gives.

@@ -100,9 +100,11 @@ fn read_whenever(stream: &TcpStream, buf: &mut [u8]) -> Result<Came, StreamFault
         match reader.read(buf) {
             Ok(0) => return Ok(Came::End),
             Ok(count) => return Ok(Came::Bytes(count)),
-            Err(e) if e.kind() == ErrorKind::Interrupted => {}
-            Err(e) if e.kind() == ErrorKind::WouldBlock => return Ok(Came::Nothing),
-            Err(_) => return Err(StreamFault),
+            Err(e) => match e.kind() {
+                ErrorKind::Interrupted => {}
+                ErrorKind::WouldBlock => return Ok(Came::Nothing),
+                _ => return Err(StreamFault),
+            },
         }
     }
     Err(StreamFault)
@@ -116,9 +118,11 @@ fn write_whenever(stream: &TcpStream, buf: &[u8]) -> Result<usize, StreamFault>
     'tries: for _ in 0..TRIES {
         match writer.write(buf) {
             Ok(count) => return Ok(count),
-            Err(e) if e.kind() == ErrorKind::Interrupted => {}
-            Err(e) if e.kind() == ErrorKind::WouldBlock => return Ok(0),
-            Err(_) => return Err(StreamFault),
+            Err(e) => match e.kind() {
+                ErrorKind::Interrupted => {}
+                ErrorKind::WouldBlock => return Ok(0),
+                _ => return Err(StreamFault),
+            },
         }
     }
     Err(StreamFault)

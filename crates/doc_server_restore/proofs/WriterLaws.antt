@@ -17,7 +17,7 @@ use Rattle.doc_store.specs.Pages.{Page}
 use Rattle.doc_store.specs.Sites.{Site}
 use Rattle.doc_store.specs.Store.{Edit, set_page, remove_page, move_page}
 use Rattle.doc_server_journal.specs.Journals.{IsOpen}
-use Rattle.doc_server_journal.specs.Records.{text_limit}
+use Rattle.doc_server_journal_records.specs.Records.{text_limit}
 use Rattle.doc_server_script.specs.Compactions.{made, made_along, moves, same_at}
 use Rattle.doc_server_script.specs.PageLines.{line_of, lines_of}
 use Rattle.doc_server_restore.specs.Written.{AreLines, IsWritten}

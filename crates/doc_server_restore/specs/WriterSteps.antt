@@ -4,7 +4,7 @@ use Rattle.doc_store.specs.Pages.{Page}
 use Rattle.doc_store.specs.Sites.{Site}
 use Rattle.doc_store.specs.Store.{Edit, remove_page}
 use Rattle.doc_server_journal.specs.Journals.{IsOpen}
-use Rattle.doc_server_journal.specs.Records.{text_limit}
+use Rattle.doc_server_journal_records.specs.Records.{text_limit}
 use Rattle.doc_server_script.specs.Compactions.{same_at}
 use Rattle.doc_server_restore.specs.declared.writer.EditWriter.{EditWriter}
 use Rattle.doc_server_script.specs.PageLines.{lines_of}

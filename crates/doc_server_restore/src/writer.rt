@@ -1,7 +1,7 @@
 //! Edits written to a journal, a line each, many lines in a record.
 
 ghost use Rattle.std.specs.Prelude.{◌≡◌, ◌≤◌, ◌+◌, [], ◌∷◌, length, string_bytes, OnOk};
-ghost use Rattle.doc_server_journal.specs.Records.{text_limit};
+ghost use Rattle.doc_server_journal_records.specs.Records.{text_limit};
 ghost use Rattle.doc_store.specs.Groups.{texts_of};
 ghost use Rattle.doc_store.specs.Store.{Edit, set_page, remove_page, move_page};
 ghost use Rattle.doc_server_script.specs.Compactions.{made_along, moves};
@@ -95,7 +95,7 @@ impl<D: Device> EditWriter<D> {
     }
 
     /// Writes the line of an edit. Where no room is left for it in the record of those before it, it begins another.
-    #[tactic(auto, unfolding(doc_server_journal::specs::Records::text_limit))]
+    #[tactic(auto, unfolding(doc_server_journal_records::specs::Records::text_limit))]
     fn add(&mut self, heap: Heap, line: &str) -> Result<(), CompactFault>
         requires { IsWriter D.seen D.may_leave D.failed self.old }
         ensures { (edit : Edit) → line.now ≡ line_of edit
@@ -110,7 +110,7 @@ impl<D: Device> EditWriter<D> {
     }
 
     /// Makes room for so many bytes more in a record.
-    #[tactic(auto, unfolding(doc_server_journal::specs::Records::text_limit))]
+    #[tactic(auto, unfolding(doc_server_journal_records::specs::Records::text_limit))]
     fn make_room(&mut self, heap: Heap, len: usize) -> Result<(), CompactFault>
         requires writer { IsWriter D.seen D.may_leave D.failed self.old }
         requires within { len ≤ text_limit }

@@ -1,4 +1,5 @@
 mod Connections
+mod Counts
 pub mod Elsewhere
 mod Pieces
 mod RoundSteps

@@ -20,7 +20,7 @@ pub enum ServeFault {
 impl fmt::Display for ServeFault {
     fn fmt<W: fmt::Write>(&self, f: &mut fmt::Formatter<W>) -> fmt::Result {
         match self {
-            ServeFault::Accept => write!(f, "no connection was accepted"),
+            ServeFault::Accept => f.write_str("no connection was accepted"),
             ServeFault::NoIds => write!(f, "{}", ConnectError::NoIds),
             ServeFault::Memory => write!(f, "{Memory}"),
         }

@@ -35,7 +35,8 @@ pub fn serve_round<R: Renderer + Drop, S: Stream + Drop>(
     ensures refused { OnErr result ((hub.new.1 ≡ hub.old.1) × (links.new ≡ links.old)) }
     ensures same { R.page hub.new.0 ≡ R.page hub.old.0 }
 {
-    let before = failures(heap, links)?;
+    let mut before = Vec::with_capacity(heap, links.len())?;
+    count_failures(links, &mut before);
     let mut faults = Vec::with_capacity(heap, links.len())?;
     let passes = make_passes(hub, links, turns);
     list_faults(&before, links, &mut faults);
@@ -59,15 +60,15 @@ fn list_faults<S: Stream + Drop>(before: &[u64], links: &[Link<S>], faults: &mut
     }
 }
 
-/// How many calls of each link's stream have failed.
-fn failures<S: Stream + Drop>(heap: Heap, links: &[Link<S>]) -> Result<Vec<u64>, Memory>
-    ensures { IfOk result (λ counts. counts.items ≡ failures_in links.now) }
+/// Lists how many calls of each link's stream have failed.
+fn count_failures<S: Stream + Drop>(links: &[Link<S>], counts: &mut Vec<u64>)
+    requires empty { vec_len counts.old ≡ 0 }
+    requires room { length links.now ≤ vec_capacity counts.old }
+    ensures { counts.new.items ≡ failures_in links.now }
 {
-    let mut counts = Vec::with_capacity(heap, links.len())?;
     'links: for link in links {
         counts.push(link.stream().failures()).unwrap();
     }
-    Ok(counts)
 }
 
 /// Passes, until none is open, and at most so many. The answer is how many there were.
@@ -93,7 +94,12 @@ fn make_passes<R: Renderer + Drop, S: Stream + Drop>(
 fn any_open<S: Stream + Drop>(links: &[Link<S>]) -> bool
     ensures { result ≡ false → AreClosed links.now }
 {
-    links.iter().any(|link| link.is_open())
+    'links: for link in links {
+        if link.is_open() {
+            return true;
+        }
+    }
+    false
 }
 
 /// One pass over the open links, in their order.

@@ -8,3 +8,4 @@ pub mod Compactions
 pub mod CompactionLaws
 pub mod PageLines
 pub mod Replays
+pub mod Reads

@@ -20,29 +20,15 @@ pub enum Command {
 pub fn command_of(word: &str) -> Option<Command>
     ensures { result ≡ command_of word.now }
 {
-    if word == "push" {
-        return Some(Command::Push);
+    match word {
+        "push" => Some(Command::Push),
+        "step" => Some(Command::Step),
+        "disconnect" => Some(Command::Disconnect),
+        "put" => Some(Command::Put),
+        "remove" => Some(Command::Remove),
+        "move" => Some(Command::Move),
+        "reader" => Some(Command::Reader),
+        "unreader" => Some(Command::Unreader),
+        _ => None,
     }
-    if word == "step" {
-        return Some(Command::Step);
-    }
-    if word == "disconnect" {
-        return Some(Command::Disconnect);
-    }
-    if word == "put" {
-        return Some(Command::Put);
-    }
-    if word == "remove" {
-        return Some(Command::Remove);
-    }
-    if word == "move" {
-        return Some(Command::Move);
-    }
-    if word == "reader" {
-        return Some(Command::Reader);
-    }
-    if word == "unreader" {
-        return Some(Command::Unreader);
-    }
-    None
 }

@@ -6,7 +6,7 @@ ghost use Rattle.std.specs.Io.{StartsWith};
 ghost use Rattle.doc_server_script.specs.Escapes.{escaped, spaceless};
 ghost use Rattle.doc_server_script.specs.Edits.{behind_commas, groups_text, move_line, put_line, remove_line};
 
-use crate::escaping::{push_escaped, push_spaceless};
+use crate::escaping::{push_escaped, push_plain, push_spaceless};
 use doc_heap::String;
 use doc_page::failure::Memory;
 use doc_page::path::Path;
@@ -20,21 +20,20 @@ pub fn push_put(out: &mut String, path: &Path, groups: &Groups, text: &str) -> R
         ≡ string_bytes out.old ++ put_line path.now groups.now text.now) }
     ensures err { OnErr result (StartsWith (string_bytes out.new) (string_bytes out.old)) }
 {
-    push_put_start(out, path)?;
+    push_start(out, "put ", path)?;
     push_put_rest(out, groups.names(), text)
 }
 
-/// Writes `put PATH` and a space.
+/// Writes a command, which ends with a space, and then `PATH` and a space.
 #[tactic(auto, using(doc_page::proofs::BufferSteps::front_same, doc_page::proofs::BufferSteps::front_more))]
-fn push_put_start(out: &mut String, path: &Path) -> Result<(), Memory>
+fn push_start(out: &mut String, command: &str, path: &Path) -> Result<(), Memory>
     ensures ok { OnOk result (string_bytes out.new
-        ≡ string_bytes out.old ++ (codes "put " ++ (spaceless path.now ++ codes " "))) }
+        ≡ string_bytes out.old ++ (command.now ++ (spaceless path.now ++ codes " "))) }
     ensures err { OnErr result (StartsWith (string_bytes out.new) (string_bytes out.old)) }
 {
-    out.push_str("put ")?;
+    push_plain(out, command)?;
     push_spaceless(out, path.text().as_bytes())?;
-    out.push_str(" ")?;
-    Ok(())
+    push_plain(out, " ")
 }
 
 /// Writes `GROUPS TEXT`.
@@ -56,8 +55,7 @@ fn push_groups_field(out: &mut String, groups: &[Text]) -> Result<(), Memory>
     ensures err { OnErr result (StartsWith (string_bytes out.new) (string_bytes out.old)) }
 {
     push_groups(out, groups)?;
-    out.push_str(" ")?;
-    Ok(())
+    push_plain(out, " ")
 }
 
 /// Writes `remove PATH`.
@@ -66,7 +64,7 @@ pub fn push_remove(out: &mut String, path: &Path) -> Result<(), Memory>
     ensures ok { OnOk result (string_bytes out.new ≡ string_bytes out.old ++ remove_line path.now) }
     ensures err { OnErr result (StartsWith (string_bytes out.new) (string_bytes out.old)) }
 {
-    out.push_str("remove ")?;
+    push_plain(out, "remove ")?;
     push_spaceless(out, path.text().as_bytes())
 }
 
@@ -77,9 +75,7 @@ pub fn push_move(out: &mut String, from: &Path, to: &Path) -> Result<(), Memory>
         ≡ string_bytes out.old ++ move_line from.now to.now) }
     ensures err { OnErr result (StartsWith (string_bytes out.new) (string_bytes out.old)) }
 {
-    out.push_str("move ")?;
-    push_spaceless(out, from.text().as_bytes())?;
-    out.push_str(" ")?;
+    push_start(out, "move ", from)?;
     push_spaceless(out, to.text().as_bytes())
 }
 
@@ -91,11 +87,10 @@ fn push_groups(out: &mut String, groups: &[Text]) -> Result<(), Memory>
     ensures err { OnErr result (StartsWith (string_bytes out.new) (string_bytes out.old)) }
 {
     match groups {
-        [] => out.push_str("-")?,
-        [name] if name.get() == "-" => out.push_str("-,-")?,
-        [name, names @ ..] => push_names(out, name.get(), names)?,
+        [] => push_plain(out, "-"),
+        [name] if name.get() == "-" => push_plain(out, "-,-"),
+        [name, names @ ..] => push_names(out, name.get(), names),
     }
-    Ok(())
 }
 
 /// Writes a name, and then others behind a comma each.
@@ -105,7 +100,7 @@ fn push_names(out: &mut String, first: &str, names: &[Text]) -> Result<(), Memor
         (string_bytes out.new ≡ string_bytes out.old ++ (first.now ++ behind_commas names.now)) }
     ensures err { OnErr result (StartsWith (string_bytes out.new) (string_bytes out.old)) }
 {
-    out.push_str(first)?;
+    push_plain(out, first)?;
     for name in names {
         push_behind_comma(out, name.get())?;
     }
@@ -117,7 +112,6 @@ fn push_behind_comma(out: &mut String, name: &str) -> Result<(), Memory>
     ensures ok { OnOk result (string_bytes out.new ≡ string_bytes out.old ++ 44 ∷ name.now) }
     ensures err { OnErr result (StartsWith (string_bytes out.new) (string_bytes out.old)) }
 {
-    out.push_str(",")?;
-    out.push_str(name)?;
-    Ok(())
+    push_plain(out, ",")?;
+    push_plain(out, name)
 }

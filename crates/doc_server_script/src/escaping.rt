@@ -40,8 +40,7 @@ fn push_spaceless_byte(out: &mut String, byte: u8) -> Result<(), Memory>
     ensures err { OnErr result (StartsWith (string_bytes out.new) (string_bytes out.old)) }
 {
     if byte == b' ' {
-        out.push_str("\\x20")?;
-        return Ok(());
+        return push_plain(out, "\\x20");
     }
     push_byte(out, byte)
 }
@@ -52,13 +51,12 @@ fn push_byte(out: &mut String, byte: u8) -> Result<(), Memory>
     ensures err { OnErr result (StartsWith (string_bytes out.new) (string_bytes out.old)) }
 {
     match byte {
-        b'\r' => out.push_str("\\r")?,
-        b'\n' => out.push_str("\\n")?,
-        b'\\' => out.push_str("\\\\")?,
-        b' '..=b'~' => push_ascii(out, byte)?,
-        _ => push_number(out, byte)?,
+        b'\r' => push_plain(out, "\\r"),
+        b'\n' => push_plain(out, "\\n"),
+        b'\\' => push_plain(out, "\\\\"),
+        b' '..=b'~' => push_ascii(out, byte),
+        _ => push_number(out, byte),
     }
-    Ok(())
 }
 
 /// Writes a byte by its number.
@@ -67,9 +65,18 @@ fn push_number(out: &mut String, byte: u8) -> Result<(), Memory>
     ensures ok { OnOk result (string_bytes out.new ≡ string_bytes out.old ++ by_number byte) }
     ensures err { OnErr result (StartsWith (string_bytes out.new) (string_bytes out.old)) }
 {
-    out.push_str("\\x")?;
+    push_plain(out, "\\x")?;
     push_ascii(out, hex_digit(byte / 16))?;
     push_ascii(out, hex_digit(byte % 16))
+}
+
+/// Writes a text as it stands. A refused write leaves the buffer as it was.
+pub fn push_plain(out: &mut String, text: &str) -> Result<(), Memory>
+    ensures ok { OnOk result (string_bytes out.new ≡ string_bytes out.old ++ text.now) }
+    ensures err { OnErr result (string_bytes out.new ≡ string_bytes out.old) }
+{
+    out.push_str(text)?;
+    Ok(())
 }
 
 /// Writes a byte of ASCII. A refused write leaves the buffer as it was.

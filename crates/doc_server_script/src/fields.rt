@@ -1,15 +1,16 @@
 //! The fields of a line.
 
-ghost use Rattle.std.specs.Prelude.{◌≡◌, IfOk, MatchOption, None, Some};
+ghost use Rattle.std.specs.Prelude.{◌≡◌, MatchOption, None, Some};
 ghost use Rattle.std.specs.Char.{is_ascii_digit};
 ghost use Rattle.std.specs.List.{list_all};
 ghost use Rattle.doc_server_script.specs.Fields.{are_digits, as_text, connection_of, cut, groups_in, owner_in, path_in, text_of};
+ghost use Rattle.doc_server_script.specs.Reads.{Reads};
 
+use crate::field_error::FieldError;
 use crate::unescaping::unescape;
 use doc_heap::{Heap, String};
 use doc_hub::event::ConnId;
 use doc_page::bytes::Bytes;
-use doc_page::failure::Memory;
 use doc_page::path::{Path, PathError};
 use doc_page::text::Text;
 use doc_store::groups::{Groups, GroupsError};
@@ -48,13 +49,13 @@ fn all_digits(field: &[u8]) -> bool
 }
 
 /// The text that a field stands for.
-pub fn text_of(heap: Heap, field: &str) -> Result<Option<Text>, Memory>
-    ensures { IfOk result (λ text. text ≡ text_of field.now) }
+pub fn text_of(heap: Heap, field: &str) -> Result<Text, FieldError>
+    ensures { Reads (text_of field.now) result }
 {
     let Some(bytes) = unescape(heap, field)? else {
-        return Ok(None);
+        return Err(FieldError::Bad);
     };
-    Ok(as_text(bytes))
+    as_text(bytes).ok_or(FieldError::Bad)
 }
 
 /// The text that bytes are, where they are UTF-8.
@@ -68,30 +69,28 @@ fn as_text(bytes: Bytes) -> Option<Text>
 }
 
 /// The path that a field stands for.
-pub fn path_in(heap: Heap, field: &str) -> Result<Option<Path>, Memory>
-    ensures { IfOk result (λ path. path ≡ path_in field.now) }
+pub fn path_in(heap: Heap, field: &str) -> Result<Path, FieldError>
+    ensures { Reads (path_in field.now) result }
 {
-    let Some(text) = text_of(heap, field)? else {
-        return Ok(None);
-    };
+    let text = text_of(heap, field)?;
     match Path::new(heap, text.get()) {
-        Ok(path) => Ok(Some(path)),
-        Err(PathError::BadPath) => Ok(None),
-        Err(PathError::Memory) => Err(Memory),
+        Ok(path) => Ok(path),
+        Err(PathError::BadPath) => Err(FieldError::Bad),
+        Err(PathError::Memory) => Err(FieldError::Memory),
     }
 }
 
 /// The groups that a field names.
-pub fn groups_in(heap: Heap, field: &str) -> Result<Option<Groups>, Memory>
-    ensures { IfOk result (λ groups. groups ≡ groups_in field.now) }
+pub fn groups_in(heap: Heap, field: &str) -> Result<Groups, FieldError>
+    ensures { Reads (groups_in field.now) result }
 {
     if field == "-" {
-        return Ok(Some(Groups::none(heap)));
+        return Ok(Groups::none(heap));
     }
     match Groups::new(heap, field) {
-        Ok(groups) => Ok(Some(groups)),
-        Err(GroupsError::Memory) => Err(Memory),
-        Err(_) => Ok(None),
+        Ok(groups) => Ok(groups),
+        Err(GroupsError::Memory) => Err(FieldError::Memory),
+        Err(_) => Err(FieldError::Bad),
     }
 }
 

@@ -18,6 +18,7 @@ mod command;
 pub mod compaction_laws;
 pub mod edit;
 mod escaping;
+mod field_error;
 mod fields;
 pub mod laws;
 pub mod line;

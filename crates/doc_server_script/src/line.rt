@@ -4,8 +4,10 @@ ghost use Rattle.std.specs.Prelude.{◌≡◌, IfOk};
 ghost use Rattle.doc_server_script.specs.Escapes.{unescaped};
 ghost use Rattle.doc_server_script.specs.Fields.{cut, connection_of, path_in};
 ghost use Rattle.doc_server_script.specs.Lines.{event_by, event_of, event_of_fields, move_with, put_of, push_with, reader_of};
+ghost use Rattle.doc_server_script.specs.Reads.{Reads};
 
 use crate::command::{Command, command_of};
+use crate::field_error::FieldError;
 use crate::fields::{connection_of, cut, groups_in, owner_in, path_in, text_of};
 use crate::unescaping::unescape;
 use doc_heap::Heap;
@@ -26,24 +28,30 @@ pub fn event_of(heap: Heap, line: &str) -> Result<Option<Event>, Memory>
             None
         });
     };
-    match command_of(word) {
-        Some(command) => event_by(heap, command, rest),
-        None => Ok(None),
+    let Some(command) = command_of(word) else {
+        return Ok(None);
+    };
+    match event_by(heap, command, rest) {
+        Ok(event) => Ok(Some(event)),
+        Err(FieldError::Bad) => Ok(None),
+        Err(FieldError::Memory) => Err(Memory),
     }
 }
 
 /// The event of a command and what follows its space.
-fn event_by(heap: Heap, command: Command, rest: &str) -> Result<Option<Event>, Memory>
-    ensures { IfOk result (λ event. event ≡ event_by command rest.now) }
+fn event_by(heap: Heap, command: Command, rest: &str) -> Result<Event, FieldError>
+    ensures { Reads (event_by command rest.now) result }
 {
     match command {
-        Command::Step => Ok(connection_of(rest).map(Event::Step)),
-        Command::Disconnect => Ok(connection_of(rest).map(Event::Disconnect)),
-        Command::Remove => Ok(path_in(heap, rest)?.map(Event::Remove)),
-        Command::Unreader => Ok(Some(Event::RemoveReader(Text::copy_of(heap, rest)?))),
+        Command::Step => connection_of(rest).map(Event::Step).ok_or(FieldError::Bad),
+        Command::Disconnect => connection_of(rest)
+            .map(Event::Disconnect)
+            .ok_or(FieldError::Bad),
+        Command::Remove => path_in(heap, rest).map(Event::Remove),
+        Command::Unreader => Ok(Event::RemoveReader(Text::copy_of(heap, rest)?)),
         _ => match cut(rest) {
             Some((first, more)) => event_of_fields(heap, command, first, more),
-            None => Ok(None),
+            None => Err(FieldError::Bad),
         },
     }
 }
@@ -54,73 +62,60 @@ fn event_of_fields(
     command: Command,
     first: &str,
     more: &str,
-) -> Result<Option<Event>, Memory>
-    ensures { IfOk result (λ event. event ≡ event_of_fields command (first.now, more.now)) }
+) -> Result<Event, FieldError>
+    ensures { Reads (event_of_fields command (first.now, more.now)) result }
 {
     match command {
         Command::Push => push_of(heap, first, more),
         Command::Put => put_of(heap, first, more),
         Command::Move => move_of(heap, first, more),
         Command::Reader => reader_of(heap, first, more),
-        _ => Ok(None),
+        _ => Err(FieldError::Bad),
     }
 }
 
-fn push_of(heap: Heap, id: &str, bytes: &str) -> Result<Option<Event>, Memory>
-    ensures { IfOk result (λ event.
-        event ≡ push_with (connection_of id.now) (unescaped bytes.now)) }
+fn push_of(heap: Heap, id: &str, bytes: &str) -> Result<Event, FieldError>
+    ensures { Reads (push_with (connection_of id.now) (unescaped bytes.now)) result }
 {
     let Some(id) = connection_of(id) else {
-        return Ok(None);
+        return Err(FieldError::Bad);
     };
     let Some(bytes) = unescape(heap, bytes)? else {
-        return Ok(None);
+        return Err(FieldError::Bad);
     };
-    Ok(Some(Event::Push(id, bytes)))
+    Ok(Event::Push(id, bytes))
 }
 
-fn put_of(heap: Heap, path: &str, more: &str) -> Result<Option<Event>, Memory>
-    ensures { IfOk result (λ event. event ≡ put_of path.now (cut more.now)) }
+fn put_of(heap: Heap, path: &str, more: &str) -> Result<Event, FieldError>
+    ensures { Reads (put_of path.now (cut more.now)) result }
 {
     let Some((groups, text)) = cut(more) else {
-        return Ok(None);
+        return Err(FieldError::Bad);
     };
-    let Some(path) = path_in(heap, path)? else {
-        return Ok(None);
-    };
-    let Some(groups) = groups_in(heap, groups)? else {
-        return Ok(None);
-    };
-    let Some(text) = text_of(heap, text)? else {
-        return Ok(None);
-    };
-    Ok(Some(Event::Put(path, groups, text)))
+    let path = path_in(heap, path)?;
+    let groups = groups_in(heap, groups)?;
+    let text = text_of(heap, text)?;
+    Ok(Event::Put(path, groups, text))
 }
 
-fn move_of(heap: Heap, from: &str, to: &str) -> Result<Option<Event>, Memory>
-    ensures { IfOk result (λ event. event ≡ move_with (path_in from.now) (path_in to.now)) }
+fn move_of(heap: Heap, from: &str, to: &str) -> Result<Event, FieldError>
+    ensures { Reads (move_with (path_in from.now) (path_in to.now)) result }
 {
-    let Some(from) = path_in(heap, from)? else {
-        return Ok(None);
-    };
-    let Some(to) = path_in(heap, to)? else {
-        return Ok(None);
-    };
-    Ok(Some(Event::MovePage(from, to)))
+    let from = path_in(heap, from)?;
+    let to = path_in(heap, to)?;
+    Ok(Event::MovePage(from, to))
 }
 
-fn reader_of(heap: Heap, token: &str, more: &str) -> Result<Option<Event>, Memory>
-    ensures { IfOk result (λ event. event ≡ reader_of token.now (cut more.now)) }
+fn reader_of(heap: Heap, token: &str, more: &str) -> Result<Event, FieldError>
+    ensures { Reads (reader_of token.now (cut more.now)) result }
 {
     let Some((owner, groups)) = cut(more) else {
-        return Ok(None);
+        return Err(FieldError::Bad);
     };
     let Some(owner) = owner_in(owner) else {
-        return Ok(None);
+        return Err(FieldError::Bad);
     };
-    let Some(groups) = groups_in(heap, groups)? else {
-        return Ok(None);
-    };
+    let groups = groups_in(heap, groups)?;
     let token = Text::copy_of(heap, token)?;
-    Ok(Some(Event::SetReader(token, Reader { owner, groups })))
+    Ok(Event::SetReader(token, Reader { owner, groups }))
 }

@@ -4,7 +4,7 @@ ghost use Rattle.std.specs.Prelude.{◌≡◌, ◌++◌, codes, decimal, string_
 ghost use Rattle.doc_server_script.specs.Escapes.{escaped};
 ghost use Rattle.doc_server_script.specs.Outcomes.{outcome_line, put_word, refusal_name, set_word, step_line, truth_word};
 
-use crate::escaping::push_escaped;
+use crate::escaping::{push_escaped, push_plain};
 use doc_heap::String;
 use doc_hub::event::{ConnId, Step};
 use doc_hub::outcome::Outcome;
@@ -23,23 +23,16 @@ pub fn push_outcome(out: &mut String, outcome: &Outcome) -> Result<(), Memory>
 {
     match outcome {
         Outcome::Conn(id) => push_connection(out, *id),
-        Outcome::Pushed => push_word(out, "ok"),
+        Outcome::Pushed => push_plain(out, "ok"),
         Outcome::Stepped(step) => push_step(out, step),
-        Outcome::Disconnected(stood) => push_word(out, truth_word(*stood)),
-        Outcome::Edited(put) => push_word(out, put_word(*put)),
-        Outcome::Removed(stood) => push_word(out, truth_word(*stood)),
-        Outcome::Moved => push_word(out, "moved"),
-        Outcome::ReaderSet(set) => push_word(out, set_word(*set)),
-        Outcome::ReaderRemoved(stood) => push_word(out, truth_word(*stood)),
+        Outcome::Disconnected(stood) | Outcome::Removed(stood) | Outcome::ReaderRemoved(stood) => {
+            push_plain(out, truth_word(*stood))
+        }
+        Outcome::Edited(put) => push_plain(out, put_word(*put)),
+        Outcome::Moved => push_plain(out, "moved"),
+        Outcome::ReaderSet(set) => push_plain(out, set_word(*set)),
         Outcome::Refused(refusal) => push_refusal(out, *refusal),
     }
-}
-
-fn push_word(out: &mut String, word: &str) -> Result<(), Memory>
-    ensures { OnOk result (string_bytes out.new ≡ string_bytes out.old ++ word.now) }
-{
-    out.push_str(word)?;
-    Ok(())
 }
 
 fn push_connection(out: &mut String, id: ConnId) -> Result<(), Memory>
@@ -56,8 +49,8 @@ fn push_step(out: &mut String, step: &Step) -> Result<(), Memory>
     match step {
         Step::Sent(bytes) => push_reply(out, "sent ", bytes.get()),
         Step::Last(bytes) => push_reply(out, "last ", bytes.get()),
-        Step::More => push_word(out, "more"),
-        Step::Closed => push_word(out, "closed"),
+        Step::More => push_plain(out, "more"),
+        Step::Closed => push_plain(out, "closed"),
     }
 }
 
@@ -65,7 +58,7 @@ fn push_reply(out: &mut String, word: &str, bytes: &[u8]) -> Result<(), Memory>
     ensures { OnOk result
         (string_bytes out.new ≡ string_bytes out.old ++ (word.now ++ escaped bytes.now)) }
 {
-    push_word(out, word)?;
+    push_plain(out, word)?;
     push_escaped(out, bytes)
 }
 
@@ -74,8 +67,8 @@ fn push_refusal(out: &mut String, refusal: Refusal) -> Result<(), Memory>
         (string_bytes out.new ≡ string_bytes out.old
         ++ (codes "refused " ++ refusal_name refusal)) }
 {
-    push_word(out, "refused ")?;
-    push_word(out, refusal_name(refusal))
+    push_plain(out, "refused ")?;
+    push_plain(out, refusal_name(refusal))
 }
 
 fn truth_word(holds: bool) -> &'static str

@@ -8,6 +8,7 @@ ghost use Rattle.doc_server_script.specs.Compactions.{made_along, moves};
 ghost use Rattle.doc_server_script.specs.PageLines.{line_of, lines_of};
 
 use crate::edit::{push_move, push_put, push_remove};
+use crate::escaping::push_plain;
 use doc_heap::String;
 use doc_page::failure::Memory;
 use doc_page::path::Path;
@@ -37,8 +38,7 @@ pub fn push_put_line(out: &mut String, path: &Path, page: &Page) -> Result<(), M
     ensures err { OnErr result (StartsWith (string_bytes out.new) (string_bytes out.old)) }
 {
     push_put(out, path, page.groups(), page.text())?;
-    out.push_str("\n")?;
-    Ok(())
+    push_plain(out, "\n")
 }
 
 /// Writes the edit that removes a page.
@@ -49,8 +49,7 @@ pub fn push_remove_line(out: &mut String, path: &Path) -> Result<(), Memory>
     ensures err { OnErr result (StartsWith (string_bytes out.new) (string_bytes out.old)) }
 {
     push_remove(out, path)?;
-    out.push_str("\n")?;
-    Ok(())
+    push_plain(out, "\n")
 }
 
 /// Writes the edit that moves a page.
@@ -61,8 +60,7 @@ pub fn push_move_line(out: &mut String, from: &Path, to: &Path) -> Result<(), Me
     ensures err { OnErr result (StartsWith (string_bytes out.new) (string_bytes out.old)) }
 {
     push_move(out, from, to)?;
-    out.push_str("\n")?;
-    Ok(())
+    push_plain(out, "\n")
 }
 
 /// Writes a move from each name to the next.

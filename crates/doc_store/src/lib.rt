@@ -13,4 +13,4 @@ mod path_set;
 pub mod site_sight;
 pub mod store;
 
-pub use doc_store_readers::{groups, page, reader, readers, tables};
+pub use doc_store_readers::{groups, page, reader, readers};

@@ -126,18 +126,7 @@ impl Readers {
             (λ e. e ≢ ReadersError.Memory → readers_of text.now ≡ Err e) }
     {
         let document = document_of(heap, text)?;
-        Readers::from_document(heap, &document)
-    }
-
-    /// The same of a document that was read already.
-    pub fn from_document(heap: Heap, document: &Table) -> Result<Readers, ReadersError>
-        ensures read { IfOk result
-            (λ readers. readers_of_document (table_view document.now) ≡ Ok readers) }
-        ensures refused { IfErr result
-            (λ e. e ≢ ReadersError.Memory → readers_of_document (table_view document.now) ≡ Err e) }
-    {
-        let entries = entries_of(heap, document)?;
-        Readers::of_entries(heap, entries)
+        readers_of_document(heap, &document)
     }
 
     fn new(heap: Heap) -> Readers
@@ -207,4 +196,16 @@ impl Readers {
     {
         self.entries.get(token)
     }
+}
+
+/// The readers of a document that was read already, as [`Readers::from_toml`] reads them. It is no function of `Readers`, so that a
+/// crate whose contracts name the readers needn't know what a TOML document is.
+pub fn readers_of_document(heap: Heap, document: &Table) -> Result<Readers, ReadersError>
+    ensures read { IfOk result
+        (λ readers. readers_of_document (table_view document.now) ≡ Ok readers) }
+    ensures refused { IfErr result
+        (λ e. e ≢ ReadersError.Memory → readers_of_document (table_view document.now) ≡ Err e) }
+{
+    let entries = entries_of(heap, document)?;
+    Readers::of_entries(heap, entries)
 }

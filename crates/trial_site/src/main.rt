@@ -1,5 +1,6 @@
 //! Tries the calls of `doc_http` and of `doc_hub`, and the commands `demo`, `render` and `examples`, as `trial` says. A line `world` begins
-//! a new world, of which the calls below it are; the lines in front of the first one are of commands and streams (`programs`).
+//! a new world, of which the calls below it are; the lines in front of the first one are of commands and streams (`programs`). Behind a
+//! line `listening` come those of servers that accept while they serve, and of journals (`listen`).
 //!
 //! - `world keep CACHE READERS` makes a hub with the readers of a TOML text, and `world close CACHE READERS` one that keeps no connection
 //!   alive. It answers `()`, or what refuses it; then no calls follow.
@@ -25,6 +26,7 @@ mod feed;
 mod given;
 mod hubs;
 mod in_turn;
+mod listen;
 mod outcomes;
 mod programs;
 mod requests;
@@ -44,10 +46,14 @@ use doc_html::CommonMark;
 use doc_lines::entities::Entities;
 use doc_page::failure::Memory;
 use doc_page::renderer::Renderer;
+use listen::run_servers;
 use rounds::answer;
 use std::alloc::AllocError;
+use std::fs::File;
 use std::io;
 use std::marker::Brand;
+use std::net::Net;
+use std::rt::{Clock, Files};
 use std::sync::ledger::{Blank, Ledger};
 use stop::said;
 use trial::run::{Calls, run_lines};
@@ -60,8 +66,21 @@ fn main(rt: HostRuntime) -> io::Result<()> {
     ran
 }
 
+/// Prints what the lines of worlds answer, and then those of servers.
+fn run<P: AllocGlobal + Clock + Files<File = File> + Net + Print>(
+    rt: &P,
+    text: &str,
+) -> io::Result<()> {
+    let Some((worlds, servers)) = text.split_once("\nlistening\n") else {
+        return run_worlds(rt, text);
+    };
+    run_worlds(rt, worlds)?;
+    println!(rt; "listening")?;
+    run_servers(rt, servers)
+}
+
 /// Prints what the lines in front of the first world answer, and then those of each world.
-fn run<P: AllocGlobal + Print>(rt: &P, text: &str) -> io::Result<()> {
+fn run_worlds<P: AllocGlobal + Print>(rt: &P, text: &str) -> io::Result<()> {
     let (lines, worlds) = text.split_once("\nworld ").unwrap_or((text, ""));
     let mut heaps = new_heaps(rt)?;
     run_lines(rt, lines, &mut heaps)?;

@@ -1,8 +1,11 @@
+use Rattle.doc_server_config.specs.declared.folder_pages.FolderPage.{FolderPage}
 use Rattle.doc_server_config.specs.FolderPages.{IsPageOf}
 use Rattle.doc_server_config.proofs.FolderPageSteps.{all_more}
 use Rattle.doc_server_config.proofs.folder_pages.add_page.Goals as goal
 
 pub returns : goal.returns
 returns g c =
-    λ all. all_more (IsPageOf c.args.folder.now) c.args.pages.now.items c.push.new.pages.items c.in_ok-page.page all c.in_ok-page.ensures
-    c.in_ok-push.ensures
+    let page : FolderPage = record { path = c.args.path; groups = c.in_ok-groups.groups; text = c.in_ok-text.text } in
+    let is : IsPageOf c.args.folder.now page =
+    record { name = c.args.file.now; path = c.requires; groups = c.in_ok-groups.ensures; short = c.in_ok-text.ensures } in
+    λ all. all_more (IsPageOf c.args.folder.now) c.args.pages.now.items c.push.new.list.items page all is c.in_ok-push.ensures

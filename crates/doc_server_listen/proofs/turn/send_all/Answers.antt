@@ -1,6 +1,6 @@
 use Rattle.std.proofs.Common.{refl, ◌∙◌}
 use Rattle.doc_server_listen.proofs.EditSteps.{all_quiet_join}
-use Rattle.doc_server_listen.proofs.Settlements.{hand_same, hand_join}
+use Rattle.doc_server_listen.proofs.HandingOver.{hand_same, hand_join}
 use Rattle.doc_server_listen.proofs.TurnSteps.{all_start}
 use Rattle.doc_server_listen.proofs.turn.send_all.Goals as goal
 

@@ -1,5 +1,5 @@
 use Rattle.std.proofs.Common.{◌≡◌, length}
-use Rattle.doc_server_listen.specs.Settling.{HandOverAll}
+use Rattle.doc_server_listen.specs.Turns.{HandOverAll}
 use Rattle.doc_server_listen.proofs.EditSteps.{AllQuiet}
 use Rattle.doc_server_listen.proofs.turn.send_all.Given as goal
 

@@ -1,4 +1,4 @@
-use Rattle.doc_server_listen.proofs.Settlements.{hand_same, hand_at}
+use Rattle.doc_server_listen.proofs.HandingOver.{hand_same, hand_at}
 use Rattle.doc_server_listen.proofs.TurnSteps.{all_start, served_at}
 use Rattle.doc_server_listen.proofs.turn.send_at.Goals as goal
 

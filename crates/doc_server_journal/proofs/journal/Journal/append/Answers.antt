@@ -1,6 +1,21 @@
-use Rattle.std.proofs.Common.{[], ◌∙◌}
-use Rattle.doc_server_journal.proofs.AppendLemmas.{nothing, after_first, after_second, place, acknowledged}
+use Rattle.std.proofs.Common.{◌≢◌, [], ◌∙◌}
+use Rattle.doc_server_journal.specs.declared.fault.AppendError.TheVariants.{Memory, Full, Failed}
+use Rattle.doc_server_journal.proofs.AppendLemmas.{nothing, first_place, after_first, after_second, place, acknowledged}
+use Rattle.doc_server_journal.proofs.Moments.{no_ok, other_error}
 use Rattle.doc_server_journal.proofs.journal.Journal.append.Goals as goal
+
+-- the reasons differ
+full_not_memory : Full ≢ Memory
+full_not_memory same = cc
+
+failed_not_memory : Failed ≢ Memory
+failed_not_memory same = cc
+
+memory_not_failed : Memory ≢ Failed
+memory_not_failed same = cc
+
+full_not_failed : Full ≢ Failed
+full_not_failed same = cc
 
 pub returns-then-self-ge-MOST_BYTES-clause-any_moment : goal.returns-then-self-ge-MOST_BYTES-clause-any_moment
 returns-then-self-ge-MOST_BYTES-clause-any_moment g c = λ texts is.
@@ -12,11 +27,40 @@ returns-in_err-record-clause-any_moment g c = λ texts is.
     nothing g.D.Device.seen g.D.Device.may_leave g.D.Device.failed g.D.Device.moment g.D.Device.left_since g.met.D.Device.only_now
     c.args.self.now.device c.args.self.now.end c.args.self.now.digest texts c.args.text.now [] c.requires.within is
 
+pub returns-in_err-record-clause-acknowledged : goal.returns-in_err-record-clause-acknowledged
+returns-in_err-record-clause-acknowledged g c = λ texts is. no_ok c.from_residual.result _ c.from_residual.ensures.0
+
+pub returns-in_err-record-clause-full : goal.returns-in_err-record-clause-full
+returns-in_err-record-clause-full g c =
+    other_error c.from_residual.result Memory Full c.from_residual.ensures.1 full_not_memory
+
+pub returns-in_err-record-clause-failed : goal.returns-in_err-record-clause-failed
+returns-in_err-record-clause-failed g c =
+    other_error c.from_residual.result Memory Failed c.from_residual.ensures.1 failed_not_memory
+
+pub write_and_sync-requires-clause-place : goal.write_and_sync-requires-clause-place
+write_and_sync-requires-clause-place g c =
+    first_place g.D.Device.seen g.D.Device.may_leave g.D.Device.failed g.D.Device.moment g.D.Device.left_since g.met.D.Device.only_now
+    c.args.self.now.device c.args.self.now.end c.args.self.now.digest c.requires.open.0 c.args.text.now [] c.requires.within
+    c.requires.open.1
+
 pub returns-in_err-write_and_sync-clause-any_moment : goal.returns-in_err-write_and_sync-clause-any_moment
 returns-in_err-write_and_sync-clause-any_moment g c = λ texts is.
     after_first g.D.Device.seen g.D.Device.may_leave g.D.Device.failed g.D.Device.moment g.D.Device.left_since g.met.D.Device.only_now
     c.args.self.now.device c.args.self.now.end c.args.self.now.digest texts c.args.text.now c.get-bytes.result.now c.requires.within is
     (c.get-bytes.ensures ∙ c.in_ok-record.ensures.bytes) c.write_and_sync.new.device c.write_and_sync.ensures.any_moment
+
+pub returns-in_err-write_and_sync-clause-acknowledged : goal.returns-in_err-write_and_sync-clause-acknowledged
+returns-in_err-write_and_sync-clause-acknowledged g c = λ texts is.
+    no_ok c.from_residual-in_err-write_and_sync.result _ c.from_residual-in_err-write_and_sync.ensures.0
+
+pub returns-in_err-write_and_sync-clause-memory : goal.returns-in_err-write_and_sync-clause-memory
+returns-in_err-write_and_sync-clause-memory g c =
+    other_error c.from_residual-in_err-write_and_sync.result Failed Memory c.from_residual-in_err-write_and_sync.ensures.1 memory_not_failed
+
+pub returns-in_err-write_and_sync-clause-full : goal.returns-in_err-write_and_sync-clause-full
+returns-in_err-write_and_sync-clause-full g c =
+    other_error c.from_residual-in_err-write_and_sync.result Failed Full c.from_residual-in_err-write_and_sync.ensures.1 full_not_failed
 
 pub write_and_sync-requires-2-clause-place : goal.write_and_sync-requires-2-clause-place
 write_and_sync-requires-2-clause-place g c =
@@ -33,6 +77,19 @@ returns-in_err-write_and_sync-2-clause-any_moment g c = λ texts is.
     (c.get-bytes.ensures ∙ c.in_ok-record.ensures.bytes) c.write_and_sync.new.device c.write_and_sync.ensures.any_moment
     c.in_ok-write_and_sync.ensures.written
     c.in_ok-write_and_sync.ensures.durable c.write_and_sync-2.new.device c.write_and_sync-2.ensures.any_moment
+
+pub returns-in_err-write_and_sync-2-clause-acknowledged : goal.returns-in_err-write_and_sync-2-clause-acknowledged
+returns-in_err-write_and_sync-2-clause-acknowledged g c = λ texts is.
+    no_ok c.from_residual-in_err-write_and_sync-2.result _ c.from_residual-in_err-write_and_sync-2.ensures.0
+
+pub returns-in_err-write_and_sync-2-clause-memory : goal.returns-in_err-write_and_sync-2-clause-memory
+returns-in_err-write_and_sync-2-clause-memory g c =
+    other_error c.from_residual-in_err-write_and_sync-2.result Failed Memory c.from_residual-in_err-write_and_sync-2.ensures.1
+    memory_not_failed
+
+pub returns-in_err-write_and_sync-2-clause-full : goal.returns-in_err-write_and_sync-2-clause-full
+returns-in_err-write_and_sync-2-clause-full g c =
+    other_error c.from_residual-in_err-write_and_sync-2.result Failed Full c.from_residual-in_err-write_and_sync-2.ensures.1 full_not_failed
 
 pub returns-clause-any_moment : goal.returns-clause-any_moment
 returns-clause-any_moment g c = λ texts is.

@@ -1,0 +1,14 @@
+//! Lists that grow by one.
+
+ghost use Rattle.std.specs.Prelude.{◌≡◌, ◌++◌, ◌∷◌, [], OnOk};
+
+use doc_heap::Vec;
+use doc_page::failure::Memory;
+
+/// Adds a value at the end of a list.
+pub(crate) fn push<T: Drop>(list: &mut Vec<T>, value: T) -> Result<(), Memory>
+    ensures { OnOk result (list.new.items ≡ list.old.items ++ value ∷ []) }
+{
+    list.push(value)?;
+    Ok(())
+}

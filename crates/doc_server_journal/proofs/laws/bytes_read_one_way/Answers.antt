@@ -1,5 +1,0 @@
-use Rattle.doc_server_journal.proofs.LawLemmas.{reads_one_way}
-use Rattle.doc_server_journal.proofs.laws.bytes_read_one_way.Goals as goal
-
-pub returns : goal.returns
-returns c = reads_one_way

@@ -1,5 +1,0 @@
-use Rattle.doc_server_journal.proofs.LawLemmas.{is_damaged_once}
-use Rattle.doc_server_journal.proofs.laws.damage_is_at_one_record.Goals as goal
-
-pub returns : goal.returns
-returns c = is_damaged_once

@@ -1,5 +1,0 @@
-use Rattle.doc_server_journal.proofs.LawLemmas.{written_is_read}
-use Rattle.doc_server_journal.proofs.laws.what_was_written_is_read.Goals as goal
-
-pub returns : goal.returns
-returns c = written_is_read

@@ -1,0 +1,5 @@
+pub mod ChainLemmas
+pub mod FrontLemmas
+pub mod LawLemmas
+mod ReadingLemmas
+pub mod RecordLemmas

@@ -1,0 +1,7 @@
+use Rattle.std.proofs.Common.{◌≡◌}
+use Rattle.doc_server_poll.proofs.peers.Peers.leave_all.Given as goal
+
+abbrev pub invariant-places : goal.invariant-places
+invariant-places g l = record {
+  same : l.self ≡ l.fn.self;
+}

@@ -1,0 +1,51 @@
+//! Why a turn ends a server.
+
+use doc_page::failure::Memory;
+use doc_server_journal::fault::AppendError;
+use std::error::Error;
+use std::fmt;
+
+/// Why a turn ends a server.
+#[derive(Clone, Copy, Debug)]
+pub enum TurnFault {
+    /// No memory was left for the edits of the turn.
+    Memory,
+    /// The edits of the turn can't be written down.
+    CannotWrite,
+}
+
+impl fmt::Display for TurnFault {
+    fn fmt<W: fmt::Write>(&self, f: &mut fmt::Formatter<W>) -> fmt::Result {
+        match self {
+            TurnFault::Memory => write!(f, "memory"),
+            TurnFault::CannotWrite => write!(f, "cannot write"),
+        }
+    }
+}
+
+impl Error for TurnFault {}
+
+impl From<Memory> for TurnFault {
+    ghost use Rattle.std.specs.Prelude.{◌≡◌};
+    ghost use Rattle.doc_server_settling.specs.declared.fault.TurnFault.TheVariants as faults;
+
+    ghost from_gives = { λ _ e. e ≡ faults.Memory };
+
+    fn from(_e: Memory) -> TurnFault {
+        TurnFault::Memory
+    }
+}
+
+impl From<AppendError> for TurnFault {
+    ghost use Rattle.std.specs.Prelude.{◌≡◌};
+    ghost use Rattle.doc_server_settling.specs.Settling.{of_append};
+
+    ghost from_gives = { λ e fault. fault ≡ of_append e };
+
+    fn from(e: AppendError) -> TurnFault {
+        match e {
+            AppendError::Memory => TurnFault::Memory,
+            AppendError::Full | AppendError::Failed => TurnFault::CannotWrite,
+        }
+    }
+}

@@ -1,0 +1,79 @@
+//! Turns whose replies wait until the edits of the turn are on a device.
+
+ghost use Rattle.std.specs.Prelude.{◌≡◌, ◌⊎◌, ◌++◌, ◌∷◌, [], List, ℕ, Some, true, length, OnErr, OnOk};
+ghost use Rattle.doc_server_journal.specs.Journals.{IsOpen};
+ghost use Rattle.doc_server_listen.specs.Turns.{ServesAll};
+ghost use Rattle.doc_server_settling.specs.Settling.{GiveFronts, IsKept, IsSafe, Settles};
+
+use crate::fault::TurnFault;
+use doc_heap::Heap;
+use doc_hub::hub::Hub;
+use doc_page::renderer::Renderer;
+use doc_server_journal::device::Device;
+use doc_server_journal::journal::Journal;
+use doc_server_journal_records::record::TEXT_LIMIT;
+use doc_server_listen::channel::Channel;
+use doc_server_listen::client::Client;
+use doc_server_listen::edit_lines::EditLines;
+use doc_server_listen::turn::{send_all, take_in_all};
+
+/// A turn of a server with a journal, of the clients at these places: what is pending is handed over, then they are read and stepped,
+/// then the edits of these steps are added to the journal as one record, and at last the replies are handed over. After an `Err` the
+/// server ends: nothing of this turn's replies was handed over.
+pub fn settled_turn<D: Device, R: Renderer + Drop, S: Channel + Drop>(
+    heap: Heap,
+    journal: &mut Journal<D>,
+    hub: &mut Hub<R>,
+    clients: &mut [Client<S>],
+    ready: &[usize],
+    piece: &mut [u8],
+) -> Result<(), TurnFault>
+    requires open { (texts : List (List ℕ))
+        × IsOpen D.seen D.may_leave D.failed journal.old texts }
+    ensures serves { (s : ServesAll (R.page hub.old.0) hub.old.1 clients.old
+        hub.new.1 clients.new)
+        × Settles D.seen D.may_leave D.failed D.moment D.left_since journal.old journal.new
+        (R.page hub.old.0) s.run hub.new.1 result }
+    ensures waits { OnErr result (GiveFronts clients.old clients.new) }
+    ensures open { OnOk result ((texts : List (List ℕ))
+        × IsOpen D.seen D.may_leave D.failed journal.new texts) }
+    ensures same { R.page hub.new.0 ≡ R.page hub.old.0 }
+{
+    send_all(hub, clients, ready);
+    let mut edits = EditLines::kept(heap);
+    take_in_all(hub, clients, ready, piece, &mut edits);
+    write_down(heap, journal, &edits)?;
+    send_all(hub, clients, ready);
+    Ok(())
+}
+
+/// Adds the lines of edits to the journal, where there are some. More bytes than a record takes never come here, since `EditLines` says in
+/// time that it has no room; the comparison is for the proof.
+#[tactic(auto, unfolding(doc_server_journal_records::specs::Records::text_limit))]
+fn write_down<D: Device>(
+    heap: Heap,
+    journal: &mut Journal<D>,
+    edits: &EditLines,
+) -> Result<(), TurnFault>
+    requires open { (texts : List (List ℕ))
+        × IsOpen D.seen D.may_leave D.failed journal.old texts }
+    ensures kept { OnOk result ((edits.now.is_whole ≡ true) × ((lines : List ℕ)
+        × (edits.now.lines ≡ Some lines)
+        × IsKept D.seen D.may_leave D.failed journal.old journal.new lines)) }
+    ensures any_moment { (lines : List ℕ)
+        → (edits.now.is_whole ≡ true → edits.now.lines ≡ Some lines)
+        → IsSafe D.seen D.may_leave D.failed D.moment D.left_since
+        journal.old journal.new lines }
+{
+    let Some(lines) = edits.whole_lines() else {
+        return Err(TurnFault::Memory);
+    };
+    if lines.is_empty() {
+        return Ok(());
+    }
+    if lines.len() > TEXT_LIMIT {
+        return Err(TurnFault::CannotWrite);
+    }
+    journal.append(heap, lines.as_bytes())?;
+    Ok(())
+}

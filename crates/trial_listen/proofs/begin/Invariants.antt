@@ -1,4 +1,0 @@
-use Rattle.trial_listen.proofs.begin.Given as goal
-
-abbrev pub ghosts-begin_server : goal.ghosts-begin_server
-ghosts-begin_server g a = record { name = a.blank.name; parts = a.blank.parts }

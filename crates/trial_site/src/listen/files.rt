@@ -1,0 +1,99 @@
+//! Journals in files of the system (`doc_server_files`), without a server. The calls are given nothing.
+//!
+//! - `reopen`: a journal in a new file, to which a record is added, is let go and opened again, to add another. The answer: whether the
+//!   file was in use while it was open, and how many records each opening found.
+//! - `replace`: a new file, an empty journal, takes the name of another one. The answer: whether the name is in use from then on, where
+//!   the other file is let go, and how many bytes the file of the name has once the new one is let go too.
+
+ghost use Rattle.std.specs.Prelude.{◌≡◌, false};
+ghost use Rattle.doc_server_files.specs.FileDevices.{has_failed};
+
+use doc_heap::{Heap, String};
+use doc_page::failure::Memory;
+use doc_server_files::fault::FileFault;
+use doc_server_files::file_device::FileDevice;
+use doc_server_files::names::Replacement;
+use doc_server_journal::journal::Journal;
+use doc_server_journal::opening::Opened;
+use std::fs::{File, create_dir, metadata, remove_dir_all};
+use std::rt::Files;
+use trial::answer::shown;
+
+/// The folder that each call makes and removes, and the name of a file in it.
+const FOLDER: &str = "trial_site_files";
+
+const NAME: &str = "trial_site_files/journal";
+
+/// How many bytes a file may have.
+const MOST: usize = 1000;
+
+/// What a line answers: what it is a call of, or itself.
+pub fn files_called<P: AllocGlobal + Files<File = File>>(
+    rt: &P,
+    heap: Heap,
+    line: &str,
+) -> Result<String, Memory> {
+    match line {
+        "reopen" => shown(heap, reopened(rt, heap)),
+        "replace" => shown(heap, replaced(rt, heap)),
+        _ => Ok(String::from_str(heap, line)?),
+    }
+}
+
+fn reopened<P: AllocGlobal + Files<File = File>>(
+    rt: &P,
+    heap: Heap,
+) -> Option<(bool, usize, usize)> {
+    make_folder(rt)?;
+    let device = FileDevice::open(rt, NAME).ok()?;
+    let is_in_use = is_in_use(rt);
+    let first = add(heap, device)?;
+    let second = add(heap, FileDevice::open(rt, NAME).ok()?)?;
+    remove_dir_all(rt, FOLDER).ok()?;
+    Some((is_in_use, first, second))
+}
+
+fn replaced<P: AllocGlobal + Files<File = File>>(rt: &P, heap: Heap) -> Option<(bool, u64)> {
+    make_folder(rt)?;
+    let opened = replace(rt, heap)?;
+    let is_in_use = is_in_use(rt);
+    drop(opened);
+    drop(FileDevice::open(rt, NAME).ok()?);
+    let len = metadata(rt, NAME).ok()?.len();
+    remove_dir_all(rt, FOLDER).ok()?;
+    Some((is_in_use, len))
+}
+
+/// Makes the folder, in place of one that is there.
+fn make_folder<P: AllocGlobal + Files<File = File>>(rt: &P) -> Option<()> {
+    let _ = remove_dir_all(rt, FOLDER);
+    create_dir(rt, FOLDER).ok()
+}
+
+/// Whether the file is in use.
+fn is_in_use<P: Files<File = File>>(rt: &P) -> bool {
+    matches!(FileDevice::open(rt, NAME), Err(FileFault::InUse))
+}
+
+/// Adds a record to the journal of a device, and answers how many it had.
+#[tactic(auto, unfolding(doc_server_journal_records::specs::Records::text_limit))]
+fn add(heap: Heap, device: FileDevice) -> Option<usize>
+    requires usable { has_failed device ≡ false }
+{
+    let mut opened = Journal::open(heap, device, MOST).ok()?;
+    let count = opened.texts.get().len();
+    let added = opened.journal.append(heap, b"remove a\n");
+    drop(opened);
+    added.ok()?;
+    Some(count)
+}
+
+/// A new file with an empty journal, which has taken the name of another one.
+fn replace<P: AllocGlobal + Files<File = File>>(rt: &P, heap: Heap) -> Option<Opened<FileDevice>> {
+    let old = FileDevice::open(rt, NAME).ok()?;
+    let place = Replacement::of(rt, heap, NAME).ok()?;
+    let new = old.make_like(rt, place.new_name()).ok()?;
+    let opened = Journal::open(heap, new, 0).ok()?;
+    place.take_name(rt).ok()?;
+    Some(opened)
+}

@@ -1,0 +1,152 @@
+//! A server and its peers.
+
+use crate::listen::peer::Peer;
+use crate::listen::served::{Bounds, Served};
+use doc_heap::{Heap, Vec};
+use doc_hub::hub::Hub;
+use doc_page::renderer::Renderer;
+use doc_store::readers::Readers;
+use std::net::Net;
+use std::rt::Clock;
+
+/// The readers of the site.
+const READERS: &str = r#"
+[[reader]]
+token = "tok-owner"
+owner = true
+
+[[reader]]
+token = "tok-ann"
+groups = ["staff"]
+
+[[reader]]
+token = "tok-bob"
+groups = ["ops"]
+"#;
+
+/// How many filled pages the site keeps.
+const CACHE: usize = 4;
+
+/// How many turns are made at most until what is waited for comes. A turn takes half a second where nothing comes.
+const TURNS: u32 = 150;
+
+/// A server and its peers, which are numbered from 1 in the order in which they connected.
+#[derive(Drop)]
+pub struct Scene<R: Renderer + Drop> {
+    pub heap: Heap,
+    pub served: Served<R>,
+    pub peers: Vec<Peer>,
+}
+
+/// What is waited for of a peer.
+#[derive(Clone, Copy, PartialEq, Eq)]
+pub enum Awaited {
+    /// So many bytes, or the end of the stream.
+    Bytes(usize),
+    /// The end of the stream.
+    End,
+}
+
+/// The server of a line `CONNECTIONS IDLE CALLS`, or `CONNECTIONS IDLE CALLS again`, which has this file.
+pub fn new_scene<R: Renderer + Drop, P: Clock + Net>(
+    rt: &P,
+    heap: Heap,
+    renderer: R,
+    line: &str,
+    file: &[u8],
+) -> Option<Scene<R>> {
+    let (line, file) = match line.strip_suffix(" again") {
+        Some(line) => (line, file),
+        None => (line, b"".as_slice()),
+    };
+    let bounds = bounds_of(line)?;
+    let hub = new_hub(heap, renderer)?;
+    let served = Served::new(rt, heap, hub, bounds, file)?;
+    Some(Scene {
+        heap,
+        served,
+        peers: Vec::new(heap),
+    })
+}
+
+fn bounds_of(line: &str) -> Option<Bounds> {
+    let (connections, rest) = line.split_once(' ')?;
+    let (idle, calls) = rest.split_once(' ')?;
+    Some(Bounds {
+        connections: connections.parse::<usize>().ok()?,
+        idle_seconds: idle.parse::<u64>().ok()?,
+        calls: calls.parse::<u64>().ok()?,
+    })
+}
+
+fn new_hub<R: Renderer + Drop>(heap: Heap, renderer: R) -> Option<Hub<R>> {
+    let Ok(readers) = Readers::from_toml(heap, READERS) else {
+        return None;
+    };
+    Hub::new(heap, renderer, readers, true, CACHE).ok()
+}
+
+impl<R: Renderer + Drop> Scene<R> {
+    /// A further peer, and its number.
+    pub fn open<P: Net>(&mut self, rt: &P) -> Option<usize> {
+        let peer = Peer::connect(rt, self.heap, self.served.address()?)?;
+        self.peers.push(peer).ok()?;
+        Some(self.peers.len())
+    }
+
+    /// So many turns.
+    pub fn turns<P: Clock>(&mut self, rt: &P, count: usize) {
+        for _ in 0..count {
+            self.served.turn(rt);
+        }
+    }
+
+    /// Has a peer write these bytes, with turns where the system takes no more of them.
+    pub fn send<P: Clock>(&mut self, rt: &P, place: usize, bytes: &[u8]) {
+        let mut rest = bytes;
+        for _ in 0..TURNS {
+            rest = self.write_at(place, rest);
+            if rest.is_empty() {
+                return;
+            }
+            self.served.turn(rt);
+        }
+    }
+
+    /// Has a peer write these bytes one by one, with a turn behind each.
+    pub fn drip<P: Clock>(&mut self, rt: &P, place: usize, bytes: &[u8]) {
+        for byte in bytes {
+            self.send(rt, place, &[*byte]);
+            self.served.turn(rt);
+        }
+    }
+
+    /// Has a peer write once, and answers the bytes that weren't taken.
+    fn write_at<'a>(&self, place: usize, bytes: &'a [u8]) -> &'a [u8] {
+        match self.peers.get(place) {
+            Some(peer) => peer.write(bytes),
+            None => bytes,
+        }
+    }
+
+    /// Makes turns until what is waited for of a peer has come.
+    pub fn wait<P: Clock>(&mut self, rt: &P, place: usize, awaited: Awaited) {
+        for _ in 0..TURNS {
+            if self.has_come(place, awaited) || !self.served.turn(rt) {
+                return;
+            }
+        }
+    }
+
+    /// Has a peer read what has come, and answers whether that is what is waited for.
+    fn has_come(&mut self, place: usize, awaited: Awaited) -> bool {
+        let Some(peer) = self.peers.get_mut(place) else {
+            return true;
+        };
+        peer.read();
+        match awaited {
+            Awaited::Bytes(count) => peer.count() >= count || peer.has_ended(),
+            Awaited::End => peer.has_ended(),
+        }
+    }
+}
