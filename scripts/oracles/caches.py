@@ -5,7 +5,7 @@ A text is the number of the keep that kept it, so that an old one under the same
 
     python3 scripts/oracles/caches.py
 
-writes its lines into stdin and stdout of crates/trial_index. A key is a stamp and the goals of a page's links, `-` where one has none.
+writes its lines into stdin and stdout of crates/trial_pages. A key is a stamp and the goals of a page's links, `-` where one has none.
 """
 
 from collections import OrderedDict

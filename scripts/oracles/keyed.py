@@ -5,7 +5,7 @@ again (`false`). After each few calls it is asked which pages have a key.
 
     python3 scripts/oracles/keyed.py
 
-writes its lines into stdin and stdout of crates/trial_index.
+writes its lines into stdin and stdout of crates/trial_pages.
 """
 
 from trial_lines import Dice, several, write

@@ -3,7 +3,7 @@ again; questions that must not take a growth for each page; and 100,000 links to
 
     python3 scripts/oracles/large.py
 
-writes its lines into stdin and stdout of crates/trial_index.
+writes its lines into stdin and stdout of crates/trial_pages.
 """
 
 from listings import Cut, Page

@@ -3,7 +3,7 @@
 
     python3 scripts/oracles/named.py
 
-writes its lines into stdin and stdout of crates/trial_index. A page is asked for by `backlinks_under` only where the reader sees it, as
+writes its lines into stdin and stdout of crates/trial_pages. A page is asked for by `backlinks_under` only where the reader sees it, as
 the call wants.
 """
 

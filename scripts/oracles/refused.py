@@ -5,7 +5,7 @@ question is asked with each of its growths refused.
 
     python3 scripts/oracles/refused.py
 
-writes its lines into stdin and stdout of crates/trial_index.
+writes its lines into stdin and stdout of crates/trial_pages.
 """
 
 from listings import Cut, classify, is_path

@@ -3,7 +3,7 @@ expectation for `doc_links`, `doc_words` and `doc_listings`.
 
     python3 scripts/oracles/sites.py
 
-writes its lines into stdin and stdout of crates/trial_index. A site is two lines: the one makes it anew, by puts, moves and removals,
+writes its lines into stdin and stdout of crates/trial_pages. A site is two lines: the one makes it anew, by puts, moves and removals,
 and the other asks it for a few readers.
 """
 

@@ -1,6 +1,6 @@
 """What the oracles share: dice that fall alike in each version of Python, how lines of a trial are written, and where they go.
 
-Each oracle writes calls and their answers between two comments that name it, in stdin and stdout of crates/trial_index or of another
+Each oracle writes calls and their answers between two comments that name it, in stdin and stdout of crates/trial_pages or of another
 trial, in place of what stands there; so it can be run again, and `git diff` shows whether anything changed.
 """
 
@@ -69,7 +69,7 @@ def several(calls):
     return "digest " + given(" ; ".join(call for call, _ in calls)), digest([answer for _, answer in calls])
 
 
-def write(name, lines, trial="trial_index"):
+def write(name, lines, trial="trial_pages"):
     """Sets the lines of an oracle, which are pairs of a call and an answer; a comment stands alone."""
     pairs = [line if isinstance(line, tuple) else (line, line) for line in lines]
     for number, file in enumerate(("stdin", "stdout")):

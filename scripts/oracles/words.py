@@ -10,7 +10,7 @@ has beside its own version, and where both agree on whether they are of L, M or 
 
     python3 scripts/oracles/words.py
 
-writes its lines into stdin and stdout of crates/trial_index. Written with Python 3.11, Unicode 14.
+writes its lines into stdin and stdout of crates/trial_pages. Written with Python 3.11, Unicode 14.
 """
 
 import unicodedata

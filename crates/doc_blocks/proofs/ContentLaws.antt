@@ -16,7 +16,7 @@ use Rattle.doc_rules.specs.Lines.{ends_line, onto_first, lines_of, without_endin
 use Rattle.doc_lines.specs.RestSteps.{IsCutBefore, begins_in, IsAsciiClass}
 use Rattle.doc_lines.proofs.Ends.{has_chars}
 use Rattle.doc_blocks.specs.ContentSteps.{ends_plain, behind_lf, behind_ending, IsFirstLine}
-use Rattle.doc_page.proofs.Bools.{or_first, or_second}
+use Rattle.doc_page_parts.proofs.Bools.{or_first, or_second}
 
 pub endings_are_ascii : IsAsciiClass is_ending
 endings_are_ascii c e = grind (arith, nat_tests)

@@ -1,10 +1,10 @@
 //! The blocks of a document.
 
 use doc_heap::Vec;
-use doc_page::text::Text;
+use doc_page_parts::text::Text;
 
 /// A block (CommonMark 0.31.2, sections 4 and 5). Items stand in lists.
-#[derive(Debug, PartialEq, Eq, Drop)]
+#[derive(Debug, Drop)]
 pub enum Block {
     /// A paragraph, without the definitions at its front.
     Para(Text),

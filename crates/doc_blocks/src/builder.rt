@@ -34,7 +34,7 @@ use doc_blocks_tags::texts::Texts;
 use doc_heap::Heap;
 use doc_lines::cursor::Cursor;
 use doc_lines::entities::Entities;
-use doc_page::failure::Memory;
+use doc_page_parts::failure::Memory;
 use doc_refs::RefMap;
 
 /// At most so many quotes and items are open at once.

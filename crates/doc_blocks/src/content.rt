@@ -11,7 +11,7 @@ use doc_lines::pushing::push_char;
 use doc_lines::scan::character::{is, next_char};
 use doc_lines::scan::front::front;
 use doc_lines::scan::until::until;
-use doc_page::failure::Memory;
+use doc_page_parts::failure::Memory;
 use memchr::memchr3;
 
 /// The first line of a text, without its ending, and the text behind it.

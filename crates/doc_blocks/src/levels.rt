@@ -32,7 +32,7 @@ use doc_blocks_starts::item::ListKind;
 use doc_blocks_tags::tag::{ContainerBlock, LeafBlock, Tag};
 use doc_heap::{Heap, Vec};
 use doc_lines::cursor::Cursor;
-use doc_page::failure::Memory;
+use doc_page_parts::failure::Memory;
 use std::mem;
 
 /// A list that the next item may go on with. Its first tag stands at `place`.

@@ -10,8 +10,8 @@ ghost use Rattle.doc_blocks.specs.TreeSteps.{Shows};
 use crate::block::Block;
 use doc_blocks_tags::tag::{ContainerBlock, LeafBlock, Tag};
 use doc_heap::{Heap, Vec};
-use doc_page::failure::Memory;
-use doc_page::text::Text;
+use doc_page_parts::failure::Memory;
+use doc_page_parts::text::Text;
 use std::mem;
 
 /// The tree of tags, with texts of its own. An end without its start is passed over; where a container is open at the end, the blocks

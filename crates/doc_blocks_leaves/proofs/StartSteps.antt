@@ -17,7 +17,7 @@ use Rattle.doc_rules.specs.Trees.{LeafStart, NewLeaf, Underline, text_begins, at
 use Rattle.doc_rules.specs.Trees.{break_begins}
 use Rattle.doc_blocks_leaves.specs.Starts.{or_else}
 use Rattle.doc_blocks_leaves.proofs.Tests.{by_false}
-use Rattle.doc_page.proofs.Bools.{and_false}
+use Rattle.doc_page_parts.proofs.Bools.{and_false}
 
 -- ---- starts that need another first character
 

@@ -31,7 +31,7 @@ use doc_heap::Heap;
 use doc_lines::cursor::Cursor;
 use doc_lines::entities::Entities;
 use doc_lines::unescape;
-use doc_page::failure::Memory;
+use doc_page_parts::failure::Memory;
 use doc_refs::RefMap;
 use kind::Kind;
 use std::marker::Model;

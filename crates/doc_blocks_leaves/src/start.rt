@@ -15,7 +15,7 @@ use doc_heap::Heap;
 use doc_lines::cursor::Cursor;
 use doc_lines::entities::Entities;
 use doc_lines::scan::character::next_char;
-use doc_page::failure::Memory;
+use doc_page_parts::failure::Memory;
 
 /// The paragraph that a line could go on with.
 #[derive(Clone, Copy)]

@@ -2,12 +2,12 @@
 
 ghost use Rattle.std.specs.Prelude.{◌≡◌, false, IsTrue, option_copied};
 ghost use Rattle.std.specs.Borrow.{sem};
-ghost use Rattle.doc_page.specs.Refusals.{IsAnswer};
+ghost use Rattle.doc_page_parts.specs.Refusals.{IsAnswer};
 
 use crate::failure::CacheError;
 use crate::key::Key;
 use doc_heap::Heap;
-use doc_page::text::Text;
+use doc_page_parts::text::Text;
 use lru::{DefaultHasher, LruCache};
 use std::marker::Model;
 use std::num::NonZeroUsize;

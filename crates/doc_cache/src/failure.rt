@@ -1,6 +1,6 @@
 //! Why there is no cache.
 
-use doc_page::failure::Memory;
+use doc_page_parts::failure::Memory;
 use std::error::Error;
 use std::fmt;
 

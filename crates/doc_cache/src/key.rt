@@ -1,7 +1,7 @@
 //! What a text is kept under.
 
-use doc_page::list::List;
-use doc_page::path::Path;
+use doc_page_parts::list::List;
+use doc_page_parts::path::Path;
 
 /// What a text is kept under: the page at one revision, and where its links lead one reader.
 #[derive(PartialEq, Eq, Hash, Drop)]

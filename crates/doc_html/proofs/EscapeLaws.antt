@@ -4,7 +4,7 @@ use Rattle.std.specs.Prelude.{◌==◌, ◌||◌, codes, not, nat_eq, get_or, �
 use Rattle.std.specs.List.{list_all}
 use Rattle.std.proofs.lemmas.Bool.{agree_below, agree_below_at, and_parts, ne_eqb}
 use Rattle.std.proofs.lemmas.Bool.Decides.{nat_tests}
-use Rattle.doc_page.specs.Escaping.{escaped, escaped_byte}
+use Rattle.doc_page_parts.specs.Escaping.{escaped, escaped_byte}
 use Rattle.percent_encoding.specs.Percent.{percent_encode_byte}
 use Rattle.doc_page_encoding.specs.Encoding.{destination, is_kept}
 use Rattle.doc_page_encoding.specs.Laws.{destination_byte}

@@ -1,7 +1,7 @@
 -- The headings and texts that are met are those of the blocks, and what is written is a page's.
 use Rattle.std.proofs.Common.{◌≡◌, ℕ, Bool, true, false, List, [], ◌∷◌, ◌++◌, map, refl, ap, sym, ◌∙◌, append_assoc, append-nil}
 use Rattle.std.specs.Prelude.{codes, decimal, Option, Some, None}
-use Rattle.doc_page.specs.declared.linker.Shown.{Shown}
+use Rattle.doc_page_parts.specs.declared.linker.Shown.{Shown}
 use Rattle.doc_rules.specs.Characters.{Text}
 use Rattle.doc_rules.specs.Anchors.{anchor_name, free_anchor, anchors_behind}
 use Rattle.doc_rules.specs.Definitions.{Definition}

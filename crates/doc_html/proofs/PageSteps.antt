@@ -5,12 +5,12 @@ use Rattle.std.specs.Char.{encode_utf8}
 use Rattle.std.specs.Str.{chars, IsUtf8}
 use Rattle.std.proofs.lemmas.List.{map-append}
 use Rattle.std.proofs.lemmas.Str.{encodes-append, encodes-chars, chars_from_encodes}
-use Rattle.doc_page.specs.Escaping.{escaped}
+use Rattle.doc_page_parts.specs.Escaping.{escaped}
 use Rattle.doc_page.specs.Plain.{html_pieces}
-use Rattle.doc_page.specs.declared.linker.Shown.{Shown}
-use Rattle.doc_page.specs.declared.rendered.Heading.{Heading}
-use Rattle.doc_page.specs.declared.rendered.Piece.{Piece}
-use Rattle.doc_page.specs.declared.rendered.Piece.TheVariants.{Link}
+use Rattle.doc_page_parts.specs.declared.linker.Shown.{Shown}
+use Rattle.doc_page_parts.specs.declared.rendered.Heading.{Heading}
+use Rattle.doc_page_parts.specs.declared.rendered.Piece.{Piece}
+use Rattle.doc_page_parts.specs.declared.rendered.Piece.TheVariants.{Link}
 use Rattle.doc_rules.specs.Anchors.{anchor_name, free_anchor}
 use Rattle.doc_rules.specs.Characters.{Text}
 use Rattle.doc_rules.specs.Destinations.{Target}

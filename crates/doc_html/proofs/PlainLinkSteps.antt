@@ -12,12 +12,12 @@ use Rattle.std.proofs.lemmas.List.Folds.{list_all-append}
 use Rattle.std.proofs.lemmas.Slice.Eq.{bytes_eq-Decides}
 use Rattle.std.proofs.lemmas.Str.{encodes-chars}
 use Rattle.percent_encoding.specs.Percent.{percent_encode_byte}
-use Rattle.doc_page.specs.Escaping.{escaped}
+use Rattle.doc_page_parts.specs.Escaping.{escaped}
 use Rattle.doc_page_encoding.specs.Encoding.{destination}
 use Rattle.doc_page_encoding.specs.Laws.{destination_byte}
 use Rattle.doc_page_encoding.proofs.DestinationLaws.{destinations_by_bytes}
 use Rattle.doc_page_encoding.proofs.EncodingLaws.{IsBytes}
-use Rattle.doc_page.specs.declared.linker.Shown.TheVariants.{Href}
+use Rattle.doc_page_parts.specs.declared.linker.Shown.TheVariants.{Href}
 use Rattle.doc_rules.specs.Characters.{Text, one_of}
 use Rattle.doc_rules.specs.Escaping.{percent, url_char, url_escape}
 use Rattle.doc_rules.specs.Entities.{Table}

@@ -1,7 +1,7 @@
 -- What is written step by step is what the definitions of HTML write.
 use Rattle.std.proofs.Common.{◌≡◌, ℕ, Bool, true, false, List, [], ◌∷◌, ◌++◌, map, refl, ap, sym, ◌∙◌, append_assoc, append-nil}
 use Rattle.std.specs.Prelude.{codes, decimal, flat_map, Option, Some, None}
-use Rattle.doc_page.specs.declared.linker.Shown.{Shown}
+use Rattle.doc_page_parts.specs.declared.linker.Shown.{Shown}
 use Rattle.doc_html.specs.HtmlBytes.{written_bytes, html_bytes}
 use Rattle.doc_html.specs.WrittenSteps.{HoldsHtml}
 use Rattle.doc_rules.specs.Characters.{Text}

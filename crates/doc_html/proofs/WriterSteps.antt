@@ -7,8 +7,8 @@ use Rattle.std.proofs.lemmas.Str.{chars-IsAscii, encodes-IsAscii}
 use Rattle.std.proofs.lemmas.List.{map-append}
 use Rattle.std.proofs.lemmas.List.Concat.{flat_map-append}
 use Rattle.std.proofs.lemmas.Bool.{ltb-true, and_parts}
-use Rattle.doc_page.specs.Escaping.{escaped}
-use Rattle.doc_page.specs.Pages.{title_attribute}
+use Rattle.doc_page_parts.specs.Escaping.{escaped}
+use Rattle.doc_page_parts.specs.Pages.{title_attribute}
 use Rattle.doc_rules.specs.Characters.{Text}
 use Rattle.doc_rules.specs.Escaping.{escaped_char, html_escape}
 use Rattle.doc_rules.specs.Html.{Output, Character, characters}

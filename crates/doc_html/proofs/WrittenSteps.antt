@@ -7,9 +7,9 @@ use Rattle.std.specs.Str.{chars, IsUtf8}
 use Rattle.std.proofs.lemmas.Bool.{ne_eqb, cases_eq}
 use Rattle.std.proofs.lemmas.List.Concat.{flat_map-append}
 use Rattle.std.proofs.lemmas.Str.{encodes-chars}
-use Rattle.doc_page.specs.declared.linker.Shown.{Shown}
-use Rattle.doc_page.specs.Escaping.{escaped}
-use Rattle.doc_page.specs.Pages.{opening_tag}
+use Rattle.doc_page_parts.specs.declared.linker.Shown.{Shown}
+use Rattle.doc_page_parts.specs.Escaping.{escaped}
+use Rattle.doc_page_parts.specs.Pages.{opening_tag}
 use Rattle.doc_rules.specs.Characters.{Text}
 use Rattle.doc_rules.specs.Destinations.{Target}
 use Rattle.doc_rules.specs.Escaping.{escaped_char, html_escape}

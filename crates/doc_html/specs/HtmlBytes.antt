@@ -1,8 +1,8 @@
 -- Documents as HTML in UTF-8, however their links are shown.
 use Rattle.std.specs.Prelude.{ℕ, List, flat_map, encode_utf8_all, option_map}
 use Rattle.std.specs.Char.{encode_utf8}
-use Rattle.doc_page.specs.Pages.{opening_tag}
-use Rattle.doc_page.specs.declared.linker.Shown.{Shown}
+use Rattle.doc_page_parts.specs.Pages.{opening_tag}
+use Rattle.doc_page_parts.specs.declared.linker.Shown.{Shown}
 use Rattle.doc_rules.specs.Characters.{Text}
 use Rattle.doc_rules.specs.Entities.{Table}
 use Rattle.doc_rules.specs.Blocks.{Document}

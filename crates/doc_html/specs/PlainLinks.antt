@@ -1,7 +1,7 @@
 -- How links are shown in the examples of CommonMark 0.31.2, over bytes.
 use Rattle.std.specs.Prelude.{ℕ, nat_lt, List, flat_map, encode_utf8_all, if◌then◌else◌}
-use Rattle.doc_page.specs.declared.linker.Shown.{Shown}
-use Rattle.doc_page.specs.declared.linker.Shown.TheVariants.{Href}
+use Rattle.doc_page_parts.specs.declared.linker.Shown.{Shown}
+use Rattle.doc_page_parts.specs.declared.linker.Shown.TheVariants.{Href}
 use Rattle.doc_rules.specs.Escaping.{percent, url_char}
 
 -- a byte of a destination, as it is written: one below 128 is a character of ASCII, the others are percent-encoded

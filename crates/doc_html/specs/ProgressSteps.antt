@@ -1,6 +1,6 @@
 -- What was made of a document so far: what is written, and what a page keeps beside it.
 use Rattle.std.specs.Prelude.{ℕ, true, false, List, [], ◌∷◌, ◌++◌, codes, Option, Some, None}
-use Rattle.doc_page.specs.declared.linker.Shown.{Shown}
+use Rattle.doc_page_parts.specs.declared.linker.Shown.{Shown}
 use Rattle.doc_rules.specs.Characters.{Text}
 use Rattle.doc_rules.specs.Anchors.{anchor_name, free_anchor}
 use Rattle.doc_rules.specs.Escaping.{html_escape}

@@ -1,8 +1,8 @@
 -- What a writer of pages holds.
 use Rattle.std.specs.Prelude.{◌≡◌, ℕ, Bool, List, ◌++◌, map, encode_utf8_all, Some}
-use Rattle.doc_page.specs.declared.rendered.Piece.{Piece}
-use Rattle.doc_page.specs.declared.rendered.Heading.{Heading}
-use Rattle.doc_page.specs.declared.rendered.Rendered.{Rendered}
+use Rattle.doc_page_parts.specs.declared.rendered.Piece.{Piece}
+use Rattle.doc_page_parts.specs.declared.rendered.Heading.{Heading}
+use Rattle.doc_page_parts.specs.declared.rendered.Rendered.{Rendered}
 use Rattle.doc_rules.specs.Characters.{Text}
 use Rattle.doc_rules.specs.Html.{Output, characters, is_fresh}
 use Rattle.doc_rules.specs.Pages.{PagePiece, pieces_of, encoded_piece, encoded_heading, encoded}

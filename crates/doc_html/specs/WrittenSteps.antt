@@ -1,6 +1,6 @@
 -- What writers hold.
 use Rattle.std.specs.Prelude.{◌≡◌, ℕ, Bool, List, [], ◌∷◌, flat_map, encode_utf8_all, chars, ◌==◌, Option, None, option_map}
-use Rattle.doc_page.specs.declared.linker.Shown.{Shown}
+use Rattle.doc_page_parts.specs.declared.linker.Shown.{Shown}
 use Rattle.doc_rules.specs.Characters.{Text}
 use Rattle.doc_rules.specs.Html.{is_fresh}
 use Rattle.doc_html.specs.HtmlBytes.{written_bytes}

@@ -14,7 +14,7 @@ use crate::reading::Source;
 use crate::writer::Writer;
 use doc_blocks_tags::tag::Tag;
 use doc_inlines::Reader;
-use doc_page::failure::Memory;
+use doc_page_parts::failure::Memory;
 
 /// Writes the blocks of a document, of which these are the tags.
 pub(crate) fn push_all<'d, W: Writer>(

@@ -9,7 +9,7 @@ use crate::writer::{Writer, markup};
 use doc_lines::scan::character::next_char;
 use doc_lines::scan::front::front;
 use doc_lines::scan::run::many;
-use doc_page::failure::Memory;
+use doc_page_parts::failure::Memory;
 
 /// Writes a text, escaped, with a space for each line ending.
 pub(crate) fn push_spaced<W: Writer>(writer: &mut W, text: &str) -> Result<(), Memory>

@@ -5,10 +5,10 @@ ghost use Rattle.doc_rules.specs.Pages.{rendered_of};
 use crate::pages::page_of;
 use doc_heap::Heap;
 use doc_lines::entities::Entities;
-use doc_page::count::Count;
-use doc_page::failure::Memory;
-use doc_page::rendered::Rendered;
 use doc_page::renderer::Renderer;
+use doc_page_parts::count::Count;
+use doc_page_parts::failure::Memory;
+use doc_page_parts::rendered::Rendered;
 use std::marker::Model;
 use std::sync::ledger::{Blank, Ledger};
 

@@ -10,7 +10,7 @@ use crate::leaves::push_decimal;
 use crate::writer::{Writer, markup};
 use doc_blocks_tags::tag::ContainerBlock;
 use doc_heap::Heap;
-use doc_page::failure::Memory;
+use doc_page_parts::failure::Memory;
 
 /// Writes the start of a container block.
 #[tactic(auto, unfolding(doc_blocks_tags::specs::Tags::container_shown))]

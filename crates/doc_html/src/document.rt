@@ -20,9 +20,9 @@ use doc_blocks_tags::tag::Tag;
 use doc_heap::Heap;
 use doc_inlines_marks::arena::Arena;
 use doc_lines::entities::Entities;
-use doc_page::failure::Memory;
-use doc_page::linker::Linker;
-use doc_page::text::Text;
+use doc_page_parts::failure::Memory;
+use doc_page_parts::linker::Linker;
+use doc_page_parts::text::Text;
 use doc_refs::RefMap;
 
 /// The document as HTML in the form of the examples of CommonMark 0.31.2, its links as the linker shows them. Headings carry no anchors.

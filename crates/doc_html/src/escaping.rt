@@ -1,10 +1,10 @@
 //! Escaped text at the end of a buffer. A table of 256 bytes tells which are written otherwise.
 ghost use Rattle.std.specs.Prelude.{◌≡◌, ◌<◌, ◌∷◌, [], ◌++◌, ◌==◌, true, string_bytes, OnOk};
-ghost use Rattle.doc_page.specs.Escaping.{escaped, escaped_byte};
+ghost use Rattle.doc_page_parts.specs.Escaping.{escaped, escaped_byte};
 ghost use Rattle.doc_html.specs.EscapeSteps.{is_escaped};
 
 use doc_heap::String;
-use doc_page::failure::Memory;
+use doc_page_parts::failure::Memory;
 
 /// Writes the text with `&`, `<`, `>` and `"` as references.
 pub(crate) fn push_escaped(out: &mut String, text: &str) -> Result<(), Memory>

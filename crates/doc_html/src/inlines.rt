@@ -3,7 +3,7 @@ ghost use Rattle.std.specs.Prelude.{◌≡◌, ◌<◌, ◌+◌, ◌^◌, [], �
 ghost use Rattle.doc_rules.specs.Escaping.{html_escape};
 ghost use Rattle.doc_rules.specs.Inlines as rules;
 ghost use Rattle.doc_rules.specs.Html.{characters, inline_html, inlines_html, span_start, span_end};
-ghost use Rattle.doc_page.specs.Pages.{title_attribute};
+ghost use Rattle.doc_page_parts.specs.Pages.{title_attribute};
 ghost use Rattle.doc_lines.specs.Entities.{characters as both};
 ghost use Rattle.doc_inlines_marks.specs.Slices.{AreCut, IsCut, is_cut};
 ghost use Rattle.doc_inlines_marks.specs.Targets.{named};
@@ -18,8 +18,8 @@ use doc_heap::{Heap, String};
 use doc_inlines_marks::mark_ref::{MarkRef, SpanRef};
 use doc_inlines_marks::target_ref::TargetRef;
 use doc_lines::pushing::push_characters;
-use doc_page::failure::Memory;
-use doc_page::text::Text;
+use doc_page_parts::failure::Memory;
+use doc_page_parts::text::Text;
 
 /// Writes inlines. Inside an image their plain text alone is written.
 pub(crate) fn push_marks<W: Writer>(

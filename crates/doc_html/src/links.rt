@@ -1,15 +1,15 @@
 //! The opening tags of links, into one buffer (CommonMark 0.31.2, section 6.3).
 ghost use Rattle.std.specs.Prelude.{◌≡◌, ◌++◌, ℕ, List as Seq, string_bytes, OnOk};
-ghost use Rattle.doc_page.specs.Pages.{opening_tag};
-ghost use Rattle.doc_page.specs.declared.linker.Shown.{Shown};
+ghost use Rattle.doc_page_parts.specs.Pages.{opening_tag};
+ghost use Rattle.doc_page_parts.specs.declared.linker.Shown.{Shown};
 ghost use Rattle.doc_html.specs.PlainLinks.{plain_shown};
 
 use crate::destinations::push_url;
 use doc_heap::{Heap, String};
-use doc_page::failure::Memory;
-use doc_page::filling::{push_opening_tag, push_title};
-use doc_page::linker::Linker;
-use doc_page::text::Text;
+use doc_page_parts::failure::Memory;
+use doc_page_parts::filling::{push_opening_tag, push_title};
+use doc_page_parts::linker::Linker;
+use doc_page_parts::text::Text;
 
 /// How the links of a document are written.
 pub(crate) trait Links {

@@ -6,7 +6,7 @@ ghost use Rattle.doc_html.specs.TellingSteps.{outside, entered, left};
 
 use doc_blocks_tags::tag::ContainerBlock;
 use doc_heap::{Heap, Vec};
-use doc_page::failure::Memory;
+use doc_page_parts::failure::Memory;
 use std::marker::Model;
 
 /// Whether what is written stands directly in an item of a tight list, and the same outside each container block round it, the outermost

@@ -1,9 +1,9 @@
 //! The pieces, headings and texts of a page as they are written (this project's choice).
 ghost use Rattle.std.specs.Prelude.{◌≡◌, [], ◌++◌, List, Some, chars, codes, encode_utf8_all, string_bytes, IfOk, OnOk};
-ghost use Rattle.doc_page.specs.Escaping.{escaped};
+ghost use Rattle.doc_page_parts.specs.Escaping.{escaped};
 ghost use Rattle.doc_page.specs.Plain.{html_pieces};
-ghost use Rattle.doc_page.specs.declared.linker.Shown.{Shown};
-ghost use Rattle.doc_page.specs.declared.rendered.Piece.TheVariants.{Link};
+ghost use Rattle.doc_page_parts.specs.declared.linker.Shown.{Shown};
+ghost use Rattle.doc_page_parts.specs.declared.rendered.Piece.TheVariants.{Link};
 ghost use Rattle.doc_rules.specs.Pages.{LinkPiece, encoded_piece};
 ghost use Rattle.doc_inlines_marks.specs.Targets.{named};
 ghost use Rattle.doc_html.specs.PlainLinks.{plain_shown};
@@ -19,10 +19,10 @@ use doc_heap::{Heap, String, Vec};
 use doc_html_anchors::Anchors;
 use doc_inlines_marks::mark_ref::MarkRef;
 use doc_inlines_marks::target_ref::TargetRef;
-use doc_page::failure::Memory;
-use doc_page::list::List;
-use doc_page::rendered::{Heading, LinkSpot, Piece, Rendered};
-use doc_page::text::Text;
+use doc_page_parts::failure::Memory;
+use doc_page_parts::list::List;
+use doc_page_parts::rendered::{Heading, LinkSpot, Piece, Rendered};
+use doc_page_parts::text::Text;
 
 /// A page so far: its pieces, the HTML behind the last link, the anchors that are used, its headings and its texts. It is fresh where
 /// nothing was written or a LF was written last.

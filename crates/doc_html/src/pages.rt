@@ -15,8 +15,8 @@ use doc_blocks_tags::texts::Texts;
 use doc_heap::Heap;
 use doc_inlines_marks::arena::Arena;
 use doc_lines::entities::Entities;
-use doc_page::failure::Memory;
-use doc_page::rendered::Rendered;
+use doc_page_parts::failure::Memory;
+use doc_page_parts::rendered::Rendered;
 use doc_refs::RefMap;
 
 /// The page of a text.

@@ -10,8 +10,8 @@ use crate::code::first_line;
 use doc_heap::{Heap, String};
 use doc_inlines_marks::mark_ref::MarkRef;
 use doc_lines::pushing::push_characters;
-use doc_page::failure::Memory;
-use doc_page::text::Text;
+use doc_page_parts::failure::Memory;
+use doc_page_parts::text::Text;
 
 /// The plain texts of inlines, joined: texts and code as they are, a line break as one space, raw HTML as nothing.
 pub(crate) fn plain_text(heap: Heap, marks: &[MarkRef]) -> Result<Text, Memory>

@@ -8,8 +8,8 @@ use doc_blocks::tags;
 use doc_blocks_tags::texts::Texts;
 use doc_heap::Heap;
 use doc_lines::entities::Entities;
-use doc_page::failure::Memory;
-use doc_page::text::Text;
+use doc_page_parts::failure::Memory;
+use doc_page_parts::text::Text;
 
 /// The text as HTML, in the form of the examples of CommonMark 0.31.2.
 pub fn render_plain(heap: Heap, text: &str, entities: &Entities) -> Result<Text, Memory>

@@ -10,7 +10,7 @@ ghost use Rattle.doc_html.specs.InlineSteps.{is_ascii};
 
 use doc_inlines_marks::mark_ref::MarkRef;
 use doc_inlines_marks::target_ref::TargetRef;
-use doc_page::failure::Memory;
+use doc_page_parts::failure::Memory;
 
 /// What HTML is written into. It answers only where memory runs out.
 pub(crate) trait Writer {

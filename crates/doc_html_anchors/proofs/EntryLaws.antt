@@ -18,7 +18,7 @@ use Rattle.doc_rules.specs.Anchors.{is_used, with_number}
 use Rattle.doc_html_anchors.specs.Numbers.{name_of, names, AreNumbered, AreUsed, IsNext}
 use Rattle.doc_html_anchors.specs.Uses.{Uses, IsAnchor}
 use Rattle.doc_html_anchors.proofs.NumberLaws.{own_name, first_number, all_below}
-use Rattle.doc_page.proofs.Bools.{same_bool}
+use Rattle.doc_page_parts.proofs.Bools.{same_bool}
 use Rattle.std.proofs.lemmas.Bool.{or_right}
 
 -- ---- names, and the keys that spell them

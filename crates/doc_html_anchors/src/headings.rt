@@ -4,9 +4,9 @@ ghost use Rattle.doc_rules.specs.Anchors.{anchors_of};
 
 use crate::used::Anchors;
 use doc_heap::{Heap, Vec};
-use doc_page::failure::Memory;
-use doc_page::list::List;
-use doc_page::text::Text;
+use doc_page_parts::failure::Memory;
+use doc_page_parts::list::List;
+use doc_page_parts::text::Text;
 
 /// The anchors of headings with these plain texts, in their order.
 pub fn anchors_of(heap: Heap, texts: &[Text]) -> Result<List<Text>, Memory>

@@ -8,7 +8,7 @@ use caseless::Caseless;
 use doc_heap::{Heap, String};
 use doc_lines::characters::is_white;
 use doc_lines::pushing::push_char;
-use doc_page::failure::Memory;
+use doc_page_parts::failure::Memory;
 use unicode::properties::{GeneralCategory, GeneralCategoryGroup};
 
 /// The name of a heading with this plain text: case folded, with its letters, marks, numbers, `-` and `_`, and each Unicode whitespace

@@ -6,8 +6,8 @@ ghost use Rattle.doc_html_anchors.specs.Uses.{Uses, IsAnchor};
 ghost use Rattle.doc_html_anchors.specs.Numbers.{names, name_of, AreNumbered, AreUsed, IsNext};
 
 use doc_heap::{BTreeMap, Heap, String};
-use doc_page::failure::Memory;
-use doc_page::text::Text;
+use doc_page_parts::failure::Memory;
+use doc_page_parts::text::Text;
 
 /// Gives a heading of this name its anchor, and keeps it.
 pub fn give(entries: &mut BTreeMap<String, u64>, heap: Heap, name: String) -> Result<Text, Memory>

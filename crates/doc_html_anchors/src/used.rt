@@ -7,8 +7,8 @@ ghost use Rattle.doc_html_anchors.specs.Uses.{Uses};
 use crate::names::anchor_name;
 use crate::numbers::give;
 use doc_heap::{BTreeMap, Heap, String};
-use doc_page::failure::Memory;
-use doc_page::text::Text;
+use doc_page_parts::failure::Memory;
+use doc_page_parts::text::Text;
 use std::marker::Model;
 
 /// The anchors that a page has used. Contracts see a list of them, in an order that means nothing, and say by `Uses` which ones they are.

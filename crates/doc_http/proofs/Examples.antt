@@ -11,7 +11,7 @@ use Rattle.doc_http.specs.Bearers.{bearer_in}
 use Rattle.doc_http.specs.Fields.{lists_close}
 use Rattle.doc_http.specs.Heads.{head_limit, head_span_of, has_bare_line_feed}
 use Rattle.doc_http.specs.Requests.{next_behind, request_of}
-use Rattle.doc_page.specs.Tokens.{is_token}
+use Rattle.doc_page_parts.specs.Tokens.{is_token}
 
 -- one name to unfold where an example computes
 unfoldable computing : Unit {0}

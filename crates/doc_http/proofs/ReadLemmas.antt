@@ -21,7 +21,7 @@ use Rattle.doc_http_bodies.specs.declared.reader.Reading.{Reading}
 use Rattle.doc_http_bodies.specs.Faults.{code_of}
 use Rattle.doc_http_bodies.specs.Framings.{framing_of}
 use Rattle.doc_http_bodies.specs.Readings.{reading_of}
-use Rattle.doc_page.proofs.Bools.{or_true}
+use Rattle.doc_page_parts.proofs.Bools.{or_true}
 
 method_byte_is_ascii : (b : ℕ) → is_token_byte b ≡ true → b < 128
 unfolding is_token_byte

@@ -7,7 +7,7 @@ use Rattle.std.proofs.lemmas.Bool.Decides.{nat_tests}
 use Rattle.std.proofs.lemmas.Str.{IsUtf8-from_ascii}
 use Rattle.std.proofs.lemmas.Str.Ascii.{IsAscii-from_all}
 use Rattle.std.proofs.lemmas.List.Elements.{All-cons, All-nil}
-use Rattle.doc_page.specs.Tokens.{is_token, is_token_byte}
+use Rattle.doc_page_parts.specs.Tokens.{is_token, is_token_byte}
 
 token_byte_is_ascii : (b : ℕ) → is_token_byte b ≡ true → b < 128
 token_byte_is_ascii b token = grind (arith, nat_tests)

@@ -4,11 +4,11 @@ ghost use Rattle.std.specs.Prelude.{◌≡◌, ◌≤◌, ◌==◌, IsTrue, Some
 ghost use Rattle.std.specs.Str.{str_eq_ignore_ascii_case};
 ghost use Rattle.std.specs.List.{prefix_len};
 ghost use Rattle.std.specs.Option.{option_copied};
-ghost use Rattle.doc_page.specs.Tokens.{is_token as token_test};
+ghost use Rattle.doc_page_parts.specs.Tokens.{is_token as token_test};
 ghost use Rattle.doc_http.specs.Bearers.{bearer_of, bearer_in as bearer_by, token_behind as token_by, skip_spaces as without_spaces};
 
 use crate::request::Request;
-use doc_page::token::is_token;
+use doc_page_parts::token::is_token;
 use std::str::from_utf8;
 
 /// The token of a request's `Authorization: Bearer TOKEN` (RFC 6750, section 2.1): the scheme in any

@@ -13,9 +13,9 @@ use doc_http_bodies::fault::Fault;
 use doc_http_bodies::fields::FramingFields;
 use doc_http_bodies::framing::Framing;
 use doc_http_bodies::reader::Reading;
-use doc_page::bytes::Bytes;
-use doc_page::failure::Memory;
-use doc_page::text::Text;
+use doc_page_parts::bytes::Bytes;
+use doc_page_parts::failure::Memory;
+use doc_page_parts::text::Text;
 use httparse::spans::{HeaderSpan, RequestSpans};
 use std::str::from_utf8;
 

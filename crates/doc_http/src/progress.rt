@@ -13,7 +13,7 @@ use crate::head::{HeadSearch, HeadSpan, find_head, good_head_spans};
 use crate::request::Next;
 use doc_heap::Heap;
 use doc_http_bodies::reader::{BodyReader, Reading};
-use doc_page::failure::Memory;
+use doc_page_parts::failure::Memory;
 use httparse::spans::EMPTY_HEADER_SPAN;
 
 /// How far the reading of unread bytes came. It keeps none of them.

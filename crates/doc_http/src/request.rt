@@ -5,12 +5,12 @@ ghost use Rattle.doc_http.specs.Requests.{IsNext, BeginsWithRequest, UsesAtMost}
 
 use crate::progress::Progress;
 use doc_heap::Heap;
-use doc_page::bytes::Bytes;
-use doc_page::failure::Memory;
-use doc_page::text::Text;
+use doc_page_parts::bytes::Bytes;
+use doc_page_parts::failure::Memory;
+use doc_page_parts::text::Text;
 
 /// A whole request (RFC 9112, section 2.1).
-#[derive(Debug, PartialEq, Eq, Drop)]
+#[derive(Debug, Drop)]
 pub struct Request {
     /// As it came: methods have case.
     pub method: Text,
@@ -26,7 +26,7 @@ pub struct Request {
 }
 
 /// What unread bytes begin with.
-#[derive(Debug, PartialEq, Eq, Drop)]
+#[derive(Debug, Drop)]
 pub enum Next {
     /// Neither a whole request nor a fault yet.
     More,

@@ -6,7 +6,7 @@ ghost use Rattle.doc_http.specs.Requests.{IsNext, BeginsWithRequest, UsesAtMost}
 use crate::progress::Progress;
 use crate::request::Next;
 use doc_heap::{Heap, Vec};
-use doc_page::failure::Memory;
+use doc_page_parts::failure::Memory;
 use std::fmt;
 use std::fmt::Debug;
 use std::marker::Model;

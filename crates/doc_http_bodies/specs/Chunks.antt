@@ -4,7 +4,7 @@ use Rattle.std.specs.Prelude.{take, drop, Option, Some, None, if◌then◌else�
 use Rattle.std.specs.List.{starts_with, list_all, prefix_len}
 use Rattle.std.specs.Str.Parse.{digits_value}
 use Rattle.std.specs.Char.{is_ascii_hexdigit}
-use Rattle.doc_page.specs.Lines.{is_space_or_tab}
+use Rattle.doc_page_parts.specs.Lines.{is_space_or_tab}
 use Rattle.doc_http_bodies.specs.declared.extent.Extent.{Extent}
 use Rattle.doc_http_bodies.specs.declared.extent.Extent.TheVariants.{More, Fault, Whole}
 use Rattle.doc_http_bodies.specs.declared.fault.Fault.TheVariants as faults

@@ -12,14 +12,14 @@ use crate::gathering::gather;
 use crate::slices::front;
 use crate::stage::{Stage, advance};
 use doc_heap::Heap;
-use doc_page::bytes::Bytes;
-use doc_page::failure::Memory;
+use doc_page_parts::bytes::Bytes;
+use doc_page_parts::failure::Memory;
 
 /// How many bytes a chunked body may take, with its sizes and its trailer.
 pub const ENCODED_LIMIT: usize = 2097152;
 
 /// What the bytes behind a head come to.
-#[derive(Debug, PartialEq, Eq, Drop)]
+#[derive(Debug, Drop)]
 pub enum Reading {
     /// The body doesn't end yet.
     More,

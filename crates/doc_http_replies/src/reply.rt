@@ -7,12 +7,12 @@ ghost use Rattle.doc_http_replies.specs.ReplySteps.{reply_with};
 
 use crate::reply_parts::ReplyParts;
 use doc_heap::Heap;
-use doc_page::bytes::Bytes;
-use doc_page::failure::Memory;
-use doc_page::text::Text;
+use doc_page_parts::bytes::Bytes;
+use doc_page_parts::failure::Memory;
+use doc_page_parts::text::Text;
 
 /// A reply to one request (RFC 9112, section 2.1).
-#[derive(Debug, PartialEq, Eq, Drop)]
+#[derive(Debug, Drop)]
 pub struct Reply {
     pub code: u16,
     /// Whether the body of a 200 is HTML, and not plain text; both in UTF-8.

@@ -9,12 +9,12 @@ use crate::reply::{Allow, Reply};
 use crate::reply_parts::ReplyParts;
 use crate::status::Status;
 use doc_heap::{Heap, Vec};
-use doc_page::bytes::Bytes;
-use doc_page::failure::Memory;
-use doc_page::text::Text;
+use doc_page_parts::bytes::Bytes;
+use doc_page_parts::failure::Memory;
+use doc_page_parts::text::Text;
 
 /// A reply to one request, by its form.
-#[derive(Debug, PartialEq, Eq, Drop)]
+#[derive(Debug, Drop)]
 pub enum ReplyForm {
     /// 200: a page, or a listing; HTML, and not plain text, where `html`.
     Content { html: bool, body: Bytes },

@@ -7,8 +7,8 @@ ghost use Rattle.doc_http_replies.specs.ReplySteps.{reply_with};
 
 use crate::reply::Allow;
 use doc_heap::{Heap, String};
-use doc_page::bytes::Bytes;
-use doc_page::failure::Memory;
+use doc_page_parts::bytes::Bytes;
+use doc_page_parts::failure::Memory;
 use std::fmt::Write;
 
 /// Room for the head of a reply, and for a content of one line.

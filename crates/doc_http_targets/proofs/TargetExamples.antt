@@ -5,7 +5,7 @@ use Rattle.std.specs.Str.Lossy.{utf8_lossy, utf8_valid_len}
 use lib.Utf8.{encode}
 use Rattle.form_urlencoded.specs.Form.{raw_pairs, split}
 use Rattle.percent_encoding.specs.Percent.{percent_decode}
-use Rattle.doc_page.specs.Paths.{is_path}
+use Rattle.doc_page_parts.specs.Paths.{is_path}
 use Rattle.doc_resolve.specs.WrittenPaths.{path_written as path_of_segments}
 use Rattle.doc_http_targets.specs.Queries.{parameter, value_of}
 use Rattle.doc_http_targets.specs.Targets.{origin_form, route_of, Page, Backlinks, Contents, Search, Broken}

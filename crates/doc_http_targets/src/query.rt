@@ -4,8 +4,8 @@ ghost use Rattle.std.specs.Prelude.{◌≡◌, IfOk, option_map, string_bytes};
 ghost use Rattle.doc_http_targets.specs.Queries.{parameter, query_of, value_of};
 
 use doc_heap::{Heap, String};
-use doc_page::failure::Memory;
-use doc_page::text::Text;
+use doc_page_parts::failure::Memory;
+use doc_page_parts::text::Text;
 
 /// The value of the first pair of this name in a target's query, which is read as a form (URL Standard,
 /// section 5.1): `+` is a space, percent-encoded bytes are decoded, in names too, and what is no UTF-8 then

@@ -10,7 +10,7 @@ ghost use Rattle.doc_http_targets.specs.Targets.{route_at, route_of, route_shown
 use crate::origin_form::{after_slash, origin_part, path_part};
 use crate::route::Route;
 use doc_heap::Heap;
-use doc_page::failure::Memory;
+use doc_page_parts::failure::Memory;
 use matchit::{InsertError, Router};
 
 /// What a route leads to.

@@ -3,7 +3,7 @@ use Rattle.std.proofs.Common.{◌≡◌, ◌+◌, ◌++◌, ◌∷◌, [], ℕ, 
 use Rattle.std.specs.Prelude.{◌||◌, Result, Ok, Err, nat_lt, if◌then◌else◌}
 use Rattle.std.specs.FinMap as map
 use Rattle.std.specs.List.{list_any}
-use Rattle.doc_page.specs.Refusals.{Gives}
+use Rattle.doc_page_parts.specs.Refusals.{Gives}
 use Rattle.doc_shelf.specs.Shelves.{rendered_for}
 use Rattle.doc_store.specs.Pages.{Page}
 use Rattle.doc_store.specs.Store.{StoreState, fits_in, may_move, moved_by, put_by, with_page}

@@ -6,7 +6,7 @@ use Rattle.std.specs.Cmp.{unsigned_tied}
 use Rattle.std.proofs.Math.Facts.{eqb_yes}
 use Rattle.std.proofs.lemmas.Bool.Decides.{nat_tests}
 use Rattle.std.proofs.lemmas.Cmp.{nat_cmp_total}
-use Rattle.doc_page.specs.Refusals.{Gives}
+use Rattle.doc_page_parts.specs.Refusals.{Gives}
 use Rattle.doc_store.specs.declared.moving.MoveError.TheVariants as move_errors
 use Rattle.doc_store_readers.specs.declared.readers.ReaderError.TheVariants as reader_errors
 use Rattle.doc_store.specs.declared.store.EditError.TheVariants as edit_errors

@@ -14,7 +14,7 @@ use Rattle.doc_store.specs.Store.{aliases_after, goal_after, text_limit, with_ke
 use Rattle.doc_store_readers.proofs.KeySteps.{same_key, same_from, same_itself, bytes_eq_is, not_none, some_is, get_set, get_taken, contains_taken}
 use Rattle.doc_store_readers.proofs.MapValues.{get-map_values, len-map_values}
 use Rattle.doc_store.proofs.StoreSteps.{get-aliases_after}
-use Rattle.doc_page.proofs.Bools.{clash}
+use Rattle.doc_page_parts.proofs.Bools.{clash}
 
 pub absent : {X : Type 0} (o : Option X) → is_some o ≡ false → o ≡ None
 absent None e = refl

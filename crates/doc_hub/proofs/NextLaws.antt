@@ -2,7 +2,7 @@
 use Rattle.std.proofs.Common.{◌≡◌, ℕ, List, Bool, true, false, refl, ap, sym, ◌∙◌, subst}
 use Rattle.std.specs.Prelude.{Option, Some, None, Result, Ok, Err, MatchBool, nat_lt, if◌then◌else◌, ⊤}
 use Rattle.std.specs.FinMap as map
-use Rattle.doc_page.specs.Refusals.{Gives}
+use Rattle.doc_page_parts.specs.Refusals.{Gives}
 use Rattle.doc_http.specs.Requests.{IsNext}
 use Rattle.doc_http.specs.declared.request.Next.{Next as Front}
 use Rattle.doc_hub.specs.Connections.{Connections, pushed_at, with_pushed}

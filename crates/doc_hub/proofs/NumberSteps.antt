@@ -5,7 +5,7 @@ use Rattle.std.specs.FinMap as map
 use Rattle.std.specs.Ordering.{nat_cmp, eq_by_cmp}
 use Rattle.std.proofs.lemmas.Bool.Decides.{nat_tests}
 use Rattle.std.proofs.lemmas.Cmp.{nat_cmp_total}
-use Rattle.doc_page.specs.Refusals.{Gives}
+use Rattle.doc_page_parts.specs.Refusals.{Gives}
 use Rattle.doc_hub.specs.Connections.{Connections, HaveGivenNumbers, pushed, pushed_at, pushed_onto, with_pushed, finished}
 use Rattle.doc_hub.specs.declared.connection.Connection.{Connection}
 use Rattle.doc_hub.specs.declared.refusal.PushError.{PushError}

@@ -2,7 +2,7 @@
 use Rattle.std.proofs.Common.{◌≡◌, ◌≤◌, ◌+◌, ℕ, List, Bool, true, false, sym, subst, length, suc, arith}
 use Rattle.std.specs.Prelude.{Option, Some, None, Result, Ok, Err, MatchBool, nat_lt, if◌then◌else◌}
 use Rattle.std.specs.FinMap as map
-use Rattle.doc_page.specs.Refusals.{Gives}
+use Rattle.doc_page_parts.specs.Refusals.{Gives}
 use Rattle.doc_store.specs.Pages.{Page}
 use Rattle.doc_store.specs.Store.{StoreState, fits_in, may_move, moved_by, put_by}
 use Rattle.doc_store.specs.declared.moving.MoveError.{MoveError}

@@ -7,13 +7,13 @@ use Rattle.std.specs.Str.Lossy.{utf8_lossy, utf8_valid_len}
 use lib.Utf8.{encode}
 use Rattle.form_urlencoded.specs.Form.{raw_pairs, split}
 use Rattle.percent_encoding.specs.Percent.{percent_decode, percent_encode_byte}
-use Rattle.doc_page.specs.Escaping.{escaped}
-use Rattle.doc_page.specs.Lines.{lines, without_ending, stripped}
-use Rattle.doc_page.specs.Pages.{filled}
-use Rattle.doc_page.specs.Paths.{is_path}
+use Rattle.doc_page_parts.specs.Escaping.{escaped}
+use Rattle.doc_page_parts.specs.Lines.{lines, without_ending, stripped}
+use Rattle.doc_page_parts.specs.Pages.{filled}
+use Rattle.doc_page_parts.specs.Paths.{is_path}
 use Rattle.doc_page.specs.Plain.{paragraphs, plain_html, plain_page}
-use Rattle.doc_page.specs.declared.rendered.Piece.TheVariants.{Html, Link}
-use Rattle.doc_page.specs.declared.rendered.Rendered.{Rendered}
+use Rattle.doc_page_parts.specs.declared.rendered.Piece.TheVariants.{Html, Link}
+use Rattle.doc_page_parts.specs.declared.rendered.Rendered.{Rendered}
 use Rattle.doc_store.specs.Groups.{groups_of_names}
 use Rattle.doc_store.specs.Pages.{Page}
 use Rattle.doc_store.specs.Sites.{View, view_of}

@@ -2,7 +2,7 @@
 use Rattle.std.proofs.Common.{◌≡◌, ℕ, List, Bool, true, false, refl, ap, sym, ◌∙◌, subst}
 use Rattle.std.specs.Prelude.{MatchBool, Option, Some, None, Result, Ok, Err, if◌then◌else◌}
 use Rattle.std.specs.FinMap as map
-use Rattle.doc_page.specs.Refusals.{Gives, IsAnswer}
+use Rattle.doc_page_parts.specs.Refusals.{Gives, IsAnswer}
 use Rattle.doc_store.specs.Pages.{Page}
 use Rattle.doc_store.specs.Store.{StoreState, fits_in, may_move, moved_by, moved_in, put_by, put_into, without_page}
 use Rattle.doc_store.specs.declared.moving.MoveError.{MoveError}

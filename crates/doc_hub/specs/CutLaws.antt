@@ -1,6 +1,6 @@
 -- The cut of a site for a reader stands for the site, in whatever that reader is shown.
 use Rattle.std.specs.Prelude.{◌≡◌, List, ℕ, Option}
-use Rattle.doc_page.specs.declared.rendered.Rendered.{Rendered}
+use Rattle.doc_page_parts.specs.declared.rendered.Rendered.{Rendered}
 use Rattle.doc_resolve.specs.Decisions.{decisions}
 use Rattle.doc_store_readers.specs.declared.reader.Reader.{Reader}
 use Rattle.doc_store.specs.Sites.{Site, goal_in, goal_of, view_of, visible_to}

@@ -11,3 +11,4 @@ pub mod Runs
 pub mod StepEdits
 pub mod StepLaws
 pub mod Worlds
+pub use Rattle.doc_hub_answers.specs.Replies

@@ -1,7 +1,7 @@
 -- Events one by one, and runs of many events over any number of connections.
 use Rattle.std.specs.Prelude.{◌≡◌, ℕ, List, [], ◌∷◌, ◌==◌, Bool, false, Result, Ok, Err, flat_map, filter, map}
-use Rattle.doc_page.specs.Refusals.{Gives}
-use Rattle.doc_page.specs.declared.failure.Memory.{Memory}
+use Rattle.doc_page_parts.specs.Refusals.{Gives}
+use Rattle.doc_page_parts.specs.declared.failure.Memory.{Memory}
 use Rattle.doc_store.specs.declared.moving.MoveError.TheVariants as move_errors
 use Rattle.doc_store_readers.specs.declared.readers.ReaderError.TheVariants as reader_errors
 use Rattle.doc_store.specs.declared.store.EditError.TheVariants as edit_errors

@@ -1,17 +1,17 @@
 //! One connection.
 
 ghost use Rattle.std.specs.Prelude.{◌≡◌, ◌≤◌, length, IfOk, OnErr};
-ghost use Rattle.doc_page.specs.Refusals.{Gives};
+ghost use Rattle.doc_page_parts.specs.Refusals.{Gives};
 ghost use Rattle.doc_http.specs.Requests.{IsNext, BeginsWithRequest, UsesAtMost};
 ghost use Rattle.doc_hub.specs.Connections.{pushed_onto, finished};
 
 use crate::refusal::PushError;
 use doc_http::request::Next;
 use doc_http::unread::Unread;
-use doc_page::failure::Memory;
+use doc_page_parts::failure::Memory;
 
 /// The unread bytes of a connection, and whether it is closed.
-#[derive(Debug, Drop)]
+#[derive(Drop)]
 pub struct Connection {
     pub unread: Unread,
     pub closed: bool,

@@ -2,7 +2,7 @@
 
 ghost use Rattle.std.specs.Prelude.{◌≡◌, ◌≤◌, Some, None, Ok, length, IfOk, OnOk, OnErr, option_copied};
 ghost use Rattle.std.specs.FinMap as map;
-ghost use Rattle.doc_page.specs.Refusals.{Gives};
+ghost use Rattle.doc_page_parts.specs.Refusals.{Gives};
 ghost use Rattle.doc_http.specs.Requests.{IsNext, BeginsWithRequest, UsesAtMost};
 ghost use Rattle.doc_hub.specs.Connections.{pushed, finished};
 ghost use Rattle.doc_hub.specs.declared.connection.Connection.{Connection};
@@ -11,7 +11,7 @@ use crate::connection::Connection;
 use crate::refusal::PushError;
 use doc_heap::{BTreeMap, Heap};
 use doc_http::request::Next;
-use doc_page::failure::Memory;
+use doc_page_parts::failure::Memory;
 use std::marker::Model;
 
 /// Connections by number. Contracts see a map.

@@ -1,8 +1,8 @@
 //! Events, and what a step of a hub does.
 
-use doc_page::bytes::Bytes;
-use doc_page::path::Path;
-use doc_page::text::Text;
+use doc_page_parts::bytes::Bytes;
+use doc_page_parts::path::Path;
+use doc_page_parts::text::Text;
 use doc_store::groups::Groups;
 use doc_store::reader::Reader;
 
@@ -11,7 +11,7 @@ use doc_store::reader::Reader;
 pub struct ConnId(pub u64);
 
 /// What a step did on a connection.
-#[derive(Debug, PartialEq, Eq, Drop)]
+#[derive(Debug, Drop)]
 pub enum Step {
     /// A reply, after which the connection stays open.
     Sent(Bytes),

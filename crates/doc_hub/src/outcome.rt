@@ -10,7 +10,7 @@ use doc_store::readers::{ReaderError, Set};
 use doc_store::store::{EditError, Put};
 
 /// What came of an event: what its call answered.
-#[derive(Debug, PartialEq, Eq, Drop)]
+#[derive(Debug, Drop)]
 pub enum Outcome {
     Conn(ConnId),
     Pushed,

@@ -4,7 +4,7 @@ ghost use Rattle.std.specs.Prelude.{◌≡◌};
 ghost use Rattle.doc_hub.specs.Events.{connect_refusal, edit_refusal, move_refusal};
 ghost use Rattle.doc_hub.specs.Events.{push_refusal, reader_refusal, step_refusal};
 
-use doc_page::failure::Memory;
+use doc_page_parts::failure::Memory;
 use doc_store::moving::MoveError;
 use doc_store::readers::ReaderError;
 use doc_store::store::EditError;

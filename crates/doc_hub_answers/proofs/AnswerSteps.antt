@@ -2,7 +2,7 @@
 use Rattle.std.proofs.Common.{◌≡◌, ℕ, List, Bor, Bool, true, false, bytes_eq, codes, refl, ap, sym, ◌∙◌, subst}
 use Rattle.std.specs.Prelude.{not, ◌||◌, IfOk, Option, Some, None, Result, Ok, Err, if◌then◌else◌}
 use Rattle.std.proofs.lemmas.Slice.Eq.{bytes_eq-Decides}
-use Rattle.doc_page.specs.declared.failure.Memory.{Memory}
+use Rattle.doc_page_parts.specs.declared.failure.Memory.{Memory}
 use Rattle.doc_store.specs.Sites.{Site, View, view_of}
 use Rattle.doc_store.specs.Store.{StoreState}
 use Rattle.doc_store_readers.specs.declared.reader.Reader.{Reader}

@@ -2,4 +2,3 @@ pub mod AnswerEdits
 pub mod AnswerSteps
 pub mod OwnerSteps
 mod PutSteps
-mod ReadingSteps

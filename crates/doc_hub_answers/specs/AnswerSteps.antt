@@ -1,7 +1,7 @@
 -- What is said of answers as they are made.
 use Rattle.std.specs.Prelude.{◌≡◌, ℕ, List, Bool, true, false, Option, Some, option_and_then, Result, Ok, Err}
 use Rattle.std.specs.FinMap as map
-use Rattle.doc_page.specs.declared.failure.Memory.{Memory}
+use Rattle.doc_page_parts.specs.declared.failure.Memory.{Memory}
 use Rattle.doc_store.specs.Readers.{ReaderTable}
 use Rattle.doc_store.specs.Store.{StoreState}
 use Rattle.doc_store_readers.specs.declared.reader.Reader.{Reader}

@@ -9,11 +9,11 @@ use crate::response::Edit;
 use doc_heap::Heap;
 use doc_http::reply_form::ReplyForm;
 use doc_http::status::Status;
-use doc_page::bytes::Bytes;
-use doc_page::failure::Memory;
+use doc_page_parts::bytes::Bytes;
+use doc_page_parts::failure::Memory;
 
 /// A reply as it is sent.
-#[derive(Debug, Drop)]
+#[derive(Drop)]
 pub struct Answer {
     pub bytes: Bytes,
     /// Whether the connection closes after it.

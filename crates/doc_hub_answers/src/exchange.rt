@@ -12,9 +12,9 @@ use doc_http::reply::write_content;
 use doc_http::reply_form::ReplyForm;
 use doc_http::request::Request;
 use doc_http::status::Status;
-use doc_page::bytes::Bytes;
-use doc_page::failure::Memory;
-use doc_page::text::Text;
+use doc_page_parts::bytes::Bytes;
+use doc_page_parts::failure::Memory;
+use doc_page_parts::text::Text;
 
 /// A request, and how the reply to it is written.
 #[derive(Clone, Copy)]

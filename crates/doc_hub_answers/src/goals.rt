@@ -7,10 +7,10 @@ ghost use Rattle.doc_hub_answers.specs.Replies.{goal_reply, moved_reply};
 use doc_heap::{Heap, String};
 use doc_http::reply_form::ReplyForm;
 use doc_http::status::Status;
-use doc_page::failure::Memory;
-use doc_page::path::Path;
-use doc_page::sight::Sight;
-use doc_page::text::Text;
+use doc_page_parts::failure::Memory;
+use doc_page_parts::path::Path;
+use doc_page_parts::sight::Sight;
+use doc_page_parts::text::Text;
 use doc_resolve::encoding::push_encoded_path;
 
 /// The reply at a path where the reader sees no page: 301 where the path is an alias of a page that they see, and else 404. The

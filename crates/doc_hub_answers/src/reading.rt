@@ -11,8 +11,8 @@ use crate::exchange::Exchange;
 use crate::goals::goal_reply;
 use doc_http::status::Status;
 use doc_http_targets::written_path::written_path;
-use doc_page::failure::Memory;
 use doc_page::renderer::Renderer;
+use doc_page_parts::failure::Memory;
 use doc_shelf::Shelf;
 use doc_store::reader::Reader;
 

@@ -1,10 +1,10 @@
 //! Edits that requests ask for.
 
-use doc_page::path::Path;
+use doc_page_parts::path::Path;
 use doc_store::groups::Groups;
 
 /// An edit of the site that a request asks for.
-#[derive(Debug, Drop)]
+#[derive(Drop)]
 pub enum Edit {
     /// The body of the request becomes the page of this path, for these groups.
     Put(Path, Groups),

@@ -18,8 +18,8 @@ use doc_http::reply::Allow;
 use doc_http::reply_form::ReplyForm;
 use doc_http::status::Status;
 use doc_http_targets::route::Route;
-use doc_page::failure::Memory;
 use doc_page::renderer::Renderer;
+use doc_page_parts::failure::Memory;
 use doc_shelf::Shelf;
 use doc_store::reader::Reader;
 

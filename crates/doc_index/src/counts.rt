@@ -8,7 +8,7 @@ ghost use Rattle.doc_index_tables.specs.TableSteps.{HasCounts, HasSame, LacksCou
 use doc_heap::{BTreeMap, Heap, String};
 use doc_index_tables::packed::Packed;
 use doc_index_tables::table::Table;
-use doc_page::failure::Memory;
+use doc_page_parts::failure::Memory;
 use std::marker::Model;
 
 /// The keys of a page, each with its count. Contracts see the map.

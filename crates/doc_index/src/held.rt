@@ -1,7 +1,7 @@
 //! A page as it is held.
 
 use crate::counts::Counts;
-use doc_page::path::Path;
+use doc_page_parts::path::Path;
 
 /// A page as it is held: under a path and a stamp, with a value and the counts of its keys.
 #[derive(Drop)]

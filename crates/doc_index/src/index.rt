@@ -12,8 +12,8 @@ use crate::held::Held;
 use doc_heap::{BTreeMap, Heap, String, Vec};
 use doc_index_tables::row::Row;
 use doc_index_tables::table::Table;
-use doc_page::failure::Memory;
-use doc_page::path::Path;
+use doc_page_parts::failure::Memory;
+use doc_page_parts::path::Path;
 use slab::Slab;
 use std::marker::Model;
 

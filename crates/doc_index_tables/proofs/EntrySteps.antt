@@ -14,7 +14,7 @@ use Rattle.std.specs.Map.{keys_of, values_of}
 use Rattle.std.specs.String.{string_cmp}
 use Rattle.std.specs.Ordering.{nat_cmp}
 use Rattle.std.proofs.lemmas.Cmp.{nat_list_cmp_total, tied_itself}
-use Rattle.doc_page.proofs.Maps.{entries_in_order}
+use Rattle.doc_page_parts.proofs.Maps.{entries_in_order}
 use Rattle.doc_index_tables.specs.Maps.{by_bytes}
 
 to_less : (o : Ordering) → T (is_lt o) → o ≡ Less

@@ -6,7 +6,7 @@ use Rattle.std.specs.Map.{lookup}
 use Rattle.std.specs.Ordering.{nat_cmp}
 use Rattle.std.proofs.lemmas.Cmp.{nat_cmp_total}
 use Rattle.std.proofs.lemmas.Map.Lookups.{exact_unsigned}
-use Rattle.doc_page.proofs.Maps.{looked_up}
+use Rattle.doc_page_parts.proofs.Maps.{looked_up}
 
 pub looked_up_number : {X : Type 0} (es : List (ℕ × X)) (q : ℕ)
     → lookup (is_at (nat_cmp q)) es ≡ map.get (map.from_entries {R = nat_cmp} es) q

@@ -12,7 +12,7 @@ use Rattle.std.specs.FinMap as map
 use Rattle.std.proofs.lemmas.Cmp.{nat_list_cmp_total, nat_cmp_total}
 use Rattle.std.proofs.lemmas.Map.Lookups.{exact_bytes}
 use Rattle.std.proofs.lemmas.Map.Text.{btree_map_updates_text, is_eq-slice_cmp}
-use Rattle.doc_page.proofs.Maps.{inserted, looked_up, removed}
+use Rattle.doc_page_parts.proofs.Maps.{inserted, looked_up, removed}
 use Rattle.doc_index_tables.specs.Maps.{NumberMap, TextMap, by_bytes, text_map}
 use Rattle.doc_index_tables.specs.TableSteps.{NumberTable, row_or_empty, left_in_row, with_number}
 

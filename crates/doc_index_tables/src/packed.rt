@@ -5,7 +5,7 @@ ghost use Rattle.doc_index_tables.specs.Maps.{by_bytes};
 ghost use Rattle.doc_index_tables.specs.Packed.{IsPacked, start_of, unpacked};
 
 use doc_heap::{BTreeMap, Heap, String, Vec};
-use doc_page::failure::Memory;
+use doc_page_parts::failure::Memory;
 use std::marker::Model;
 
 /// Texts, each with a number, one after another in one text with their ends. Contracts see the list.

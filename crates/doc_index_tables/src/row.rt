@@ -4,7 +4,7 @@ ghost use Rattle.std.specs.Prelude.{◌≡◌, ◌==◌, Some, OnOk, OnErr, IsTr
 ghost use Rattle.std.specs.FinMap as map;
 
 use doc_heap::{BTreeMap, Heap};
-use doc_page::failure::Memory;
+use doc_page_parts::failure::Memory;
 use std::collections::btree_map::Iter;
 use std::marker::Model;
 

@@ -8,7 +8,7 @@ ghost use Rattle.doc_index_tables.specs.TableSteps.{left_in_row, number_at, numb
 
 use crate::row::Row;
 use doc_heap::{BTreeMap, Heap, String, Vec};
-use doc_page::failure::Memory;
+use doc_page_parts::failure::Memory;
 use std::marker::Model;
 
 /// Numbers by text and number: a row for each text that has one. Contracts see the map of the rows.

@@ -22,7 +22,7 @@ use doc_inlines_tails::link_tail;
 use doc_lines::entities::Entities;
 use doc_lines::scan::character::is;
 use doc_lines::scan::front::front;
-use doc_page::failure::Memory;
+use doc_page_parts::failure::Memory;
 use doc_refs::RefMap;
 
 impl<'t, 'r> Reader<'t, 'r> {

@@ -21,7 +21,7 @@ use doc_heap::{Heap, Vec};
 use doc_inlines_emphasis::{Marks, Place};
 use doc_inlines_marks::mark_ref::{MarkRef, SpanRef};
 use doc_inlines_marks::target_ref::TargetRef;
-use doc_page::failure::Memory;
+use doc_page_parts::failure::Memory;
 
 /// The marks that were made of a text so far, and the brackets among them that are open. Of the brackets the first `dead` begin no
 /// link, unless they are images'.

@@ -26,7 +26,7 @@ use doc_inlines_marks::target_ref::TargetRef;
 use doc_lines::scan::character::next_char;
 use doc_lines::scan::front::front;
 use doc_lines::scan::run::many;
-use doc_page::failure::Memory;
+use doc_page_parts::failure::Memory;
 
 impl<'t, 'r> Reader<'t, 'r> {
     /// A code span, or a run of backticks without an end, which is text.

@@ -11,7 +11,7 @@ use doc_lines::character_reference;
 use doc_lines::entities::Entities;
 use doc_lines::scan::character::next_char;
 use doc_lines::scan::front::front;
-use doc_page::failure::Memory;
+use doc_page_parts::failure::Memory;
 
 impl<'t, 'r> Reader<'t, 'r> {
     /// A `\`: a hard break before a line ending, an escape before ASCII punctuation, and text before all else.

@@ -13,7 +13,7 @@ use crate::reader::Reader;
 use crate::runs::behind_run;
 use doc_inlines_marks::mark_ref::MarkRef;
 use doc_lines::scan::character::{is, next_char};
-use doc_page::failure::Memory;
+use doc_page_parts::failure::Memory;
 
 impl<'t, 'r> Reader<'t, 'r> {
     /// A line ending with no space before it. The spaces behind it go.

@@ -8,12 +8,12 @@ ghost use Rattle.doc_inlines_marks.specs.Views as lent_views;
 use doc_heap::{Heap, String, Vec};
 use doc_inlines_marks::mark_ref::{MarkRef, SpanRef};
 use doc_lines::pushing::push_characters;
-use doc_page::failure::Memory;
-use doc_page::text::Text;
+use doc_page_parts::failure::Memory;
+use doc_page_parts::text::Text;
 use doc_refs::Target;
 
 /// What inlines may stand in (CommonMark 0.31.2, sections 6.2 to 6.4).
-#[derive(Debug, PartialEq, Eq, Drop)]
+#[derive(Debug, Drop)]
 pub enum Span {
     Emphasis,
     Strong,

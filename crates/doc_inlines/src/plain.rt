@@ -16,7 +16,7 @@ use doc_inlines_marks::mark_ref::MarkRef;
 use doc_lines::scan::character::{is, last_char};
 use doc_lines::scan::front::front;
 use doc_lines::scan::until::until;
-use doc_page::failure::Memory;
+use doc_page_parts::failure::Memory;
 
 impl<'t, 'r> Reader<'t, 'r> {
     /// The first character, which is text, in a mark of its own.

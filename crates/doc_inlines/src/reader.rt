@@ -24,7 +24,7 @@ use doc_inlines_marks::mark_ref::MarkRef;
 use doc_lines::entities::Entities;
 use doc_lines::scan::character::next_char;
 use doc_lines::scan::front::front;
-use doc_page::failure::Memory;
+use doc_page_parts::failure::Memory;
 use doc_refs::RefMap;
 
 /// A reader of texts. It keeps its room from one text to the next, and the marks of the last text that it read.

@@ -17,7 +17,7 @@ use crate::reader::Reader;
 use doc_lines::scan::character::{last_char, next_char};
 use doc_lines::scan::front::front;
 use doc_lines::scan::run::many;
-use doc_page::failure::Memory;
+use doc_page_parts::failure::Memory;
 
 impl<'t, 'r> Reader<'t, 'r> {
     /// A run of `*` or `_`: each delimiter has a mark of its own.

@@ -5,5 +5,4 @@ pub mod PairLaws
 pub mod PassLaws
 pub mod MarkLaws
 pub mod WrapLaws
-pub mod ReadLaws
 mod Examples

@@ -1,14 +1,16 @@
 -- The runs of the code by their numbers.
 use Rattle.std.proofs.Common.{◌≡◌, ◌⊎◌, inl, inr, ℕ, ◌+◌, ◌-◌, ◌<◌, Bool, true, false, List, length, get_or, set, refl, ap, ap₂, sym, ◌∙◌}
-use Rattle.std.proofs.Common.{subst, None, arith}
-use Rattle.std.specs.Prelude.{if◌then◌else◌}
+use Rattle.std.proofs.Common.{subst, Option, None, arith}
+use Rattle.std.specs.Prelude.{suc, ◌≤◌, Some, slice_index, if◌then◌else◌}
 use Rattle.std.proofs.lemmas.List.{map-set, get_or-map, length-map}
 use Rattle.doc_rules.specs.Inlines as rules
+use Rattle.doc_rules.specs.Emphasis.{matches}
 use Rattle.doc_inlines_pass.specs.Marks.{Placed}
-use Rattle.doc_inlines_pass.specs.Openers.{closer_kind, NearestIs}
+use Rattle.doc_inlines_pass.specs.Openers.{closer_kind, MissedFrom, NearestIs, AreBounds, Ascend, StandBefore}
 use Rattle.doc_inlines_pass.specs.NumberSteps.{no_run, numbered, run_numbered, taken_opener, paired_runs}
 use Rattle.doc_inlines_pass.specs.Marks.{less_closer}
 use Rattle.doc_inlines_pass.specs.PassSteps.{Stacked}
+use Rattle.doc_inlines_pass.proofs.BoundLaws.{missed_more, missed_below}
 use Rattle.doc_inlines_pass.proofs.NumberLoops.{stacked_failed}
 use Rattle.doc_inlines_emphasis.specs.declared.run.Run.{Run}
 use Rattle.doc_inlines_emphasis.specs.RunSteps.{char_of, run_shown, placed_shown, all_placed}
@@ -32,6 +34,57 @@ char_is run = at run.star
     at : (m : Bool) → Either (if m then 42 else 95)
     at true = inl refl
     at false = inr refl
+
+-- a search goes down by one
+abbrev Above : List Run → List ℕ → Run → ℕ → Type 0
+Above runs openers closer n = MissedFrom (run_numbered (all_placed runs)) openers (run_shown closer) n
+
+step_down : (runs : List Run) (openers : List ℕ) (closer : Run) (place : ℕ) → 0 < place → Above runs openers closer place
+    → Above runs openers closer (suc (place - 1))
+step_down runs openers closer place some missed at least less = missed at (omega arith) less
+
+-- the test of the code on the run at a place of the stack
+tested : (runs : List Run) (openers : List ℕ) (closer d : Run) (n : ℕ) (m : Bool) → n < length openers → StandBefore (length runs) openers
+    → matches (run_shown (get_or runs (slice_index openers n) d)) (run_shown closer) ≡ m
+    → matches (run_numbered (all_placed runs) (slice_index openers n)) (run_shown closer) ≡ m
+tested runs openers closer d n m h before e =
+    ap (λ (r : rules.Run). matches r (run_shown closer)) (run_is runs (slice_index openers n) d (before n h)) ∙ e
+
+pub search_missed : (runs : List Run) (openers : List ℕ) (closer d : Run) (place : ℕ) → 0 < place → place ≤ length openers
+    → StandBefore (length runs) openers → Above runs openers closer place
+    → matches (run_shown (get_or runs (slice_index openers (place - 1)) d)) (run_shown closer) ≡ false
+    → Above runs openers closer (place - 1)
+search_missed runs openers closer d place some within before missed e =
+    missed_more (run_numbered (all_placed runs)) openers (run_shown closer) (place - 1) (step_down runs openers closer place some missed)
+    (tested runs openers closer d (place - 1) false (omega arith) before e)
+
+pub search_found : (runs : List Run) (openers : List ℕ) (closer d : Run) (place : ℕ) → 0 < place → place ≤ length openers
+    → StandBefore (length runs) openers → Above runs openers closer place
+    → matches (run_shown (get_or runs (slice_index openers (place - 1)) d)) (run_shown closer) ≡ true
+    → NearestIs (run_numbered (all_placed runs)) openers (run_shown closer) (Some (place - 1))
+search_found runs openers closer d place some within before missed e =
+    (omega arith, tested runs openers closer d (place - 1) true (omega arith) before e, step_down runs openers closer place some missed)
+
+pub search_ended : (runs : List Run) (openers bounds : List ℕ) (closer : Run) (place kind : ℕ) → 0 < place → place ≤ length openers
+    → AreBounds bounds (run_numbered (all_placed runs)) openers → Ascend openers → closer.closes ≡ true
+    → Above runs openers closer place → kind ≡ closer_kind (run_shown closer)
+    → slice_index openers (place - 1) < slice_index bounds kind
+    → NearestIs (run_numbered (all_placed runs)) openers (run_shown closer) None
+search_ended runs openers bounds closer place kind some within bounded ascend closes missed e less =
+    missed_below bounds (run_numbered (all_placed runs)) openers (run_shown closer) (place - 1) bounded ascend (closes, char_is closer)
+    (step_down runs openers closer place some missed) (omega arith)
+    (subst (λ k. slice_index openers (place - 1) < slice_index bounds k) e less)
+
+-- what is found among the openers that were looked at, for a run as it is
+pub nearest_told : (runs : List Run) (openers looked : List ℕ) (number : ℕ) (d : Run) (found : Option ℕ) → number < length runs
+    → looked ≡ openers → NearestIs (run_numbered (all_placed runs)) looked (run_shown (get_or runs number d)) found
+    → NearestIs (run_numbered (all_placed runs)) openers (run_numbered (all_placed runs) number) found
+nearest_told runs openers looked number d found within is near =
+    subst (λ (r : rules.Run). NearestIs (run_numbered (all_placed runs)) openers r found) (sym (run_is runs number d within))
+    (subst (λ xs. NearestIs (run_numbered (all_placed runs)) xs (run_shown (get_or runs number d)) found) is near)
+
+pub stand_within : (number size : ℕ) (openers : List ℕ) → StandBefore number openers → number < size → StandBefore size openers
+stand_within number size openers before within place less = let h = before place less in omega arith
 
 -- a search that fails sets the bound
 pub search_failed : (runs : List Run) (openers looked bounds : List ℕ) (number kind : ℕ) (d : Run)

@@ -16,7 +16,7 @@ use crate::pass::pass;
 use crate::run::Run;
 use doc_heap::{Heap, Vec};
 use doc_inlines_marks::mark_ref::MarkRef;
-use doc_page::failure::Memory;
+use doc_page_parts::failure::Memory;
 
 /// Marks made so far, and the delimiter runs among them. Each delimiter has a mark of its own.
 #[derive(Drop)]

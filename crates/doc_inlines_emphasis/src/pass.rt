@@ -23,7 +23,7 @@ use crate::pair::pair;
 use crate::run::Run;
 use doc_heap::Vec;
 use doc_inlines_marks::mark_ref::MarkRef;
-use doc_page::failure::Memory;
+use doc_page_parts::failure::Memory;
 
 /// The run of this number is closed as often as it has an opener.
 fn close<'t, 'r>(

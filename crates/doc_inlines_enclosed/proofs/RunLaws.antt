@@ -7,7 +7,7 @@ use Rattle.doc_rules.specs.Characters.{Text}
 use Rattle.doc_rules.specs.Parsers.{run_length}
 use Rattle.doc_rules.specs.CodeSpans.{before_backticks}
 use Rattle.doc_inlines_enclosed.specs.RunSteps.{IsPlain}
-use Rattle.doc_page.proofs.Bools.{and_first, and_second}
+use Rattle.doc_page_parts.proofs.Bools.{and_first, and_second}
 use Rattle.std.proofs.lemmas.Bool.{not-true}
 
 -- ---- tests and answers

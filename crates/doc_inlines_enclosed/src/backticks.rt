@@ -10,7 +10,7 @@ ghost use Rattle.doc_inlines_enclosed.specs.LearnSteps.{HasLearned};
 use crate::code::code_text;
 use crate::runs::{learn_places, run, span_end};
 use doc_heap::{Heap, Vec};
-use doc_page::failure::Memory;
+use doc_page_parts::failure::Memory;
 
 /// What the searches for the ends of code spans in one text learned: nothing before the first that failed, and then for each length of a
 /// run where its last run begins.

@@ -7,7 +7,7 @@ ghost use Rattle.doc_inlines_enclosed.specs.RunSteps.{IsToRun, IsSpanEnd, IsLear
 use doc_heap::Vec;
 use doc_lines::scan::front::front;
 use doc_lines::scan::run::many;
-use doc_page::failure::Memory;
+use doc_page_parts::failure::Memory;
 
 /// The text from its first backtick on; nothing where there is none. It looks at bytes.
 fn to_run(text: &str) -> &str

@@ -4,7 +4,7 @@ use Rattle.std.proofs.Common.{List, length, chars}
 use Rattle.std.specs.List.{list_all}
 use Rattle.std.proofs.lemmas.Bool.{and_parts, not-true}
 use Rattle.std.proofs.lemmas.Bool.Decides.{nat_tests}
-use Rattle.doc_page.proofs.Bools.{or_first, or_second}
+use Rattle.doc_page_parts.proofs.Bools.{or_first, or_second}
 use Rattle.doc_rules.specs.Characters.{Text}
 use Rattle.doc_rules.specs.Entities.{Table}
 use Rattle.doc_rules.specs.Escapes.{Meaning, escape_or_reference, backslash_escape, character_reference, unescape, unescape_behind}

@@ -5,7 +5,7 @@ use crate::mark_ref::ReferenceRef;
 use crate::target_ref::TargetRef;
 use bumpalo::Bump;
 use doc_heap::Heap;
-use doc_page::failure::Memory;
+use doc_page_parts::failure::Memory;
 
 /// Where the targets of links and the character references of marks stand, until all go at once. It takes memory in blocks that grow.
 pub struct Arena {

@@ -10,8 +10,8 @@ use doc_heap::{Heap, String};
 use doc_lines::entities::Entities;
 use doc_lines::pushing::push_text;
 use doc_lines::scan::character::is;
-use doc_page::failure::Memory;
-use doc_page::text::Text;
+use doc_page_parts::failure::Memory;
+use doc_page_parts::text::Text;
 use doc_refs::scan::inside::inside;
 use doc_refs::{Target, title_value};
 

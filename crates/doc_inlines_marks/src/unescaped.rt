@@ -9,8 +9,8 @@ use doc_heap::Heap;
 use doc_lines::entities::Entities;
 use doc_lines::scan::until::until;
 use doc_lines::unescape;
-use doc_page::failure::Memory;
-use doc_page::text::Text;
+use doc_page_parts::failure::Memory;
+use doc_page_parts::text::Text;
 
 /// A text with its escapes and references read (CommonMark 0.31.2, sections 2.4 and 2.5).
 #[derive(Drop)]

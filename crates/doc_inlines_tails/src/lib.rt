@@ -17,7 +17,7 @@ mod reference_tail;
 use doc_heap::Heap;
 use doc_inlines_marks::target_ref::TargetRef;
 use doc_lines::entities::Entities;
-use doc_page::failure::Memory;
+use doc_page_parts::failure::Memory;
 use doc_refs::RefMap;
 use inline_tail::{TailSource, inline_tail};
 use reference_tail::reference_tail;

@@ -1,6 +1,6 @@
 -- What is answered of a table that is handed in.
 use Rattle.std.proofs.Common.{◌≡◌, ℕ, List, [], ◌++◌, refl, ap, Option, Some, None, Ok, Err}
-use Rattle.doc_page.specs.Refusals.{IsAnswer}
+use Rattle.doc_page_parts.specs.Refusals.{IsAnswer}
 use Rattle.doc_rules.specs.Entities.{Table, built_in}
 use Rattle.doc_lines.specs.declared.entities.TableError.{TableError}
 use Rattle.doc_lines.specs.declared.entities.TableError.TheVariants.{BadRow, Twice, Memory}

@@ -10,7 +10,7 @@ use Rattle.std.proofs.Math.Nat.{min-eq_left, min-eq_right}
 use Rattle.doc_rules.specs.Characters.{Text, is_space_or_tab}
 use Rattle.doc_rules.specs.Columns.{Line, Cell, width_at, columns_from, cell_of, cells_from, is_gap, spaces, skip, indent}
 use Rattle.doc_lines.specs.Cursors.{Position, position_at, first, behind, skipped_in, skipped, cells_at, left_of, IsSoundAt, IsSound}
-use Rattle.doc_page.proofs.Bools.{and_false}
+use Rattle.doc_page_parts.proofs.Bools.{and_false}
 
 -- ---- widths
 

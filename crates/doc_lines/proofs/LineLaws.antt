@@ -10,12 +10,12 @@ use Rattle.std.proofs.lemmas.Bool.{cases_lt}
 use Rattle.std.proofs.lemmas.Bool.Decides.{nat_tests}
 use Rattle.std.proofs.lemmas.Str.{chars-nil, chars-append, chars_past_char, encode_ascii, encodes-chars, scalars-chars, IsUtf8-encode}
 use Rattle.std.proofs.lemmas.Str.{length-encode, len_utf8_bounds}
-use Rattle.doc_page.specs.Lines as bytewise
-use Rattle.doc_page.proofs.LineSteps.{onto_front, onto_front-nil, onto_front-cons}
+use Rattle.doc_page_parts.specs.Lines as bytewise
+use Rattle.doc_page_parts.proofs.LineSteps.{onto_front, onto_front-nil, onto_front-cons}
 use Rattle.doc_rules.specs.Characters.{Text}
 use Rattle.doc_rules.specs.Lines as rules
 use Rattle.doc_lines.specs.Lines.{LinesAreLines}
-use Rattle.doc_page.proofs.Bools.{and_first, and_second}
+use Rattle.doc_page_parts.proofs.Bools.{and_first, and_second}
 
 -- ---- the bytes of a character
 

@@ -7,7 +7,7 @@ use Rattle.std.specs.List.{onto_first, list_all}
 use Rattle.std.proofs.lemmas.Bool.Decides.{nat_tests}
 use Rattle.std.proofs.Math.Nat.{pow-le-pow_right, pow-suc}
 use Rattle.std.proofs.lemmas.List.Sums.{fold_more}
-use Rattle.doc_page.specs.Lines.{lines, ends_line, without_ending}
+use Rattle.doc_page_parts.specs.Lines.{lines, ends_line, without_ending}
 use Rattle.doc_rules.specs.Characters.{Text}
 use Rattle.doc_rules.specs.Entities.{Entity}
 use Rattle.doc_rules.specs.Escapes.{number}

@@ -1,7 +1,7 @@
 -- Tables of character references by example.
 use Rattle.std.proofs.Common.{◌≡◌, [], ◌∷◌, ◌++◌, Some, None, Ok, Err, refl}
 use Rattle.std.specs.Prelude.{codes}
-use Rattle.doc_page.specs.Lines.{lines, without_ending}
+use Rattle.doc_page_parts.specs.Lines.{lines, without_ending}
 use Rattle.doc_rules.specs.Entities.{built_in}
 use Rattle.doc_rules.specs.Escapes.{find_entity, number}
 use Rattle.doc_lines.specs.declared.entities.TableError.TheVariants.{BadRow, Twice}

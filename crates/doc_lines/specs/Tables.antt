@@ -7,7 +7,7 @@ use Rattle.std.specs.Char.{is_ascii_alphabetic, is_ascii_alphanumeric, is_ascii_
 use Rattle.std.specs.Cmp.Lexicographic.{slice_cmp}
 use Rattle.std.specs.List.{list_all, position_or_len, before_first, after_first}
 use Rattle.std.specs.Ordering.{nat_cmp}
-use Rattle.doc_page.specs.Lines.{lines, without_ending, is_space_or_tab}
+use Rattle.doc_page_parts.specs.Lines.{lines, without_ending, is_space_or_tab}
 use Rattle.doc_rules.specs.Characters.{Text}
 use Rattle.doc_rules.specs.Entities.{Entity, Table, built_in}
 use Rattle.doc_rules.specs.Escapes.{find_entity, number}

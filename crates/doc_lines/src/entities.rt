@@ -6,8 +6,8 @@ mod row;
 mod table;
 
 ghost use Rattle.std.specs.Prelude.{◌≡◌, chars, option_map};
-ghost use Rattle.doc_page.specs.Lines.{lines};
-ghost use Rattle.doc_page.specs.Refusals.{IsAnswer};
+ghost use Rattle.doc_page_parts.specs.Lines.{lines};
+ghost use Rattle.doc_page_parts.specs.Refusals.{IsAnswer};
 ghost use Rattle.doc_rules.specs.Entities.{built_in};
 ghost use Rattle.doc_rules.specs.Escapes.{find_entity};
 ghost use Rattle.doc_lines.specs.Entities.{characters};
@@ -15,7 +15,7 @@ ghost use Rattle.doc_lines.specs.Tables.{entities_of, twice_line, twice_or};
 
 use built_in::find_built_in;
 use doc_heap::{BTreeMap, Heap, String};
-use doc_page::failure::Memory;
+use doc_page_parts::failure::Memory;
 use std::error::Error;
 use std::fmt;
 use std::marker::Model;

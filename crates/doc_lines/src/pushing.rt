@@ -3,7 +3,7 @@ ghost use Rattle.std.specs.Prelude.{◌≡◌, [], ◌∷◌, ◌++◌, chars, s
 ghost use Rattle.doc_lines.specs.Entities.{characters};
 
 use doc_heap::String;
-use doc_page::failure::Memory;
+use doc_page_parts::failure::Memory;
 
 /// Adds a character. Without memory `out` stays as it is.
 pub fn push_char(out: &mut String, c: char) -> Result<(), Memory>

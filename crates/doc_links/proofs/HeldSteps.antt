@@ -8,7 +8,7 @@ use Rattle.doc_index.specs.Maps.{PairMap, TextMap}
 use Rattle.doc_index.specs.declared.held.Held.{Held}
 use Rattle.doc_index.proofs.HeldSteps.{pairs_exact, pairs_total}
 use Rattle.doc_index.proofs.TableSteps.{on_ok}
-use Rattle.doc_page.specs.Sights.{leads_to_itself, seen}
+use Rattle.doc_page_parts.specs.Sights.{leads_to_itself, seen}
 use Rattle.doc_links_seen.specs.SeenSteps.{page_in}
 use Rattle.doc_links.specs.IndexSteps.{with_values, without_counts}
 use Rattle.doc_links_pages.specs.PageLinks.{pages_of}

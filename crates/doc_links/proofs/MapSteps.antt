@@ -12,7 +12,7 @@ use Rattle.std.specs.Map.{keys_of}
 use Rattle.std.specs.Ordering.{eq_by_cmp}
 use Rattle.std.proofs.lemmas.Map.Lookups.{CmpEqualImpliesEq}
 use Rattle.std.proofs.lemmas.Map.Made.{keys_of-map_values}
-use Rattle.doc_page.proofs.Maps.{entries_in_order}
+use Rattle.doc_page_parts.proofs.Maps.{entries_in_order}
 use Rattle.doc_links.specs.IndexSteps.{with_values}
 
 to_less : (o : Ordering) → T (is_lt o) → o ≡ Less

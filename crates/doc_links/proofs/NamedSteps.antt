@@ -17,8 +17,8 @@ use Rattle.doc_index.specs.declared.held.Held.{Held}
 use Rattle.doc_index.specs.Held.{Known, count_in, entries_of, held, known, slot_at}
 use Rattle.doc_index.specs.Maps.{TextMap, pair_cmp}
 use Rattle.doc_index.proofs.HeldSteps.{not_some, pair_is, pair_itself, pairs_total, same_pair, some_is}
-use Rattle.doc_page.proofs.Maps.{entries_in_order}
-use Rattle.doc_page.specs.Sights.{leads_to_itself, seen}
+use Rattle.doc_page_parts.proofs.Maps.{entries_in_order}
+use Rattle.doc_page_parts.specs.Sights.{leads_to_itself, seen}
 use Rattle.doc_resolve.specs.declared.link_kind.LinkKind.{LinkKind}
 use Rattle.doc_resolve.specs.declared.link_kind.LinkKind.TheVariants.{External, Page, Nowhere}
 use Rattle.doc_links.specs.IndexSteps.{AreKeyed, IsTally, goes_to, if_seen, sources_of, without_counts, written_at}

@@ -21,7 +21,7 @@ use Rattle.doc_index.specs.Maps.{NumberMap, TextMap, pair_cmp}
 use Rattle.doc_index.specs.TableSteps.{same_number}
 use Rattle.doc_index.proofs.CountSteps.{number_is, number_itself, text_itself}
 use Rattle.doc_index.proofs.HeldSteps.{not_some, pair_itself, pairs_total, same_pair, some_is}
-use Rattle.doc_page.specs.Sights.{leads_to_itself}
+use Rattle.doc_page_parts.specs.Sights.{leads_to_itself}
 use Rattle.doc_links.specs.IndexSteps.{AreSingle, IsTally, if_seen, with_count, with_page, with_row, without_counts, written_at}
 use Rattle.doc_links_pages.specs.KnownSteps.{count_at}
 use Rattle.doc_links_pages.specs.PageLinks.{IsOnce}

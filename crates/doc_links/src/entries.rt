@@ -8,8 +8,8 @@ use doc_heap::{Heap, Vec};
 use doc_links_pages::answers::Entry;
 use doc_links_pages::page_links::copy_of_headings;
 use doc_links_seen::seen::SeenPage;
-use doc_page::failure::Memory;
-use doc_page::list::List;
+use doc_page_parts::failure::Memory;
+use doc_page_parts::list::List;
 
 /// Copies of the pages' paths and headings.
 pub fn entries_of(heap: Heap, pages: &[SeenPage]) -> Result<List<Entry>, Memory>

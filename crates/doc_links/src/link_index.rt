@@ -3,7 +3,7 @@
 ghost use Rattle.std.specs.Prelude.{◌≡◌, None, IfOk, IsTrue, OnOk, OnErr, is_some, map as mapped, option_copied};
 ghost use Rattle.std.specs.Prelude.{option_map};
 ghost use Rattle.std.specs.FinMap as map;
-ghost use Rattle.doc_page.specs.Sights.{seen};
+ghost use Rattle.doc_page_parts.specs.Sights.{seen};
 ghost use Rattle.doc_links_pages.specs.Links.{backlinks, broken, contents, page_at};
 ghost use Rattle.doc_links_pages.specs.Names.{AreNames};
 ghost use Rattle.doc_links_pages.specs.PageLinks.{IsOnce, page_links, pages_of};
@@ -19,11 +19,11 @@ use doc_links_pages::keys::keys_of;
 use doc_links_pages::known::Known;
 use doc_links_seen::report::broken_in;
 use doc_links_seen::seen::{SeenPage, seen_in};
-use doc_page::failure::Memory;
-use doc_page::list::List;
-use doc_page::path::Path;
-use doc_page::rendered::{Heading, Piece, Rendered};
-use doc_page::sight::Sight;
+use doc_page_parts::failure::Memory;
+use doc_page_parts::list::List;
+use doc_page_parts::path::Path;
+use doc_page_parts::rendered::{Heading, Piece, Rendered};
+use doc_page_parts::sight::Sight;
 use doc_resolve::LinkKind;
 use std::marker::Model;
 

@@ -1,7 +1,7 @@
 //! The pages that link to a page.
 
 ghost use Rattle.std.specs.Prelude.{◌≡◌, ◌++◌, ◌==◌, [], ◌∷◌, count_by, IfOk, OnOk, if◌then◌else◌};
-ghost use Rattle.doc_page.specs.Sights.{leads_to_itself};
+ghost use Rattle.doc_page_parts.specs.Sights.{leads_to_itself};
 ghost use Rattle.doc_links_seen.specs.SeenSteps.{IsInOrder};
 ghost use Rattle.doc_links.specs.IndexSteps.{goes_to, source_of, sources_of};
 ghost use Rattle.doc_links_pages.specs.Links.{backlinks};
@@ -9,10 +9,10 @@ ghost use Rattle.doc_links_seen.specs.SeenPages.{seen_page, seen_pages};
 
 use doc_heap::{Heap, Vec};
 use doc_links_seen::seen::{SeenPage, page_at};
-use doc_page::failure::Memory;
-use doc_page::list::List;
-use doc_page::path::Path;
-use doc_page::sight::Sight;
+use doc_page_parts::failure::Memory;
+use doc_page_parts::list::List;
+use doc_page_parts::path::Path;
+use doc_page_parts::sight::Sight;
 use doc_resolve::LinkKind;
 
 /// Those of these pages that have links to a target, where that is one of them, each with their number. The pages are all that the

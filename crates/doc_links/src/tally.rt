@@ -17,10 +17,10 @@ use doc_heap::{BTreeMap, Heap, Vec};
 use doc_index::index::Index;
 use doc_index::row::Row;
 use doc_links_pages::known::Known;
-use doc_page::failure::Memory;
-use doc_page::list::List;
-use doc_page::path::Path;
-use doc_page::sight::Sight;
+use doc_page_parts::failure::Memory;
+use doc_page_parts::list::List;
+use doc_page_parts::path::Path;
+use doc_page_parts::sight::Sight;
 use std::marker::Model;
 
 /// Paths of pages, each with a number that isn't 0. Contracts see the map.

@@ -7,7 +7,7 @@ use Rattle.std.specs.Ordering.{nat_cmp}
 use Rattle.std.proofs.lemmas.List.{take_more}
 use Rattle.std.proofs.lemmas.List.Folds.{list_any-append}
 use Rattle.std.proofs.lemmas.Map.Text.{is_eq-slice_cmp}
-use Rattle.doc_page.specs.declared.rendered.Heading.{Heading}
+use Rattle.doc_page_parts.specs.declared.rendered.Heading.{Heading}
 use Rattle.doc_links_pages.specs.KnownSteps.{HasAnchors}
 use Rattle.doc_links_pages.specs.Links.{has_anchor}
 

@@ -1,6 +1,6 @@
 -- Copies of headings.
 use Rattle.std.proofs.Common.{◌≡◌, ℕ, List, ap₂}
-use Rattle.doc_page.specs.declared.rendered.Heading.{Heading}
+use Rattle.doc_page_parts.specs.declared.rendered.Heading.{Heading}
 
 abbrev pub heading_of : ℕ → List ℕ → List ℕ → Heading
 heading_of level anchor text = record { level = level; anchor = anchor; text = text }

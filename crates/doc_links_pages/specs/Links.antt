@@ -3,7 +3,7 @@
 use Rattle.std.specs.Prelude.{ℕ, suc, List, [], ◌∷◌, ◌++◌, map, count_by, Bool, false, not, ◌==◌, bytes_eq, codes, Option, Some, None}
 use Rattle.std.specs.Prelude.{option_and_then, if◌then◌else◌}
 use Rattle.std.specs.List.{filter, flat_map, list_any}
-use Rattle.doc_page.specs.declared.rendered.Heading.{Heading}
+use Rattle.doc_page_parts.specs.declared.rendered.Heading.{Heading}
 use Rattle.doc_page_encoding.specs.Encoding.{encoded}
 use Rattle.doc_resolve.specs.declared.link_kind.LinkKind.{LinkKind}
 use Rattle.doc_resolve.specs.declared.link_kind.LinkKind.TheVariants.{External, Page, Nowhere}

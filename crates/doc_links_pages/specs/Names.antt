@@ -1,7 +1,7 @@
 -- The names of a page: paths that links write and that lead to it.
 use Rattle.std.specs.Prelude.{◌≡◌, ℕ, List, Bool, true, false, bytes_eq, Option}
 use Rattle.std.specs.List.{IsDistinct, list_any}
-use Rattle.doc_page.specs.Sights.{leads_to_itself}
+use Rattle.doc_page_parts.specs.Sights.{leads_to_itself}
 use Rattle.doc_resolve.specs.declared.link_kind.LinkKind.{LinkKind}
 use Rattle.doc_resolve.specs.declared.link_kind.LinkKind.TheVariants.{External, Page, Nowhere}
 use Rattle.doc_links_pages.specs.declared.page_links.PageLinks.{PageLinks}

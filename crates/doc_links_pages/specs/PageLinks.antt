@@ -2,8 +2,8 @@
 use Rattle.std.specs.Prelude.{◌≡◌, ℕ, List, IsTrue, map as mapped}
 use Rattle.std.specs.FinMap as map
 use Rattle.doc_index.specs.Maps.{PairMap}
-use Rattle.doc_page.specs.declared.rendered.Heading.{Heading}
-use Rattle.doc_page.specs.declared.rendered.Piece.{Piece}
+use Rattle.doc_page_parts.specs.declared.rendered.Heading.{Heading}
+use Rattle.doc_page_parts.specs.declared.rendered.Piece.{Piece}
 use Rattle.doc_resolve.specs.Links.{kinds}
 use Rattle.doc_links_pages.specs.declared.page_links.PageLinks.{PageLinks}
 

@@ -1,9 +1,9 @@
 //! What the index of links answers.
 
-use doc_page::list::List;
-use doc_page::path::Path;
-use doc_page::rendered::Heading;
-use doc_page::text::Text;
+use doc_page_parts::list::List;
+use doc_page_parts::path::Path;
+use doc_page_parts::rendered::Heading;
+use doc_page_parts::text::Text;
 
 /// Why a link is broken.
 #[derive(Clone, Copy)]

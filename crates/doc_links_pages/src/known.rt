@@ -7,11 +7,11 @@ ghost use Rattle.doc_links_pages.specs.PageLinks.{page_links};
 
 use crate::page_links::{PageLinks, copy_of_headings};
 use doc_heap::Heap;
-use doc_page::failure::Memory;
-use doc_page::list::List;
-use doc_page::path::Path;
-use doc_page::rendered::{Heading, Piece};
-use doc_page::text::Text;
+use doc_page_parts::failure::Memory;
+use doc_page_parts::list::List;
+use doc_page_parts::path::Path;
+use doc_page_parts::rendered::{Heading, Piece};
+use doc_page_parts::text::Text;
 use doc_resolve::{LinkKind, kinds};
 use std::collections::BTreeSet;
 use std::marker::Model;

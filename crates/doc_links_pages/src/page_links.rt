@@ -3,9 +3,9 @@
 ghost use Rattle.std.specs.Prelude.{◌≡◌, IfOk};
 
 use doc_heap::{Heap, Vec};
-use doc_page::failure::Memory;
-use doc_page::list::List;
-use doc_page::rendered::Heading;
+use doc_page_parts::failure::Memory;
+use doc_page_parts::list::List;
+use doc_page_parts::rendered::Heading;
 use doc_resolve::LinkKind;
 
 /// What each link of a page leads to, in order, also out of the site; and the page's headings, in order.

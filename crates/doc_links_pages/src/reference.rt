@@ -4,10 +4,10 @@ ghost use Rattle.std.specs.Prelude.{◌≡◌, ◌++◌, IfOk, codes};
 ghost use Rattle.doc_page_encoding.specs.Encoding.{encoded};
 
 use doc_heap::{Heap, String};
-use doc_page::failure::Memory;
-use doc_page::path::Path;
-use doc_page::text::Text;
 use doc_page_encoding::encoding::push_encoded;
+use doc_page_parts::failure::Memory;
+use doc_page_parts::path::Path;
+use doc_page_parts::text::Text;
 
 /// A path and an anchor, as a reference to it is written.
 pub fn with_anchor(heap: Heap, path: &Path, anchor: &Text) -> Result<Text, Memory>

@@ -9,11 +9,11 @@ use crate::seen::{SeenPage, page_at};
 use doc_heap::{Heap, Vec};
 use doc_links_pages::answers::{Broken, Reason};
 use doc_links_pages::reference::with_anchor;
-use doc_page::failure::Memory;
-use doc_page::list::List;
-use doc_page::path::Path;
-use doc_page::sight::Sight;
-use doc_page::text::Text;
+use doc_page_parts::failure::Memory;
+use doc_page_parts::list::List;
+use doc_page_parts::path::Path;
+use doc_page_parts::sight::Sight;
+use doc_page_parts::text::Text;
 use doc_resolve::LinkKind;
 
 /// The broken links of these pages, which are all that the sight sees and stand in the order of their paths.

@@ -3,7 +3,7 @@
 ghost use Rattle.std.specs.Prelude.{◌≡◌, ◌++◌, IfOk, OnOk, map as mapped, option_copied, option_map};
 ghost use Rattle.std.specs.List.{flat_map};
 ghost use Rattle.doc_index.specs.Held.{slot_at};
-ghost use Rattle.doc_page.specs.Sights.{seen};
+ghost use Rattle.doc_page_parts.specs.Sights.{seen};
 ghost use Rattle.doc_links_seen.specs.SeenSteps.{IsInOrder, page_in};
 ghost use Rattle.doc_links_pages.specs.Links.{page_at};
 ghost use Rattle.doc_links_seen.specs.SeenPages.{seen_page, seen_pages};
@@ -12,10 +12,10 @@ use doc_heap::{Heap, Vec};
 use doc_index::held::Held;
 use doc_index::index::Index;
 use doc_links_pages::known::Known;
-use doc_page::failure::Memory;
-use doc_page::path::Path;
-use doc_page::rendered::Heading;
-use doc_page::sight::Sight;
+use doc_page_parts::failure::Memory;
+use doc_page_parts::path::Path;
+use doc_page_parts::rendered::Heading;
+use doc_page_parts::sight::Sight;
 use doc_resolve::LinkKind;
 
 /// A page that is seen.

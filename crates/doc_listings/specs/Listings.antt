@@ -1,8 +1,8 @@
 -- The lists that a server answers, as text. Each line ends with a line feed. All of this is this project's choice.
 use Rattle.std.specs.Prelude.{ℕ, List, ◌++◌, codes, decimal, None}
 use Rattle.std.specs.List.{flat_map}
-use Rattle.doc_page.specs.Escaping.{escaped}
-use Rattle.doc_page.specs.declared.rendered.Heading.{Heading}
+use Rattle.doc_page_parts.specs.Escaping.{escaped}
+use Rattle.doc_page_parts.specs.declared.rendered.Heading.{Heading}
 use Rattle.doc_page_encoding.specs.Encoding.{encoded}
 use Rattle.doc_resolve.specs.Hrefs.{page_href}
 use Rattle.doc_links_pages.specs.declared.answers.Broken.{Broken}

@@ -6,11 +6,11 @@ ghost use Rattle.doc_listings.specs.Listings.{backlink_line, backlinks_text};
 
 use crate::number::{MOST_DIGITS, push_number};
 use doc_heap::{Heap, String};
-use doc_page::failure::Memory;
-use doc_page::path::Path;
+use doc_page_parts::failure::Memory;
+use doc_page_parts::path::Path;
 
 /// Writes a line for each page with links to a page: its path, a tab, and how many.
-#[tactic(auto, unfolding(crate::specs::Listings::backlinks_text), using(doc_page::proofs::BufferSteps::front_same, doc_page::proofs::BufferSteps::front_more))]
+#[tactic(auto, unfolding(crate::specs::Listings::backlinks_text), using(doc_page_parts::proofs::BufferSteps::front_same, doc_page_parts::proofs::BufferSteps::front_more))]
 pub fn push_backlinks(heap: Heap, out: &mut String, sources: &[(Path, u64)]) -> Result<(), Memory>
     ensures ok { OnOk result
         (string_bytes out.new ≡ string_bytes out.old ++ backlinks_text sources.now) }
@@ -24,7 +24,7 @@ pub fn push_backlinks(heap: Heap, out: &mut String, sources: &[(Path, u64)]) -> 
     Ok(())
 }
 
-#[tactic(auto, using(doc_page::proofs::BufferSteps::front_same, doc_page::proofs::BufferSteps::front_more))]
+#[tactic(auto, using(doc_page_parts::proofs::BufferSteps::front_same, doc_page_parts::proofs::BufferSteps::front_more))]
 fn push_backlink(out: &mut String, digits: &mut String, source: &(Path, u64)) -> Result<(), Memory>
     ensures ok { OnOk result
         (string_bytes out.new ≡ string_bytes out.old ++ backlink_line source.now) }

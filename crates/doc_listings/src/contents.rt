@@ -10,11 +10,11 @@ ghost use Rattle.doc_listings.specs.Listings.{page_line, page_start};
 use crate::number::{MOST_DIGITS, push_number};
 use doc_heap::{Heap, String};
 use doc_links_pages::answers::Entry;
-use doc_page::escaping::push_escaped;
-use doc_page::failure::Memory;
-use doc_page::path::Path;
-use doc_page::rendered::Heading;
 use doc_page_encoding::encoding::{push_encoded, push_encoded_path};
+use doc_page_parts::escaping::push_escaped;
+use doc_page_parts::failure::Memory;
+use doc_page_parts::path::Path;
+use doc_page_parts::rendered::Heading;
 
 /// Room for the address of a page.
 const ADDRESS_ROOM: usize = 256;
@@ -23,7 +23,7 @@ const ADDRESS_ROOM: usize = 256;
 const LINE_ROOM: usize = 40;
 
 /// Writes a page of HTML with a list of pages and their headings, each a link.
-#[tactic(auto, using(doc_page::proofs::BufferSteps::front_same, doc_page::proofs::BufferSteps::front_more))]
+#[tactic(auto, using(doc_page_parts::proofs::BufferSteps::front_same, doc_page_parts::proofs::BufferSteps::front_more))]
 pub fn push_contents(heap: Heap, out: &mut String, pages: &[Entry]) -> Result<(), Memory>
     ensures ok { OnOk result
         (string_bytes out.new ≡ string_bytes out.old ++ contents_text pages.now) }
@@ -36,7 +36,7 @@ pub fn push_contents(heap: Heap, out: &mut String, pages: &[Entry]) -> Result<()
     Ok(())
 }
 
-#[tactic(auto, using(doc_page::proofs::BufferSteps::front_same, doc_page::proofs::BufferSteps::front_more))]
+#[tactic(auto, using(doc_page_parts::proofs::BufferSteps::front_same, doc_page_parts::proofs::BufferSteps::front_more))]
 fn push_pages(heap: Heap, out: &mut String, pages: &[Entry]) -> Result<(), Memory>
     ensures ok { OnOk result
         (string_bytes out.new ≡ string_bytes out.old ++ flat_map entry_lines pages.now) }
@@ -51,7 +51,7 @@ fn push_pages(heap: Heap, out: &mut String, pages: &[Entry]) -> Result<(), Memor
 }
 
 /// Writes the lines of a page and its headings. Its address is made once, in a buffer of its own.
-#[tactic(auto, unfolding(crate::specs::Listings::entry_lines), using(doc_page::proofs::BufferSteps::front_same, doc_page::proofs::BufferSteps::front_more))]
+#[tactic(auto, unfolding(crate::specs::Listings::entry_lines), using(doc_page_parts::proofs::BufferSteps::front_same, doc_page_parts::proofs::BufferSteps::front_more))]
 fn push_page(
     out: &mut String,
     digits: &mut String,
@@ -76,7 +76,7 @@ fn set_address(address: &mut String, path: &Path) -> Result<(), Memory>
     push_encoded_path(address, path.text())
 }
 
-#[tactic(auto, using(doc_page::proofs::BufferSteps::front_same, doc_page::proofs::BufferSteps::front_more))]
+#[tactic(auto, using(doc_page_parts::proofs::BufferSteps::front_same, doc_page_parts::proofs::BufferSteps::front_more))]
 fn push_page_line(out: &mut String, address: &str, path: &Path) -> Result<(), Memory>
     ensures ok { OnOk result
         (string_bytes out.new ≡ string_bytes out.old ++ page_line address.now path.now) }
@@ -87,7 +87,7 @@ fn push_page_line(out: &mut String, address: &str, path: &Path) -> Result<(), Me
 }
 
 /// Writes the element of a page's line up to the end of the address.
-#[tactic(auto, using(doc_page::proofs::BufferSteps::front_same, doc_page::proofs::BufferSteps::front_more))]
+#[tactic(auto, using(doc_page_parts::proofs::BufferSteps::front_same, doc_page_parts::proofs::BufferSteps::front_more))]
 fn push_page_start(out: &mut String, address: &str) -> Result<(), Memory>
     ensures ok { OnOk result
         (string_bytes out.new ≡ string_bytes out.old ++ page_start address.now) }
@@ -98,7 +98,7 @@ fn push_page_start(out: &mut String, address: &str) -> Result<(), Memory>
     Ok(())
 }
 
-#[tactic(auto, using(doc_page::proofs::BufferSteps::front_same, doc_page::proofs::BufferSteps::front_more))]
+#[tactic(auto, using(doc_page_parts::proofs::BufferSteps::front_same, doc_page_parts::proofs::BufferSteps::front_more))]
 fn push_headings(
     out: &mut String,
     digits: &mut String,
@@ -115,7 +115,7 @@ fn push_headings(
     Ok(())
 }
 
-#[tactic(auto, unfolding(crate::specs::Listings::heading_line), using(doc_page::proofs::BufferSteps::front_same, doc_page::proofs::BufferSteps::front_more))]
+#[tactic(auto, unfolding(crate::specs::Listings::heading_line), using(doc_page_parts::proofs::BufferSteps::front_same, doc_page_parts::proofs::BufferSteps::front_more))]
 fn push_heading(
     out: &mut String,
     digits: &mut String,
@@ -132,7 +132,7 @@ fn push_heading(
 }
 
 /// Writes the element of a heading's line up to the address.
-#[tactic(auto, using(doc_page::proofs::BufferSteps::front_same, doc_page::proofs::BufferSteps::front_more))]
+#[tactic(auto, using(doc_page_parts::proofs::BufferSteps::front_same, doc_page_parts::proofs::BufferSteps::front_more))]
 fn push_heading_start(out: &mut String, digits: &mut String, level: u8) -> Result<(), Memory>
     ensures ok { OnOk result
         (string_bytes out.new ≡ string_bytes out.old ++ heading_start level) }
@@ -145,7 +145,7 @@ fn push_heading_start(out: &mut String, digits: &mut String, level: u8) -> Resul
 }
 
 /// Writes the address of a heading in the page at an address.
-#[tactic(auto, using(doc_page::proofs::BufferSteps::front_same, doc_page::proofs::BufferSteps::front_more))]
+#[tactic(auto, using(doc_page_parts::proofs::BufferSteps::front_same, doc_page_parts::proofs::BufferSteps::front_more))]
 fn push_heading_address(out: &mut String, address: &str, anchor: &str) -> Result<(), Memory>
     ensures ok { OnOk result
         (string_bytes out.new ≡ string_bytes out.old ++ heading_address address.now anchor.now) }
@@ -157,7 +157,7 @@ fn push_heading_address(out: &mut String, address: &str, anchor: &str) -> Result
 }
 
 /// Writes what follows the address in a line: the text of the link.
-#[tactic(auto, using(doc_page::proofs::BufferSteps::front_same, doc_page::proofs::BufferSteps::front_more))]
+#[tactic(auto, using(doc_page_parts::proofs::BufferSteps::front_same, doc_page_parts::proofs::BufferSteps::front_more))]
 fn push_link_text(out: &mut String, text: &str) -> Result<(), Memory>
     ensures ok { OnOk result
         (string_bytes out.new ≡ string_bytes out.old ++ link_text text.now) }

@@ -6,11 +6,11 @@ ghost use Rattle.doc_listings.specs.Listings.{hit_line, hits_text};
 
 use crate::number::{MOST_DIGITS, push_number};
 use doc_heap::{Heap, String};
-use doc_page::failure::Memory;
+use doc_page_parts::failure::Memory;
 use doc_words_search::hit::Hit;
 
 /// Writes a line for each page that a search found: its score, a tab, and its path.
-#[tactic(auto, unfolding(crate::specs::Listings::hits_text), using(doc_page::proofs::BufferSteps::front_same, doc_page::proofs::BufferSteps::front_more))]
+#[tactic(auto, unfolding(crate::specs::Listings::hits_text), using(doc_page_parts::proofs::BufferSteps::front_same, doc_page_parts::proofs::BufferSteps::front_more))]
 pub fn push_hits(heap: Heap, out: &mut String, hits: &[Hit]) -> Result<(), Memory>
     ensures ok { OnOk result (string_bytes out.new ≡ string_bytes out.old ++ hits_text hits.now) }
     ensures err { OnErr result (StartsWith (string_bytes out.new) (string_bytes out.old)) }
@@ -23,7 +23,7 @@ pub fn push_hits(heap: Heap, out: &mut String, hits: &[Hit]) -> Result<(), Memor
     Ok(())
 }
 
-#[tactic(auto, using(doc_page::proofs::BufferSteps::front_same, doc_page::proofs::BufferSteps::front_more))]
+#[tactic(auto, using(doc_page_parts::proofs::BufferSteps::front_same, doc_page_parts::proofs::BufferSteps::front_more))]
 fn push_hit(out: &mut String, digits: &mut String, hit: &Hit) -> Result<(), Memory>
     ensures ok { OnOk result (string_bytes out.new ≡ string_bytes out.old ++ hit_line hit.now) }
     ensures err { OnErr result (StartsWith (string_bytes out.new) (string_bytes out.old)) }

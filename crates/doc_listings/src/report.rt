@@ -7,10 +7,10 @@ ghost use Rattle.doc_listings.specs.Listings.{broken_line, place_of, reason_name
 use crate::number::{MOST_DIGITS, push_number};
 use doc_heap::{Heap, String};
 use doc_links_pages::answers::{Broken, Reason};
-use doc_page::failure::Memory;
+use doc_page_parts::failure::Memory;
 
 /// Writes a line for each broken link: the path of its page, its number there, the reason and what it leads to, with tabs between.
-#[tactic(auto, unfolding(crate::specs::Listings::report_text), using(doc_page::proofs::BufferSteps::front_same, doc_page::proofs::BufferSteps::front_more))]
+#[tactic(auto, unfolding(crate::specs::Listings::report_text), using(doc_page_parts::proofs::BufferSteps::front_same, doc_page_parts::proofs::BufferSteps::front_more))]
 pub fn push_report(heap: Heap, out: &mut String, links: &[Broken]) -> Result<(), Memory>
     ensures ok { OnOk result
         (string_bytes out.new ≡ string_bytes out.old ++ report_text links.now) }
@@ -24,7 +24,7 @@ pub fn push_report(heap: Heap, out: &mut String, links: &[Broken]) -> Result<(),
     Ok(())
 }
 
-#[tactic(auto, using(doc_page::proofs::BufferSteps::front_same, doc_page::proofs::BufferSteps::front_more))]
+#[tactic(auto, using(doc_page_parts::proofs::BufferSteps::front_same, doc_page_parts::proofs::BufferSteps::front_more))]
 fn push_broken(out: &mut String, digits: &mut String, link: &Broken) -> Result<(), Memory>
     ensures ok { OnOk result (string_bytes out.new ≡ string_bytes out.old ++ broken_line link.now) }
     ensures err { OnErr result (StartsWith (string_bytes out.new) (string_bytes out.old)) }
@@ -34,7 +34,7 @@ fn push_broken(out: &mut String, digits: &mut String, link: &Broken) -> Result<(
 }
 
 /// Writes where a broken link stands.
-#[tactic(auto, using(doc_page::proofs::BufferSteps::front_same, doc_page::proofs::BufferSteps::front_more))]
+#[tactic(auto, using(doc_page_parts::proofs::BufferSteps::front_same, doc_page_parts::proofs::BufferSteps::front_more))]
 fn push_place(out: &mut String, digits: &mut String, link: &Broken) -> Result<(), Memory>
     ensures ok { OnOk result (string_bytes out.new ≡ string_bytes out.old ++ place_of link.now) }
     ensures err { OnErr result (StartsWith (string_bytes out.new) (string_bytes out.old)) }
@@ -47,7 +47,7 @@ fn push_place(out: &mut String, digits: &mut String, link: &Broken) -> Result<()
 }
 
 /// Writes why it is broken.
-#[tactic(auto, using(doc_page::proofs::BufferSteps::front_same, doc_page::proofs::BufferSteps::front_more))]
+#[tactic(auto, using(doc_page_parts::proofs::BufferSteps::front_same, doc_page_parts::proofs::BufferSteps::front_more))]
 fn push_why(out: &mut String, link: &Broken) -> Result<(), Memory>
     ensures ok { OnOk result (string_bytes out.new ≡ string_bytes out.old ++ why link.now) }
     ensures err { OnErr result (StartsWith (string_bytes out.new) (string_bytes out.old)) }

@@ -2,14 +2,14 @@
 use Rattle.std.proofs.Common.{◌≡◌, true, false, codes, refl, [], ◌∷◌}
 use Rattle.std.specs.Prelude.{Ok, Err, Some, None, replicate}
 use Rattle.std.specs.Str.{chars}
-use Rattle.doc_page.specs.Escaping.{escaped}
-use Rattle.doc_page.specs.Lines.{lines, is_blank, without_ending, stripped}
-use Rattle.doc_page.specs.Pages.{opening_tag, filled, title_of, body_of}
-use Rattle.doc_page.specs.Paths.{is_path, path_of}
+use Rattle.doc_page_parts.specs.Escaping.{escaped}
+use Rattle.doc_page_parts.specs.Lines.{lines, is_blank, without_ending, stripped}
+use Rattle.doc_page_parts.specs.Pages.{opening_tag, filled, title_of, body_of}
+use Rattle.doc_page_parts.specs.Paths.{is_path, path_of}
 use Rattle.doc_page.specs.Plain.{paragraphs, plain_html, plain_page}
-use Rattle.doc_page.specs.declared.linker.Shown.TheVariants.{Href, Missing}
-use Rattle.doc_page.specs.declared.path.PathError.TheVariants.{BadPath}
-use Rattle.doc_page.specs.declared.rendered.Piece.TheVariants.{Html}
+use Rattle.doc_page_parts.specs.declared.linker.Shown.TheVariants.{Href, Missing}
+use Rattle.doc_page_parts.specs.declared.path.PathError.TheVariants.{BadPath}
+use Rattle.doc_page_parts.specs.declared.rendered.Piece.TheVariants.{Html}
 
 -- paths
 pub two_segments : path_of (codes "guide/x.md") ≡ Ok (codes "guide/x.md")

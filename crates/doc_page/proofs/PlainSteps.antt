@@ -7,8 +7,8 @@ use Rattle.std.proofs.lemmas.Bool.Decides.{nat_tests}
 use Rattle.std.proofs.lemmas.List.{append-nil, append_assoc, length-map}
 use Rattle.std.proofs.lemmas.List.Concat.{flat_map-append}
 use Rattle.std.proofs.lemmas.List.Splits.{slice_split_at, slice_split_none}
-use Rattle.doc_page.specs.declared.failure.Memory.{Memory}
-use Rattle.doc_page.specs.Pages.{is_empty}
+use Rattle.doc_page_parts.specs.declared.failure.Memory.{Memory}
+use Rattle.doc_page_parts.specs.Pages.{is_empty}
 use Rattle.doc_page.specs.ParagraphSteps.{lines_after}
 use Rattle.doc_page.specs.Plain.{paragraphs}
 

@@ -1,8 +1,8 @@
 -- Laws of pages; the proofs are in proofs/.
 use Rattle.std.specs.Prelude.{ℕ, List, [], ◌∷◌, ⊤}
 use Rattle.doc_page.specs.Plain.{plain_page}
-use Rattle.doc_page.specs.declared.rendered.Piece.{Piece}
-use Rattle.doc_page.specs.declared.rendered.Piece.TheVariants.{Html, Link}
+use Rattle.doc_page_parts.specs.declared.rendered.Piece.{Piece}
+use Rattle.doc_page_parts.specs.declared.rendered.Piece.TheVariants.{Html, Link}
 
 -- no HTML piece is empty, and no two stand side by side
 abbrev pub IsCut : List Piece → Type 0

@@ -1,10 +1,10 @@
-pub mod Escaping
 pub mod Laws
-pub mod Lines
-pub mod Pages
 pub mod ParagraphSteps
-pub mod Paths
 pub mod Plain
-pub mod Refusals
-pub mod Sights
-pub mod Tokens
+pub use Rattle.doc_page_parts.specs.Escaping
+pub use Rattle.doc_page_parts.specs.Lines
+pub use Rattle.doc_page_parts.specs.Pages
+pub use Rattle.doc_page_parts.specs.Paths
+pub use Rattle.doc_page_parts.specs.Refusals
+pub use Rattle.doc_page_parts.specs.Sights
+pub use Rattle.doc_page_parts.specs.Tokens

@@ -2,12 +2,12 @@
 -- this project's choice.
 use Rattle.std.specs.Prelude.{ℕ, List, [], ◌∷◌, ◌++◌, map, not, filter, codes}
 use Rattle.std.specs.List.{flat_map, slice_split, join_with_byte}
-use Rattle.doc_page.specs.Escaping.{escaped}
-use Rattle.doc_page.specs.Lines.{lines, without_ending, stripped}
-use Rattle.doc_page.specs.Pages.{is_empty}
-use Rattle.doc_page.specs.declared.rendered.Rendered.{Rendered}
-use Rattle.doc_page.specs.declared.rendered.Piece.{Piece}
-use Rattle.doc_page.specs.declared.rendered.Piece.TheVariants.{Html}
+use Rattle.doc_page_parts.specs.Escaping.{escaped}
+use Rattle.doc_page_parts.specs.Lines.{lines, without_ending, stripped}
+use Rattle.doc_page_parts.specs.Pages.{is_empty}
+use Rattle.doc_page_parts.specs.declared.rendered.Rendered.{Rendered}
+use Rattle.doc_page_parts.specs.declared.rendered.Piece.{Piece}
+use Rattle.doc_page_parts.specs.declared.rendered.Piece.TheVariants.{Html}
 
 -- the lines of a text, each without its ending and without spaces and tabs at both ends
 abbrev pub stripped_lines : List ℕ → List (List ℕ)

@@ -1,21 +1,12 @@
-//! The words that every crate of the server shares: texts and lists that contracts see by their
-//! contents, paths, and rendered pages.
+//! The words that every crate of the server shares: those of `doc_page_parts`, which stand under this crate's name too, and what makes
+//! pages of texts.
 #![tactic(auto)]
 
-pub mod bytes;
-pub mod count;
-pub mod escaping;
-pub mod failure;
-pub mod filling;
 pub mod laws;
-pub mod lines;
-pub mod linker;
-pub mod list;
-pub mod path;
 pub mod plain;
-pub mod rendered;
 pub mod renderer;
-pub mod sight;
-pub mod text;
-pub mod token;
-pub mod trimming;
+
+pub use doc_page_parts::{
+    bytes, count, escaping, failure, filling, lines, linker, list, path, rendered, sight, text,
+    token, trimming,
+};

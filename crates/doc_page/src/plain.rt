@@ -3,14 +3,14 @@
 ghost use Rattle.std.specs.Prelude.{◌≡◌, ◌<◌, ◌++◌, string_bytes, IfOk, OnOk};
 ghost use Rattle.doc_page.specs.Plain.{plain_texts, plain_html, html_pieces, plain_page};
 
-use crate::count::Count;
-use crate::escaping::push_escaped;
-use crate::failure::Memory;
-use crate::list::List;
-use crate::rendered::{Piece, Rendered};
 use crate::renderer::Renderer;
-use crate::text::Text;
 use doc_heap::{Heap, String, Vec};
+use doc_page_parts::count::Count;
+use doc_page_parts::escaping::push_escaped;
+use doc_page_parts::failure::Memory;
+use doc_page_parts::list::List;
+use doc_page_parts::rendered::{Piece, Rendered};
+use doc_page_parts::text::Text;
 use std::marker::Model;
 use std::sync::ledger::{Blank, Ledger};
 

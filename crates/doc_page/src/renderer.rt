@@ -1,11 +1,11 @@
 //! Renderers, which make pages of texts.
 
 ghost use Rattle.std.specs.Prelude.{◌≡◌, ◌+◌, ℕ, List as Seq, IfOk};
-ghost use Rattle.doc_page.specs.declared.rendered.Rendered.{Rendered};
+ghost use Rattle.doc_page_parts.specs.declared.rendered.Rendered.{Rendered};
 
-use crate::failure::Memory;
-use crate::rendered::Rendered;
 use doc_heap::Heap;
+use doc_page_parts::failure::Memory;
+use doc_page_parts::rendered::Rendered;
 
 /// Makes pages of texts, and counts how often it was asked.
 pub trait Renderer {

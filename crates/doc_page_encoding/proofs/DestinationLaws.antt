@@ -7,7 +7,7 @@ use Rattle.std.proofs.lemmas.List.{append-nil}
 use Rattle.std.proofs.lemmas.List.Concat.{flat_map-append}
 use Rattle.percent_encoding.specs.Percent.{percent_encode_byte}
 use Rattle.percent_encoding.proofs.PercentLemmas.{All-percent_encode_byte, IsEscapeByte}
-use Rattle.doc_page.specs.Escaping.{escaped, escaped_byte}
+use Rattle.doc_page_parts.specs.Escaping.{escaped, escaped_byte}
 use Rattle.doc_page_encoding.specs.Encoding.{encoded_byte, is_kept, destination}
 use Rattle.doc_page_encoding.specs.Laws.{DestinationsByBytes, destination_byte}
 

@@ -10,7 +10,7 @@ use Rattle.percent_encoding.specs.AsciiSet.{should_percent_encode}
 use Rattle.percent_encoding.specs.Percent.{percent_encode, percent_encode_byte}
 use Rattle.percent_encoding.proofs.PercentLemmas.{percent_encode-nil, percent_encode_escaped, percent_encode_kept, All-percent_encode_byte}
 use Rattle.percent_encoding.proofs.PercentLemmas.{IsEscapeByte}
-use Rattle.doc_page.specs.Paths.{segments}
+use Rattle.doc_page_parts.specs.Paths.{segments}
 use Rattle.doc_page_encoding.specs.Encoding.{encoded_byte, is_unreserved, is_kept, encoded, encoded_path, destination}
 use Rattle.doc_page_encoding.specs.Laws.{PathsBySegments}
 use Rattle.doc_page_encoding.specs.declared.encoding.TheConstants.{SEGMENT, PATH, DESTINATION}

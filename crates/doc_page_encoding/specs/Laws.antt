@@ -1,8 +1,8 @@
 -- Laws of encoded texts; the proofs are in proofs/.
 use Rattle.std.specs.Prelude.{◌≡◌, ℕ, List, map, ◌==◌, codes, if◌then◌else◌}
 use Rattle.std.specs.List.{flat_map}
-use Rattle.doc_page.specs.Escaping.{escaped}
-use Rattle.doc_page.specs.Paths.{segments}
+use Rattle.doc_page_parts.specs.Escaping.{escaped}
+use Rattle.doc_page_parts.specs.Paths.{segments}
 use Rattle.doc_page_encoding.specs.Encoding.{encoded_byte, is_kept, encoded, encoded_path, destination}
 
 -- a byte of a destination in HTML (the HTML of CommonMark 0.31.2, section 6.3)

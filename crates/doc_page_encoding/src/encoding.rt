@@ -3,12 +3,12 @@
 ghost use Rattle.std.specs.Prelude.{◌≡◌, ◌++◌, string_bytes, IfOk, OnOk, OnErr};
 ghost use Rattle.std.specs.Cow.{cow_str_bytes};
 ghost use Rattle.std.specs.Io.{StartsWith};
-ghost use Rattle.doc_page.specs.Escaping.{escaped};
+ghost use Rattle.doc_page_parts.specs.Escaping.{escaped};
 ghost use Rattle.doc_page_encoding.specs.Encoding.{encoded, encoded_path, destination};
 
 use doc_heap::{Heap, String};
-use doc_page::escaping::push_escaped;
-use doc_page::failure::Memory;
+use doc_page_parts::escaping::push_escaped;
+use doc_page_parts::failure::Memory;
 use percent_encoding::{AsciiSet, NON_ALPHANUMERIC, ascii_set, utf8_percent_encode};
 use std::borrow::CowStr;
 
@@ -85,7 +85,7 @@ pub fn encoded_path<'a>(heap: Heap, path: &'a str) -> Result<CowStr<'a, Heap>, M
 
 /// Writes a link's destination as an attribute of HTML has it, encoded and escaped, at the end of the buffer, where after a refusal part
 /// of it may stand. Memory is taken beside the buffer only where a byte has to be encoded.
-#[tactic(auto, using(doc_page::proofs::BufferSteps::front_same))]
+#[tactic(auto, using(doc_page_parts::proofs::BufferSteps::front_same))]
 pub fn push_destination(heap: Heap, out: &mut String, dest: &str) -> Result<(), Memory>
     ensures ok { OnOk result
         (string_bytes out.new ≡ string_bytes out.old ++ escaped (destination dest.now)) }

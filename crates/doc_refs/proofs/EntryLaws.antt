@@ -25,7 +25,7 @@ use Rattle.doc_refs_parts.specs.Targets.{Targets, target_shown, joined, single}
 use Rattle.doc_refs.specs.declared.ref_map.Entry.{Entry}
 use Rattle.doc_refs_parts.specs.declared.target.Target.{Target}
 use Rattle.doc_refs_parts.proofs.MapLaws.{named, is_name, is_name-same, same_targets, first_of, get-joined, get-single}
-use Rattle.doc_page.proofs.Bools.{same_bool}
+use Rattle.doc_page_parts.proofs.Bools.{same_bool}
 
 -- ---- names of labels
 

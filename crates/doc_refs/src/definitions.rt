@@ -8,7 +8,7 @@ use crate::labels::normalize_label;
 use crate::ref_map::RefMap;
 use doc_heap::Heap;
 use doc_lines::entities::Entities;
-use doc_page::failure::Memory;
+use doc_page_parts::failure::Memory;
 use doc_refs_parts::scan::definition::definition_source;
 use doc_refs_parts::target::read_target;
 

@@ -9,8 +9,8 @@ use doc_heap::{Heap, String};
 use doc_lines::pushing::{push_char, push_text};
 use doc_lines::scan::front::front;
 use doc_lines::scan::run::many;
-use doc_page::failure::Memory;
-use doc_page::text::Text;
+use doc_page_parts::failure::Memory;
+use doc_page_parts::text::Text;
 use doc_refs_parts::scan::label::is_space_tab_or_ending;
 
 /// The label as it matches (CommonMark 0.31.2, section 6.3): case folded, without white space at its ends, each run of spaces, tabs

@@ -5,7 +5,7 @@ ghost use Rattle.doc_refs_parts.specs.Targets.{target_found, target_shown, singl
 ghost use Rattle.doc_refs.specs.EntrySteps.{targets_shown, with_entry, earlier, AreGrown};
 
 use doc_heap::{BTreeMap, Heap, String};
-use doc_page::failure::Memory;
+use doc_page_parts::failure::Memory;
 use doc_refs_parts::target::Target;
 use std::marker::Model;
 

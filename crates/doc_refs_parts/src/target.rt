@@ -9,12 +9,12 @@ use doc_heap::Heap;
 use doc_lines::entities::Entities;
 use doc_lines::scan::character::is;
 use doc_lines::unescape;
-use doc_page::failure::Memory;
-use doc_page::text::Text;
+use doc_page_parts::failure::Memory;
+use doc_page_parts::text::Text;
 
 /// Where a link leads, and its title, both with their escapes and references read (CommonMark 0.31.2, section 6.3). An empty title is
 /// a title.
-#[derive(Debug, PartialEq, Eq, Drop)]
+#[derive(Debug, Drop)]
 pub struct Target {
     pub dest: Text,
     pub title: Option<Text>,

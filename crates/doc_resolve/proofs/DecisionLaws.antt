@@ -1,9 +1,9 @@
 -- What is shown of a page's links depends on the reader by its decisions alone.
 use Rattle.std.proofs.Common.{◌≡◌, ℕ, List, [], ◌∷◌, ◌++◌, Option, refl, ap, ◌∙◌}
 use Rattle.std.specs.List.{flat_map}
-use Rattle.doc_page.specs.Pages.{opening_tag, filled_piece, filled}
-use Rattle.doc_page.specs.declared.rendered.Piece.{Piece}
-use Rattle.doc_page.specs.declared.rendered.Piece.TheVariants.{Html, Link}
+use Rattle.doc_page_parts.specs.Pages.{opening_tag, filled_piece, filled}
+use Rattle.doc_page_parts.specs.declared.rendered.Piece.{Piece}
+use Rattle.doc_page_parts.specs.declared.rendered.Piece.TheVariants.{Html, Link}
 use Rattle.doc_resolve.specs.Decisions.{goal_of, goals_of, decisions_in, decisions}
 use Rattle.doc_resolve.specs.Hrefs.{shown_page, shown_by, shown}
 use Rattle.doc_resolve.specs.Laws.{DecisionsAreGoals, LinksAreDecided}

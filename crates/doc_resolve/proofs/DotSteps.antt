@@ -8,8 +8,8 @@ use Rattle.std.proofs.lemmas.Bool.{cond-false, cond-true, and_parts}
 use Rattle.std.proofs.lemmas.Bool.Decides.{nat_tests}
 use Rattle.std.proofs.lemmas.List.{append-nil, map-append, take_more, take_all, length-map, get_or-map}
 use Rattle.std.proofs.lemmas.List.Splits.{length-slice_split}
-use Rattle.doc_page.specs.Pages.{is_empty}
-use Rattle.doc_page.specs.Paths.{segments}
+use Rattle.doc_page_parts.specs.Pages.{is_empty}
+use Rattle.doc_page_parts.specs.Paths.{segments}
 use Rattle.doc_resolve.specs.DotSegments.{is_dots, but_last, back, put_out, put_all, ends_in_dots, without_dots}
 use Rattle.doc_resolve.specs.Resolution.{is_no_path, folder}
 

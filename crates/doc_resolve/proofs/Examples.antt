@@ -4,7 +4,7 @@ use Rattle.std.specs.Prelude.{Some, None}
 use Rattle.std.proofs.Math.Utf8.{encode}
 use Rattle.std.specs.Str.{chars, is_utf8}
 use Rattle.percent_encoding.specs.Percent.{percent_decode, percent_encode_byte}
-use Rattle.doc_page.specs.Paths.{is_path}
+use Rattle.doc_page_parts.specs.Paths.{is_path}
 use Rattle.doc_resolve.specs.DotSegments.{put_all, without_dots}
 use Rattle.doc_page_encoding.specs.Encoding.{encoded, encoded_path}
 use Rattle.doc_resolve.specs.Links.{kind_on, classify}

@@ -3,7 +3,7 @@
 use Rattle.std.proofs.Common.{◌≡◌, ◌==◌, ℕ, zero, suc, List, [], ◌∷◌, ◌++◌, length, take, drop, codes, refl}
 use Rattle.std.specs.Prelude.{Option, Some, None, bytes_eq, if◌then◌else◌}
 use Rattle.std.specs.List.{position_or_len, list_any, join_with_byte}
-use Rattle.doc_page.specs.Paths.{segments}
+use Rattle.doc_page_parts.specs.Paths.{segments}
 use Rattle.doc_resolve.specs.DotSegments.{put_all, without_dots}
 
 -- what follows the prefix, where the text has it

@@ -5,8 +5,8 @@ use Rattle.std.specs.Str.{IsUtf8, is_utf8}
 use Rattle.std.proofs.lemmas.Bool.{cond_both, cond-true}
 use Rattle.std.proofs.lemmas.Str.{is_utf8-from_IsUtf8, IsUtf8-from_is_utf8}
 use Rattle.percent_encoding.specs.Percent.{percent_decode}
-use Rattle.doc_page.specs.Paths.{is_path}
-use Rattle.doc_page.specs.declared.failure.Memory.{Memory}
+use Rattle.doc_page_parts.specs.Paths.{is_path}
+use Rattle.doc_page_parts.specs.declared.failure.Memory.{Memory}
 use Rattle.doc_resolve.specs.LinkSteps.{leaves_site, kind_inside}
 use Rattle.doc_resolve.specs.Links.{on_path, kind_by, kind_on, kind_of_target, decoded_text}
 use Rattle.doc_resolve.specs.References.{Uri, reference}

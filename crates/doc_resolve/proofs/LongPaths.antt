@@ -8,7 +8,7 @@ use Rattle.std.proofs.lemmas.List.{length-append, length-drop}
 use Rattle.std.proofs.lemmas.List.Splits.{length-slice_split, join_with_byte-slice_split}
 use Rattle.percent_encoding.proofs.PercentLemmas.{length-percent_decode}
 use Rattle.percent_encoding.specs.Percent.{percent_decode}
-use Rattle.doc_page.specs.Paths.{segments, is_path}
+use Rattle.doc_page_parts.specs.Paths.{segments, is_path}
 use Rattle.doc_resolve.specs.WrittenPaths.{with_index, if_path, path_written, holds_slash}
 use Rattle.doc_resolve.specs.WrittenPathSteps.{path_of_bytes}
 use Rattle.doc_resolve.proofs.WrittenPathLaws.{flat, drop-flat, path_written-decoded, decoded-flat}

@@ -8,11 +8,11 @@ use Rattle.std.proofs.lemmas.List.{append-nil, append_assoc, get_or_at, take_at,
 use Rattle.std.proofs.lemmas.Str.{IsUtf8-append, IsUtf8-encode, encode_ascii, IsUtf8-take, IsUtf8-drop, IsUtf8-nil, IsUtf8-from_is_utf8}
 use Rattle.std.proofs.lemmas.Str.{is_utf8-from_IsUtf8, IsCharBoundary-before_ascii, IsCharBoundary-after_ascii}
 use Rattle.percent_encoding.specs.Percent.{percent_decode}
-use Rattle.doc_page.specs.Pages.{is_empty}
-use Rattle.doc_page.specs.Paths.{is_path}
+use Rattle.doc_page_parts.specs.Pages.{is_empty}
+use Rattle.doc_page_parts.specs.Paths.{is_path}
 use Rattle.doc_resolve.specs.WrittenPaths.{with_index, segment_of, all_of, if_path, path_written, holds_slash}
 use Rattle.doc_resolve.specs.WrittenPathSteps.{with_decoded, decoded_segments, ends_empty, index_of, path_of_bytes}
-use Rattle.doc_page.proofs.Bools.{same_bool}
+use Rattle.doc_page_parts.proofs.Bools.{same_bool}
 use Rattle.std.proofs.Math.Bool.{and-true}
 
 slash_utf8 : IsUtf8 (47 ∷ [])

@@ -6,9 +6,9 @@ use Rattle.std.proofs.lemmas.Bool.{cond-true}
 use Rattle.std.proofs.lemmas.List.{append-nil, append_assoc, at_drop_more, at_drop_all}
 use Rattle.std.proofs.lemmas.Str.{is_utf8-from_IsUtf8}
 use Rattle.percent_encoding.specs.Percent.{percent_decode}
-use Rattle.doc_page.specs.Paths.{is_path, path_of}
-use Rattle.doc_page.specs.Refusals.{IsAnswer}
-use Rattle.doc_page.specs.declared.path.PathError.TheVariants as PathError
+use Rattle.doc_page_parts.specs.Paths.{is_path, path_of}
+use Rattle.doc_page_parts.specs.Refusals.{IsAnswer}
+use Rattle.doc_page_parts.specs.declared.path.PathError.TheVariants as PathError
 use Rattle.doc_resolve.specs.WrittenPaths.{if_path, holds_slash}
 use Rattle.doc_resolve.specs.WrittenPathSteps.{with_decoded, decoded_segments, path_of_bytes}
 

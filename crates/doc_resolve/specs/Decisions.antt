@@ -1,9 +1,9 @@
 -- Which pages the links of a page lead to for a reader. `goals` is as in Hrefs.
 use Rattle.std.specs.Prelude.{ℕ, List, [], ◌∷◌, map, Option, None}
 use Rattle.std.specs.List.{flat_map}
-use Rattle.doc_page.specs.declared.rendered.Piece.{Piece}
-use Rattle.doc_page.specs.declared.rendered.Piece.TheVariants.{Html, Link}
-use Rattle.doc_page.specs.declared.rendered.Rendered.{Rendered}
+use Rattle.doc_page_parts.specs.declared.rendered.Piece.{Piece}
+use Rattle.doc_page_parts.specs.declared.rendered.Piece.TheVariants.{Html, Link}
+use Rattle.doc_page_parts.specs.declared.rendered.Rendered.{Rendered}
 use Rattle.doc_resolve.specs.Links.{base_of, kind_on}
 use Rattle.doc_resolve.specs.References.{Uri}
 use Rattle.doc_resolve.specs.declared.link_kind.LinkKind.{LinkKind}

@@ -1,8 +1,8 @@
 -- How a link is shown to a reader. `goals` says which page a path leads to for that reader, and none where they see none there.
 use Rattle.std.specs.Prelude.{ℕ, List, [], ◌++◌, codes, Option, Some, None}
-use Rattle.doc_page.specs.Escaping.{escaped}
-use Rattle.doc_page.specs.declared.linker.Shown.{Shown}
-use Rattle.doc_page.specs.declared.linker.Shown.TheVariants.{Href, Missing}
+use Rattle.doc_page_parts.specs.Escaping.{escaped}
+use Rattle.doc_page_parts.specs.declared.linker.Shown.{Shown}
+use Rattle.doc_page_parts.specs.declared.linker.Shown.TheVariants.{Href, Missing}
 use Rattle.doc_page_encoding.specs.Encoding.{encoded, encoded_path, destination}
 use Rattle.doc_resolve.specs.Links.{classify}
 use Rattle.doc_resolve.specs.declared.link_kind.LinkKind.{LinkKind}

@@ -1,7 +1,7 @@
 -- Laws of links; the proofs are in proofs/.
 use Rattle.std.specs.Prelude.{◌≡◌, ℕ, List, Option}
-use Rattle.doc_page.specs.Pages.{filled}
-use Rattle.doc_page.specs.declared.rendered.Rendered.{Rendered}
+use Rattle.doc_page_parts.specs.Pages.{filled}
+use Rattle.doc_page_parts.specs.declared.rendered.Rendered.{Rendered}
 use Rattle.doc_resolve.specs.Decisions.{decisions, goals_of}
 use Rattle.doc_resolve.specs.Hrefs.{shown}
 use Rattle.doc_resolve.specs.Links.{kinds}

@@ -1,6 +1,5 @@
 pub mod Decisions
 pub mod DotSegments
-pub mod Encoding
 pub mod Hrefs
 pub mod Laws
 pub mod LinkSteps

@@ -2,8 +2,8 @@
 use Rattle.std.specs.Prelude.{ℕ, List, [], ◌∷◌, drop, Bool, not, ◌&&◌, ◌==◌, Option, Some, None, option_and_then, if◌then◌else◌}
 use Rattle.std.specs.List.{before_first, position_or_len, list_any}
 use Rattle.std.specs.Option.{option_copied}
-use Rattle.doc_page.specs.Pages.{is_empty}
-use Rattle.doc_page.specs.Paths.{segments}
+use Rattle.doc_page_parts.specs.Pages.{is_empty}
+use Rattle.doc_page_parts.specs.Paths.{segments}
 use Rattle.doc_resolve.specs.declared.reference.Reference.{Reference}
 
 -- the five components (section 3). The path is the list of its segments, between slashes: an empty path is one empty segment, and `/a`

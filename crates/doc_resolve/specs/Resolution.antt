@@ -2,7 +2,7 @@
 use Rattle.std.specs.Prelude.{ℕ, List, [], ◌∷◌, ◌++◌, map, Bool, false, ◌&&◌, codes, Option, Some, None, is_some, if◌then◌else◌}
 use Rattle.std.specs.List.{join_with_byte}
 use Rattle.std.specs.Option.{option_copied}
-use Rattle.doc_page.specs.Pages.{is_empty}
+use Rattle.doc_page_parts.specs.Pages.{is_empty}
 use Rattle.doc_resolve.specs.DotSegments.{but_last, without_dots}
 use Rattle.doc_resolve.specs.References.{Uri}
 use Rattle.doc_resolve.specs.declared.resolved.Resolved.{Resolved}

@@ -2,7 +2,7 @@
 use Rattle.std.specs.Prelude.{ℕ, List, [], ◌∷◌, ◌++◌, Bool, false, codes, Option, Some, None, option_map, if◌then◌else◌}
 use Rattle.std.specs.Str.{is_utf8}
 use Rattle.percent_encoding.specs.Percent.{percent_decode}
-use Rattle.doc_page.specs.Pages.{is_empty}
+use Rattle.doc_page_parts.specs.Pages.{is_empty}
 use Rattle.doc_resolve.specs.WrittenPaths.{holds_slash, if_path}
 
 -- one segment more, decoded, in front of others that are

@@ -4,8 +4,8 @@ use Rattle.std.specs.Prelude.{if◌then◌else◌}
 use Rattle.std.specs.List.{join_with_byte, list_any}
 use Rattle.std.specs.Str.{is_utf8}
 use Rattle.percent_encoding.specs.Percent.{percent_decode}
-use Rattle.doc_page.specs.Pages.{is_empty}
-use Rattle.doc_page.specs.Paths.{is_path}
+use Rattle.doc_page_parts.specs.Pages.{is_empty}
+use Rattle.doc_page_parts.specs.Paths.{is_path}
 
 -- a path that is empty or ends in `/` is that of the page `index.md` there (this project's choice)
 abbrev pub with_index : List (List ℕ) → List (List ℕ)

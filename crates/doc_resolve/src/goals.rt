@@ -6,11 +6,11 @@ ghost use Rattle.doc_resolve.specs.Decisions.{decisions, goals_of, goal_of};
 use crate::link_kind::LinkKind;
 use crate::links::kinds;
 use doc_heap::{Heap, Vec};
-use doc_page::failure::Memory;
-use doc_page::list::List;
-use doc_page::path::Path;
-use doc_page::rendered::Rendered;
-use doc_page::sight::Sight;
+use doc_page_parts::failure::Memory;
+use doc_page_parts::list::List;
+use doc_page_parts::path::Path;
+use doc_page_parts::rendered::Rendered;
+use doc_page_parts::sight::Sight;
 
 /// The page that each link of the page at this path leads to for a reader, in the order of the links; `None` of a link that leads to
 /// no page that the reader sees, and of one out of the site.

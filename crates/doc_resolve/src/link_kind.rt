@@ -1,10 +1,10 @@
 //! What a link leads to.
 
-use doc_page::path::Path;
-use doc_page::text::Text;
+use doc_page_parts::path::Path;
+use doc_page_parts::text::Text;
 
 /// What a link leads to, by its destination alone. Whether there is such a page is not asked.
-#[derive(Debug, PartialEq, Eq, Drop)]
+#[derive(Debug, Drop)]
 pub enum LinkKind {
     /// Out of the site: a destination with a scheme or an authority.
     External,

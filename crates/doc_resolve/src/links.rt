@@ -2,7 +2,7 @@
 
 ghost use Rattle.std.specs.Prelude.{◌≡◌, ◌||◌, [], ◌∷◌, ◌++◌, map, IfOk, OnOk, is_some, option_copied};
 ghost use Rattle.std.specs.List.{flat_map};
-ghost use Rattle.doc_page.specs.Paths.{segments};
+ghost use Rattle.doc_page_parts.specs.Paths.{segments};
 ghost use Rattle.doc_resolve.specs.Links.{classify, kinds, kinds_in, kind_on, on_path, anchor_of, decoded_text};
 ghost use Rattle.doc_resolve.specs.LinkSteps.{leaves_site, target_on, kind_inside};
 ghost use Rattle.doc_resolve.specs.References.{uri_of};
@@ -13,11 +13,11 @@ use crate::reference::Reference;
 use crate::resolution::path_on;
 use crate::written_paths::path_of_segments;
 use doc_heap::{Heap, Vec};
-use doc_page::failure::Memory;
-use doc_page::path::Path;
-use doc_page::rendered::Piece;
-use doc_page::text::Text;
 use doc_page_encoding::encoding::encoded_path;
+use doc_page_parts::failure::Memory;
+use doc_page_parts::path::Path;
+use doc_page_parts::rendered::Piece;
+use doc_page_parts::text::Text;
 use percent_encoding::{DecodeError, percent_decode};
 
 /// The segments of `/` and a page's path at most.

@@ -1,7 +1,7 @@
 //! References, resolved on a base.
 
 ghost use Rattle.std.specs.Prelude.{◌≡◌, ◌≤◌, ◌&&◌, length, take, map, IfOk, is_some, option_copied};
-ghost use Rattle.doc_page.specs.Paths.{segments};
+ghost use Rattle.doc_page_parts.specs.Paths.{segments};
 ghost use Rattle.doc_resolve.specs.DotSegments.{without_dots};
 ghost use Rattle.doc_resolve.specs.References.{uri_of};
 ghost use Rattle.doc_resolve.specs.Resolution.{uri_of_resolved, resolve, on_its_own, on_base, path_on};
@@ -11,7 +11,7 @@ use crate::dot_segments::{push_segments, without_dots};
 use crate::reference::Reference;
 use crate::resolved::Resolved;
 use doc_heap::{Heap, Vec};
-use doc_page::failure::Memory;
+use doc_page_parts::failure::Memory;
 
 /// The reference, resolved on the base (RFC 3986, section 5.2.2; strict, so that a reference with the base's scheme is absolute too).
 /// The base may lack a scheme. No text is copied.

@@ -1,20 +1,20 @@
 //! The links of a page as a reader sees them.
 
 ghost use Rattle.std.specs.Prelude.{◌≡◌, ◌++◌, string_bytes, option_copied, IfOk, OnOk};
-ghost use Rattle.doc_page.specs.Escaping.{escaped};
-ghost use Rattle.doc_page.specs.declared.linker.Shown.TheVariants.{Href};
+ghost use Rattle.doc_page_parts.specs.Escaping.{escaped};
+ghost use Rattle.doc_page_parts.specs.declared.linker.Shown.TheVariants.{Href};
 ghost use Rattle.doc_page_encoding.specs.Encoding.{destination};
 ghost use Rattle.doc_resolve.specs.Hrefs.{shown_by, shown_page, page_href, fragment_of};
 
 use crate::link_kind::LinkKind;
 use crate::links::classify;
 use doc_heap::{Heap, String};
-use doc_page::failure::Memory;
-use doc_page::linker::{Linker, Shown};
-use doc_page::path::Path;
-use doc_page::sight::Sight;
-use doc_page::text::Text;
 use doc_page_encoding::encoding::{push_destination, push_encoded, push_encoded_path};
+use doc_page_parts::failure::Memory;
+use doc_page_parts::linker::{Linker, Shown};
+use doc_page_parts::path::Path;
+use doc_page_parts::sight::Sight;
+use doc_page_parts::text::Text;
 
 /// Shows the links of one page to one reader: a link to a page that the reader sees with that page's address, a link out of the site as
 /// its destination stands, and any other as one that leads nowhere, whether there is such a page or not.

@@ -2,14 +2,14 @@
 
 ghost use Rattle.std.specs.Prelude.{◌≡◌, ◌≤◌, ◌++◌, ◌∷◌, length, map, drop, not, codes, option_map, IfOk, OnOk, if◌then◌else◌};
 ghost use Rattle.percent_encoding.specs.Percent.{percent_decode};
-ghost use Rattle.doc_page.specs.Paths.{segments};
+ghost use Rattle.doc_page_parts.specs.Paths.{segments};
 ghost use Rattle.doc_resolve.specs.WrittenPaths.{path_written, holds_slash};
 ghost use Rattle.doc_resolve.specs.WrittenPathSteps.{decoded_segments, ends_empty, index_of, path_of_bytes};
 
 use crate::dot_segments::push_segments;
 use doc_heap::{Heap, Vec};
-use doc_page::failure::Memory;
-use doc_page::path::{Path, PathError};
+use doc_page_parts::failure::Memory;
+use doc_page_parts::path::{Path, PathError};
 use percent_encoding::percent_decode;
 use std::str::from_utf8;
 

@@ -12,7 +12,7 @@ use Rattle.std.proofs.lemmas.Map.Made.{length-le_from_is_member}
 use Rattle.doc_rules.specs.Characters.{Text}
 use Rattle.doc_rules.specs.Anchors.{is_used, with_number, free_number, free_anchor, anchor_name, anchors_behind}
 use Rattle.doc_rules.specs.Laws.{AnchorsDiffer}
-use Rattle.doc_page.proofs.Bools.{or_first, or_second}
+use Rattle.doc_page_parts.proofs.Bools.{or_first, or_second}
 
 -- NAME-n, .., NAME-(n+most)
 names_from : ℕ → ℕ → Text → List Text

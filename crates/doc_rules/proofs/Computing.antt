@@ -41,7 +41,7 @@ use Rattle.doc_rules.specs.Blocks.{ended, joined, without_last_blanks, with_text
 use Rattle.doc_rules.specs.Blocks.{leaf_references, references_of, tree_document, document_of}
 use Rattle.doc_rules.specs.Escaping.{escaped_char, html_escape, percent, url_char, url_escape}
 use Rattle.doc_rules.specs.PlainTexts.{plain, plain_text, leaf_headings, headings_in, leaf_texts, texts_in}
-use Rattle.doc_page.specs.Escaping.{escaped}
+use Rattle.doc_page_parts.specs.Escaping.{escaped}
 use Rattle.doc_rules.specs.Html.{characters, span_start, span_end, inline_html, images_after, html_among, inlines_html, write, is_fresh}
 use Rattle.doc_rules.specs.Html.{new_line, paragraph_html, id_attribute, heading_html, first_word, language_class, code_html, leaf_html}
 use Rattle.doc_rules.specs.Html.{is_tight_inside, list_tag, list_end, container_start, container_end, blocks_html, output_of, link_tag}

@@ -7,7 +7,7 @@ use Rattle.std.proofs.lemmas.Bool.{ne_eqb, lt-ltb, le-ltb, cases_lt, cases_eq}
 use Rattle.std.proofs.lemmas.List.{append-nil}
 use Rattle.std.proofs.lemmas.List.Concat.{flat_map-append}
 use Rattle.std.proofs.lemmas.Str.{encodes-append}
-use Rattle.doc_page.specs.Escaping.{escaped_byte, escaped}
+use Rattle.doc_page_parts.specs.Escaping.{escaped_byte, escaped}
 use Rattle.doc_rules.specs.Characters.{Text}
 use Rattle.doc_rules.specs.Escaping.{escaped_char, html_escape}
 use Rattle.doc_rules.specs.Laws.{EscapingIsByBytes}

@@ -3,9 +3,9 @@ use Rattle.std.proofs.Common.{◌≡◌, ℕ, Bool, true, false, List, [], ◌�
 use Rattle.std.specs.Prelude.{◌==◌, if◌then◌else◌, flat_map, encode_utf8_all, Option, Some, None, option_map, codes}
 use Rattle.std.specs.Char.{encode_utf8}
 use Rattle.std.proofs.lemmas.Str.{encodes-append}
-use Rattle.doc_page.specs.Escaping.{escaped_byte, escaped}
-use Rattle.doc_page.specs.Pages.{title_attribute, opening_tag, filled_piece, filled as page_filled}
-use Rattle.doc_page.specs.declared.linker.Shown.{Shown as PageShown}
+use Rattle.doc_page_parts.specs.Escaping.{escaped_byte, escaped}
+use Rattle.doc_page_parts.specs.Pages.{title_attribute, opening_tag, filled_piece, filled as page_filled}
+use Rattle.doc_page_parts.specs.declared.linker.Shown.{Shown as PageShown}
 use Rattle.doc_rules.specs.Characters.{Text}
 use Rattle.doc_rules.specs.Escaping.{escaped_char, html_escape}
 use Rattle.doc_rules.specs.Blocks.{Document, document_of}

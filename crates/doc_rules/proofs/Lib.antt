@@ -20,7 +20,6 @@ pub mod DefinitionLaws
 pub mod HeadingLaws
 pub mod ParserLaws
 pub mod GrammarLaws
-pub mod SkipLaws
 pub mod EscapingLaws
 pub mod PieceLaws
 pub mod FillingLaws

@@ -10,7 +10,7 @@ use Rattle.doc_rules.specs.Forests.{none, ◌▹◌}
 use Rattle.doc_rules.specs.Blocks.{Paragraph, document_of}
 use Rattle.doc_rules.specs.Html.{html_of, plain_linker, rendered_plain}
 use Rattle.doc_rules.specs.Pages.{page_of, HtmlPiece, LinkPiece, rendered_of}
-use Rattle.doc_page.specs.declared.rendered.Piece.TheVariants.{Html, Link}
+use Rattle.doc_page_parts.specs.declared.rendered.Piece.TheVariants.{Html, Link}
 
 links_headings_and_texts :
     page_of built_in (codes "# A *b*\n\n[c](d \"e\") <http://f>\n\n## A b\n\n- `x`\n\n~~~ w\ny\n~~~\n")

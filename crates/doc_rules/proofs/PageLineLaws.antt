@@ -6,7 +6,7 @@ use Rattle.std.specs.List.{list_all, suffix_len, onto_first as std_onto_first, A
 use Rattle.std.proofs.lemmas.List.Folds.{list_all_at}
 use Rattle.std.proofs.lemmas.List.Sums.{suffix_len_is}
 use Rattle.std.proofs.lemmas.Bool.{false≢true, true_from_ne_false}
-use Rattle.doc_page.specs.Lines.{lines, ends_line as page_ends_line, without_ending as page_without_ending}
+use Rattle.doc_page_parts.specs.Lines.{lines, ends_line as page_ends_line, without_ending as page_without_ending}
 use Rattle.doc_rules.specs.Characters.{Text, is_ending}
 use Rattle.doc_rules.specs.Lines.{ends_line, onto_first, lines_of, without_ending}
 use Rattle.doc_rules.specs.Laws.{PageLinesAgree}

@@ -4,9 +4,9 @@ use Rattle.std.specs.Prelude.{◌+◌, ◌/◌, ◌%◌, nat_lt, encode_utf8_all
 use Rattle.std.specs.Char.{encode_utf8}
 use Rattle.doc_rules.specs.Characters.{Text}
 use Rattle.doc_rules.specs.Blocks.{Document, document_of}
-use Rattle.doc_page.specs.declared.rendered.LinkSpot.{LinkSpot}
-use Rattle.doc_page.specs.declared.rendered.Piece.{Piece}
-use Rattle.doc_page.specs.declared.rendered.Piece.TheVariants.{Html, Link}
+use Rattle.doc_page_parts.specs.declared.rendered.LinkSpot.{LinkSpot}
+use Rattle.doc_page_parts.specs.declared.rendered.Piece.{Piece}
+use Rattle.doc_page_parts.specs.declared.rendered.Piece.TheVariants.{Html, Link}
 use Rattle.doc_rules.specs.Html.{Character, LinkTag, Output, output_of, Linker, written_text, link_tag}
 use Rattle.doc_rules.specs.Pages.{PagePiece, HtmlPiece, LinkPiece, onto_html, pieces_of, document_anchors, document_page, page_of}
 use Rattle.doc_rules.specs.Pages.{piece_text, filled, encoded_piece, encoded}

@@ -14,7 +14,7 @@ use Rattle.doc_rules.specs.Lists.{listed}
 use Rattle.doc_rules.specs.Blocks.{container_of, blocks_of, references_of, tree_document}
 use Rattle.doc_rules.specs.Laws.{has_tab, QuotedTree, QuotedDocument, quote_over}
 use Rattle.doc_rules.proofs.QuoteLines.{marked_line, quoted_has}
-use Rattle.doc_page.proofs.Bools.{or_first, or_second, and_false}
+use Rattle.doc_page_parts.proofs.Bools.{or_first, or_second, and_false}
 use Rattle.std.proofs.lemmas.Bool.{or_from}
 
 -- ---- texts without tabs

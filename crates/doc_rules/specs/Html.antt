@@ -14,8 +14,8 @@ use Rattle.doc_rules.specs.Blocks.{Leaf, Paragraph, Heading, IndentedCode, Fence
 use Rattle.doc_rules.specs.Blocks.{ListBlock, ListItem, Blocks, Document, document_of}
 use Rattle.doc_rules.specs.Escaping.{html_escape, url_escape}
 use Rattle.doc_rules.specs.PlainTexts.{plain}
-use Rattle.doc_page.specs.Pages.{title_attribute, opening_tag}
-use Rattle.doc_page.specs.declared.linker.Shown.TheVariants as page
+use Rattle.doc_page_parts.specs.Pages.{title_attribute, opening_tag}
+use Rattle.doc_page_parts.specs.declared.linker.Shown.TheVariants as page
 
 -- what is written: characters, and opening tags of links, which a linker shows later
 pub data Written : Type 0 where

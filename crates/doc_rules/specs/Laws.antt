@@ -21,12 +21,10 @@ use Rattle.doc_rules.specs.Html.{Output, Writing, blocks_html, Linker, written_t
 use Rattle.doc_rules.specs.Pages.{PagePiece, HtmlPiece, LinkPiece, Page, pieces_of, document_anchors, document_page, filled, encoded}
 use Rattle.doc_rules.specs.Pages.{encoded_shown, rendered_of}
 use Rattle.doc_page.specs.Laws as pages
-use Rattle.doc_page.specs.Escaping.{escaped}
-use Rattle.doc_page.specs.Lines.{lines as page_lines, without_ending as page_without_ending}
-use Rattle.doc_page.specs.Pages.{filled as page_filled}
-use Rattle.doc_page.specs.declared.linker.Shown.{Shown as PageShown}
-use Rattle.doc_page.specs.declared.rendered.Piece.{Piece}
-use Rattle.doc_page.specs.declared.rendered.Piece.TheVariants.{Html, Link}
+use Rattle.doc_page_parts.specs.Escaping.{escaped}
+use Rattle.doc_page_parts.specs.Lines.{lines as page_lines, without_ending as page_without_ending}
+use Rattle.doc_page_parts.specs.Pages.{filled as page_filled}
+use Rattle.doc_page_parts.specs.declared.linker.Shown.{Shown as PageShown}
 
 -- ---- lines (2.1)
 

@@ -7,12 +7,12 @@ use Rattle.doc_rules.specs.Blocks.{Document, document_of}
 use Rattle.doc_rules.specs.PlainTexts.{headings_of, texts_of}
 use Rattle.doc_rules.specs.Anchors.{anchors_of}
 use Rattle.doc_rules.specs.Html.{Character, LinkTag, Output, output_of, Linker, link_tag, Shown, Href, Missing}
-use Rattle.doc_page.specs.declared.linker.Shown.{Shown as PageShown}
-use Rattle.doc_page.specs.declared.linker.Shown.TheVariants as page
-use Rattle.doc_page.specs.declared.rendered.Rendered.{Rendered}
-use Rattle.doc_page.specs.declared.rendered.Heading.{Heading}
-use Rattle.doc_page.specs.declared.rendered.Piece.{Piece}
-use Rattle.doc_page.specs.declared.rendered.Piece.TheVariants.{Html, Link}
+use Rattle.doc_page_parts.specs.declared.linker.Shown.{Shown as PageShown}
+use Rattle.doc_page_parts.specs.declared.linker.Shown.TheVariants as page
+use Rattle.doc_page_parts.specs.declared.rendered.Rendered.{Rendered}
+use Rattle.doc_page_parts.specs.declared.rendered.Heading.{Heading}
+use Rattle.doc_page_parts.specs.declared.rendered.Piece.{Piece}
+use Rattle.doc_page_parts.specs.declared.rendered.Piece.TheVariants.{Html, Link}
 
 -- HTML as it is written, or the opening tag of a link
 pub data PagePiece : Type 0 where

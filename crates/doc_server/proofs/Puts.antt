@@ -8,12 +8,13 @@ use Rattle.std.proofs.lemmas.Bool.{false≢true}
 use Rattle.std.proofs.lemmas.Cmp.{nat_list_cmp_total}
 use Rattle.std.proofs.lemmas.Result.{IfOk-weaker}
 use Rattle.toml.proofs.OnLiterals.{toml_on_literals}
-use Rattle.doc_page.specs.Paths.{is_path}
-use Rattle.doc_page.specs.Tokens.{is_token}
+use Rattle.doc_page_parts.specs.Paths.{is_path}
+use Rattle.doc_page_parts.specs.Tokens.{is_token}
 use Rattle.doc_store.specs.Groups.{groups_of_names}
 use Rattle.doc_store.specs.Pages.{Page}
 use Rattle.doc_store.specs.declared.store.EditError.{EditError}
 use Rattle.doc_store.specs.declared.store.EditError.TheVariants.{TooLong, StoreFull}
+use Rattle.doc_store.specs.declared.store.Put.{Put}
 use Rattle.doc_store.specs.declared.store.Put.TheVariants.{Created, Replaced}
 use Rattle.doc_store.specs.Store.{text_limit, page_limit, put_limit, fits, put_by}
 use Rattle.doc_hub.specs.Worlds.{World, store_of}
@@ -25,7 +26,7 @@ use Rattle.doc_server_config.specs.declared.page_row.PageRow.{PageRow}
 use Rattle.doc_server_input.proofs.Results.{then_err}
 use Rattle.doc_server_input.specs.declared.fault.Fault.{Fault}
 use Rattle.doc_server_input.specs.declared.fault.Fault.TheVariants as faults
-use Rattle.doc_server.specs.DemoSite.{demo_config, demo_page, demo_world, site_of_none, site_of_one, site_of_two, page_put, with_page, IsAccepted}
+use Rattle.doc_server.specs.DemoSite.{demo_config, demo_page, demo_world, site_of_none, site_of_one, site_of_two, page_put, with_page}
 use Rattle.doc_server.specs.Sites as sites
 
 -- ---- the configuration
@@ -81,6 +82,10 @@ fits_few : (pages puts : ℕ) (stands : Bool) (text : List ℕ) → pages ≤ 2 
 fits_few pages puts stands text few little short =
     fits_by (nat_lt text_limit (length text)) (nat_le page_limit pages) (nat_le put_limit puts) stands short (few_pages pages few)
     (few_puts puts little)
+
+-- a put is accepted
+abbrev IsAccepted : World → List ℕ → List ℕ → List ℕ → Type 0
+IsAccepted w path group text = (answer : Put) × ((page_put w path group text).1 ≡ Ok answer)
 
 -- at most n pages and puts
 abbrev IsSmall : ℕ → World → Type 0

@@ -2,7 +2,7 @@
 use Rattle.std.proofs.Common.{◌≡◌, List, ℕ, true, cond, ap, refl, sym, ◌∙◌}
 use Rattle.std.specs.Prelude.{None, Result, Ok, Err}
 use Rattle.std.specs.Option.{ok_or}
-use Rattle.doc_page.specs.Refusals.{IsAnswer}
+use Rattle.doc_page_parts.specs.Refusals.{IsAnswer}
 use Rattle.doc_store.specs.declared.store.EditError.{EditError}
 use Rattle.doc_store.specs.declared.store.EditError.TheVariants as edit_errors
 use Rattle.doc_store.specs.declared.store.Put.{Put}

@@ -1,5 +1,5 @@
 -- The demonstration site, all of which is this project's choice.
-use Rattle.std.specs.Prelude.{◌≡◌, ℕ, List, [], ◌∷◌, true, false, codes, None, Result, Ok}
+use Rattle.std.specs.Prelude.{ℕ, List, [], ◌∷◌, true, false, codes, None, Result}
 use Rattle.std.specs.FinMap as map
 use Rattle.doc_store.specs.Readers.{ReaderTable}
 use Rattle.doc_store.specs.declared.store.EditError.{EditError}
@@ -40,10 +40,6 @@ page_put w path group text = world_put w path (group ∷ []) text
 -- the world after it
 abbrev pub with_page : World → List ℕ → List ℕ → List ℕ → World
 with_page w path group text = (page_put w path group text).0
-
--- the put is accepted
-abbrev pub IsAccepted : World → List ℕ → List ℕ → List ℕ → Type 0
-IsAccepted w path group text = (answer : Put) × ((page_put w path group text).1 ≡ Ok answer)
 
 -- a new server with these readers, which keeps connections alive, and after puts of a first, a second and a third page
 abbrev pub site_of_none : World

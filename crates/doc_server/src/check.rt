@@ -9,7 +9,7 @@ ghost use Rattle.doc_server.specs.Checks.{report_status, Checks, StopsCheck};
 use crate::site::site_hub;
 use doc_heap::Heap;
 use doc_page::renderer::Renderer;
-use doc_page::text::Text;
+use doc_page_parts::text::Text;
 use doc_server_config::config::SiteConfig;
 use doc_server_input::fault::Fault;
 use doc_server_input::output::{flush, send};

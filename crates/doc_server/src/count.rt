@@ -5,7 +5,7 @@ ghost use Rattle.doc_server.specs.Examples.{count_line, differs_line, next_numbe
 ghost use Rattle.doc_server.specs.ExampleSteps.{HasRoom};
 
 use doc_heap::{Heap, String};
-use doc_page::failure::Memory;
+use doc_page_parts::failure::Memory;
 use std::fmt::Write;
 
 /// How many examples passed, and how many did not.

@@ -1,6 +1,6 @@
 //! The table of entities of a site.
 
-ghost use Rattle.doc_page.specs.Refusals.{IsAnswer};
+ghost use Rattle.doc_page_parts.specs.Refusals.{IsAnswer};
 ghost use Rattle.doc_server.specs.EntityTables.{table_of};
 
 use doc_heap::Heap;

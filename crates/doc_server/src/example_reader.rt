@@ -5,7 +5,7 @@ ghost use Rattle.doc_server.specs.Examples.{Between, begins_example, ends_input,
 ghost use Rattle.doc_server.specs.ExampleSteps.{example_shown, place_of};
 
 use doc_heap::{Heap, String};
-use doc_page::failure::Memory;
+use doc_page_parts::failure::Memory;
 
 /// Where a line stands.
 #[derive(Clone, Copy)]

@@ -7,7 +7,7 @@ ghost use Rattle.doc_server.specs.Rendering.{rendered, Renders, StopsRendering};
 use doc_heap::{Heap, String};
 use doc_html::render_plain;
 use doc_lines::entities::Entities;
-use doc_page::failure::Memory;
+use doc_page_parts::failure::Memory;
 use doc_server_input::fault::Fault;
 use doc_server_input::input::read_text;
 use doc_server_input::output::{flush, send};

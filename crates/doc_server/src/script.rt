@@ -7,8 +7,8 @@ ghost use Rattle.doc_server.specs.Scripts.{events_of, lines};
 
 use doc_heap::{Heap, Vec};
 use doc_hub::event::Event;
-use doc_page::failure::Memory;
-use doc_page::list::List;
+use doc_page_parts::failure::Memory;
+use doc_page_parts::list::List;
 use doc_server_input::fault::Fault;
 use doc_server_script::line::event_of;
 

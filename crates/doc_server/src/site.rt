@@ -8,7 +8,7 @@ use doc_heap::Heap;
 use doc_hub::hub::Hub;
 use doc_hub::refusal::HubError;
 use doc_page::renderer::Renderer;
-use doc_page::text::Text;
+use doc_page_parts::text::Text;
 use doc_server_config::config::SiteConfig;
 use doc_server_config::page_row::{PageRow, Source};
 use doc_server_input::fault::Fault;

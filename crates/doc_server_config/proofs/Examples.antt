@@ -4,8 +4,8 @@ use Rattle.std.specs.Prelude.{Some, None, Ok, Err}
 use Rattle.std.specs.FinMap as map
 use Rattle.std.specs.Str.{chars}
 use Rattle.toml.proofs.OnLiterals.{toml_on_literals}
-use Rattle.doc_page.specs.Paths.{is_path}
-use Rattle.doc_page.specs.Tokens.{is_token}
+use Rattle.doc_page_parts.specs.Paths.{is_path}
+use Rattle.doc_page_parts.specs.Tokens.{is_token}
 use Rattle.doc_store_readers.specs.declared.readers.ReadersError.TheVariants as readers
 use Rattle.doc_store.specs.Groups.{groups_of_names}
 use Rattle.doc_server_config.specs.declared.config.ConfigError.TheVariants.{BadToml, BadReaders, BadSetting, BadPage}

@@ -3,8 +3,8 @@ use Rattle.std.proofs.Common.{◌≡◌, [], ◌∷◌, codes, refl}
 use Rattle.std.specs.Prelude.{Some, None, Ok, Err}
 use Rattle.std.specs.Str.{chars}
 use Rattle.toml.proofs.OnLiterals.{toml_on_literals}
-use Rattle.doc_page.specs.declared.path.PathError.TheVariants.{BadPath}
-use Rattle.doc_page.specs.Paths.{is_path}
+use Rattle.doc_page_parts.specs.declared.path.PathError.TheVariants.{BadPath}
+use Rattle.doc_page_parts.specs.Paths.{is_path}
 use Rattle.doc_store.specs.Groups.{groups_of_names}
 use Rattle.doc_server_config.specs.declared.folder.FolderFault.TheVariants.{OtherKey, BadFile, BadPrefix, BadGroups}
 use Rattle.doc_server_config.specs.declared.listening.ListeningError.TheVariants.{BadToml, BadListen, BadConnections, BadIdleSeconds}

@@ -2,8 +2,8 @@
 use Rattle.std.specs.Prelude.{ℕ, List, [], ◌∷◌, ◌++◌, length, Bool, true, not, ◌&&◌, ◌==◌, codes, Option, Some, None, Result, Ok, Err}
 use Rattle.std.specs.Prelude.{if◌then◌else◌}
 use Rattle.std.specs.List.{list_all, ends_with}
-use Rattle.doc_page.specs.declared.path.PathError.{PathError}
-use Rattle.doc_page.specs.Paths.{is_path, path_of, segments}
+use Rattle.doc_page_parts.specs.declared.path.PathError.{PathError}
+use Rattle.doc_page_parts.specs.Paths.{is_path, path_of, segments}
 
 -- a name behind a prefix and a slash, or alone where the prefix is empty
 abbrev pub joined : List ℕ → List ℕ → List ℕ

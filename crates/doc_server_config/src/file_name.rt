@@ -4,8 +4,8 @@ ghost use Rattle.std.specs.Prelude.{◌≡◌, ◌≢◌, Ok, Err, IfOk, IfErr, 
 ghost use Rattle.doc_server_config.specs.FileNames.{is_page_name, is_prefix, is_shown, is_shown_part, joined, path_in_folder};
 
 use doc_heap::{Heap, String};
-use doc_page::failure::Memory;
-use doc_page::path::{Path, PathError};
+use doc_page_parts::failure::Memory;
+use doc_page_parts::path::{Path, PathError};
 
 /// The path of the page in a file of a folder, of the folder's prefix and of the file's name in it, with `/` between a folder in the
 /// folder and what stands there. `None` says that the file is passed over: a part of its name begins with `.`, or the name doesn't

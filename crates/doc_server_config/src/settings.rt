@@ -7,8 +7,8 @@ ghost use Rattle.doc_server_config.specs.Settings.{cache_at, capacity_of, entiti
 
 use crate::table::value_at;
 use doc_heap::Heap;
-use doc_page::failure::Memory;
-use doc_page::text::Text;
+use doc_page_parts::failure::Memory;
+use doc_page_parts::text::Text;
 use toml::Table;
 
 /// How many filled pages a cache keeps, where a configuration doesn't say.

@@ -1,7 +1,7 @@
 //! What stops the program.
 
 use doc_heap::String;
-use doc_page::failure::Memory;
+use doc_page_parts::failure::Memory;
 use std::alloc::AllocError;
 use std::error::Error;
 use std::fmt;

@@ -1,4 +1,5 @@
 pub mod Devices
+pub mod FileDevices
 pub mod Journals
 pub mod Memories
 pub mod Openings

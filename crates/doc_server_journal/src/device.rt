@@ -5,7 +5,7 @@ ghost use Rattle.doc_server_journal.specs.Devices.{Writes, CutsTo, Torn, Shorten
 
 use crate::fault::{DeviceFault, LoadError};
 use doc_heap::Heap;
-use doc_page::bytes::Bytes;
+use doc_page_parts::bytes::Bytes;
 
 /// A file, used until the first call of it that fails. Of a file of the system nothing is known: its bytes are `None`, and no
 /// outcome of a crash is named.

@@ -1,6 +1,6 @@
 //! Why a journal can't be read or written.
 
-use doc_page::failure::Memory;
+use doc_page_parts::failure::Memory;
 use doc_server_journal_records::read_error::ReadError;
 use std::error::Error;
 use std::fmt;

@@ -7,8 +7,8 @@ ghost use Rattle.doc_server_journal.specs.Memories.{memory_bytes, memory_leaves,
 use crate::device::Device;
 use crate::fault::{DeviceFault, LoadError};
 use doc_heap::{Heap, Vec};
-use doc_page::bytes::Bytes;
-use doc_page::failure::Memory;
+use doc_page_parts::bytes::Bytes;
+use doc_page_parts::failure::Memory;
 
 /// A change of a file, or a sync, at which it held those bytes.
 #[derive(Drop)]

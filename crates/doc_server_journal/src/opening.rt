@@ -13,8 +13,8 @@ use crate::journal::Journal;
 use crate::repair::repair;
 use crate::writing::load;
 use doc_heap::Heap;
-use doc_page::bytes::Bytes;
-use doc_page::list::List;
+use doc_page_parts::bytes::Bytes;
+use doc_page_parts::list::List;
 use doc_server_journal_records::found::Found;
 use doc_server_journal_records::reading::read;
 

@@ -1,7 +1,7 @@
 //! What a reading found.
 
-use doc_page::bytes::Bytes;
-use doc_page::list::List;
+use doc_page_parts::bytes::Bytes;
+use doc_page_parts::list::List;
 
 /// What the bytes of a journal say.
 #[derive(Drop)]

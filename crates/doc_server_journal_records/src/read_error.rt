@@ -1,6 +1,6 @@
 //! Why the bytes of a journal aren't read.
 
-use doc_page::failure::Memory;
+use doc_page_parts::failure::Memory;
 use std::error::Error;
 use std::fmt;
 

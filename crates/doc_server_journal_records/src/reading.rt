@@ -9,9 +9,9 @@ use crate::front::{is_end, open_record};
 use crate::read_error::ReadError;
 use crate::record::seed;
 use doc_heap::{Heap, Vec};
-use doc_page::bytes::Bytes;
-use doc_page::failure::Memory;
-use doc_page::list::List;
+use doc_page_parts::bytes::Bytes;
+use doc_page_parts::failure::Memory;
+use doc_page_parts::list::List;
 
 /// Reads a journal. A torn last record is passed over. All else that isn't whole is damage.
 pub fn read(heap: Heap, bytes: &[u8]) -> Result<Found, ReadError>

@@ -3,7 +3,7 @@
 ghost use Rattle.std.specs.Prelude.{◌≡◌, ◌≤◌, ◌<◌, ◌+◌, [], true, false, length, IfErr, IfOk, IfSome, Ok, Err};
 ghost use Rattle.doc_hub.specs.Runs.{Happens};
 ghost use Rattle.doc_hub.specs.declared.event.Event.TheVariants as events;
-ghost use Rattle.doc_hub_replies.specs.Replies.{Renders};
+ghost use Rattle.doc_hub.specs.Replies.{Renders};
 ghost use Rattle.doc_hub.specs.Worlds.{World, disconnected};
 ghost use Rattle.doc_server_listen.specs.Closing.{Cuts, IsDone};
 ghost use Rattle.doc_server_listen.specs.Edits.{AreQuiet, Records};
@@ -18,8 +18,8 @@ use doc_heap::Heap;
 use doc_hub::event::{ConnId, Step};
 use doc_hub::hub::Hub;
 use doc_hub::refusal::{ConnectError, StepError};
-use doc_page::bytes::Bytes;
 use doc_page::renderer::Renderer;
+use doc_page_parts::bytes::Bytes;
 use std::collections::VecDeque;
 use std::marker::Model;
 

@@ -14,9 +14,9 @@ use doc_hub::edited::Edited;
 use doc_hub::event::{ConnId, Step};
 use doc_hub::hub::Hub;
 use doc_hub::refusal::StepError;
-use doc_page::failure::Memory;
-use doc_page::path::Path;
 use doc_page::renderer::Renderer;
+use doc_page_parts::failure::Memory;
+use doc_page_parts::path::Path;
 use doc_server_journal_records::record::TEXT_LIMIT;
 use doc_server_script::edit::push_put;
 use doc_server_script::page_lines::push_remove_line;
@@ -134,7 +134,7 @@ fn push_edit<R: Renderer + Drop>(
     }
 }
 
-#[tactic(auto, using(doc_page::proofs::BufferSteps::front_same, doc_page::proofs::BufferSteps::front_more))]
+#[tactic(auto, using(doc_page_parts::proofs::BufferSteps::front_same, doc_page_parts::proofs::BufferSteps::front_more))]
 fn push_put_line(out: &mut String, path: &Path, page: &Page) -> Result<(), Memory>
     ensures { OnOk result (string_bytes out.new
         ≡ string_bytes out.old ++ line_of (set_page path.now page.now.page)) }

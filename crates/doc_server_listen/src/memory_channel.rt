@@ -5,7 +5,7 @@ ghost use Rattle.doc_server_listen.specs.MemoryChannels.{unread_in, written_to, 
 
 use crate::channel::{Came, Channel};
 use doc_heap::{Heap, Vec};
-use doc_page::bytes::Bytes;
+use doc_page_parts::bytes::Bytes;
 use doc_server_streams::fault::StreamFault;
 
 /// Bytes that are read, and those that were handed over. A call moves one piece at most, every second call nothing where it is told

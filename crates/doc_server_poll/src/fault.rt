@@ -1,6 +1,6 @@
 //! Why a server doesn't run.
 
-use doc_page::failure::Memory;
+use doc_page_parts::failure::Memory;
 use doc_server_settling::fault::TurnFault;
 use std::alloc::AllocError;
 use std::error::Error;

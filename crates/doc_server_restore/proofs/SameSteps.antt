@@ -11,7 +11,7 @@ use Rattle.doc_store.specs.Names.{aliases_of, names_of}
 use Rattle.doc_store_readers.proofs.KeySteps.{same_itself, bytes_eq_is}
 use Rattle.doc_store.specs.Pages.{Page}
 use Rattle.doc_store.specs.Sites.{Site}
-use Rattle.doc_page.proofs.Bools.{clash}
+use Rattle.doc_page_parts.proofs.Bools.{clash}
 use Rattle.doc_server_script.specs.Compactions.{same_at, same_pages, same_texts}
 
 -- ---- the names of a page that stands

@@ -96,6 +96,12 @@ module _ {D : Type 0} (seen : D → Option (List ℕ)) (may_leave : D → List �
   pub none_wrote : (writer : EditWriter D) → Wrote seen may_leave failed writer writer []
   none_wrote writer = λ edits h. subst (HasWritten seen may_leave failed writer) (sym (append-nil edits)) h
 
+  -- along no names, a page is made by no edits
+  pub none_made : (writer : EditWriter D) (page : Page) (names : List (Bor (List ℕ))) → length names < 1
+      → Wrote seen may_leave failed writer writer (made_along page (texts_of names))
+  none_made writer page [] none = none_wrote writer
+  none_made writer page (name ∷ names) none = absurd (omega (arith, none))
+
   pub both_wrote : (a b c : EditWriter D) (x y : List Edit) → Wrote seen may_leave failed a b x → Wrote seen may_leave failed b c y
       → Wrote seen may_leave failed a c (x ++ y)
   both_wrote a b c x y first second = λ edits h.

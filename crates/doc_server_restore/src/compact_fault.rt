@@ -1,6 +1,6 @@
 //! Why a compaction isn't written.
 
-use doc_page::failure::Memory;
+use doc_page_parts::failure::Memory;
 use doc_server_journal::fault::{AppendError, OpenFault};
 use std::alloc::AllocError;
 use std::error::Error;

@@ -6,9 +6,9 @@ ghost use Rattle.doc_server_restore.specs.Restores.{made};
 ghost use Rattle.doc_server_restore.specs.RestoreSteps.{Tells};
 
 use doc_hub::hub::Hub;
-use doc_page::failure::Memory;
-use doc_page::path::Path;
 use doc_page::renderer::Renderer;
+use doc_page_parts::failure::Memory;
+use doc_page_parts::path::Path;
 use doc_store::groups::Groups;
 use doc_store::moving::MoveError;
 use doc_store::store::{EditError, Store};

@@ -1,6 +1,6 @@
 //! Why a journal's edits aren't restored.
 
-use doc_page::failure::Memory;
+use doc_page_parts::failure::Memory;
 use std::error::Error;
 use std::fmt;
 

@@ -9,8 +9,8 @@ ghost use Rattle.doc_server_restore.specs.RestoreSteps.{Reads, is_edit};
 
 use doc_heap::Heap;
 use doc_hub::event::Event;
-use doc_page::failure::Memory;
-use doc_page::list::List;
+use doc_page_parts::failure::Memory;
+use doc_page_parts::list::List;
 use doc_server::script::events_of;
 use doc_server_input::fault::Fault;
 use std::str;

@@ -9,8 +9,8 @@ use crate::fault::RestoreFault;
 use crate::record::edits_of;
 use doc_heap::Heap;
 use doc_hub::event::Event;
-use doc_page::bytes::Bytes;
-use doc_page::failure::Memory;
+use doc_page_parts::bytes::Bytes;
+use doc_page_parts::failure::Memory;
 
 /// Makes the edits of a journal's records, in their order. A record is a text of lines, each the edit that doc_server_script reads
 /// of it; none of a record's edits is made where one of its lines is none. The first record that is no such text, and the first of

@@ -10,7 +10,7 @@ ghost use Rattle.doc_server_restore.specs.WriterSteps.{IsWriter, Wrote};
 
 use crate::compact_fault::CompactFault;
 use doc_heap::{Heap, String};
-use doc_page::path::Path;
+use doc_page_parts::path::Path;
 use doc_server_journal::device::Device;
 use doc_server_journal::journal::Journal;
 use doc_server_script::page_lines::{push_move_line, push_put_line, push_remove_line};

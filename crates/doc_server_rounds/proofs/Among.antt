@@ -2,7 +2,7 @@
 use Rattle.std.proofs.Common.{◌≡◌, ◌<◌, ℕ, zero, suc, List, [], ◌∷◌, ◌++◌, Bool, true, false, T, length, refl, sym, ap, ◌∙◌, subst, ◌==◌, arith}
 use Rattle.std.proofs.Math.Facts.{eqb_yes}
 use Rattle.std.specs.Prelude.{◌||◌, Contains, slice_index_or}
-use Rattle.doc_page.proofs.Bools.{clash, or_first, or_second, or_true}
+use Rattle.doc_page_parts.proofs.Bools.{clash, or_first, or_second, or_true}
 use Rattle.doc_server_rounds.specs.Dropped.{is_among}
 
 itself : (n : ℕ) → (n == n) ≡ true

@@ -5,13 +5,13 @@ use Rattle.std.specs.Prelude.{Option, Some, None, Result, Ok, Err, is_ok, nat_lt
 use Rattle.std.specs.FinMap as map
 use Rattle.std.specs.Cmp.{unsigned_tied}
 use Rattle.std.proofs.lemmas.Cmp.{nat_cmp_total}
-use Rattle.doc_page.specs.Refusals.{IsAnswer}
+use Rattle.doc_page_parts.specs.Refusals.{IsAnswer}
 use Rattle.doc_http.specs.declared.request.Next.{Next as Front}
 use Rattle.doc_http.specs.declared.request.Next.TheVariants as nexts
 use Rattle.doc_http.specs.Requests.{IsNext}
 use Rattle.doc_http.proofs.TakenLemmas.{takes_bytes}
 use Rattle.doc_hub.specs.Connections.{Connections, backlog_limit, pushed_at, with_pushed}
-use Rattle.doc_hub_replies.specs.Replies.{Renders}
+use Rattle.doc_hub.specs.Replies.{Renders}
 use Rattle.doc_hub.specs.Runs.{Happens}
 use Rattle.doc_hub.specs.StepLaws.{connection}
 use Rattle.doc_hub.specs.Worlds.{World, answer_in, world_after, with_finished, stepped_by, step_said, Stays, Answers, StepsAt}

@@ -8,8 +8,8 @@ use crate::fault::ServeFault;
 use crate::link::Link;
 use doc_heap::Vec;
 use doc_hub::hub::Hub;
-use doc_page::failure::Memory;
 use doc_page::renderer::Renderer;
+use doc_page_parts::failure::Memory;
 use doc_server_streams::tcp_link::TcpLink;
 use std::net::TcpListener;
 

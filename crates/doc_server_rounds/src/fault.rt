@@ -3,7 +3,7 @@
 ghost use Rattle.std.specs.Prelude.{◌≡◌};
 
 use doc_hub::refusal::ConnectError;
-use doc_page::failure::Memory;
+use doc_page_parts::failure::Memory;
 use std::error::Error;
 use std::fmt;
 

@@ -6,9 +6,9 @@ ghost use Rattle.doc_server_rounds.specs.Rounds.{ServesAll, AreClosed, fault_pla
 use crate::link::Link;
 use doc_heap::{Heap, Vec};
 use doc_hub::hub::Hub;
-use doc_page::failure::Memory;
-use doc_page::list::List;
 use doc_page::renderer::Renderer;
+use doc_page_parts::failure::Memory;
+use doc_page_parts::list::List;
 use doc_server_streams::stream::Stream;
 
 /// What a round did.

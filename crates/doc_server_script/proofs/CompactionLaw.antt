@@ -10,7 +10,7 @@ use Rattle.std.specs.Map.{keys_of}
 use Rattle.std.specs.Ordering.{nat_cmp, eq_by_cmp}
 use Rattle.std.proofs.lemmas.Map.Keys.{IsDistinct-from_sorted}
 use Rattle.std.proofs.lemmas.Map.Lookups.{exact_bytes}
-use Rattle.doc_page.proofs.Bools.{and_first, and_second, clash}
+use Rattle.doc_page_parts.proofs.Bools.{and_first, and_second, clash}
 use Rattle.doc_store_readers.proofs.FilterSteps.{keys_in_order, some_in_order}
 use Rattle.doc_store_readers.proofs.KeySteps.{same_key, same_from, same_itself, bytes_eq_is}
 use Rattle.doc_store.proofs.NamesLaw.{alias_leads, by_bytes}

@@ -7,7 +7,7 @@ use Rattle.std.proofs.lemmas.Bool.{agree_below_at, and_from}
 use Rattle.std.proofs.lemmas.Bool.Decides.{nat_tests}
 use Rattle.std.proofs.lemmas.List.{length-append}
 use Rattle.std.proofs.Math.Seq.{take-append_seam}
-use Rattle.doc_page.proofs.Bools.{and_first, and_second}
+use Rattle.doc_page_parts.proofs.Bools.{and_first, and_second}
 use Rattle.doc_server_script.specs.Escapes.{is_byte, is_printable, escaped, escaped_byte, spaceless, spaceless_byte}
 use Rattle.doc_server_script.specs.Fields.{cut, is_space}
 

@@ -5,7 +5,7 @@ use Rattle.std.specs.Prelude.{Option, Some, None, nat_lt}
 use Rattle.std.specs.List.{flat_map, list_all}
 use Rattle.std.proofs.lemmas.Bool.{agree_below_at, cases_Bool}
 use Rattle.std.proofs.lemmas.Bool.Decides.{nat_tests}
-use Rattle.doc_page.proofs.Bools.{and_first, and_second}
+use Rattle.doc_page_parts.proofs.Bools.{and_first, and_second}
 use Rattle.doc_server_script.specs.Escapes.{is_byte, behind_backslash, by_number, escaped, escaped_byte, hex_byte, hex_digit, in_front, is_printable, spaceless, spaceless_byte, unescaped}
 
 -- ---- escapes

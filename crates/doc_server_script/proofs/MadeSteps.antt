@@ -5,7 +5,7 @@ use Rattle.std.specs.FinMap as map
 use Rattle.std.specs.List.{list_any}
 use Rattle.std.proofs.lemmas.Cmp.{nat_list_cmp_total}
 use Rattle.std.proofs.lemmas.Map.Lookups.{exact_bytes}
-use Rattle.doc_page.proofs.Bools.{clash}
+use Rattle.doc_page_parts.proofs.Bools.{clash}
 use Rattle.doc_store_readers.proofs.KeySteps.{same_key, same_from, same_itself, bytes_eq_is, not_none, some_is, get_set, get_taken}
 use Rattle.doc_store.proofs.StoreSteps.{get-aliases_after, get-without_goal}
 use Rattle.doc_store.specs.Maps.{TextMap}

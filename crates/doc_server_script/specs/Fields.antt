@@ -6,7 +6,7 @@ use Rattle.std.specs.List.{list_all, position_or_len, before_first, after_first}
 use Rattle.std.specs.Result.{result_ok}
 use Rattle.std.specs.Str.{is_utf8}
 use Rattle.std.specs.Str.Parse.{digits_value}
-use Rattle.doc_page.specs.Paths.{path_of}
+use Rattle.doc_page_parts.specs.Paths.{path_of}
 use Rattle.doc_store.specs.Groups.{groups_of}
 use Rattle.doc_hub.specs.declared.event.ConnId.{ConnId}
 use Rattle.doc_server_script.specs.Escapes.{unescaped}

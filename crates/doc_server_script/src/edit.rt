@@ -8,13 +8,13 @@ ghost use Rattle.doc_server_script.specs.Edits.{behind_commas, groups_text, move
 
 use crate::escaping::{push_escaped, push_plain, push_spaceless};
 use doc_heap::String;
-use doc_page::failure::Memory;
-use doc_page::path::Path;
-use doc_page::text::Text;
+use doc_page_parts::failure::Memory;
+use doc_page_parts::path::Path;
+use doc_page_parts::text::Text;
 use doc_store::groups::Groups;
 
 /// Writes `put PATH GROUPS TEXT`.
-#[tactic(auto, using(doc_page::proofs::BufferSteps::front_same, doc_page::proofs::BufferSteps::front_more))]
+#[tactic(auto, using(doc_page_parts::proofs::BufferSteps::front_same, doc_page_parts::proofs::BufferSteps::front_more))]
 pub fn push_put(out: &mut String, path: &Path, groups: &Groups, text: &str) -> Result<(), Memory>
     ensures ok { OnOk result (string_bytes out.new
         ≡ string_bytes out.old ++ put_line path.now groups.now text.now) }
@@ -25,7 +25,7 @@ pub fn push_put(out: &mut String, path: &Path, groups: &Groups, text: &str) -> R
 }
 
 /// Writes a command, which ends with a space, and then `PATH` and a space.
-#[tactic(auto, using(doc_page::proofs::BufferSteps::front_same, doc_page::proofs::BufferSteps::front_more))]
+#[tactic(auto, using(doc_page_parts::proofs::BufferSteps::front_same, doc_page_parts::proofs::BufferSteps::front_more))]
 fn push_start(out: &mut String, command: &str, path: &Path) -> Result<(), Memory>
     ensures ok { OnOk result (string_bytes out.new
         ≡ string_bytes out.old ++ (command.now ++ (spaceless path.now ++ codes " "))) }
@@ -37,7 +37,7 @@ fn push_start(out: &mut String, command: &str, path: &Path) -> Result<(), Memory
 }
 
 /// Writes `GROUPS TEXT`.
-#[tactic(auto, using(doc_page::proofs::BufferSteps::front_same, doc_page::proofs::BufferSteps::front_more))]
+#[tactic(auto, using(doc_page_parts::proofs::BufferSteps::front_same, doc_page_parts::proofs::BufferSteps::front_more))]
 fn push_put_rest(out: &mut String, groups: &[Text], text: &str) -> Result<(), Memory>
     ensures ok { OnOk result (string_bytes out.new
         ≡ string_bytes out.old ++ (groups_text groups.now ++ 32 ∷ escaped text.now)) }
@@ -48,7 +48,7 @@ fn push_put_rest(out: &mut String, groups: &[Text], text: &str) -> Result<(), Me
 }
 
 /// Writes `GROUPS` and a space.
-#[tactic(auto, using(doc_page::proofs::BufferSteps::front_same, doc_page::proofs::BufferSteps::front_more))]
+#[tactic(auto, using(doc_page_parts::proofs::BufferSteps::front_same, doc_page_parts::proofs::BufferSteps::front_more))]
 fn push_groups_field(out: &mut String, groups: &[Text]) -> Result<(), Memory>
     ensures ok { OnOk result (string_bytes out.new
         ≡ string_bytes out.old ++ (groups_text groups.now ++ codes " ")) }
@@ -59,7 +59,7 @@ fn push_groups_field(out: &mut String, groups: &[Text]) -> Result<(), Memory>
 }
 
 /// Writes `remove PATH`.
-#[tactic(auto, using(doc_page::proofs::BufferSteps::front_same, doc_page::proofs::BufferSteps::front_more))]
+#[tactic(auto, using(doc_page_parts::proofs::BufferSteps::front_same, doc_page_parts::proofs::BufferSteps::front_more))]
 pub fn push_remove(out: &mut String, path: &Path) -> Result<(), Memory>
     ensures ok { OnOk result (string_bytes out.new ≡ string_bytes out.old ++ remove_line path.now) }
     ensures err { OnErr result (StartsWith (string_bytes out.new) (string_bytes out.old)) }
@@ -69,7 +69,7 @@ pub fn push_remove(out: &mut String, path: &Path) -> Result<(), Memory>
 }
 
 /// Writes `move FROM TO`.
-#[tactic(auto, using(doc_page::proofs::BufferSteps::front_same, doc_page::proofs::BufferSteps::front_more))]
+#[tactic(auto, using(doc_page_parts::proofs::BufferSteps::front_same, doc_page_parts::proofs::BufferSteps::front_more))]
 pub fn push_move(out: &mut String, from: &Path, to: &Path) -> Result<(), Memory>
     ensures ok { OnOk result (string_bytes out.new
         ≡ string_bytes out.old ++ move_line from.now to.now) }
@@ -80,7 +80,7 @@ pub fn push_move(out: &mut String, from: &Path, to: &Path) -> Result<(), Memory>
 }
 
 /// Writes the names of a set of groups, joined by commas. `-` is none, so the one group `-` is written twice.
-#[tactic(auto, using(doc_page::proofs::BufferSteps::front_same, doc_page::proofs::BufferSteps::front_more))]
+#[tactic(auto, using(doc_page_parts::proofs::BufferSteps::front_same, doc_page_parts::proofs::BufferSteps::front_more))]
 fn push_groups(out: &mut String, groups: &[Text]) -> Result<(), Memory>
     ensures ok { OnOk result
         (string_bytes out.new ≡ string_bytes out.old ++ groups_text groups.now) }
@@ -94,7 +94,7 @@ fn push_groups(out: &mut String, groups: &[Text]) -> Result<(), Memory>
 }
 
 /// Writes a name, and then others behind a comma each.
-#[tactic(auto, using(doc_page::proofs::BufferSteps::front_same, doc_page::proofs::BufferSteps::front_more))]
+#[tactic(auto, using(doc_page_parts::proofs::BufferSteps::front_same, doc_page_parts::proofs::BufferSteps::front_more))]
 fn push_names(out: &mut String, first: &str, names: &[Text]) -> Result<(), Memory>
     ensures ok { OnOk result
         (string_bytes out.new ≡ string_bytes out.old ++ (first.now ++ behind_commas names.now)) }
@@ -107,7 +107,7 @@ fn push_names(out: &mut String, first: &str, names: &[Text]) -> Result<(), Memor
     Ok(())
 }
 
-#[tactic(auto, using(doc_page::proofs::BufferSteps::front_same, doc_page::proofs::BufferSteps::front_more))]
+#[tactic(auto, using(doc_page_parts::proofs::BufferSteps::front_same, doc_page_parts::proofs::BufferSteps::front_more))]
 fn push_behind_comma(out: &mut String, name: &str) -> Result<(), Memory>
     ensures ok { OnOk result (string_bytes out.new ≡ string_bytes out.old ++ 44 ∷ name.now) }
     ensures err { OnErr result (StartsWith (string_bytes out.new) (string_bytes out.old)) }

@@ -6,10 +6,10 @@ ghost use Rattle.std.specs.List.{flat_map};
 ghost use Rattle.doc_server_script.specs.Escapes.{by_number, escaped, escaped_byte, hex_digit, spaceless, spaceless_byte};
 
 use doc_heap::String;
-use doc_page::failure::Memory;
+use doc_page_parts::failure::Memory;
 
 /// Writes bytes, escaped, at the end of the buffer, where after a refusal part of them may stand.
-#[tactic(auto, unfolding(crate::specs::Escapes::escaped), using(doc_page::proofs::BufferSteps::front_same, doc_page::proofs::BufferSteps::front_more))]
+#[tactic(auto, unfolding(crate::specs::Escapes::escaped), using(doc_page_parts::proofs::BufferSteps::front_same, doc_page_parts::proofs::BufferSteps::front_more))]
 pub fn push_escaped(out: &mut String, bytes: &[u8]) -> Result<(), Memory>
     ensures ok { OnOk result (string_bytes out.new ≡ string_bytes out.old ++ escaped bytes.now) }
     ensures err { OnErr result (StartsWith (string_bytes out.new) (string_bytes out.old)) }
@@ -22,7 +22,7 @@ pub fn push_escaped(out: &mut String, bytes: &[u8]) -> Result<(), Memory>
 }
 
 /// The same, where no space may stand in what is written.
-#[tactic(auto, unfolding(crate::specs::Escapes::spaceless), using(doc_page::proofs::BufferSteps::front_same, doc_page::proofs::BufferSteps::front_more))]
+#[tactic(auto, unfolding(crate::specs::Escapes::spaceless), using(doc_page_parts::proofs::BufferSteps::front_same, doc_page_parts::proofs::BufferSteps::front_more))]
 pub fn push_spaceless(out: &mut String, bytes: &[u8]) -> Result<(), Memory>
     ensures ok { OnOk result (string_bytes out.new ≡ string_bytes out.old ++ spaceless bytes.now) }
     ensures err { OnErr result (StartsWith (string_bytes out.new) (string_bytes out.old)) }
@@ -34,7 +34,7 @@ pub fn push_spaceless(out: &mut String, bytes: &[u8]) -> Result<(), Memory>
     Ok(())
 }
 
-#[tactic(auto, using(doc_page::proofs::BufferSteps::front_same, doc_page::proofs::BufferSteps::front_more))]
+#[tactic(auto, using(doc_page_parts::proofs::BufferSteps::front_same, doc_page_parts::proofs::BufferSteps::front_more))]
 fn push_spaceless_byte(out: &mut String, byte: u8) -> Result<(), Memory>
     ensures ok { OnOk result (string_bytes out.new ≡ string_bytes out.old ++ spaceless_byte byte) }
     ensures err { OnErr result (StartsWith (string_bytes out.new) (string_bytes out.old)) }
@@ -45,7 +45,7 @@ fn push_spaceless_byte(out: &mut String, byte: u8) -> Result<(), Memory>
     push_byte(out, byte)
 }
 
-#[tactic(auto, using(doc_page::proofs::BufferSteps::front_same, doc_page::proofs::BufferSteps::front_more))]
+#[tactic(auto, using(doc_page_parts::proofs::BufferSteps::front_same, doc_page_parts::proofs::BufferSteps::front_more))]
 fn push_byte(out: &mut String, byte: u8) -> Result<(), Memory>
     ensures ok { OnOk result (string_bytes out.new ≡ string_bytes out.old ++ escaped_byte byte) }
     ensures err { OnErr result (StartsWith (string_bytes out.new) (string_bytes out.old)) }
@@ -60,7 +60,7 @@ fn push_byte(out: &mut String, byte: u8) -> Result<(), Memory>
 }
 
 /// Writes a byte by its number.
-#[tactic(auto, using(doc_page::proofs::BufferSteps::front_same, doc_page::proofs::BufferSteps::front_more))]
+#[tactic(auto, using(doc_page_parts::proofs::BufferSteps::front_same, doc_page_parts::proofs::BufferSteps::front_more))]
 fn push_number(out: &mut String, byte: u8) -> Result<(), Memory>
     ensures ok { OnOk result (string_bytes out.new ≡ string_bytes out.old ++ by_number byte) }
     ensures err { OnErr result (StartsWith (string_bytes out.new) (string_bytes out.old)) }

@@ -2,7 +2,7 @@
 
 ghost use Rattle.std.specs.Prelude.{◌≡◌};
 
-use doc_page::failure::Memory;
+use doc_page_parts::failure::Memory;
 
 /// Why a field or a line was not read.
 #[derive(Clone, Copy)]

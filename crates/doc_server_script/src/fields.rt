@@ -10,9 +10,9 @@ use crate::field_error::FieldError;
 use crate::unescaping::unescape;
 use doc_heap::{Heap, String};
 use doc_hub::event::ConnId;
-use doc_page::bytes::Bytes;
-use doc_page::path::{Path, PathError};
-use doc_page::text::Text;
+use doc_page_parts::bytes::Bytes;
+use doc_page_parts::path::{Path, PathError};
+use doc_page_parts::text::Text;
 use doc_store::groups::{Groups, GroupsError};
 
 /// The field before the first space, and all that follows the space.

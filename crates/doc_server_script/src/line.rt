@@ -12,8 +12,8 @@ use crate::fields::{connection_of, cut, groups_in, owner_in, path_in, text_of};
 use crate::unescaping::unescape;
 use doc_heap::Heap;
 use doc_hub::event::Event;
-use doc_page::failure::Memory;
-use doc_page::text::Text;
+use doc_page_parts::failure::Memory;
+use doc_page_parts::text::Text;
 use doc_store::reader::Reader;
 
 /// The event of a line, which is given without its line feed. `None` says that the line is bad.

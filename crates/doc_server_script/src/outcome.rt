@@ -9,7 +9,7 @@ use doc_heap::String;
 use doc_hub::event::{ConnId, Step};
 use doc_hub::outcome::Outcome;
 use doc_hub::refusal::Refusal;
-use doc_page::failure::Memory;
+use doc_page_parts::failure::Memory;
 use doc_store::readers::Set;
 use doc_store::store::Put;
 use std::fmt::Write;

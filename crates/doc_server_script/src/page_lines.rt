@@ -10,12 +10,12 @@ ghost use Rattle.doc_server_script.specs.PageLines.{line_of, lines_of};
 use crate::edit::{push_move, push_put, push_remove};
 use crate::escaping::push_plain;
 use doc_heap::String;
-use doc_page::failure::Memory;
-use doc_page::path::Path;
+use doc_page_parts::failure::Memory;
+use doc_page_parts::path::Path;
 use doc_store::page::Page;
 
 /// Writes the edits that make a page along its names: a put under the first of them, and a move from each to the next.
-#[tactic(auto, using(doc_page::proofs::BufferSteps::front_same, doc_page::proofs::BufferSteps::front_more))]
+#[tactic(auto, using(doc_page_parts::proofs::BufferSteps::front_same, doc_page_parts::proofs::BufferSteps::front_more))]
 pub fn push_made_along(out: &mut String, page: &Page, names: &[&Path]) -> Result<(), Memory>
     ensures ok { OnOk result (string_bytes out.new
         ≡ string_bytes out.old ++ lines_of (made_along page.now.page (texts_of names.now))) }
@@ -31,7 +31,7 @@ pub fn push_made_along(out: &mut String, page: &Page, names: &[&Path]) -> Result
 }
 
 /// Writes the edit that puts a page.
-#[tactic(auto, using(doc_page::proofs::BufferSteps::front_same, doc_page::proofs::BufferSteps::front_more))]
+#[tactic(auto, using(doc_page_parts::proofs::BufferSteps::front_same, doc_page_parts::proofs::BufferSteps::front_more))]
 pub fn push_put_line(out: &mut String, path: &Path, page: &Page) -> Result<(), Memory>
     ensures ok { OnOk result (string_bytes out.new
         ≡ string_bytes out.old ++ line_of (set_page path.now page.now.page)) }
@@ -42,7 +42,7 @@ pub fn push_put_line(out: &mut String, path: &Path, page: &Page) -> Result<(), M
 }
 
 /// Writes the edit that removes a page.
-#[tactic(auto, using(doc_page::proofs::BufferSteps::front_same, doc_page::proofs::BufferSteps::front_more))]
+#[tactic(auto, using(doc_page_parts::proofs::BufferSteps::front_same, doc_page_parts::proofs::BufferSteps::front_more))]
 pub fn push_remove_line(out: &mut String, path: &Path) -> Result<(), Memory>
     ensures ok { OnOk result (string_bytes out.new
         ≡ string_bytes out.old ++ line_of (remove_page path.now)) }
@@ -53,7 +53,7 @@ pub fn push_remove_line(out: &mut String, path: &Path) -> Result<(), Memory>
 }
 
 /// Writes the edit that moves a page.
-#[tactic(auto, using(doc_page::proofs::BufferSteps::front_same, doc_page::proofs::BufferSteps::front_more))]
+#[tactic(auto, using(doc_page_parts::proofs::BufferSteps::front_same, doc_page_parts::proofs::BufferSteps::front_more))]
 pub fn push_move_line(out: &mut String, from: &Path, to: &Path) -> Result<(), Memory>
     ensures ok { OnOk result (string_bytes out.new
         ≡ string_bytes out.old ++ line_of (move_page from.now to.now)) }
@@ -64,7 +64,7 @@ pub fn push_move_line(out: &mut String, from: &Path, to: &Path) -> Result<(), Me
 }
 
 /// Writes a move from each name to the next.
-#[tactic(auto, using(doc_page::proofs::BufferSteps::front_same, doc_page::proofs::BufferSteps::front_more))]
+#[tactic(auto, using(doc_page_parts::proofs::BufferSteps::front_same, doc_page_parts::proofs::BufferSteps::front_more))]
 fn push_moves(out: &mut String, from: &Path, names: &[&Path]) -> Result<(), Memory>
     ensures ok { OnOk result (string_bytes out.new
         ≡ string_bytes out.old ++ lines_of (moves from.now (texts_of names.now))) }

@@ -1,6 +1,6 @@
 //! Why a turn ends a server.
 
-use doc_page::failure::Memory;
+use doc_page_parts::failure::Memory;
 use doc_server_journal::fault::AppendError;
 use std::error::Error;
 use std::fmt;

@@ -1,5 +1,1 @@
-mod DocumentSteps
-mod EditSteps
-mod ListSteps
 mod ShelfSteps
-mod ViewSteps

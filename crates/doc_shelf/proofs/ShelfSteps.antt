@@ -1,20 +1,24 @@
 -- What edits and looks leave of a shelf.
-use Rattle.std.proofs.Common.{◌≡◌, ℕ, ◌==◌, Bool, true, false, ltb, List, [], sym, ap, subst, ◌∙◌}
-use Rattle.std.specs.Prelude.{Ok, Err, if◌then◌else◌}
+use Rattle.std.proofs.Common.{◌≡◌, ℕ, ◌+◌, ◌==◌, Bool, true, false, ltb, List, [], sym, ap, subst, ◌∙◌}
+use Rattle.std.specs.Prelude.{Ok, Err, Option, is_some, if◌then◌else◌}
+use Rattle.std.specs.FinMap as map
 use Rattle.doc_cache.specs.Caches.{Cached, cache_of, cached}
 use Rattle.doc_cache.specs.declared.failure.CacheError.TheVariants as cache_errors
-use Rattle.doc_page.specs.Refusals.{IsAnswer}
-use Rattle.doc_shelf.specs.Shelves.{IsEdited, IsShelf}
+use Rattle.doc_page_parts.specs.Refusals.{IsAnswer}
 use Rattle.doc_shelf_edits.proofs.Documents.{caches_have_documents}
 use Rattle.doc_shelf_edits.proofs.KeptEdits.{edits_of_kept}
-use Rattle.doc_shelf_edits.specs.Shelves.{HasDocuments, IsBeingPut}
-use Rattle.doc_shelf.specs.Documents.{IsServed}
+use Rattle.doc_shelf_edits.specs.Shelves.{HasDocuments, IsBeingPut, IsEdited}
+use Rattle.doc_shelf_documents.specs.Documents.{IsServed}
+use Rattle.doc_shelf_documents.specs.Shelves.{IsShelf}
 use Rattle.doc_shelf_edits.specs.Laws.{Stands}
 use Rattle.doc_store.specs.Pages.{Page}
 use Rattle.doc_shelf_pages.specs.KeptPages.{IsFree, Kept, none_kept, with_page as kept_with_page}
 use Rattle.doc_shelf_views.specs.Views.{Renders}
 use Rattle.doc_store.proofs.StoreSteps.{empty_is_store}
-use Rattle.doc_store.specs.Store.{StoreState, empty_store}
+use Rattle.doc_store.specs.Store.{StoreState, empty_store, fits_in, put_by, put_into, with_page}
+use Rattle.doc_store.specs.declared.store.Put.{Put}
+use Rattle.doc_store.specs.declared.store.Put.TheVariants as puts
+use Rattle.doc_shelf.specs.Shelves.{rendered_for}
 
 -- a shelf after an edit
 pub edited : (render : Renders) (old new : StoreState) (before after : Kept) (cache : Cached) → IsShelf render old before cache
@@ -82,3 +86,27 @@ is_served render store kept cache path stamp told page shelf same stands = recor
 pub looked_at : (render : Renders) (store : StoreState) (kept : Kept) (cache new : Cached) → IsShelf render store kept cache
     → HasDocuments render store new → IsShelf render store kept new
 looked_at render store kept cache new shelf has = record { is_store = shelf.is_store; pages = shelf.pages; documents = has }
+
+-- ---- what puts answer, by what a shelf shows
+
+-- a put that fits renders once
+pub counted_once : {R : Type 0} (count : R → ℕ) (renderer after : R) (store : StoreState) (shown : R × StoreState) (path text : List ℕ)
+    → (renderer, store) ≡ shown → fits_in store path text ≡ Ok tt → count after ≡ count renderer + 1
+    → count after ≡ count shown.0 + rendered_for (fits_in shown.1 path text)
+counted_once count renderer after store shown path text view fits counted =
+    counted
+    ∙ ap (λ answer. count renderer + rendered_for answer) (sym fits)
+    ∙ ap (λ s. count s.0 + rendered_for (fits_in s.1 path text)) view
+
+-- and has the answer of the store's put
+pub put_answers : {R : Type 0} (renderer : R) (store new : StoreState) (shown : R × StoreState) (path text : List ℕ)
+    (groups : List (List ℕ)) (before : Option ℕ) (put : Put) → (renderer, store) ≡ shown → fits_in store path text ≡ Ok tt
+    → new ≡ with_page store path (record { groups = groups; text = text }) → is_some before ≡ map.contains_key store.site.pages path
+    → put ≡ (if is_some before then puts.Replaced else puts.Created) → put_into shown.1 path groups text ≡ (new, Ok put)
+put_answers renderer store new shown path text groups before put view fits made stood is =
+    let page : Page = record { groups = groups; text = text } in
+    sym (ap (λ s. put_into s.1 path groups text) view)
+    ∙ ap (put_by store path page (map.contains_key store.site.pages path)) fits
+    ∙ ap (λ stands. (with_page store path page, Ok (if stands then puts.Replaced else puts.Created))) (sym stood)
+    ∙ ap (λ s. (s, Ok (if is_some before then puts.Replaced else puts.Created))) (sym made)
+    ∙ ap (λ p. (new, Ok p)) (sym is)

@@ -1,2 +1,2 @@
-pub mod Documents
 pub mod Shelves
+pub use Rattle.doc_shelf_documents.specs.Documents

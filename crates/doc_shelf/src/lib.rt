@@ -2,15 +2,10 @@
 //!
 //! Contracts see the renderer and the store alone: what a call answers is said of a reader's view of the store, and what is kept beside
 //! it is in no contract. It is the invariant of the shelf: what is kept is what the renderer makes of each page under its present
-//! stamp, and each text of the cache is a document. `doc_shelf_edits` says why edits and looks keep it so, `doc_shelf_views` why indexes
-//! of all pages answer for the view of one reader.
+//! stamp, and each text of the cache is a document. `doc_shelf_edits` edits both and makes the lists, `doc_shelf_documents` the documents,
+//! and `doc_shelf_views` says why indexes of all pages answer for the view of one reader.
 #![tactic(auto)]
 
-mod body;
-mod documents;
-mod edits;
-mod lists;
 mod shelf;
-mod visible;
 
 pub use shelf::{Saying, Shelf};

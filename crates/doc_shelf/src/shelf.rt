@@ -4,30 +4,30 @@ ghost use Rattle.std.specs.Prelude.{◌≡◌, ◌+◌, IfOk, Ok, OnErr, OnOk, S
 ghost use Rattle.std.specs.FinMap as map;
 ghost use Rattle.doc_http.specs.ReplyForms.{reply_of};
 ghost use Rattle.doc_http.specs.Replies.{reply_bytes};
-ghost use Rattle.doc_page.specs.Refusals.{Gives, IsAnswer};
-ghost use Rattle.doc_shelf.specs.Documents.{page_shown};
+ghost use Rattle.doc_page_parts.specs.Refusals.{Gives, IsAnswer};
 ghost use Rattle.doc_shelf.specs.Shelves.{rendered_for, shelf_made};
+ghost use Rattle.doc_shelf_documents.specs.Documents.{page_shown};
 ghost use Rattle.doc_shelf_views.specs.Laws.{seen_in};
 ghost use Rattle.doc_shelf_views.specs.Views.{backlinks_body, contents_body, report_body, search_body};
 ghost use Rattle.doc_store.specs.Sites.{page_at};
 ghost use Rattle.doc_store.specs.Store.{fits_in, moved_in, put_into, with_page, without_page};
 
-use crate::documents::{Writing, reply_with_page};
-use crate::edits::{
-    NewPage, begin_put, end_put, end_put_saying, move_page, next_stamp, put_over, remove,
-    stamp_of_move, stamp_of_put,
-};
-use crate::lists::{backlinks, contents, report, search};
-use crate::visible::visible_page;
 use doc_cache::cache::PageCache;
 use doc_cache::failure::CacheError;
 use doc_heap::Heap;
 use doc_http::reply_form::ReplyForm;
-use doc_page::bytes::Bytes;
-use doc_page::failure::Memory;
-use doc_page::path::Path;
 use doc_page::renderer::Renderer;
-use doc_page::text::Text;
+use doc_page_parts::bytes::Bytes;
+use doc_page_parts::failure::Memory;
+use doc_page_parts::path::Path;
+use doc_page_parts::text::Text;
+use doc_shelf_documents::{Writing, reply_with_page};
+use doc_shelf_edits::edits::{
+    NewPage, begin_put, end_put, end_put_saying, move_page, next_stamp, put_over, remove,
+    stamp_of_move, stamp_of_put,
+};
+use doc_shelf_edits::lists::{backlinks, contents, report, search};
+use doc_shelf_edits::visible::visible_page;
 use doc_shelf_pages::KeptPages;
 use doc_store::groups::Groups;
 use doc_store::moving::MoveError;
@@ -73,7 +73,7 @@ impl<R: Renderer + Drop> Drop for Shelf<R> {
 
 impl<R: Renderer + Drop> Model for Shelf<R> {
     ghost use Rattle.std.specs.Coded.{coded×};
-    ghost use Rattle.doc_shelf.specs.Shelves.{IsShelf};
+    ghost use Rattle.doc_shelf_documents.specs.Shelves.{IsShelf};
     ghost use Rattle.doc_store.specs.Store.{StoreState, store_code};
 
     ghost Value = { R × StoreState };
@@ -90,12 +90,13 @@ impl<R: Renderer + Drop> Shelf<R> {
     pub fn new(heap: Heap, renderer: R, capacity: usize) -> Result<Self, CacheError>
         ensures { IsAnswer CacheError.Memory (shelf_made renderer capacity) result }
     {
+        let cache = PageCache::new(heap, capacity)?;
         Ok(Shelf {
             heap,
             renderer,
             store: Store::new(heap),
             kept: KeptPages::new(heap),
-            cache: PageCache::new(heap, capacity)?,
+            cache,
         })
     }
 

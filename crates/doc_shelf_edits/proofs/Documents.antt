@@ -7,8 +7,8 @@ use Rattle.std.proofs.Math.Numerals.{lt-add-one}
 use Rattle.doc_cache.proofs.CacheSteps.{found-in, in-kept, in-looked}
 use Rattle.doc_cache.specs.Caches.{Cached, kept as kept_in_cache, text_under}
 use Rattle.doc_cache.specs.declared.key.Key.{Key}
-use Rattle.doc_page.specs.Escaping.{escaped}
-use Rattle.doc_page.specs.Pages.{title_of}
+use Rattle.doc_page_parts.specs.Escaping.{escaped}
+use Rattle.doc_page_parts.specs.Pages.{title_of}
 use Rattle.doc_resolve.proofs.DecisionLaws.{links_are_decided}
 use Rattle.doc_resolve.specs.Decisions.{decisions}
 use Rattle.doc_shelf_views.specs.Views.{Renders}

@@ -6,7 +6,7 @@ use Rattle.std.specs.FinMap as map
 use Rattle.std.specs.Ordering.{nat_cmp}
 use Rattle.doc_index.specs.Maps.{TextMap, pair_cmp}
 use Rattle.doc_index.proofs.HeldSteps.{pairs_exact, pairs_total}
-use Rattle.doc_page.specs.declared.rendered.Rendered.{Rendered}
+use Rattle.doc_page_parts.specs.declared.rendered.Rendered.{Rendered}
 use Rattle.doc_shelf_pages.proofs.KeptSteps.{together, undone as undone_at}
 use Rattle.doc_shelf_pages.specs.KeptPages.{IsFree, Kept, carried, carried_with, none_kept, with_page as kept_with_page}
 use Rattle.doc_shelf_pages.specs.KeptPages.{without_page as kept_without_page, without_texts}

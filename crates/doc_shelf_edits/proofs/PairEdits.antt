@@ -9,7 +9,7 @@ use Rattle.doc_index.specs.Maps.{PairMap}
 use Rattle.doc_index.specs.TableSteps.{same_number}
 use Rattle.doc_index.proofs.CountSteps.{number_is, number_itself}
 use Rattle.doc_index.proofs.HeldSteps.{both_same, pairs_total}
-use Rattle.doc_page.specs.declared.rendered.Rendered.{Rendered}
+use Rattle.doc_page_parts.specs.declared.rendered.Rendered.{Rendered}
 use Rattle.doc_store_readers.proofs.KeySteps.{get_set, get_taken, same_from, same_itself, same_key}
 use Rattle.doc_store.specs.Maps.{TextMap}
 use Rattle.doc_store.specs.Pages.{Page}

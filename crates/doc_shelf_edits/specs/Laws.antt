@@ -3,7 +3,7 @@ use Rattle.std.specs.Prelude.{◌≡◌, ℕ, List, [], Option, Some, None}
 use Rattle.std.specs.FinMap as map
 use Rattle.doc_cache.specs.Caches.{Cached, cached, kept as kept_in_cache, looked, text_under}
 use Rattle.doc_cache.specs.declared.key.Key.{Key}
-use Rattle.doc_page.specs.Pages.{body_of}
+use Rattle.doc_page_parts.specs.Pages.{body_of}
 use Rattle.doc_resolve.specs.Decisions.{decisions}
 use Rattle.doc_resolve.specs.Hrefs.{shown}
 use Rattle.doc_shelf_edits.specs.Shelves.{HasDocuments, IsBeingPut, IsDocument, IsKept, let_go}

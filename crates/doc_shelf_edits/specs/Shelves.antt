@@ -5,15 +5,15 @@ use Rattle.std.specs.List.{Contains}
 use Rattle.doc_cache.specs.Caches.{Cached}
 use Rattle.doc_cache.specs.declared.key.Key.{Key}
 use Rattle.doc_index.specs.Maps.{PairMap}
-use Rattle.doc_page.specs.Pages.{body_of}
-use Rattle.doc_page.specs.declared.rendered.Rendered.{Rendered}
+use Rattle.doc_page_parts.specs.Pages.{body_of}
+use Rattle.doc_page_parts.specs.declared.rendered.Rendered.{Rendered}
 use Rattle.doc_resolve.specs.Decisions.{decisions}
 use Rattle.doc_resolve.specs.Hrefs.{shown}
 use Rattle.doc_shelf_pages.specs.KeptPages.{Kept, with_page as kept_with_page, without_page as kept_without_page, without_texts}
 use Rattle.doc_shelf_views.specs.Held.{rendered_under}
 use Rattle.doc_shelf_views.specs.Views.{Renders, links_in}
 use Rattle.doc_store.specs.Pages.{Page}
-use Rattle.doc_store.specs.Store.{StoreState}
+use Rattle.doc_store.specs.Store.{StoreState, IsStore}
 use Rattle.doc_words.specs.Words.{word_counts}
 
 -- what the renderer makes of the page at a path, where it has this stamp
@@ -58,3 +58,12 @@ pub record IsDocument (render : Renders) (store : StoreState) (key : Key) (text 
 -- each text of a cache may stand under its key
 abbrev pub HasDocuments : Renders → StoreState → Cached → Type 0
 HasDocuments render store cache = (pair : Key × List ℕ) → Contains cache.entries pair → IsDocument render store pair.0 pair.1
+
+-- ---- edits
+
+-- What an edit leaves of a store, of what is kept of its pages, and of the documents of every cache, where all was as it should be
+-- before.
+pub record IsEdited (render : Renders) (old new : StoreState) (kept : Kept) : Type 0 where
+  pub is_store : IsStore new
+  pub pages : IsKept render new kept
+  pub documents : (cache : Cached) → HasDocuments render old cache → HasDocuments render new cache

@@ -7,7 +7,7 @@ use Rattle.doc_index.specs.Maps.{PairMap, TextMap}
 use Rattle.doc_index.specs.declared.held.Held.{Held}
 use Rattle.doc_index.proofs.HeldSteps.{pairs_exact, pairs_total}
 use Rattle.doc_index.proofs.TableSteps.{on_ok}
-use Rattle.doc_page.specs.declared.rendered.Rendered.{Rendered}
+use Rattle.doc_page_parts.specs.declared.rendered.Rendered.{Rendered}
 use Rattle.doc_links.specs.IndexSteps.{with_values}
 use Rattle.doc_links.proofs.MapSteps.{empty_with, get_with, insert_with, remove_with}
 use Rattle.doc_shelf_pages.specs.RenderingSteps.{renderings_in}

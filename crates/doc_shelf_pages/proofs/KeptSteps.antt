@@ -5,7 +5,7 @@ use Rattle.std.specs.FinMap as map
 use Rattle.std.specs.Result.{is_err}
 use Rattle.doc_index.specs.Maps.{PairMap, TextMap}
 use Rattle.doc_index.proofs.HeldSteps.{pair_is, pairs_exact, pairs_total, same_pair}
-use Rattle.doc_page.specs.declared.rendered.Rendered.{Rendered}
+use Rattle.doc_page_parts.specs.declared.rendered.Rendered.{Rendered}
 use Rattle.doc_links_pages.specs.declared.page_links.PageLinks.{PageLinks}
 use Rattle.doc_shelf_pages.specs.KeptPages.{Kept}
 

@@ -4,10 +4,10 @@ ghost use Rattle.std.specs.Prelude.{◌≡◌, IfOk};
 ghost use Rattle.doc_shelf_pages.specs.KeptPages.{without_texts};
 
 use doc_heap::{Heap, Vec};
-use doc_page::failure::Memory;
-use doc_page::list::List;
-use doc_page::rendered::{Heading, LinkSpot, Piece, Rendered};
-use doc_page::text::Text;
+use doc_page_parts::failure::Memory;
+use doc_page_parts::list::List;
+use doc_page_parts::rendered::{Heading, LinkSpot, Piece, Rendered};
+use doc_page_parts::text::Text;
 
 /// A rendering without its texts, which are dropped.
 pub fn without_texts(heap: Heap, page: Rendered) -> Rendered

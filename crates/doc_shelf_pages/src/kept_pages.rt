@@ -7,9 +7,9 @@ ghost use Rattle.doc_shelf_pages.specs.KeptPages.{IsFree, carried, none_kept, wi
 use crate::renderings::Renderings;
 use doc_heap::Heap;
 use doc_links::LinkIndex;
-use doc_page::failure::Memory;
-use doc_page::path::Path;
-use doc_page::rendered::Rendered;
+use doc_page_parts::failure::Memory;
+use doc_page_parts::path::Path;
+use doc_page_parts::rendered::Rendered;
 use doc_words::index::WordIndex;
 use std::marker::Model;
 
@@ -34,7 +34,7 @@ impl Drop for KeptPages {
 
 impl Model for KeptPages {
     ghost use Rattle.doc_links_pages.specs.contracts.page_links.PageLinks as link_row;
-    ghost use Rattle.doc_page.specs.contracts.rendered.Rendered as page_row;
+    ghost use Rattle.doc_page_parts.specs.contracts.rendered.Rendered as page_row;
     ghost use Rattle.doc_shelf_pages.specs.KeptPages.{Kept, kept_code};
 
     ghost Value = { Kept };

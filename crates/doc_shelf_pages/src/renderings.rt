@@ -8,9 +8,9 @@ ghost use Rattle.doc_shelf_pages.specs.RenderingSteps.{with_copy};
 use crate::copying::{copy_of, without_texts};
 use doc_heap::{BTreeMap, Heap, String};
 use doc_index::index::Index;
-use doc_page::failure::Memory;
-use doc_page::path::Path;
-use doc_page::rendered::Rendered;
+use doc_page_parts::failure::Memory;
+use doc_page_parts::path::Path;
+use doc_page_parts::rendered::Rendered;
 use std::marker::Model;
 
 /// Renderings without their texts, each held under a path and a stamp. Contracts see the map.
@@ -24,8 +24,8 @@ impl Model for Renderings {
     ghost use Rattle.std.specs.Coded.{coded_ℕ, coded_list, coded×};
     ghost use Rattle.std.specs.FinMap as map;
     ghost use Rattle.doc_index.specs.Maps.{PairMap};
-    ghost use Rattle.doc_page.specs.contracts.rendered.Rendered as one;
-    ghost use Rattle.doc_page.specs.declared.rendered.Rendered.{Rendered};
+    ghost use Rattle.doc_page_parts.specs.contracts.rendered.Rendered as one;
+    ghost use Rattle.doc_page_parts.specs.declared.rendered.Rendered.{Rendered};
     ghost use Rattle.doc_shelf_pages.specs.RenderingSteps.{renderings_in};
 
     ghost Value = { PairMap Rendered };

@@ -6,11 +6,11 @@ use Rattle.std.specs.Fmt.{digits}
 use Rattle.std.specs.FinMap as map
 use Rattle.std.specs.Str.{chars, is_utf8}
 use Rattle.percent_encoding.specs.Percent.{percent_decode, percent_encode_byte}
-use Rattle.doc_page.specs.Escaping.{escaped}
-use Rattle.doc_page.specs.Paths.{is_path}
-use Rattle.doc_page.specs.declared.rendered.Piece.{Piece}
-use Rattle.doc_page.specs.declared.rendered.Piece.TheVariants.{Html, Link}
-use Rattle.doc_page.specs.declared.rendered.Rendered.{Rendered}
+use Rattle.doc_page_parts.specs.Escaping.{escaped}
+use Rattle.doc_page_parts.specs.Paths.{is_path}
+use Rattle.doc_page_parts.specs.declared.rendered.Piece.{Piece}
+use Rattle.doc_page_parts.specs.declared.rendered.Piece.TheVariants.{Html, Link}
+use Rattle.doc_page_parts.specs.declared.rendered.Rendered.{Rendered}
 use Rattle.doc_page_encoding.specs.Encoding.{encoded, encoded_path}
 use Rattle.doc_resolve.specs.DotSegments.{put_all, without_dots}
 use Rattle.doc_resolve.specs.Links.{kind_on, kinds}

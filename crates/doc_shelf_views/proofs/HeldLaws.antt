@@ -10,13 +10,13 @@ use Rattle.std.specs.List.Sorted.{IsStrictlySortedBy}
 use Rattle.std.specs.Map.{keys_of}
 use Rattle.std.specs.Ordering.{nat_cmp, ordering_then}
 use Rattle.std.proofs.lemmas.Bool.{both_ways}
-use Rattle.doc_page.proofs.Bools.{or_true}
+use Rattle.doc_page_parts.proofs.Bools.{or_true}
 use Rattle.doc_index.specs.Maps.{pair_cmp}
 use Rattle.doc_index.specs.TableSteps.{same_number}
 use Rattle.doc_index.proofs.CountSteps.{number_is}
 use Rattle.doc_index.proofs.HeldSteps.{both_same, pairs_exact, pairs_total, some_is}
-use Rattle.doc_page.proofs.Maps.{entries_in_order}
-use Rattle.doc_page.specs.declared.rendered.Rendered.{Rendered}
+use Rattle.doc_page_parts.proofs.Maps.{entries_in_order}
+use Rattle.doc_page_parts.specs.declared.rendered.Rendered.{Rendered}
 use Rattle.doc_store_readers.proofs.FilterSteps.{keys_in_order}
 use Rattle.doc_store_readers.proofs.KeySteps.{same_from, same_itself, same_key}
 use Rattle.doc_store.specs.Pages.{Page}

@@ -16,7 +16,7 @@ use Rattle.doc_store.specs.Names.{AreNames, names_of}
 use Rattle.doc_store.specs.Pages.{Page}
 use Rattle.doc_store.specs.Sites.{goal_in, may_see_at, page_at}
 use Rattle.doc_store.specs.Store.{is_goal}
-use Rattle.doc_page.specs.declared.rendered.Rendered.{Rendered}
+use Rattle.doc_page_parts.specs.declared.rendered.Rendered.{Rendered}
 use Rattle.doc_shelf_views.specs.Laws.{CountsOfSeen, NamesOfTargets, seen_in, words_seen}
 use Rattle.doc_shelf_views.specs.Views.{Renders, links_in, rendered_pages}
 use Rattle.doc_shelf_views.proofs.ViewAnswers.{links_are, words_are}

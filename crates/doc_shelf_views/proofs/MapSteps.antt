@@ -6,7 +6,7 @@ use Rattle.std.specs.List.Sorted.{IsStrictlySortedBy}
 use Rattle.std.specs.Map.{keys_of}
 use Rattle.doc_index.specs.Maps.{PairMap, pair_cmp}
 use Rattle.doc_index.proofs.HeldSteps.{pair_is, pairs_exact, pairs_total, same_pair}
-use Rattle.doc_page.proofs.Maps.{entries_in_order}
+use Rattle.doc_page_parts.proofs.Maps.{entries_in_order}
 use Rattle.doc_store_readers.proofs.FilterSteps.{keys_in_order}
 use Rattle.doc_shelf_views.specs.Held.{HasOneStamp, by_path, with_each}
 

@@ -9,7 +9,7 @@ use Rattle.caseless.specs.Caseless.{default_case_fold}
 use Rattle.ucd_case.proofs.Computing.{ucd_case}
 use Rattle.ucd_category.proofs.Computing.{ucd_category}
 use Rattle.doc_listings.specs.Listings.{hits_text}
-use Rattle.doc_page.specs.declared.rendered.Piece.TheVariants.{Html}
+use Rattle.doc_page_parts.specs.declared.rendered.Piece.TheVariants.{Html}
 use Rattle.doc_store_readers.specs.declared.reader.Reader.{Reader}
 use Rattle.doc_store.specs.Pages.{Page}
 use Rattle.doc_store.specs.Sites.{View, view_of}

@@ -8,8 +8,8 @@ use Rattle.std.specs.Map.{keys_of}
 use Rattle.std.specs.Ordering.{nat_cmp}
 use Rattle.std.proofs.lemmas.Simd.{map-map}
 use Rattle.doc_links.specs.Links.{backlinks, broken, contents}
-use Rattle.doc_page.specs.Sights.{seen}
-use Rattle.doc_page.specs.declared.rendered.Rendered.{Rendered}
+use Rattle.doc_page_parts.specs.Sights.{seen}
+use Rattle.doc_page_parts.specs.declared.rendered.Rendered.{Rendered}
 use Rattle.doc_store_readers.proofs.FilterSteps.{keys_in_order}
 use Rattle.doc_store.proofs.SeenLaw.{seen_of_known}
 use Rattle.doc_store_readers.specs.declared.reader.Reader.{Reader}

@@ -4,7 +4,7 @@ use Rattle.std.specs.FinMap as map
 use Rattle.std.specs.List.{filter_map}
 use Rattle.doc_index.specs.Maps.{PairMap, TextMap}
 use Rattle.doc_links_pages.specs.declared.page_links.PageLinks.{PageLinks}
-use Rattle.doc_page.specs.declared.rendered.Rendered.{Rendered}
+use Rattle.doc_page_parts.specs.declared.rendered.Rendered.{Rendered}
 use Rattle.doc_store.specs.Pages.{Page}
 use Rattle.doc_store.specs.Store.{StoreState}
 use Rattle.doc_words.specs.Words.{word_counts}

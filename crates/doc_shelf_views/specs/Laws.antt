@@ -10,7 +10,7 @@ use Rattle.doc_index.specs.Maps.{PairMap, TextMap}
 use Rattle.doc_links.specs.Links.{backlinks, broken, contents, leads_to}
 use Rattle.doc_links.specs.PageLinks.{IsOnce, pages_of as pages_with_links}
 use Rattle.doc_links_pages.specs.declared.page_links.PageLinks.{PageLinks}
-use Rattle.doc_page.specs.Sights.{seen}
+use Rattle.doc_page_parts.specs.Sights.{seen}
 use Rattle.doc_resolve.specs.declared.link_kind.LinkKind.TheVariants.{Page as page_link}
 use Rattle.doc_store_readers.specs.declared.reader.Reader.{Reader}
 use Rattle.doc_store.specs.Names.{AreNames, names_of}

@@ -8,7 +8,7 @@ use Rattle.doc_links_pages.specs.declared.answers.Broken.{Broken}
 use Rattle.doc_links_pages.specs.declared.answers.Entry.{Entry}
 use Rattle.doc_links_pages.specs.declared.page_links.PageLinks.{PageLinks}
 use Rattle.doc_listings.specs.Listings.{backlinks_text, contents_text, hits_text, report_text}
-use Rattle.doc_page.specs.declared.rendered.Rendered.{Rendered}
+use Rattle.doc_page_parts.specs.declared.rendered.Rendered.{Rendered}
 use Rattle.doc_store.specs.Sites.{View, goal_in}
 use Rattle.doc_words.specs.Searches.{search}
 use Rattle.doc_words.specs.Words.{word_counts}

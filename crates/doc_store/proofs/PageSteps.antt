@@ -4,7 +4,7 @@ use Rattle.std.specs.Prelude.{Option, Some, None}
 use Rattle.std.specs.FinMap as map
 use Rattle.std.proofs.lemmas.Cmp.{nat_list_cmp_total}
 use Rattle.std.proofs.lemmas.Map.Lookups.{exact_bytes}
-use Rattle.doc_page.proofs.Bools.{clash}
+use Rattle.doc_page_parts.proofs.Bools.{clash}
 use Rattle.doc_store_readers.proofs.KeySteps.{same_key, same_from, same_itself, get_set, get_taken, contains_set, contains_taken}
 use Rattle.doc_store_readers.specs.Maps.{TextMap}
 use Rattle.doc_store.specs.MoveSteps.{restamped, with_stamped, with_stamped_at}

@@ -12,8 +12,8 @@ use Rattle.std.specs.declared.cmp.Ordering.TheVariants.{Equal}
 use Rattle.std.proofs.lemmas.Cmp.{nat_list_cmp_total}
 use Rattle.std.proofs.lemmas.Map.Entries.{option_filter}
 use Rattle.std.proofs.lemmas.Map.Lookups.{exact_bytes}
-use Rattle.doc_page.proofs.Maps.{entries_in_order, len-sorted}
-use Rattle.doc_page.specs.Sights.{leads_to_itself, seen}
+use Rattle.doc_page_parts.proofs.Maps.{entries_in_order, len-sorted}
+use Rattle.doc_page_parts.specs.Sights.{leads_to_itself, seen}
 use Rattle.doc_store_readers.proofs.FilterSteps.{keys_in_order, some_in_order}
 use Rattle.doc_store_readers.proofs.MapSteps.{get_filtered}
 use Rattle.doc_store_readers.proofs.MapValues.{get-map_values, len-map_values}

@@ -10,8 +10,8 @@ use Rattle.std.specs.Cmp.Lexicographic.{slice_cmp}
 use Rattle.std.specs.Ordering.{nat_cmp, eq_by_cmp}
 use Rattle.std.proofs.lemmas.Cmp.{nat_list_cmp_total}
 use Rattle.std.proofs.lemmas.Map.Lookups.{exact_bytes}
-use Rattle.doc_page.proofs.Bools.{clash}
-use Rattle.doc_page.proofs.Maps.{entries_in_order}
+use Rattle.doc_page_parts.proofs.Bools.{clash}
+use Rattle.doc_page_parts.proofs.Maps.{entries_in_order}
 use Rattle.doc_store_readers.proofs.FilterSteps.{keys_in_order, some_in_order}
 use Rattle.doc_store_readers.proofs.KeySteps.{same_key, same_from, same_itself, bytes_eq_is, some_is, get_set, get_taken, contains_set, contains_taken}
 use Rattle.doc_store_readers.proofs.MapValues.{get-map_values}

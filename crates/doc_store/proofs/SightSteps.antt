@@ -2,7 +2,7 @@
 use Rattle.std.proofs.Common.{◌≡◌, ℕ, List, Bool, true, false, cond, is_some, refl, ap, sym, ◌∙◌}
 use Rattle.std.specs.Prelude.{Option, Some, None, option_map, option_and_then}
 use Rattle.std.specs.FinMap as map
-use Rattle.doc_page.specs.Sights.{leads_to_itself}
+use Rattle.doc_page_parts.specs.Sights.{leads_to_itself}
 use Rattle.doc_store_readers.proofs.KeySteps.{same_key, same_from, same_itself, bytes_eq_is}
 use Rattle.doc_store_readers.proofs.MapValues.{get-map_values}
 use Rattle.doc_store_readers.proofs.ViewLaw.{alias_at-view_of, page_at-view_of}
@@ -11,7 +11,7 @@ use Rattle.doc_store_readers.specs.Maps.{TextMap, map_values}
 use Rattle.doc_store_readers.specs.Pages.{Page, StampedPage}
 use Rattle.doc_store_readers.specs.Sites.{Site, IsSite, View, may_see, may_see_at, page_of_alias, goal_by, goal_in, view_of}
 use Rattle.doc_store.specs.Store.{site_with}
-use Rattle.doc_page.proofs.Bools.{clash}
+use Rattle.doc_page_parts.proofs.Bools.{clash}
 
 nothing : {X : Type 0} (b : Bool) → ◌≡◌ {A = Option X} (cond b None None) None
 nothing true = refl

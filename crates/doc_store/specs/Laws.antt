@@ -1,7 +1,7 @@
 -- Laws of what readers see of a store, of the names of pages, and of stamps.
 use Rattle.std.specs.Prelude.{◌≡◌, ◌≢◌, ◌+◌, ℕ, List, true, is_some, Option, Some, Ok}
 use Rattle.std.specs.FinMap as map
-use Rattle.doc_page.specs.Sights.{leads_to_itself, seen}
+use Rattle.doc_page_parts.specs.Sights.{leads_to_itself, seen}
 use Rattle.doc_store_readers.specs.declared.reader.Reader.{Reader}
 use Rattle.doc_store_readers.specs.Sites.{Site, IsSite, goal_in, goal_of, may_see_at, page_at, view_of}
 use Rattle.doc_store.specs.declared.store.Put.{Put}

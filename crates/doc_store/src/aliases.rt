@@ -11,8 +11,8 @@ use crate::by_goal::ByGoal;
 use crate::goals::Goals;
 use crate::path_set::PathSet;
 use doc_heap::{Heap, Vec};
-use doc_page::failure::Memory;
-use doc_page::path::Path;
+use doc_page_parts::failure::Memory;
+use doc_page_parts::path::Path;
 use std::marker::Model;
 
 /// The aliases of a site, each with the path of the page that it leads to; and back, for each page its

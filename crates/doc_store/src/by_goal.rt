@@ -6,8 +6,8 @@ ghost use Rattle.doc_store.specs.AliasSteps.{aliases_at, copies_for, with_alias,
 
 use crate::path_set::PathSet;
 use doc_heap::{BTreeMap, Heap, Vec};
-use doc_page::failure::Memory;
-use doc_page::path::Path;
+use doc_page_parts::failure::Memory;
+use doc_page_parts::path::Path;
 use std::marker::Model;
 
 /// For the path of a page the aliases that lead there. A path has no set of aliases, or one that may be

@@ -6,8 +6,8 @@ ghost use Rattle.doc_store.specs.AliasSteps.{copies_for, with_all, with_value, w
 
 use crate::path_set::PathSet;
 use doc_heap::{BTreeMap, Heap, Vec};
-use doc_page::failure::Memory;
-use doc_page::path::Path;
+use doc_page_parts::failure::Memory;
+use doc_page_parts::path::Path;
 use std::marker::Model;
 
 /// The aliases of a site, each with the path of the page that it leads to, which is its goal. Contracts

@@ -8,8 +8,8 @@ ghost use Rattle.doc_store_readers.specs.Pages.{empty_page};
 ghost use Rattle.doc_store_readers.specs.Sites.{may_see};
 
 use doc_heap::{BTreeMap, Heap};
-use doc_page::failure::Memory;
-use doc_page::path::Path;
+use doc_page_parts::failure::Memory;
+use doc_page_parts::path::Path;
 use doc_store_readers::page::Page;
 use doc_store_readers::reader::Reader;
 use std::collections::btree_map::Iter;

@@ -5,8 +5,8 @@ ghost use Rattle.doc_store_readers.specs.Sites.{IsSite};
 
 use crate::aliases::Aliases;
 use crate::pages::Pages;
-use doc_page::path::Path;
-use doc_page::sight::Sight;
+use doc_page_parts::path::Path;
+use doc_page_parts::sight::Sight;
 use doc_store_readers::reader::Reader;
 use std::marker::Model;
 

@@ -2,7 +2,7 @@
 
 ghost use Rattle.std.specs.Prelude.{◌≡◌, ◌+◌, ◌<◌, ◌^◌, Some, Ok, IfOk, OnOk, OnErr, is_some, length, option_map};
 ghost use Rattle.std.specs.FinMap as map;
-ghost use Rattle.doc_page.specs.Refusals.{Gives};
+ghost use Rattle.doc_page_parts.specs.Refusals.{Gives};
 ghost use Rattle.doc_store_readers.specs.Groups.{texts_of};
 ghost use Rattle.doc_store.specs.Names.{names_of};
 ghost use Rattle.doc_store_readers.specs.Pages.{without_stamps};
@@ -15,8 +15,8 @@ use crate::moving::{MoveError, move_page};
 use crate::pages::Pages;
 use crate::site_sight::SiteSight;
 use doc_heap::{Heap, Vec};
-use doc_page::failure::Memory;
-use doc_page::path::Path;
+use doc_page_parts::failure::Memory;
+use doc_page_parts::path::Path;
 use doc_store_readers::groups::Groups;
 use doc_store_readers::page::Page;
 use doc_store_readers::reader::Reader;

@@ -11,7 +11,7 @@ use Rattle.doc_store_readers.specs.Groups.{groups_of, groups_of_names}
 use Rattle.doc_store_readers.specs.Pages.{Page}
 use Rattle.doc_store_readers.specs.Readers.{readers_in}
 use Rattle.doc_store_readers.specs.Sites.{View, goal_in, may_see, page_at}
-use Rattle.doc_page.specs.Tokens.{is_token}
+use Rattle.doc_page_parts.specs.Tokens.{is_token}
 
 -- ---- groups
 

@@ -17,7 +17,7 @@ use Rattle.std.proofs.lemmas.Map.Entries.{lookup-filter-values, option_filter}
 use Rattle.std.proofs.lemmas.Map.Keys.{IsDistinct-from_sorted}
 use Rattle.std.proofs.lemmas.Map.Lookups.{CmpEqualImpliesEq, exact_bytes}
 use Rattle.std.proofs.lemmas.Map.Text.{btree_map_updates_text, is_eq-slice_cmp}
-use Rattle.doc_page.proofs.Maps.{inserted, looked_up, removed}
+use Rattle.doc_page_parts.proofs.Maps.{inserted, looked_up, removed}
 use Rattle.doc_store_readers.specs.declared.reader.Reader.{Reader}
 use Rattle.doc_store_readers.specs.Readers.{entries_shown}
 

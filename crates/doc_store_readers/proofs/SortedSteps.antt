@@ -8,7 +8,7 @@ use Rattle.std.specs.Ordering.{nat_cmp, match_ordering, ordering_reverse}
 use Rattle.std.proofs.lemmas.Cmp.{nat_list_cmp_total}
 use Rattle.std.proofs.lemmas.List.{length-map}
 use Rattle.doc_store_readers.specs.Groups.{IsGroups, is_group, with_name, with_names, group_limit}
-use Rattle.doc_page.proofs.Bools.{and_first, and_second}
+use Rattle.doc_page_parts.proofs.Bools.{and_first, and_second}
 use Rattle.std.proofs.lemmas.Bool.{and_from}
 
 -- the name is below each of these

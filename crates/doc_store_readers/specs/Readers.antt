@@ -17,7 +17,7 @@ use Rattle.doc_store_readers.specs.declared.readers.ReadersError.TheVariants.{Ba
 use Rattle.doc_store_readers.specs.declared.readers.Set.{Set}
 use Rattle.doc_store_readers.specs.declared.readers.Set.TheVariants.{Added, Replaced}
 use Rattle.doc_store_readers.specs.Groups.{groups_of_names}
-use Rattle.doc_page.specs.Tokens.{is_token}
+use Rattle.doc_page_parts.specs.Tokens.{is_token}
 
 -- map entries by `String` keys, as contracts see them
 abbrev pub entries_shown : {A : Type 0} → List (String A × Reader) → List (List ℕ × Reader)

@@ -9,14 +9,14 @@ use crate::reader::Reader;
 use crate::readers::ReadersError;
 use crate::tables::{groups_in, tables_at};
 use doc_heap::{Heap, Vec};
-use doc_page::failure::Memory;
-use doc_page::list::List;
-use doc_page::text::Text;
-use doc_page::token::is_token;
+use doc_page_parts::failure::Memory;
+use doc_page_parts::list::List;
+use doc_page_parts::text::Text;
+use doc_page_parts::token::is_token;
 use toml::{Table, Value};
 
 /// A reader entry: a token with its reader.
-#[derive(Debug, Drop)]
+#[derive(Drop)]
 pub struct Entry {
     pub token: Text,
     pub reader: Reader,

@@ -1,15 +1,15 @@
 //! Groups of readers.
 
 ghost use Rattle.std.specs.Prelude.{◌≡◌, [], IfOk};
-ghost use Rattle.doc_page.specs.Refusals.{IsAnswer};
+ghost use Rattle.doc_page_parts.specs.Refusals.{IsAnswer};
 ghost use Rattle.doc_store_readers.specs.Groups.{IsGroups, groups_of, groups_of_names, meet, texts_of};
 
 use crate::names::{add_name, are_groups, are_groups_in_text, have_common_name};
 use arrayvec::ArrayVec;
 use doc_heap::{Heap, Vec};
-use doc_page::failure::Memory;
-use doc_page::list::List;
-use doc_page::text::Text;
+use doc_page_parts::failure::Memory;
+use doc_page_parts::list::List;
+use doc_page_parts::text::Text;
 use std::error::Error;
 use std::fmt;
 use std::marker::Model;

@@ -3,6 +3,7 @@
 //! is a definition here, with its laws; the store above keeps to it.
 #![tactic(auto)]
 
+pub mod documents;
 mod entries;
 pub mod groups;
 pub mod laws;

@@ -9,7 +9,7 @@ ghost use Rattle.doc_store_readers.specs.Groups.{group_limit, has_good_length, i
 
 use crate::groups::GroupsError;
 use arrayvec::ArrayVec;
-use doc_page::text::Text;
+use doc_page_parts::text::Text;
 use std::cmp::Ordering;
 
 /// Adds a name in its place by the order of bytes, unless it stands already.

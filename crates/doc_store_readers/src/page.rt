@@ -5,8 +5,8 @@ ghost use Rattle.doc_store_readers.specs.Pages.{empty_page};
 
 use crate::groups::Groups;
 use doc_heap::{Heap, String};
-use doc_page::failure::Memory;
-use doc_page::text::Text;
+use doc_page_parts::failure::Memory;
+use doc_page_parts::text::Text;
 use std::marker::Model;
 
 /// A page: its text, the groups whose readers may see it, and its stamp. Contracts see the three.

@@ -5,7 +5,7 @@ ghost use Rattle.std.specs.Prelude.{◌≡◌, Some, IfOk};
 use crate::groups::Groups;
 use crate::page::Page;
 use doc_heap::Heap;
-use doc_page::failure::Memory;
+use doc_page_parts::failure::Memory;
 
 /// Who reads: an owner, who sees and edits each page, or a reader who sees the pages of their
 /// groups.

@@ -2,22 +2,21 @@
 
 ghost use Rattle.std.specs.Prelude.{◌≡◌, ◌≢◌, [], IfOk, IfErr, OnOk, OnErr, Ok, Err, option_copied};
 ghost use Rattle.std.specs.FinMap as map;
-ghost use Rattle.doc_page.specs.Refusals.{Gives};
-ghost use Rattle.toml.specs.View.{table_view};
-ghost use Rattle.doc_store_readers.specs.Readers.{readers_from, readers_of, readers_of_document, set_reader, table_of};
+ghost use Rattle.doc_page_parts.specs.Refusals.{Gives};
+ghost use Rattle.doc_store_readers.specs.Readers.{readers_from, readers_of, set_reader, table_of};
 
-use crate::entries::{Entry, entries_of};
+use crate::documents::readers_of_document;
+use crate::entries::Entry;
 use crate::reader::Reader;
 use crate::tables::document_of;
 use doc_heap::{BTreeMap, Heap, String};
-use doc_page::failure::Memory;
-use doc_page::list::List;
-use doc_page::text::Text;
-use doc_page::token::is_token;
+use doc_page_parts::failure::Memory;
+use doc_page_parts::list::List;
+use doc_page_parts::text::Text;
+use doc_page_parts::token::is_token;
 use std::error::Error;
 use std::fmt;
 use std::marker::Model;
-use toml::Table;
 
 /// Why a configuration has no readers. Entries are counted from 1.
 #[derive(Clone, Copy, Debug, PartialEq, Eq)]
@@ -139,7 +138,7 @@ impl Readers {
     }
 
     /// The readers of these entries, no two of which may have one token.
-    fn of_entries(heap: Heap, entries: List<Entry>) -> Result<Readers, ReadersError>
+    pub(crate) fn of_entries(heap: Heap, entries: List<Entry>) -> Result<Readers, ReadersError>
         ensures read { IfOk result (λ readers. table_of (readers_from [] 1 entries) ≡ Ok readers) }
         ensures refused { IfErr result
             (λ e. e ≢ ReadersError.Memory → readers_from [] 1 entries ≡ Err e) }
@@ -196,16 +195,4 @@ impl Readers {
     {
         self.entries.get(token)
     }
-}
-
-/// The readers of a document that was read already, as [`Readers::from_toml`] reads them. It is no function of `Readers`, so that a
-/// crate whose contracts name the readers needn't know what a TOML document is.
-pub fn readers_of_document(heap: Heap, document: &Table) -> Result<Readers, ReadersError>
-    ensures read { IfOk result
-        (λ readers. readers_of_document (table_view document.now) ≡ Ok readers) }
-    ensures refused { IfErr result
-        (λ e. e ≢ ReadersError.Memory → readers_of_document (table_view document.now) ≡ Err e) }
-{
-    let entries = entries_of(heap, document)?;
-    Readers::of_entries(heap, entries)
 }

@@ -10,7 +10,7 @@ ghost use Rattle.doc_store_readers.specs.Readers.{are_tables, groups_at, strings
 use crate::groups::{Groups, GroupsError};
 use crate::readers::ReadersError;
 use doc_heap::{Heap, Vec};
-use doc_page::failure::Memory;
+use doc_page_parts::failure::Memory;
 use toml::value::Array;
 use toml::{Table, Value};
 

@@ -2,18 +2,18 @@
 
 ghost use Rattle.std.specs.Prelude.{◌≡◌, None, IfOk, OnOk, OnErr, length};
 ghost use Rattle.std.specs.FinMap as map;
-ghost use Rattle.doc_page.specs.Sights.{seen};
+ghost use Rattle.doc_page_parts.specs.Sights.{seen};
 ghost use Rattle.doc_words_search.specs.Held.{counts_or_none};
 ghost use Rattle.doc_words_search.specs.Searches.{pages_of, search};
 ghost use Rattle.doc_words_search.specs.Words.{word_counts};
 
 use doc_heap::Heap;
 use doc_index::index::Index;
-use doc_page::failure::Memory;
-use doc_page::list::List;
-use doc_page::path::Path;
-use doc_page::rendered::Rendered;
-use doc_page::sight::Sight;
+use doc_page_parts::failure::Memory;
+use doc_page_parts::list::List;
+use doc_page_parts::path::Path;
+use doc_page_parts::rendered::Rendered;
+use doc_page_parts::sight::Sight;
 use doc_words_search::hit::Hit;
 use doc_words_search::marking::slots_for;
 use doc_words_search::search::{search_among, search_in, seen_among};

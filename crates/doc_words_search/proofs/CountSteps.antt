@@ -15,7 +15,7 @@ use Rattle.std.proofs.lemmas.Map.Lookups.{exact_bytes}
 use Rattle.std.proofs.lemmas.Map.Text.{is_eq-slice_cmp}
 use Rattle.std.proofs.lemmas.Slice.Eq.{bytes_eq-Decides}
 use Rattle.doc_index.specs.Maps.{TextMap}
-use Rattle.doc_page.proofs.Bools.{clash, or_true}
+use Rattle.doc_page_parts.proofs.Bools.{clash, or_true}
 use Rattle.doc_words_search.specs.Words.{capped, count, counts_of, words_of}
 use Rattle.doc_words_search.specs.WordSteps.{counted, one_more}
 

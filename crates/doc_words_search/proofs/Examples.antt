@@ -3,7 +3,7 @@ use Rattle.std.proofs.Common.{◌≡◌, ℕ, ◌-◌, ◌^◌, List, [], ◌∷
 use Rattle.std.specs.Prelude.{Option, Some, None, map as mapped}
 use Rattle.std.specs.List.{range_with_len}
 use Rattle.std.specs.Map.{lookup}
-use Rattle.doc_page.specs.Sights.{seen}
+use Rattle.doc_page_parts.specs.Sights.{seen}
 use Rattle.doc_words_search.specs.Searches.{best, score}
 use Rattle.doc_words_search.specs.declared.hit.Hit.{Hit}
 

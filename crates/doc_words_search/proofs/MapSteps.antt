@@ -11,7 +11,7 @@ use Rattle.std.specs.Map.{keys_of}
 use Rattle.std.specs.Ordering.{nat_cmp}
 use Rattle.std.proofs.lemmas.Cmp.{nat_list_cmp_total}
 use Rattle.std.proofs.lemmas.Map.Lookups.{exact_bytes}
-use Rattle.doc_page.proofs.Maps.{entries_in_order}
+use Rattle.doc_page_parts.proofs.Maps.{entries_in_order}
 use Rattle.doc_index.specs.Maps.{by_bytes, text_map}
 
 module _ {A X : Type 0} where

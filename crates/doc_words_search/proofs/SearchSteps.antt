@@ -8,7 +8,7 @@ use Rattle.std.proofs.lemmas.List.{take_more}
 use Rattle.std.proofs.lemmas.List.Sums.{sum_by-cons}
 use Rattle.doc_index.specs.declared.held.Held.{Held}
 use Rattle.doc_index.specs.Held.{count_in, slot_at}
-use Rattle.doc_page.specs.Sights.{leads_to_itself, seen}
+use Rattle.doc_page_parts.specs.Sights.{leads_to_itself, seen}
 use Rattle.doc_words_search.specs.Searches.{holders, holds_all, ranked}
 use Rattle.doc_words_search.specs.SearchSteps.{AreWeighed, IsWeighed, count_at, hit_at, hit_in, hits_by, onto_page, pages_at, rarity_in, score_at, score_by, search_by, sees_at, weight_at, weight_by}
 use Rattle.doc_words_search.specs.Words.{capped}

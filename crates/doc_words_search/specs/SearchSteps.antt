@@ -7,7 +7,7 @@ use Rattle.doc_index.specs.declared.held.Held.{Held}
 use Rattle.doc_index.specs.Held.{count_in, slot_at}
 use Rattle.doc_index.specs.Maps.{TextMap}
 use Rattle.doc_index.specs.TableSteps.{number_in}
-use Rattle.doc_page.specs.Sights.{leads_to_itself}
+use Rattle.doc_page_parts.specs.Sights.{leads_to_itself}
 use Rattle.doc_words_search.specs.Searches.{holders, holds_all, ranked}
 use Rattle.doc_words_search.specs.Words.{capped}
 use Rattle.doc_words_search.specs.declared.hit.Hit.{Hit}

@@ -5,7 +5,7 @@ ghost use Rattle.doc_words_search.specs.Words.{folded, is_word_char};
 
 use caseless::Caseless;
 use doc_heap::{Heap, String};
-use doc_page::failure::Memory;
+use doc_page_parts::failure::Memory;
 use unicode::properties::{GeneralCategory, GeneralCategoryGroup};
 
 /// Whether the character is a letter, a mark or a number.

@@ -10,9 +10,9 @@ ghost use Rattle.doc_words_search.specs.WordSteps.{counted, one_more, word_if, w
 use crate::characters::{folded, is_word_char, push_char};
 use crate::word::Word;
 use doc_heap::{BTreeMap, Heap, String, Vec};
-use doc_page::failure::Memory;
-use doc_page::list::List;
-use doc_page::text::Text;
+use doc_page_parts::failure::Memory;
+use doc_page_parts::list::List;
+use doc_page_parts::text::Text;
 use std::marker::Model;
 
 /// Words with their counts. Contracts see the map.

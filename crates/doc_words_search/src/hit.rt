@@ -1,6 +1,6 @@
 //! What a search finds.
 
-use doc_page::path::Path;
+use doc_page_parts::path::Path;
 
 /// A page that a search found, with its score.
 #[derive(Drop)]

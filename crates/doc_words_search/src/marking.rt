@@ -11,7 +11,7 @@ use crate::word::Word;
 use doc_heap::{Heap, Vec};
 use doc_index::index::Index;
 use doc_index::row::Row;
-use doc_page::failure::Memory;
+use doc_page_parts::failure::Memory;
 
 /// The slots of the pages that a search for these words needs, each once: those that have one of them, and all pages where the list
 /// is empty.

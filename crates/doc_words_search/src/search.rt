@@ -11,10 +11,10 @@ use crate::weighing::{Weighed, score_of, weigh_all};
 use crate::word::Word;
 use doc_heap::{Heap, Vec};
 use doc_index::index::Index;
-use doc_page::failure::Memory;
-use doc_page::list::List;
-use doc_page::path::Path;
-use doc_page::sight::Sight;
+use doc_page_parts::failure::Memory;
+use doc_page_parts::list::List;
+use doc_page_parts::path::Path;
+use doc_page_parts::sight::Sight;
 use std::cmp::Reverse;
 
 /// At most so many hits are answered.

@@ -7,7 +7,7 @@ use crate::word::Word;
 use doc_heap::{Heap, Vec};
 use doc_index::index::Index;
 use doc_index::row::Row;
-use doc_page::failure::Memory;
+use doc_page_parts::failure::Memory;
 
 /// The counts of a word in the pages that have it, by their slots.
 #[derive(Drop)]

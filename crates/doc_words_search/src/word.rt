@@ -3,7 +3,7 @@
 ghost use Rattle.std.specs.Prelude.{◌≡◌, string_bytes};
 
 use doc_heap::String;
-use doc_page::text::Text;
+use doc_page_parts::text::Text;
 use std::marker::Model;
 
 /// A word: a run of letters, marks and numbers with its case folded. Contracts see its bytes.

@@ -7,9 +7,9 @@ ghost use Rattle.doc_words_search.specs.Words.{word_counts};
 use crate::counter::{Counter, count_text};
 use crate::word::Word;
 use doc_heap::Heap;
-use doc_page::failure::Memory;
-use doc_page::list::List;
-use doc_page::rendered::Rendered;
+use doc_page_parts::failure::Memory;
+use doc_page_parts::list::List;
+use doc_page_parts::rendered::Rendered;
 
 /// The words of a page, each once with its count, in the order of their bytes.
 pub fn words(heap: Heap, page: &Rendered) -> Result<List<(Word, u64)>, Memory>

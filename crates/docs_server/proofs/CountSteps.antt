@@ -8,7 +8,7 @@ use Rattle.std.proofs.lemmas.Bool.{cases_Bool}
 use Rattle.std.proofs.lemmas.Bool.Decides.{nat_tests}
 use Rattle.std.proofs.lemmas.Str.{digit_value_digit}
 use Rattle.std.proofs.lemmas.Str.Parse.{without_leading_plus_none}
-use Rattle.doc_page.proofs.Bools.{and_first, and_second}
+use Rattle.doc_page_parts.proofs.Bools.{and_first, and_second}
 use Rattle.docs_server.specs.Arguments.{are_digits, count_of}
 
 digit_is : (c : ℕ) → is_ascii_digit c ≡ true → (digit_value c < 10) × (c ≢ 43)

@@ -2,9 +2,9 @@
 
 use doc_heap::{Heap, String, Vec, heap};
 use doc_lines::entities::Entities;
-use doc_page::failure::Memory;
-use doc_page::list::List;
-use doc_page::text::Text;
+use doc_page_parts::failure::Memory;
+use doc_page_parts::list::List;
+use doc_page_parts::text::Text;
 use doc_server::entity_table::entities_of;
 use doc_server_config::config::{ConfigError, SiteConfig};
 use doc_server_config::page_row::{PageRow, Source};

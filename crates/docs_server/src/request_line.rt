@@ -8,7 +8,7 @@ ghost use Rattle.docs_server.specs.RequestLines.{before_query, is_shown, shown_m
 
 use doc_heap::String;
 use doc_http_bodies::slices::front;
-use doc_page::failure::Memory;
+use doc_page_parts::failure::Memory;
 use percent_encoding::{AsciiSet, CONTROLS, ascii_set, percent_encode};
 
 /// How many bytes a method has at most that is written.

@@ -1,7 +1,7 @@
 //! Calls while the heap refuses growths.
 
 use doc_heap::{Heap, String};
-use doc_page::failure::Memory;
+use doc_page_parts::failure::Memory;
 use std::fmt;
 use std::fmt::Debug;
 

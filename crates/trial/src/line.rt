@@ -2,7 +2,7 @@
 
 use crate::written::text_of;
 use doc_heap::{Heap, String};
-use doc_page::failure::Memory;
+use doc_page_parts::failure::Memory;
 
 /// A line of input.
 #[derive(Drop)]

@@ -3,7 +3,7 @@
 use crate::answer::no_call;
 use crate::line::{Line, read_line};
 use doc_heap::{Heap, String, heap};
-use doc_page::failure::Memory;
+use doc_page_parts::failure::Memory;
 use std::io;
 
 /// The calls of a trial program, and what they change.

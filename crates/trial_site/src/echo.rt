@@ -4,7 +4,7 @@ ghost use Rattle.std.specs.Prelude.{◌≡◌};
 
 use crate::streams::Streamed;
 use doc_heap::{Heap, String};
-use doc_page::failure::Memory;
+use doc_page_parts::failure::Memory;
 use doc_server_streams::memory_stream::MemoryStream;
 use doc_server_streams::stream::Stream;
 use std::str::from_utf8;

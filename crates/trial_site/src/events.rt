@@ -5,8 +5,8 @@ use crate::given::{both, connection, groups_of, id_and_bytes, path_of, reader_of
 use crate::stop::Stop;
 use doc_heap::{Heap, Vec};
 use doc_hub::event::Event;
-use doc_page::bytes::Bytes;
-use doc_page::path::Path;
+use doc_page_parts::bytes::Bytes;
+use doc_page_parts::path::Path;
 
 /// Events with ` ; ` between two.
 pub fn events_of(desk: Heap, given: &str) -> Result<Vec<Event>, Stop> {

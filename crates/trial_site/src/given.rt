@@ -3,8 +3,8 @@
 use crate::stop::Stop;
 use doc_heap::{Heap, Vec};
 use doc_hub::event::ConnId;
-use doc_page::path::Path;
-use doc_page::text::Text;
+use doc_page_parts::path::Path;
+use doc_page_parts::text::Text;
 use doc_store::groups::Groups;
 use doc_store::reader::Reader;
 use trial::answer::{number_and_text, two_texts};

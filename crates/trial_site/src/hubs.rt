@@ -11,7 +11,7 @@ use doc_hub::event::Event;
 use doc_hub::hub::Hub;
 use doc_hub::outcome::Outcome;
 use doc_page::renderer::Renderer;
-use doc_page::text::Text;
+use doc_page_parts::text::Text;
 use std::slice::from_ref;
 
 /// What a call of this name answers: that of an event, or of one of these.

@@ -4,7 +4,7 @@ use crate::scene::{Scene, push_links};
 use crate::scripts::played;
 use crate::world::Heaps;
 use doc_heap::{Heap, String};
-use doc_page::failure::Memory;
+use doc_page_parts::failure::Memory;
 use doc_server_rounds::link::Link;
 use doc_server_streams::memory_stream::MemoryStream;
 use trial::answer::no_call;

@@ -12,7 +12,7 @@
 use crate::world::Heaps;
 use crate::{echo, in_turn, scripts, tried};
 use doc_heap::{Heap, String};
-use doc_page::failure::Memory;
+use doc_page_parts::failure::Memory;
 use trial::run::Calls;
 
 impl Calls for Heaps {

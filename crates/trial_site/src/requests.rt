@@ -7,7 +7,7 @@ use crate::written::{push, push_after, push_bytes};
 use doc_heap::{Heap, String};
 use doc_http::request::{Next, Request, next_request};
 use doc_http::unread::Unread;
-use doc_page::failure::Memory;
+use doc_page_parts::failure::Memory;
 
 /// `BYTES`: what they begin with.
 pub fn next(heaps: Heaps, given: &str) -> Result<Answer, Stop> {

@@ -2,7 +2,7 @@
 
 use crate::ways::{Given, Way};
 use doc_heap::{Heap, String, Vec};
-use doc_page::failure::Memory;
+use doc_page_parts::failure::Memory;
 use std::io;
 use std::io::{ErrorKind, Write};
 

@@ -2,8 +2,8 @@
 
 use doc_heap::{Heap, String};
 use doc_hub::refusal::HubError;
-use doc_page::failure::Memory;
-use doc_page::path::PathError;
+use doc_page_parts::failure::Memory;
+use doc_page_parts::path::PathError;
 use doc_store::groups::GroupsError;
 use doc_store::readers::ReadersError;
 use std::alloc::{AllocError, AllocFailed};

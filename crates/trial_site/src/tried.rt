@@ -5,7 +5,7 @@ use crate::feed::Feed;
 use crate::sink::Sink;
 use crate::ways::{Given, read_given};
 use doc_heap::{Heap, String};
-use doc_page::failure::Memory;
+use doc_page_parts::failure::Memory;
 use doc_server::fault::Fault;
 use doc_server_streams::read_from::ReadFrom;
 use doc_server_streams::write_to::WriteTo;

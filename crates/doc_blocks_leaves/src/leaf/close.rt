@@ -13,7 +13,7 @@ use doc_blocks_tags::tag::LeafBlock;
 use doc_blocks_tags::texts::Texts;
 use doc_heap::Heap;
 use doc_lines::entities::Entities;
-use doc_page::failure::Memory;
+use doc_page_parts::failure::Memory;
 use doc_refs::RefMap;
 
 /// The block that an open leaf of these lines is, if it is one, with its texts in `texts`. The definitions that leave it join `refs`.

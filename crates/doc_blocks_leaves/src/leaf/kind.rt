@@ -2,7 +2,7 @@
 
 use doc_blocks_starts::fence::Fence;
 use doc_blocks_starts::html::HtmlKind;
-use doc_page::text::Text;
+use doc_page_parts::text::Text;
 
 /// What the open leaf is, if there is one.
 #[derive(Drop)]

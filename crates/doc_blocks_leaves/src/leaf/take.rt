@@ -14,7 +14,7 @@ use doc_blocks_starts::fence::Fence;
 use doc_blocks_starts::html::HtmlKind;
 use doc_blocks_starts::indentation::is_blank_line;
 use doc_lines::cursor::Cursor;
-use doc_page::failure::Memory;
+use doc_page_parts::failure::Memory;
 
 /// What an open leaf did with a line.
 #[derive(Clone, Copy, Debug, PartialEq, Eq)]

@@ -7,7 +7,7 @@ ghost use Rattle.doc_rules.specs.Escapes.{number};
 ghost use Rattle.doc_lines.specs.Entities.{characters, entity_shown};
 ghost use Rattle.doc_lines.specs.Tables.{at_space, character_of, entity_of, fields_characters, is_code, is_name, is_row};
 
-use doc_page::trimming::{is_blank, without_ending};
+use doc_page_parts::trimming::{is_blank, without_ending};
 
 /// Whether a line is blank or gives an entity.
 pub fn is_row(line: &str) -> bool

@@ -1,7 +1,7 @@
 //! The lines of a table of character references.
 
 ghost use Rattle.std.specs.Prelude.{◌≡◌, ◌++◌, ◌∷◌, [], not, true, take, option_map, IfOk, IfErr, None, bytes_eq};
-ghost use Rattle.doc_page.specs.Lines.{lines};
+ghost use Rattle.doc_page_parts.specs.Lines.{lines};
 ghost use Rattle.doc_rules.specs.Entities.{built_in};
 ghost use Rattle.doc_rules.specs.Escapes.{find_entity};
 ghost use Rattle.doc_lines.specs.Entities.{characters, entities_shown, has_ascii_names};
@@ -12,7 +12,7 @@ use super::built_in::find_built_in;
 use super::row::{entity_of, is_row};
 use crate::lines::Lines;
 use doc_heap::{BTreeMap, Heap, String};
-use doc_page::failure::Memory;
+use doc_page_parts::failure::Memory;
 
 /// The number of the first line that is no row, from 1.
 pub fn bad_line(text: &str) -> Option<usize>

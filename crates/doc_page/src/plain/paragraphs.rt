@@ -2,15 +2,15 @@
 
 ghost use Rattle.std.specs.Prelude.{◌≡◌, ◌++◌, ◌∷◌, [], List as Seq, ℕ, map, false, All, string_bytes, IfOk, OnOk};
 ghost use Rattle.std.specs.Option.{option_to_list};
-ghost use Rattle.doc_page.specs.Pages.{is_empty};
+ghost use Rattle.doc_page_parts.specs.Pages.{is_empty};
 ghost use Rattle.doc_page.specs.ParagraphSteps.{lines_after};
 ghost use Rattle.doc_page.specs.Plain.{paragraphs, plain_texts};
 
-use crate::failure::Memory;
-use crate::lines::Lines;
-use crate::text::Text;
-use crate::trimming::{stripped, without_ending};
 use doc_heap::{Heap, String, Vec};
+use doc_page_parts::failure::Memory;
+use doc_page_parts::lines::Lines;
+use doc_page_parts::text::Text;
+use doc_page_parts::trimming::{stripped, without_ending};
 
 /// The paragraphs, in order, not escaped.
 pub fn plain_texts(heap: Heap, text: &str) -> Result<Vec<Text>, Memory>

@@ -1,4 +1,4 @@
-//! Journals in files of the system (`doc_server_files`), without a server. The calls are given nothing.
+//! Journals in files of the system (`doc_server_journal`), without a server. The calls are given nothing.
 //!
 //! - `reopen`: a journal in a new file, to which a record is added, is let go and opened again, to add another. The answer: whether the
 //!   file was in use while it was open, and how many records each opening found.
@@ -6,14 +6,14 @@
 //!   the other file is let go, and how many bytes the file of the name has once the new one is let go too.
 
 ghost use Rattle.std.specs.Prelude.{◌≡◌, false};
-ghost use Rattle.doc_server_files.specs.FileDevices.{has_failed};
+ghost use Rattle.doc_server_journal.specs.FileDevices.{has_failed};
 
 use doc_heap::{Heap, String};
-use doc_page::failure::Memory;
-use doc_server_files::fault::FileFault;
-use doc_server_files::file_device::FileDevice;
-use doc_server_files::names::Replacement;
+use doc_page_parts::failure::Memory;
+use doc_server_journal::file_device::FileDevice;
+use doc_server_journal::file_fault::FileFault;
 use doc_server_journal::journal::Journal;
+use doc_server_journal::names::Replacement;
 use doc_server_journal::opening::Opened;
 use std::fs::{File, create_dir, metadata, remove_dir_all};
 use std::rt::Files;

@@ -7,8 +7,8 @@
 
 use crate::listen::told::push_told;
 use doc_heap::{Heap, String, Vec};
-use doc_page::bytes::Bytes;
-use doc_page::failure::Memory;
+use doc_page_parts::bytes::Bytes;
+use doc_page_parts::failure::Memory;
 use doc_server_journal::fault::OpenFault;
 use doc_server_journal::journal::Journal;
 use doc_server_journal::memory::MemoryDevice;

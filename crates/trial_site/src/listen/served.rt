@@ -7,8 +7,8 @@ ghost use Rattle.doc_server_poll.specs.Keepings.{IsReady};
 
 use doc_heap::Heap;
 use doc_hub::hub::Hub;
-use doc_page::bytes::Bytes;
 use doc_page::renderer::Renderer;
+use doc_page_parts::bytes::Bytes;
 use doc_server_journal::device::Device;
 use doc_server_journal::journal::Journal;
 use doc_server_journal::memory::MemoryDevice;

@@ -1,6 +1,6 @@
 use Rattle.std.proofs.Common.{◌∙◌, refl, sym, arith}
 use Rattle.std.proofs.lemmas.Str.{IsCharBoundary-start}
-use Rattle.doc_page.proofs.EscapingSteps.{escaped_none, run_grows, run_ends, cut_after}
+use Rattle.doc_page_parts.proofs.EscapingSteps.{escaped_none, run_grows, run_ends, cut_after}
 use Rattle.doc_html.proofs.EscapeLaws.{escaped_is_ascii, written_as_it_is}
 use Rattle.doc_html.proofs.escaping.push_escaped.Goals as goal
 

@@ -1,7 +1,7 @@
 use Rattle.std.proofs.Common.{◌≡◌, ◌≤◌, ◌++◌, take, string_bytes}
 use Rattle.std.specs.Prelude.{slice_range}
 use Rattle.std.specs.Str.{IsCharBoundary}
-use Rattle.doc_page.specs.Escaping.{escaped}
+use Rattle.doc_page_parts.specs.Escaping.{escaped}
 use Rattle.doc_html.proofs.escaping.push_escaped.Given as goal
 
 -- what stands before the run is written, and the run stands from `start` to `i`

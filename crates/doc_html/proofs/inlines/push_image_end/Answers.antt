@@ -1,6 +1,6 @@
 use Rattle.std.proofs.Common.{subst}
 use Rattle.std.specs.Prelude.{codes}
-use Rattle.doc_page.specs.Pages.{title_attribute}
+use Rattle.doc_page_parts.specs.Pages.{title_attribute}
 use Rattle.doc_rules.specs.Html.{characters, span_end}
 use Rattle.doc_inlines_marks.specs.Targets.{named}
 use Rattle.doc_html.specs.ProgressSteps.{Writes}

@@ -1,7 +1,7 @@
 use Rattle.std.proofs.Common.{◌≡◌, take}
 use Rattle.std.specs.List.{flat_map}
 use Rattle.doc_index.specs.Held.{slot_at}
-use Rattle.doc_page.specs.Sights.{seen}
+use Rattle.doc_page_parts.specs.Sights.{seen}
 use Rattle.doc_links_seen.specs.SeenSteps.{page_in}
 use Rattle.doc_links_seen.specs.SeenPages.{seen_pages}
 use Rattle.doc_links_seen.proofs.seen.seen_in.Given as goal

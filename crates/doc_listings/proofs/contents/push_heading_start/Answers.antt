@@ -1,5 +1,5 @@
 use Rattle.std.proofs.Common.{◌++◌, ◌∙◌, ap, decimal, refl, string_bytes}
-use Rattle.doc_page.proofs.BufferSteps.{front_more, front_same}
+use Rattle.doc_page_parts.proofs.BufferSteps.{front_more, front_same}
 use Rattle.doc_listings.proofs.WriteSteps.{framed, on_err}
 use Rattle.doc_listings.proofs.contents.push_heading_start.Goals as goal
 

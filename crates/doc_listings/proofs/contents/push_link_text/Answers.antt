@@ -1,5 +1,5 @@
 use Rattle.std.proofs.Common.{refl}
-use Rattle.doc_page.proofs.BufferSteps.{front_more, front_same}
+use Rattle.doc_page_parts.proofs.BufferSteps.{front_more, front_same}
 use Rattle.doc_listings.proofs.WriteSteps.{framed, on_err}
 use Rattle.doc_listings.proofs.contents.push_link_text.Goals as goal
 

@@ -1,4 +1,4 @@
-use Rattle.doc_page.proofs.BufferSteps.{front_more, front_same}
+use Rattle.doc_page_parts.proofs.BufferSteps.{front_more, front_same}
 use Rattle.doc_listings.proofs.WriteSteps.{joined, on_err}
 use Rattle.doc_listings.proofs.contents.push_page_start.Goals as goal
 

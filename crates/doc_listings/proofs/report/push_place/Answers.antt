@@ -1,5 +1,5 @@
 use Rattle.std.proofs.Common.{◌++◌, ◌∙◌, ap, codes, decimal, string_bytes}
-use Rattle.doc_page.proofs.BufferSteps.{front_more, front_same}
+use Rattle.doc_page_parts.proofs.BufferSteps.{front_more, front_same}
 use Rattle.doc_listings.proofs.WriteSteps.{fourfold, on_err}
 use Rattle.doc_listings.proofs.report.push_place.Goals as goal
 

@@ -1,6 +1,6 @@
 use Rattle.std.proofs.Common.{◌≡◌, ◌∙◌, ◌∷◌, [], ap, sym, subst, List, ℕ}
 use Rattle.std.specs.Result.{IfOk}
-use Rattle.doc_page.specs.Paths.{segments}
+use Rattle.doc_page_parts.specs.Paths.{segments}
 use Rattle.doc_page_encoding.specs.Encoding.{encoded_path}
 use Rattle.doc_page_encoding.proofs.EncodingLaws.{paths_by_segments}
 use Rattle.doc_resolve.specs.Links.{base_of, kind_on, on_path}

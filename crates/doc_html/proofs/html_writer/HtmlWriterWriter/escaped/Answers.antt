@@ -1,5 +1,5 @@
 use Rattle.std.proofs.Common.{chars}
-use Rattle.doc_page.specs.Escaping.{escaped}
+use Rattle.doc_page_parts.specs.Escaping.{escaped}
 use Rattle.doc_rules.specs.Escaping.{html_escape}
 use Rattle.doc_rules.specs.Html.{characters}
 use Rattle.doc_html.proofs.WrittenSteps.{holds_more, escape_begins, spells_escape}

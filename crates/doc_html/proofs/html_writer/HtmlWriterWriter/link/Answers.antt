@@ -1,5 +1,5 @@
 use Rattle.std.proofs.Common.{[], ◌∷◌, ◌++◌, ◌∙◌, ap, sym, string_bytes}
-use Rattle.doc_page.specs.Pages.{opening_tag}
+use Rattle.doc_page_parts.specs.Pages.{opening_tag}
 use Rattle.doc_rules.specs.Html.{LinkTag}
 use Rattle.doc_inlines_marks.specs.Targets.{named}
 use Rattle.doc_html.specs.WrittenSteps.{read_again}

@@ -1,5 +1,5 @@
 use Rattle.std.proofs.Common.{refl}
-use Rattle.doc_page.specs.declared.rendered.Piece.TheVariants.{Link}
+use Rattle.doc_page_parts.specs.declared.rendered.Piece.TheVariants.{Link}
 use Rattle.doc_inlines_marks.specs.Targets.{named}
 use Rattle.doc_html.proofs.PageSteps.{holds_link}
 use Rattle.doc_html.proofs.page_writer.PageWriterWriter.link.Goals as goal

@@ -5,7 +5,7 @@ use Rattle.std.specs.FinMap as map
 use Rattle.std.specs.Ordering.{nat_cmp}
 use Rattle.std.proofs.lemmas.Cmp.{nat_cmp_total}
 use Rattle.std.proofs.lemmas.Map.Lookups.{exact_unsigned}
-use Rattle.doc_page.proofs.Maps.{looked_up, inserted}
+use Rattle.doc_page_parts.proofs.Maps.{looked_up, inserted}
 use Rattle.doc_http.specs.Requests.{IsNext, BeginsWithRequest, UsesAtMost}
 use Rattle.doc_hub.specs.declared.connection.Connection.{Connection}
 use Rattle.doc_hub.proofs.ConnectionSteps.{insert_same, of_the_same, some_none}

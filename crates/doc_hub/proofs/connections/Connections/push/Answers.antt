@@ -4,7 +4,7 @@ use Rattle.std.specs.Ordering.{nat_cmp}
 use Rattle.std.specs.BTreeMap.{BTreeMap}
 use Rattle.std.proofs.lemmas.Cmp.{nat_cmp_total}
 use Rattle.std.proofs.lemmas.Map.Lookups.{exact_unsigned}
-use Rattle.doc_page.proofs.Maps.{looked_up, inserted}
+use Rattle.doc_page_parts.proofs.Maps.{looked_up, inserted}
 use Rattle.doc_hub.specs.declared.connection.Connection.{Connection}
 use Rattle.doc_hub.proofs.ConnectionSteps.{pushes, none_pushed}
 use Rattle.doc_hub.proofs.connections.Connections.push.Goals as goal

@@ -2,7 +2,7 @@ use Rattle.std.proofs.Common.{◌∙◌, ap, is_some}
 use Rattle.std.specs.FinMap as map
 use Rattle.std.proofs.lemmas.Cmp.{nat_cmp_total}
 use Rattle.std.proofs.lemmas.Map.Lookups.{exact_unsigned}
-use Rattle.doc_page.proofs.Maps.{looked_up, removed}
+use Rattle.doc_page_parts.proofs.Maps.{looked_up, removed}
 use Rattle.doc_hub.proofs.connections.Connections.remove.Goals as goal
 
 pub returns-clause-left : goal.returns-clause-left

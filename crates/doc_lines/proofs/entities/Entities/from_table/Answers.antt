@@ -1,5 +1,5 @@
 use Rattle.std.proofs.Common.{sym, ◌∙◌}
-use Rattle.doc_page.specs.Lines.{lines}
+use Rattle.doc_page_parts.specs.Lines.{lines}
 use Rattle.doc_rules.specs.Entities.{built_in}
 use Rattle.doc_lines.specs.Tables.{bad_line, twice_line}
 use Rattle.doc_lines.proofs.AnswerLaws.{bad_answer}

@@ -1,5 +1,5 @@
 use Rattle.std.proofs.Common.{◌≡◌, ◌+◌, ◌++◌, List, ℕ, [], ◌∷◌, true, false, length, refl, ap, sym, ◌∙◌, arith, append-nil}
-use Rattle.doc_page.specs.Lines.{lines}
+use Rattle.doc_page_parts.specs.Lines.{lines}
 use Rattle.doc_rules.specs.Entities.{Table, built_in}
 use Rattle.doc_lines.specs.Entities.{entities_shown}
 use Rattle.doc_lines.specs.Tables.{entities_in, entity_of, line_contradicts, twice_line, with_entities}

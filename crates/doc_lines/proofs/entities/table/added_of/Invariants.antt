@@ -1,5 +1,5 @@
 use Rattle.std.proofs.Common.{◌≡◌, ◌+◌, ◌≤◌, ◌++◌, [], length, true}
-use Rattle.doc_page.specs.Lines.{lines}
+use Rattle.doc_page_parts.specs.Lines.{lines}
 use Rattle.doc_rules.specs.Entities.{built_in}
 use Rattle.doc_lines.specs.Entities.{entities_shown, has_ascii_names}
 use Rattle.doc_lines.specs.Tables.{entities_in, twice_line, with_entities}

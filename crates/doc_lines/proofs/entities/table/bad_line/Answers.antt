@@ -1,5 +1,5 @@
 use Rattle.std.proofs.Common.{◌≡◌, ◌+◌, true, false, length, refl, ap, sym, ◌∙◌, arith}
-use Rattle.doc_page.specs.Lines.{lines}
+use Rattle.doc_page_parts.specs.Lines.{lines}
 use Rattle.doc_lines.specs.Tables.{bad_line, is_row}
 use Rattle.doc_lines.proofs.RowLaws.{lines_length}
 use Rattle.doc_lines.proofs.TableLaws.{bad_on, bad_here, bad_none}

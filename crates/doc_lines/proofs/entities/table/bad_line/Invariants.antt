@@ -1,5 +1,5 @@
 use Rattle.std.proofs.Common.{◌≡◌, ◌+◌, ◌≤◌, length}
-use Rattle.doc_page.specs.Lines.{lines}
+use Rattle.doc_page_parts.specs.Lines.{lines}
 use Rattle.doc_lines.specs.Tables.{bad_line}
 use Rattle.doc_lines.proofs.entities.table.bad_line.Given as goal
 

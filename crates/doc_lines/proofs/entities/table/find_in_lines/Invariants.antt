@@ -1,5 +1,5 @@
 use Rattle.std.proofs.Common.{◌≡◌, take}
-use Rattle.doc_page.specs.Lines.{lines}
+use Rattle.doc_page_parts.specs.Lines.{lines}
 use Rattle.doc_rules.specs.Escapes.{find_entity}
 use Rattle.doc_lines.specs.Tables.{entities_in}
 use Rattle.doc_lines.proofs.entities.table.find_in_lines.Given as goal

@@ -1,5 +1,5 @@
 use Rattle.std.proofs.Common.{◌≡◌, ◌+◌, ◌++◌, true, false, length, take, refl, ap, sym, ◌∙◌, arith}
-use Rattle.doc_page.specs.Lines.{lines}
+use Rattle.doc_page_parts.specs.Lines.{lines}
 use Rattle.doc_rules.specs.Entities.{built_in}
 use Rattle.doc_lines.specs.Tables.{entities_in, entity_of, line_contradicts, twice_line}
 use Rattle.doc_lines.proofs.RowLaws.{lines_length}

@@ -1,7 +1,7 @@
 use Rattle.std.proofs.Common.{ap, subst, sym, ◌∙◌}
 use Rattle.std.specs.Prelude.{IsTrue, is_some, map as mapped}
 use Rattle.doc_index.proofs.OrderSteps.{told}
-use Rattle.doc_page.specs.Sights.{seen}
+use Rattle.doc_page_parts.specs.Sights.{seen}
 use Rattle.doc_links_pages.specs.Links.{backlinks, page_at}
 use Rattle.doc_links_pages.specs.Names.{AreNames}
 use Rattle.doc_links_pages.specs.PageLinks.{IsOnce, pages_of}

@@ -1,5 +1,5 @@
 use Rattle.std.proofs.Common.{ap, ◌∙◌}
-use Rattle.doc_page.specs.Sights.{seen}
+use Rattle.doc_page_parts.specs.Sights.{seen}
 use Rattle.doc_index.proofs.OrderSteps.{told}
 use Rattle.doc_links_pages.specs.PageLinks.{pages_of}
 use Rattle.doc_links.proofs.HeldSteps.{seen_of_slots}

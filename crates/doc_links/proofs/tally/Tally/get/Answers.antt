@@ -2,7 +2,7 @@ use Rattle.std.proofs.Common.{ap, unwrap_or, ◌∙◌}
 use Rattle.std.specs.FinMap as map
 use Rattle.std.proofs.lemmas.Cmp.{nat_list_cmp_total}
 use Rattle.std.proofs.lemmas.Map.Lookups.{exact_bytes}
-use Rattle.doc_page.proofs.Maps.{looked_up}
+use Rattle.doc_page_parts.proofs.Maps.{looked_up}
 use Rattle.doc_links.proofs.tally.Tally.get.Goals as goal
 
 pub returns-in_default : goal.returns-in_default

@@ -2,7 +2,7 @@ use Rattle.std.proofs.Common.{ap, sym, ◌∙◌}
 use Rattle.std.specs.FinMap as map
 use Rattle.std.proofs.lemmas.Cmp.{nat_list_cmp_total}
 use Rattle.std.proofs.lemmas.Map.Lookups.{exact_bytes}
-use Rattle.doc_page.proofs.Maps.{entries_in_order}
+use Rattle.doc_page_parts.proofs.Maps.{entries_in_order}
 use Rattle.doc_links.proofs.TallySteps.{told_in_order}
 use Rattle.doc_links.proofs.tally.Tally.list.Goals as goal
 

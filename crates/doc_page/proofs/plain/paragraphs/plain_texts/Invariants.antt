@@ -1,6 +1,6 @@
 use Rattle.std.proofs.Common.{◌≡◌, ◌++◌, map, false, All}
-use Rattle.doc_page.specs.Lines.{without_ending, stripped}
-use Rattle.doc_page.specs.Pages.{is_empty}
+use Rattle.doc_page_parts.specs.Lines.{without_ending, stripped}
+use Rattle.doc_page_parts.specs.Pages.{is_empty}
 use Rattle.doc_page.specs.Plain.{paragraphs, plain_texts}
 use Rattle.doc_page.proofs.plain.paragraphs.plain_texts.Given as goal
 

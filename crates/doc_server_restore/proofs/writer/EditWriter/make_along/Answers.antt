@@ -1,5 +1,10 @@
-use Rattle.doc_server_restore.proofs.WriterLaws.{made_first, still_writer, then_wrote}
+use Rattle.doc_server_restore.proofs.WriterLaws.{made_first, none_made, still_writer, then_wrote}
 use Rattle.doc_server_restore.proofs.writer.EditWriter.make_along.Goals as goal
+
+pub returns-in-empty : goal.returns-in-empty
+returns-in-empty g c =
+    none_made g.D.Device.seen g.D.Device.may_leave g.D.Device.failed c.args.self.now c.args.page.now.page c.args.names.now
+    c.in-empty.len_below
 
 pub move_along-requires : goal.move_along-requires
 move_along-requires g c =

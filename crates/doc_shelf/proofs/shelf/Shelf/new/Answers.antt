@@ -3,5 +3,5 @@ use Rattle.doc_shelf.proofs.shelf.Shelf.new.Goals as goal
 
 pub invariant_of-result : goal.invariant_of-result
 invariant_of-result g c =
-    is_new (g.R.Renderer.page c.args.renderer) c.new.result c.new-2.result c.args.capacity c.in_ok-new.field-0 c.new.ensures c.new-2.ensures
-    c.in_ok-new.ensures
+    is_new (g.R.Renderer.page c.args.renderer) c.new-2.result c.new-3.result c.args.capacity c.in_ok-cache.cache c.new-2.ensures
+    c.new-3.ensures c.in_ok-cache.ensures

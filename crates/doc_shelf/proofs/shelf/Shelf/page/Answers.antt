@@ -1,6 +1,6 @@
 use Rattle.std.proofs.Common.{◌≡◌, ap, subst, ◌∙◌}
 use Rattle.std.specs.Prelude.{IfOk, Some, option_map}
-use Rattle.doc_shelf.specs.Documents.{document_reply, page_shown}
+use Rattle.doc_shelf_documents.specs.Documents.{document_reply, page_shown}
 use Rattle.doc_shelf_edits.specs.Laws.{document_of}
 use Rattle.doc_shelf_views.specs.Laws.{seen_in}
 use Rattle.doc_store.specs.Sites.{goal_in}

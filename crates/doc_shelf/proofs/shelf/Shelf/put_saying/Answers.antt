@@ -1,7 +1,7 @@
-use Rattle.std.proofs.Common.{ap, ◌∙◌}
-use Rattle.doc_shelf.proofs.EditSteps.{no_stamp}
+use Rattle.std.proofs.Common.{◌+◌, ap, ◌∙◌}
+use Rattle.doc_shelf_edits.proofs.EditSteps.{no_stamp}
 use Rattle.doc_store.specs.Store.{fits_in}
-use Rattle.doc_shelf.proofs.ShelfSteps.{edited_by, is_being_put}
+use Rattle.doc_shelf.proofs.ShelfSteps.{edited_by, is_being_put, is_free}
 use Rattle.doc_shelf.proofs.shelf.Shelf.put_saying.Goals as goal
 
 pub invariant_of-self-2 : goal.invariant_of-self-2
@@ -18,3 +18,21 @@ pub returns-in_default-clause-counted : goal.returns-in_default-clause-counted
 returns-in_default-clause-counted g c =
     absurd (no_stamp _ _ c.self.inside.store.puts c.args.text.now
     (ap (λ s. fits_in s.1 c.args.path.now c.args.text.now) c.self.view_is ∙ c.requires.fits) c.in_default.ensures.left)
+
+pub begin_put-requires : goal.begin_put-requires
+begin_put-requires g c =
+    record {
+      free = is_free (g.R.Renderer.page c.self.inside.renderer) c.self.inside.store c.self.inside.kept c.self.inside.cache c.args.path.now
+          c.in-Some.stamp c.self.invariant c.in-Some.ensures.next;
+    }
+
+pub returns-in_err-begin_put-clause-counted : goal.returns-in_err-begin_put-clause-counted
+returns-in_err-begin_put-clause-counted g c =
+    c.in_err-begin_put.ensures.counted ∙ ap (λ s. g.R.Renderer.count s.0 + 1) c.self.view_is
+
+pub end_put_saying-requires-clause-fits : goal.end_put_saying-requires-clause-fits
+end_put_saying-requires-clause-fits g c =
+    ap (λ s. fits_in s.1 c.args.path.now c.args.text.now) c.self.view_is ∙ c.requires.fits
+
+pub returns-clause-counted : goal.returns-clause-counted
+returns-clause-counted g c = c.in_ok-begin_put.ensures.counted ∙ ap (λ s. g.R.Renderer.count s.0 + 1) c.self.view_is

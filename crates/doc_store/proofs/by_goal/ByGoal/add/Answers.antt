@@ -6,7 +6,7 @@ use Rattle.std.specs.FinMap as map
 use Rattle.std.specs.Ordering.{nat_cmp}
 use Rattle.std.proofs.lemmas.Cmp.{nat_list_cmp_total}
 use Rattle.std.proofs.lemmas.Map.Lookups.{exact_bytes}
-use Rattle.doc_page.proofs.Maps.{inserted, looked_up}
+use Rattle.doc_page_parts.proofs.Maps.{inserted, looked_up}
 use Rattle.std.proofs.lemmas.Result.{on_err_weaker, on_ok_weaker}
 use Rattle.doc_store.proofs.SetSteps.{set_again}
 use Rattle.doc_store.specs.AliasSteps.{TextSet, set_at}

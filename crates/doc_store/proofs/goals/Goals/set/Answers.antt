@@ -5,7 +5,7 @@ use Rattle.std.specs.FinMap as map
 use Rattle.std.specs.Ordering.{nat_cmp}
 use Rattle.std.proofs.lemmas.Cmp.{nat_list_cmp_total}
 use Rattle.std.proofs.lemmas.Map.Lookups.{exact_bytes}
-use Rattle.doc_page.proofs.Maps.{inserted, looked_up}
+use Rattle.doc_page_parts.proofs.Maps.{inserted, looked_up}
 use Rattle.doc_store.proofs.SetSteps.{value_set, value_not_set}
 use Rattle.doc_store.proofs.goals.Goals.set.Goals as goal
 

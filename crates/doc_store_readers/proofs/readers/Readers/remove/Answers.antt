@@ -2,7 +2,7 @@ use Rattle.std.proofs.Common.{◌∙◌, ap, is_some}
 use Rattle.std.specs.FinMap as map
 use Rattle.std.proofs.lemmas.Cmp.{nat_list_cmp_total}
 use Rattle.std.proofs.lemmas.Map.Lookups.{exact_bytes}
-use Rattle.doc_page.proofs.Maps.{looked_up}
+use Rattle.doc_page_parts.proofs.Maps.{looked_up}
 use Rattle.doc_store_readers.specs.Readers.{entries_shown}
 use Rattle.doc_store_readers.proofs.MapSteps.{looked_up_shown, removed_shown}
 use Rattle.doc_store_readers.proofs.readers.Readers.remove.Goals as goal

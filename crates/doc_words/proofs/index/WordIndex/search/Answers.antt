@@ -1,5 +1,5 @@
 use Rattle.std.proofs.Common.{ap, length, sym, ◌∙◌}
-use Rattle.doc_page.specs.Sights.{seen}
+use Rattle.doc_page_parts.specs.Sights.{seen}
 use Rattle.doc_words_search.specs.Searches.{pages_of, search}
 use Rattle.doc_words_search.specs.SearchSteps.{pages_at}
 use Rattle.doc_words_search.proofs.HeldSteps.{pages_in_order}

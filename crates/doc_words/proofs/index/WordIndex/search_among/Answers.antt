@@ -1,5 +1,5 @@
 use Rattle.std.proofs.Common.{ap, subst, ◌∙◌}
-use Rattle.doc_page.specs.Sights.{seen}
+use Rattle.doc_page_parts.specs.Sights.{seen}
 use Rattle.doc_words_search.specs.Searches.{pages_of}
 use Rattle.doc_words_search.specs.SearchSteps.{AgreeFor, pages_at, search_by}
 use Rattle.doc_words_search.proofs.AgreeSteps.{agree_for_seen, same_search}

@@ -1,0 +1,183 @@
+//! A file of the system as a device. Of its bytes nothing is known, and no outcome of a crash is named.
+//!
+//! What is trusted for a journal's promises to hold of such a file: that each call here asks the system for what the trait says; that
+//! a sync that went well has put the file on the disk; that a write changes no byte outside its range, and leaves each byte as it was
+//! or as it was to be; that nobody else writes the file, which its lock asks of those who ask for the lock too.
+
+ghost use Rattle.std.specs.Prelude.{◌≡◌, ◌≤◌, false, true, length, IfOk};
+ghost use Rattle.doc_server_journal.specs.FileDevices.{has_failed};
+
+use crate::device::Device;
+use crate::fault::{DeviceFault, LoadError};
+use crate::file_fault::FileFault;
+use crate::names::sync_folder;
+use doc_heap::{Heap, Vec};
+use doc_page_parts::bytes::Bytes;
+use std::fs::{File, OpenOptions, metadata, remove_file};
+use std::os::fd::AsFd;
+use std::os::unix::fs::{FileExt, MetadataExt, OpenOptionsExt, fchown};
+use std::rt::Files;
+
+/// How often a file is opened again whose name another got meanwhile.
+const TRIES: u32 = 8;
+
+/// The rights of a file that is made: its pages are for those who may read its owner's files.
+const OWNER_ALONE: u32 = 0o600;
+
+/// An open file, locked while the device is there.
+#[derive(Drop)]
+pub struct FileDevice {
+    file: File,
+    failed: bool,
+}
+
+impl FileDevice {
+    /// Opens the file of this name, made for its owner alone where there is none, and takes its lock. Its folder is synced, so that
+    /// a crash leaves the name. The lock of a file that lost its name to another, as by a compaction, isn't kept: then that other
+    /// file is opened.
+    pub fn open<R: Files<File = File>>(rt: &R, name: &str) -> Result<FileDevice, FileFault>
+        ensures { IfOk result (λ device. has_failed device ≡ false) }
+    {
+        for _ in 0..TRIES {
+            let device = open_and_lock(rt, name)?;
+            if device.has_name(rt, name)? {
+                sync_folder(rt, name)?;
+                return Ok(device);
+            }
+        }
+        Err(FileFault::InUse)
+    }
+
+    /// Makes a file of this name with the owner and the rights of this one, and takes its lock. A file that has the name goes.
+    pub fn make_like<R: Files<File = File>>(
+        &self,
+        rt: &R,
+        name: &str,
+    ) -> Result<FileDevice, FileFault>
+        ensures { IfOk result (λ device. has_failed device ≡ false) }
+    {
+        let _ = remove_file(rt, name);
+        let file = OpenOptions::new()
+            .read(true)
+            .write(true)
+            .create_new(true)
+            .mode(OWNER_ALONE)
+            .open(rt, name)?;
+        file.try_lock()?;
+        let metadata = self.file.metadata()?;
+        fchown(file.as_fd(), Some(metadata.uid()), Some(metadata.gid()))?;
+        file.set_permissions(metadata.permissions())?;
+        Ok(FileDevice {
+            file,
+            failed: false,
+        })
+    }
+
+    /// Whether the file of this name is this one.
+    fn has_name<R: Files<File = File>>(&self, rt: &R, name: &str) -> Result<bool, FileFault> {
+        let Ok(named) = metadata(rt, name) else {
+            return Ok(false);
+        };
+        let open = self.file.metadata()?;
+        Ok(open.dev() == named.dev() && open.ino() == named.ino())
+    }
+}
+
+/// Opens the file of a name, made where there is none, and takes its lock.
+fn open_and_lock<R: Files<File = File>>(rt: &R, name: &str) -> Result<FileDevice, FileFault>
+    ensures { IfOk result (λ device. has_failed device ≡ false) }
+{
+    let file = OpenOptions::new()
+        .read(true)
+        .write(true)
+        .create(true)
+        .mode(OWNER_ALONE)
+        .open(rt, name)?;
+    if !file.metadata()?.is_file() {
+        return Err(FileFault::NotOpened);
+    }
+    file.try_lock()?;
+    Ok(FileDevice {
+        file,
+        failed: false,
+    })
+}
+
+/// All bytes of a file, `most` at most.
+fn whole(heap: Heap, file: &File, most: usize) -> Result<Bytes, LoadError>
+    ensures { IfOk result (λ bytes. length bytes ≤ most) }
+{
+    let Ok(metadata) = file.metadata() else {
+        return Err(LoadError::Failed);
+    };
+    let Ok(len) = usize::try_from(metadata.len()) else {
+        return Err(LoadError::Long);
+    };
+    if len > most {
+        return Err(LoadError::Long);
+    }
+    let mut bytes = Vec::new(heap);
+    if bytes.resize(len, 0).is_err() {
+        return Err(LoadError::Memory);
+    }
+    if file.read_exact_at(bytes.as_mut_slice(), 0).is_err() {
+        return Err(LoadError::Failed);
+    }
+    Ok(Bytes::new(bytes))
+}
+
+impl Device for FileDevice {
+    ghost use Rattle.std.specs.Prelude.{None};
+    ghost use Rattle.doc_server_journal.specs.FileDevices.{has_failed};
+
+    ghost seen = { λ _. None };
+
+    ghost may_leave = { λ _ _. ⊥ };
+
+    ghost moment = { λ _. 0 };
+
+    ghost left_since = { λ _ _ _. ⊥ };
+
+    ghost failed = { has_failed };
+
+    ghost counts_now = { λ _ _ _ _ never. never };
+
+    ghost only_now = { λ _ _ never. never };
+
+    fn read_whole(&mut self, heap: Heap, most: usize) -> Result<Bytes, LoadError> {
+        let result = whole(heap, &self.file, most);
+        self.failed = matches!(result, Err(LoadError::Failed));
+        result
+    }
+
+    fn write_at(&mut self, at: usize, bytes: &[u8]) -> Result<(), DeviceFault> {
+        match self.file.write_all_at(bytes, at as u64) {
+            Ok(()) => Ok(()),
+            Err(_) => Err(self.fault()),
+        }
+    }
+
+    fn cut(&mut self, len: usize) -> Result<(), DeviceFault> {
+        match self.file.set_len(len as u64) {
+            Ok(()) => Ok(()),
+            Err(_) => Err(self.fault()),
+        }
+    }
+
+    fn sync(&mut self) -> Result<(), DeviceFault> {
+        match self.file.sync_all() {
+            Ok(()) => Ok(()),
+            Err(_) => Err(self.fault()),
+        }
+    }
+}
+
+impl FileDevice {
+    /// Notes that a call has failed.
+    fn fault(&mut self) -> DeviceFault
+        ensures { has_failed self.new ≡ true }
+    {
+        self.failed = true;
+        DeviceFault
+    }
+}

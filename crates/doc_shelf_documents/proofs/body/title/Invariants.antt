@@ -1,0 +1,6 @@
+use Rattle.std.proofs.Common.{◌≡◌, drop}
+use Rattle.doc_page_parts.specs.Pages.{title_of}
+use Rattle.doc_shelf_documents.proofs.body.title.Given as goal
+
+abbrev pub invariant-loop-heading : goal.invariant-loop-heading
+invariant-loop-heading l = title_of l.path l.headings ≡ title_of l.path (drop l.heading-index l.headings)

@@ -1,0 +1,27 @@
+-- The reply that shows a page.
+use Rattle.std.specs.Prelude.{ℕ, Bool, true, List, Option, option_map}
+use Rattle.doc_cache.specs.Caches.{Cached}
+use Rattle.doc_http.specs.ReplyForms.{content_reply}
+use Rattle.doc_http.specs.Replies.{reply_bytes}
+use Rattle.doc_shelf_documents.specs.Shelves.{IsShelf}
+use Rattle.doc_shelf_edits.specs.Laws.{Stands, document_of}
+use Rattle.doc_shelf_pages.specs.KeptPages.{Kept}
+use Rattle.doc_shelf_views.specs.Views.{Renders}
+use Rattle.doc_store.specs.Pages.{Page}
+use Rattle.doc_store.specs.Sites.{View, goal_in, page_at}
+use Rattle.doc_store.specs.Store.{StoreState}
+
+-- a reply with a document, or its head alone
+abbrev pub document_reply : Bool → Bool → List ℕ → List ℕ
+document_reply head_only close document = reply_bytes (content_reply true document) head_only close
+
+-- what a reader with this view is sent of the page at a path, where they see one
+abbrev pub page_shown : Renders → View → List ℕ → Bool → Bool → Option (List ℕ)
+page_shown render view path head_only close =
+    option_map (λ page. document_reply head_only close (document_of render (goal_in view) path page)) (page_at view.pages path)
+
+-- a page stands under a path with a stamp, and what is kept beside its store is a shelf's
+pub record IsServed (render : Renders) (store : StoreState) (kept : Kept) (cache : Cached) (path : List ℕ) (stamp : ℕ) (page : Page)
+    : Type 0 where
+  pub shelf : IsShelf render store kept cache
+  pub stands : Stands store path stamp page

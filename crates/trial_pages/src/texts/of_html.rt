@@ -1,0 +1,86 @@
+//! Calls of `doc_html`. HTML is printed as a text is written in the input.
+
+use crate::texts::hides::Hides;
+use crate::texts::of_anchors;
+use crate::texts::printed::{compared, printed_made};
+use crate::texts::tools::{Tools, shown_made};
+use doc_blocks::blocks;
+use doc_heap::String;
+use doc_html::{render_plain, to_html};
+use doc_page_parts::failure::Memory;
+use doc_page_parts::text::Text;
+use trial::answer::{no_call, two_texts};
+
+/// What is printed for a call of this name.
+pub fn called(tools: Tools<'_>, name: &str, given: &str) -> Result<String, Memory> {
+    match name {
+        "html" => printed_made(tools.desk, rendered(tools, given)),
+        "html_is" => is_html(tools, given),
+        "html_of_runs" => html_of_runs(tools, given),
+        "html_without_links" => printed_made(tools.desk, html_without_links(tools, given)),
+        _ => of_anchors::called(tools, name, given),
+    }
+}
+
+fn rendered(tools: Tools<'_>, text: &str) -> Result<Text, Memory> {
+    render_plain(tools.tried, text, tools.entities)
+}
+
+/// The HTML of a text in quotes.
+pub fn shown_html(tools: Tools<'_>, text: &str) -> Result<String, Memory> {
+    shown_made(tools.desk, rendered(tools, text))
+}
+
+/// `TEXT | HTML`: whether this is the text's HTML, and else where they differ.
+fn is_html(tools: Tools<'_>, given: &str) -> Result<String, Memory> {
+    let Some((text, wanted)) = two_texts(given) else {
+        return no_call(tools.desk);
+    };
+    let html = rendered(tools, text)?;
+    let told = compared(tools.desk, html.get(), wanted);
+    drop(html);
+    told
+}
+
+/// `N`: whether `a` and runs of 1 to N backticks, each behind a space, are one paragraph of that text.
+fn html_of_runs(tools: Tools<'_>, given: &str) -> Result<String, Memory> {
+    let Ok(most) = given.parse::<usize>() else {
+        return no_call(tools.desk);
+    };
+    let mut text = String::from_str(tools.desk, "a")?;
+    let told = html_of_more_runs(tools, &mut text, most);
+    drop(text);
+    told
+}
+
+fn html_of_more_runs(tools: Tools<'_>, text: &mut String, most: usize) -> Result<String, Memory> {
+    push_runs(text, most)?;
+    let text = text.as_str();
+    let both = format!(in tools.desk; "{text} | <p>{text}</p>\n")?;
+    let told = is_html(tools, &both);
+    drop(both);
+    told
+}
+
+fn push_runs(text: &mut String, most: usize) -> Result<(), Memory> {
+    for length in 0..most {
+        text.push_str(" `")?;
+        push_backticks(text, length)?;
+    }
+    Ok(())
+}
+
+fn push_backticks(text: &mut String, length: usize) -> Result<(), Memory> {
+    for _ in 0..length {
+        text.push('`')?;
+    }
+    Ok(())
+}
+
+/// The HTML of a text by a linker that shows no link.
+fn html_without_links(tools: Tools<'_>, text: &str) -> Result<Text, Memory> {
+    let document = blocks(tools.tried, text, tools.entities)?;
+    let html = to_html(tools.tried, &document, tools.entities, &Hides);
+    drop(document);
+    html
+}
