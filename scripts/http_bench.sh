@@ -5,7 +5,7 @@
 #   quarter of the sizes, since no body may take more than 2 MiB with its chunks), pushed in pieces of 1, 16 and 16,384 bytes with a reading
 #   after each;
 # - 1,000, 2,000, 4,000 and 8,000 pipelined requests, taken off one buffer;
-# - one step of a hub with 3, 100, 1,000 and 10,000 pages of 4 kB, a GET of one of them, with the number of its growths, which is to stay.
+# - one step of a hub with 3, 100, 1,000 and 10,000 pages of 4 kB, a GET of one of them.
 #
 # Prints the least processor time of five runs of each, and its ratio to the one before: of twice as much, 2 is linear. A body in pieces of
 # 16,384 and in one chunk or few is only copied, three times; copies within the processor's caches are faster than past them, so the ratio
@@ -89,13 +89,9 @@ REPLY = len(
     "<!DOCTYPE html>\n<title>guide/00000.md</title>\n<p></p>\n"
 ) + 64 * 64 - len("\n")
 STEPS = 20_000
-before, first = None, None
+before = None
 for pages in (3, 100, 1_000, 10_000):
     took = taken(f"steps {pages} {STEPS}", f"steps {pages} 0", STEPS * REPLY) / STEPS
     row("a step of a hub with so many pages", pages, took, before)
-    growths = least(f"growths {pages} {STEPS}")[1] / STEPS
-    if first is not None and growths != first:
-        sys.exit(f"{pages} pages: {growths:.2f} growths a step and not {first:.2f}")
-    before, first = took, growths
-print(f"each of these steps makes {first:g} growths")
+    before = took
 PYTHON

@@ -1,5 +1,5 @@
 """Questions about many pages, by the model of listings.py: searches with 101 hits, of which 100 are told, also after each page was put
-again; questions that must not take a growth for each page; and 100,000 links to as many headings.
+again; questions about few of many pages; and 100,000 links to as many headings.
 
     python3 scripts/oracles/large.py
 
@@ -19,11 +19,6 @@ def put_each(count, text):
     line = f"digest \\{{{count} put \\#.md | staff | {written} ; }}put 7.md | ops,staff | kiwi kiwi kiwi7\\n@77.md"
     pages["7.md"] = Page("7.md", {"ops", "staff"}, "kiwi kiwi kiwi7\n@77.md")
     return pages, [("new", "()"), (line, digest(["Ok(Created)"] * count + ["Ok(Replaced)"]))]
-
-
-def few_more(pages):
-    found = debug(Cut(pages, None).search("KIWI"))
-    return [("within 120 search owner | KIWI", found), ("within 120 search owner | kiwi KIWI", found)]
 
 
 def hidden_first():
@@ -50,16 +45,16 @@ def main():
     lines = ["# 101 pages hold the word, of which the last is left out; one of them has it twice."] + lines
     for name, groups in READERS:
         lines.append((f"search {name} | KIWI", debug(Cut(pages, groups).search("KIWI"))))
-    lines += ["# It takes a growth for each page that it tells, and few more.", *few_more(pages)]
+    lines += ["# A word that stands twice in a query is one.", ("search owner | kiwi KIWI", debug(Cut(pages, None).search("KIWI")))]
     lines += ["# The first of 101 pages is hidden from all but one reader, and has the word twice.", *hidden_first()]
     pages, more = put_each(1000, "kiwi\\#\n@7.md")
-    lines += ["# A question about few of 1,000 pages takes few growths.", *more]
+    lines += ["# A question about few of 1,000 pages.", *more]
     cut = Cut(pages, None)
     lines += [
-        ("within 40 search owner | kiwi7", debug(cut.search("kiwi7"))),
-        ("within 40 search owner | kiwi7 KIWI", debug(cut.search("kiwi7 KIWI"))),
-        ("within 40 backlinks owner | 77.md", debug(cut.backlinks("77.md"))),
-        ("within 20 backlinks_under owner | 77.md", debug(cut.backlinks("77.md"))),
+        ("search owner | kiwi7", debug(cut.search("kiwi7"))),
+        ("search owner | kiwi7 KIWI", debug(cut.search("kiwi7 KIWI"))),
+        ("backlinks owner | 77.md", debug(cut.backlinks("77.md"))),
+        ("backlinks_under owner | 77.md", debug(cut.backlinks("77.md"))),
     ]
     lines += ["# 100,000 links to headings of one page, each of which has an anchor of its own, and one to none.", *many_links()]
     write("large.py", lines)

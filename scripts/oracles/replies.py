@@ -7,8 +7,8 @@ knows no index, no cache and no want of memory.
 
     python3 scripts/oracles/replies.py
 
-writes its lines into stdin and stdout of crates/trial_site. Each history of events is told twice, call by call and as one run. Then the
-growths of each edit, and of a step of each route, are refused in turn: the witness is a request of each route by each of three readers.
+writes its lines into stdin and stdout of crates/trial_site. Each history of events is told twice, call by call and as one run. Then come
+edits and a step of each route, of which scripts/refusals/trial_site.lines refuses the growths.
 """
 
 import re
@@ -280,74 +280,40 @@ SITE = [("connect",), ("connect",),
         ("move", "old.md", "g.md")]
 NEW = "# Fig\n\nfig kiwi [a](a.md#none) [b](b.md) [b](/b.md)"
 EDITS = [
-    ("n.md", "fig", ("put", "n.md", "ops", NEW), "A put of a new path"),
-    ("n.md", "fig", ("put", "n.md", "staff", "fig [c](c.md)"), "of an old one"),
-    ("old.md", "fig", ("put", "old.md", "ops", NEW), "and of an alias"),
-    ("m/n.md", "kiwi", ("o", "PUT", "/page/m/n.md?groups=staff", "kiwi [a](../a.md) [n](n.md)"), "A PUT of a new path"),
-    ("a.md", "kiwi", ("o", "PUT", "/page/a.md?groups=ops", "# Plum\n\nkiwi [a](a.md)"), "of an old one"),
-    ("n.md", "fig", ("move", "n.md", "a/n.md"), "A move"),
-    ("n.md", "kiwi", ("o", "PUT", "/page/n.md?groups=ops,staff", "kiwi kiwi [b](b.md)"), "A PUT of an alias"),
-    ("m/n.md", "kiwi", ("move", "m/n.md", "old/n.md"), "A move of a page whose own links lead elsewhere from there"),
-    ("m/n.md", "kiwi", ("move", "old/n.md", "m/n.md"), "and one back, to its alias"),
-    ("b.md", "plum", ("o", "DELETE", "/page/b.md"), "A DELETE"),
+    (("put", "n.md", "ops", NEW), "A put of a new path"),
+    (("put", "n.md", "staff", "fig [c](c.md)"), "of an old one"),
+    (("put", "old.md", "ops", NEW), "and of an alias"),
+    (("o", "PUT", "/page/m/n.md?groups=staff", "kiwi [a](../a.md) [n](n.md)"), "A PUT of a new path"),
+    (("o", "PUT", "/page/a.md?groups=ops", "# Plum\n\nkiwi [a](a.md)"), "of an old one"),
+    (("move", "n.md", "a/n.md"), "A move"),
+    (("o", "PUT", "/page/n.md?groups=ops,staff", "kiwi kiwi [b](b.md)"), "A PUT of an alias"),
+    (("move", "m/n.md", "old/n.md"), "A move of a page whose own links lead elsewhere from there"),
+    (("move", "old/n.md", "m/n.md"), "and one back, to its alias"),
+    (("o", "DELETE", "/page/b.md"), "A DELETE"),
 ]
-# A query is written with `,`: of the growths that a `+` asks for one may be refused alone and the answer is right all the same.
 STEPS = [("a", method, target) for target in
          ("/page/a.md", "/page/old/n.md", "/page/c.md", "/contents", "/backlinks/a.md", "/backlinks/old/n.md", "/search?q=kiwi,fig",
           "/search", "/broken") for method in ("GET", "HEAD")] + [("o", "PATCH", "/contents"), ("x", "GET", "/broken")]
 
 
-def growths():
-    """Edits, and a step of each route, with each growth refused, alone and with all that follow."""
+def edits():
+    """Edits, and a step of each route."""
     hub = Hub()
     yield world(64)
-    yield "# Each growth refused in turn, over pages with links: after each a request of each route by each reader is answered as before."
+    yield "# Edits over pages with links, and a step of each route."
     yield from ((line_of(event), hub.happen(event)) for event in SITE)
-    for path, word, edit, title in EDITS:
+    for edit, title in EDITS:
         yield f"# {title}."
-        yield several("witness", hub, asked(1, *all_routes(path, word)))
-        if edit[0] != "o":
-            yield "grow_" + line_of(edit), "Memory each time; " + hub.happen(edit)
-        else:
-            yield line_of(("push", 2, [edit])), hub.happen(("push", 2, [edit]))
-            yield "grow_step 2", "Memory each time; " + hub.happen(("step", 2))
+        events = [edit] if edit[0] != "o" else asked(2, edit)
+        yield from ((line_of(event), hub.happen(event)) for event in events)
     yield "# A step of each route, by a reader who sees less than all."
-    yield several("witness", hub, asked(1, *all_routes("a.md", "kiwi")))
     for request in STEPS:
-        yield from grown_step(hub, request)
-    yield several("witness", hub, asked(1, *all_routes("old/n.md", "kiwi")))
-
-
-def grown_step(hub, request):
-    # the page is in the cache before, or its document would be kept there: that growth is refused without being told of
-    if request[1] == "GET" and request[2].startswith("/page/"):
         events = asked(2, request)
-        yield several("run", hub, events)
-    yield line_of(("push", 2, [request])), hub.happen(("push", 2, [request]))
-    yield "grow_step 2", "Memory each time; " + hub.happen(("step", 2))
-
-
-# How many growths a step of GET /page/a.md takes where its document is kept, and before it keeps one. These alone were found by trying.
-FOUND, MADE = 9, 15
-
-
-def refused_keep():
-    """A document that finds no memory to be kept is sent all the same: so the next step makes it anew, and takes more growths."""
-    hub = Hub()
-    yield world(4)
-    yield f"# Where a document finds no memory to be kept, growth {MADE}, its reply is the same, and the next step makes it anew:"
-    yield f"# so it asks for growth {FOUND}, which a step that finds a document doesn't."
-    site = [("connect",), ("connect",), ("put", "a.md", "staff", "# Kiwi\n\nkiwi [b](b.md)"), ("put", "b.md", "staff", "plum")]
-    yield from ((line_of(event), hub.happen(event)) for event in site)
-    request = [("a", "GET", "/page/a.md")]
-    yield line_of(("push", 2, request)), hub.happen(("push", 2, request))
-    yield f"only {MADE} step 2", hub.happen(("step", 2))
-    yield line_of(("push", 2, request)), hub.happen(("push", 2, request))
-    yield f"only {FOUND} step 2", "refused: out of memory"
-    yield "step 2", hub.happen(("step", 2))
-    yield line_of(("push", 2, request)), hub.happen(("push", 2, request))
-    yield f"only {FOUND} step 2", hub.happen(("step", 2))
+        if request[1] == "GET" and request[2].startswith("/page/"):
+            yield several("run", hub, events)
+        yield from ((line_of(event), hub.happen(event)) for event in events)
+    yield several("run", hub, asked(1, *all_routes("old/n.md", "kiwi")))
 
 
 if __name__ == "__main__":
-    write("replies.py", [*histories(), *growths(), *refused_keep()], "trial_site")
+    write("replies.py", [*histories(), *edits()], "trial_site")

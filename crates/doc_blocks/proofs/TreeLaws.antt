@@ -1,9 +1,7 @@
 -- What a tree shows of tags, tag by tag.
 use Rattle.std.proofs.Common.{◌≡◌, ◌∙◌, ℕ, ◌+◌, ◌<◌, List, [], ◌∷◌, ◌++◌, map, reverse, take, length, get_or, refl, ap, sym, arith}
 use Rattle.std.proofs.Common.{Vec, Global}
-use denote.Bor.{Bor}
 use Rattle.std.proofs.lemmas.List.{reverse-append, map-append, take_more}
-use Rattle.doc_heap.specs.declared.refusing.Refusing.{Refusing}
 use Rattle.doc_rules.specs.Forests.{none, ◌▹◌, node}
 use Rattle.doc_rules.specs.Blocks.{Blocks, Leaf, Container}
 use Rattle.doc_blocks_tags.specs.Tags.{Tag, OneLeaf, Start, End, tag_shown, tags_shown}
@@ -17,7 +15,7 @@ use Rattle.doc_blocks.specs.TreeSteps.{Shows}
 use Rattle.doc_blocks.proofs.Forests.{forest_push}
 
 abbrev pub Children : Type 0
-Children = Vec Block (Bor (Refusing Global))
+Children = Vec Block Global
 
 -- the blocks before each open container, the innermost first
 abbrev befores : List Children → List Blocks
@@ -44,7 +42,7 @@ pub shows_leaf : (tree tree' : Tree) (state : Open) (block : Block) (leaf : Leaf
     → Shows tree' (read_one (OneLeaf leaf) state)
 unfolding read_one
 shows_leaf tree tree' state block leaf h e f g = record {
-  before = ap (λ (v : Vec Children (Bor (Refusing Global))). befores v.items) e ∙ h.before;
+  before = ap (λ (v : Vec Children Global). befores v.items) e ∙ h.before;
   last = ap (λ (bs : List Block). blocks_shown bs) f
       ∙ (forest_push tree.blocks.items block none ∙ (g (blocks_shown tree.blocks.items) ∙ ap (λ (bs : Blocks). bs ▹ leaf) h.last));
 }

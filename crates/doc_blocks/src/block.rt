@@ -1,6 +1,6 @@
 //! The blocks of a document.
 
-use doc_heap::Vec;
+use doc_page_parts::heap::Vec;
 use doc_page_parts::text::Text;
 
 /// A block (CommonMark 0.31.2, sections 4 and 5). Items stand in lists.

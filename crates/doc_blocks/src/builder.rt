@@ -31,10 +31,10 @@ use doc_blocks_starts::indentation::is_blank_line;
 use doc_blocks_starts::item::{Item, take_item};
 use doc_blocks_starts::quote::take_quote;
 use doc_blocks_tags::texts::Texts;
-use doc_heap::Heap;
 use doc_lines::cursor::Cursor;
 use doc_lines::entities::Entities;
 use doc_page_parts::failure::Memory;
+use doc_page_parts::heap::Heap;
 use doc_refs::RefMap;
 
 /// At most so many quotes and items are open at once.

@@ -6,12 +6,12 @@ ghost use Rattle.doc_rules.specs.Lines.{secure_char};
 ghost use Rattle.doc_lines.specs.RestSteps.{IsCutBefore};
 ghost use Rattle.doc_blocks.specs.ContentSteps.{ends_plain, behind_ending, IsFirstLine};
 
-use doc_heap::{Heap, String};
 use doc_lines::pushing::push_char;
 use doc_lines::scan::character::{is, next_char};
 use doc_lines::scan::front::front;
 use doc_lines::scan::until::until;
 use doc_page_parts::failure::Memory;
+use doc_page_parts::heap::{Heap, String};
 use memchr::memchr3;
 
 /// The first line of a text, without its ending, and the text behind it.

@@ -8,9 +8,9 @@ use crate::block::Block;
 use crate::tagged::tags;
 use crate::tree::tree_of;
 use doc_blocks_tags::texts::Texts;
-use doc_heap::{Heap, Vec};
 use doc_lines::entities::Entities;
 use doc_page_parts::failure::Memory;
+use doc_page_parts::heap::{Heap, Vec};
 use doc_refs::RefMap;
 
 /// The blocks of a document, and what its labels name.

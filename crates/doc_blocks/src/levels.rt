@@ -30,9 +30,9 @@ ghost use Rattle.doc_blocks.specs.LevelSteps.{stack_of, list_of, Suits, IsSound,
 use crate::container::Container;
 use doc_blocks_starts::item::ListKind;
 use doc_blocks_tags::tag::{ContainerBlock, LeafBlock, Tag};
-use doc_heap::{Heap, Vec};
 use doc_lines::cursor::Cursor;
 use doc_page_parts::failure::Memory;
+use doc_page_parts::heap::{Heap, Vec};
 use std::mem;
 
 /// A list that the next item may go on with. Its first tag stands at `place`.

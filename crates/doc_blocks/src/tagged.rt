@@ -13,10 +13,10 @@ use crate::builder::Builder;
 use crate::content::{FirstLine, first_line, secure_text};
 use doc_blocks_tags::tag::Tag;
 use doc_blocks_tags::texts::Texts;
-use doc_heap::{Heap, Vec};
 use doc_lines::cursor::Cursor;
 use doc_lines::entities::Entities;
 use doc_page_parts::failure::Memory;
+use doc_page_parts::heap::{Heap, Vec};
 use doc_refs::RefMap;
 
 /// The blocks of a document as tags, and what its labels name.

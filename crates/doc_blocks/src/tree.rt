@@ -9,8 +9,8 @@ ghost use Rattle.doc_blocks.specs.TreeSteps.{Shows};
 
 use crate::block::Block;
 use doc_blocks_tags::tag::{ContainerBlock, LeafBlock, Tag};
-use doc_heap::{Heap, Vec};
 use doc_page_parts::failure::Memory;
+use doc_page_parts::heap::{Heap, Vec};
 use doc_page_parts::text::Text;
 use std::mem;
 
@@ -100,7 +100,7 @@ fn leaf_of(heap: Heap, leaf: LeafBlock) -> Result<Block, Memory>
 /// A container block round these.
 fn container_of(container: ContainerBlock, inside: Vec<Block>) -> Block
     ensures { (before : Blocks) → behind result before
-        ≡ node before (container_shown container) (blocks_shown inside.entry.items) }
+        ≡ node before (container_shown container) (blocks_shown inside.items) }
 {
     match container {
         ContainerBlock::Quote => Block::Quote(inside),

@@ -5,9 +5,9 @@ ghost use Rattle.doc_lines.specs.Cursors.{left_of};
 ghost use Rattle.doc_blocks_leaves.specs.OpenLeaves.{kept_by};
 
 use doc_blocks_starts::indentation::after_indent;
-use doc_heap::{Heap, String};
 use doc_lines::cursor::Cursor;
 use doc_page_parts::failure::Memory;
+use doc_page_parts::heap::{Heap, String};
 use std::marker::Model;
 
 /// The text of the lines of a leaf, and how much of it stands before the last blank ones. Its room stays when it is cleared.

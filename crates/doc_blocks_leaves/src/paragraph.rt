@@ -10,10 +10,10 @@ ghost use Rattle.doc_blocks_leaves.specs.OpenLeaves.{with_leaf_of};
 
 use crate::strip::strip_end;
 use doc_blocks_tags::texts::Texts;
-use doc_heap::Heap;
 use doc_lines::entities::Entities;
 use doc_lines::scan::character::next_char;
 use doc_page_parts::failure::Memory;
+use doc_page_parts::heap::Heap;
 use doc_refs::{RefMap, take_definitions};
 
 /// The text that definitions leave of a paragraph, if they leave any, without spaces and tabs at its end. It stands in `texts`. What

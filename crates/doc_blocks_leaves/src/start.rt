@@ -11,11 +11,11 @@ use doc_blocks_starts::heading::{Heading, atx_heading, underline_level};
 use doc_blocks_starts::html::{HtmlKind, html_start};
 use doc_blocks_starts::indentation::{indent_up_to, marker_text};
 use doc_blocks_starts::thematic_break::is_thematic_break;
-use doc_heap::Heap;
 use doc_lines::cursor::Cursor;
 use doc_lines::entities::Entities;
 use doc_lines::scan::character::next_char;
 use doc_page_parts::failure::Memory;
+use doc_page_parts::heap::Heap;
 
 /// The paragraph that a line could go on with.
 #[derive(Clone, Copy)]

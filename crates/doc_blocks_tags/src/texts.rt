@@ -2,8 +2,8 @@
 ghost use Rattle.std.specs.Prelude.{◌≡◌, IfOk};
 
 use bumpalo::Bump;
-use doc_heap::Heap;
 use doc_page_parts::failure::Memory;
+use doc_page_parts::heap::Heap;
 
 /// Where the texts of a document's leaf blocks stand, until all go at once. It takes memory in blocks that grow.
 pub struct Texts {

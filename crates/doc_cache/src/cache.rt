@@ -6,7 +6,7 @@ ghost use Rattle.doc_page_parts.specs.Refusals.{IsAnswer};
 
 use crate::failure::CacheError;
 use crate::key::Key;
-use doc_heap::Heap;
+use doc_page_parts::heap::Heap;
 use doc_page_parts::text::Text;
 use lru::{DefaultHasher, LruCache};
 use std::marker::Model;

@@ -3,11 +3,11 @@ ghost use Rattle.std.specs.Prelude.{◌≡◌, ◌<◌, chars};
 ghost use Rattle.doc_rules.specs.Pages.{rendered_of};
 
 use crate::pages::page_of;
-use doc_heap::Heap;
 use doc_lines::entities::Entities;
 use doc_page::renderer::Renderer;
 use doc_page_parts::count::Count;
 use doc_page_parts::failure::Memory;
+use doc_page_parts::heap::Heap;
 use doc_page_parts::rendered::Rendered;
 use std::marker::Model;
 use std::sync::ledger::{Blank, Ledger};

@@ -9,8 +9,8 @@ ghost use Rattle.doc_html.specs.TellingSteps.{start_told, end_told};
 use crate::leaves::push_decimal;
 use crate::writer::{Writer, markup};
 use doc_blocks_tags::tag::ContainerBlock;
-use doc_heap::Heap;
 use doc_page_parts::failure::Memory;
+use doc_page_parts::heap::Heap;
 
 /// Writes the start of a container block.
 #[tactic(auto, unfolding(doc_blocks_tags::specs::Tags::container_shown))]

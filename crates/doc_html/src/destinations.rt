@@ -5,9 +5,9 @@ ghost use Rattle.doc_rules.specs.Escaping.{url_escape};
 ghost use Rattle.doc_html.specs.EscapeSteps.{stays};
 ghost use Rattle.doc_html.specs.PlainLinks.{url_byte};
 
-use doc_heap::{Heap, String};
 use doc_page_encoding::encoding::push_destination;
 use doc_page_parts::failure::Memory;
+use doc_page_parts::heap::{Heap, String};
 use doc_page_parts::text::Text;
 
 /// The destination as it is written in an attribute (CommonMark 0.31.2, section 6.3).

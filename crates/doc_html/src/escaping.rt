@@ -3,8 +3,8 @@ ghost use Rattle.std.specs.Prelude.{◌≡◌, ◌<◌, ◌∷◌, [], ◌++◌,
 ghost use Rattle.doc_page_parts.specs.Escaping.{escaped, escaped_byte};
 ghost use Rattle.doc_html.specs.EscapeSteps.{is_escaped};
 
-use doc_heap::String;
 use doc_page_parts::failure::Memory;
+use doc_page_parts::heap::String;
 
 /// Writes the text with `&`, `<`, `>` and `"` as references.
 pub(crate) fn push_escaped(out: &mut String, text: &str) -> Result<(), Memory>

@@ -8,8 +8,8 @@ ghost use Rattle.doc_blocks.specs.Views.{behind, blocks_shown, forest};
 
 use doc_blocks::Block;
 use doc_blocks_tags::tag::{ContainerBlock, LeafBlock, Tag};
-use doc_heap::{Heap, Vec};
 use doc_page_parts::failure::Memory;
+use doc_page_parts::heap::{Heap, Vec};
 
 /// The tags of blocks.
 pub(crate) fn tags_of<'d>(heap: Heap, blocks: &'d [Block]) -> Result<Vec<Tag<'d>>, Memory>

@@ -7,10 +7,10 @@ use crate::escaping::push_escaped;
 use crate::fresh::fresh_behind;
 use crate::links::Links;
 use crate::writer::Writer;
-use doc_heap::{Heap, String};
 use doc_inlines_marks::mark_ref::MarkRef;
 use doc_inlines_marks::target_ref::TargetRef;
 use doc_page_parts::failure::Memory;
+use doc_page_parts::heap::{Heap, String};
 use doc_page_parts::text::Text;
 
 /// HTML so far. It is fresh where nothing was written or a LF was written last.

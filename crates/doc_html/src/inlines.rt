@@ -14,11 +14,11 @@ ghost use Rattle.doc_html.specs.InlineSteps.{images_behind, mark_html, mark_plai
 use crate::code::{push_nothing, push_space, push_spaced};
 use crate::destinations::url;
 use crate::writer::{Writer, markup};
-use doc_heap::{Heap, String};
 use doc_inlines_marks::mark_ref::{MarkRef, SpanRef};
 use doc_inlines_marks::target_ref::TargetRef;
 use doc_lines::pushing::push_characters;
 use doc_page_parts::failure::Memory;
+use doc_page_parts::heap::{Heap, String};
 use doc_page_parts::text::Text;
 
 /// Writes inlines. Inside an image their plain text alone is written.

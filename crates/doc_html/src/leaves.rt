@@ -15,13 +15,13 @@ use crate::inlines::push_marks;
 use crate::reading::Source;
 use crate::writer::{Writer, markup};
 use doc_blocks_tags::tag::LeafBlock;
-use doc_heap::Heap;
 use doc_inlines::Reader;
 use doc_lines::scan::character::next_char;
 use doc_lines::scan::front::front;
 use doc_lines::scan::run::many;
 use doc_lines::scan::white_space::is_space_or_tab;
 use doc_page_parts::failure::Memory;
+use doc_page_parts::heap::Heap;
 
 /// Writes a leaf block, which stands directly in an item of a tight list or not.
 #[tactic(auto, unfolding(doc_blocks_tags::specs::Tags::leaf_shown, crate::specs::TellingSteps::leaf_told))]

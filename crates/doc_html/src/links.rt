@@ -5,9 +5,9 @@ ghost use Rattle.doc_page_parts.specs.declared.linker.Shown.{Shown};
 ghost use Rattle.doc_html.specs.PlainLinks.{plain_shown};
 
 use crate::destinations::push_url;
-use doc_heap::{Heap, String};
 use doc_page_parts::failure::Memory;
 use doc_page_parts::filling::{push_opening_tag, push_title};
+use doc_page_parts::heap::{Heap, String};
 use doc_page_parts::linker::Linker;
 use doc_page_parts::text::Text;
 

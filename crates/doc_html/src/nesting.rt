@@ -5,8 +5,8 @@ ghost use Rattle.doc_rules.specs.Html.{is_tight_inside};
 ghost use Rattle.doc_html.specs.TellingSteps.{outside, entered, left};
 
 use doc_blocks_tags::tag::ContainerBlock;
-use doc_heap::{Heap, Vec};
 use doc_page_parts::failure::Memory;
+use doc_page_parts::heap::{Heap, Vec};
 use std::marker::Model;
 
 /// Whether what is written stands directly in an item of a tight list, and the same outside each container block round it, the outermost

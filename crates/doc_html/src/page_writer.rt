@@ -15,11 +15,11 @@ use crate::fresh::fresh_behind;
 use crate::html_writer::title_is_text;
 use crate::plain_text::plain_text;
 use crate::writer::Writer;
-use doc_heap::{Heap, String, Vec};
 use doc_html_anchors::Anchors;
 use doc_inlines_marks::mark_ref::MarkRef;
 use doc_inlines_marks::target_ref::TargetRef;
 use doc_page_parts::failure::Memory;
+use doc_page_parts::heap::{Heap, String, Vec};
 use doc_page_parts::list::List;
 use doc_page_parts::rendered::{Heading, LinkSpot, Piece, Rendered};
 use doc_page_parts::text::Text;
@@ -157,7 +157,7 @@ fn cut(heap: Heap, pieces: &mut Vec<Piece>, html: &mut String) -> Result<(), Mem
 /// Adds the last HTML as a piece, where there is some.
 fn push_last(pieces: &mut Vec<Piece>, html: String) -> Result<(), Memory>
     ensures { OnOk result (pieces.new.items ≡ pieces.old.items
-        ++ html_pieces (string_bytes html.entry)) }
+        ++ html_pieces (string_bytes html)) }
 {
     if html.as_str().is_empty() {
         return Ok(());

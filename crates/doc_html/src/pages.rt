@@ -12,10 +12,10 @@ use crate::reading::Source;
 use doc_blocks::tags;
 use doc_blocks_tags::tag::Tag;
 use doc_blocks_tags::texts::Texts;
-use doc_heap::Heap;
 use doc_inlines_marks::arena::Arena;
 use doc_lines::entities::Entities;
 use doc_page_parts::failure::Memory;
+use doc_page_parts::heap::Heap;
 use doc_page_parts::rendered::Rendered;
 use doc_refs::RefMap;
 

@@ -2,8 +2,8 @@
 ghost use Rattle.doc_html.specs.PlainLinks.{plain_shown};
 
 use crate::destinations::url;
-use doc_heap::Heap;
 use doc_page_parts::failure::Memory;
+use doc_page_parts::heap::Heap;
 use doc_page_parts::linker::{Linker, Shown};
 
 /// Shows each destination as it stands, escaped, as in the examples of CommonMark 0.31.2.

@@ -7,10 +7,10 @@ ghost use Rattle.doc_inlines_marks.specs.Views.{inlines_shown};
 ghost use Rattle.doc_html.specs.InlineSteps.{mark_plain};
 
 use crate::code::first_line;
-use doc_heap::{Heap, String};
 use doc_inlines_marks::mark_ref::MarkRef;
 use doc_lines::pushing::push_characters;
 use doc_page_parts::failure::Memory;
+use doc_page_parts::heap::{Heap, String};
 use doc_page_parts::text::Text;
 
 /// The plain texts of inlines, joined: texts and code as they are, a line break as one space, raw HTML as nothing.

@@ -1,7 +1,7 @@
 //! What the inlines of a document are read with.
-use doc_heap::Heap;
 use doc_inlines_marks::arena::Arena;
 use doc_lines::entities::Entities;
+use doc_page_parts::heap::Heap;
 use doc_refs::RefMap;
 
 /// What the inlines of a document are read with.

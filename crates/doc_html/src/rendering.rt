@@ -6,9 +6,9 @@ use crate::document::write_html;
 use crate::links::AsTheyStand;
 use doc_blocks::tags;
 use doc_blocks_tags::texts::Texts;
-use doc_heap::Heap;
 use doc_lines::entities::Entities;
 use doc_page_parts::failure::Memory;
+use doc_page_parts::heap::Heap;
 use doc_page_parts::text::Text;
 
 /// The text as HTML, in the form of the examples of CommonMark 0.31.2.

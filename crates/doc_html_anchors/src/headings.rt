@@ -3,8 +3,8 @@ ghost use Rattle.std.specs.Prelude.{◌≡◌, chars, map, IfOk};
 ghost use Rattle.doc_rules.specs.Anchors.{anchors_of};
 
 use crate::used::Anchors;
-use doc_heap::{Heap, Vec};
 use doc_page_parts::failure::Memory;
+use doc_page_parts::heap::{Heap, Vec};
 use doc_page_parts::list::List;
 use doc_page_parts::text::Text;
 

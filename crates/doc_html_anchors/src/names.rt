@@ -5,10 +5,10 @@ ghost use Rattle.unicode.specs.GeneralCategory.{general_category};
 ghost use Rattle.doc_rules.specs.Anchors.{anchor_char, anchor_name, is_word_category, or_section};
 
 use caseless::Caseless;
-use doc_heap::{Heap, String};
 use doc_lines::characters::is_white;
 use doc_lines::pushing::push_char;
 use doc_page_parts::failure::Memory;
+use doc_page_parts::heap::{Heap, String};
 use unicode::properties::{GeneralCategory, GeneralCategoryGroup};
 
 /// The name of a heading with this plain text: case folded, with its letters, marks, numbers, `-` and `_`, and each Unicode whitespace
@@ -76,7 +76,7 @@ fn is_word_category(category: GeneralCategory) -> bool
 #[tactic(auto, unfolding(doc_rules::specs::Anchors::or_section))]
 fn or_section(heap: Heap, name: String) -> Result<String, Memory>
     ensures { IfOk result (λ out. chars (string_bytes out)
-        ≡ or_section (chars (string_bytes name.entry))) }
+        ≡ or_section (chars (string_bytes name))) }
 {
     if name.as_str().is_empty() {
         return Ok(String::from_str(heap, "section")?);

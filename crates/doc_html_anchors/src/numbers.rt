@@ -5,14 +5,14 @@ ghost use Rattle.doc_rules.specs.Anchors.{with_number};
 ghost use Rattle.doc_html_anchors.specs.Uses.{Uses, IsAnchor};
 ghost use Rattle.doc_html_anchors.specs.Numbers.{names, name_of, AreNumbered, AreUsed, IsNext};
 
-use doc_heap::{BTreeMap, Heap, String};
 use doc_page_parts::failure::Memory;
+use doc_page_parts::heap::{BTreeMap, Heap, String};
 use doc_page_parts::text::Text;
 
 /// Gives a heading of this name its anchor, and keeps it.
 pub fn give(entries: &mut BTreeMap<String, u64>, heap: Heap, name: String) -> Result<Text, Memory>
     requires { AreNumbered entries.old }
-    ensures anchor { IfOk result (λ anchor. IsAnchor (names entries.old) (name_of name.entry)
+    ensures anchor { IfOk result (λ anchor. IsAnchor (names entries.old) (name_of name)
         (chars anchor)) }
     ensures uses { IfOk result (λ anchor. Uses (names entries.new)
         (chars anchor ∷ names entries.old)) }
@@ -28,9 +28,9 @@ pub fn give(entries: &mut BTreeMap<String, u64>, heap: Heap, name: String) -> Re
 /// Keeps an anchor.
 fn put(entries: &mut BTreeMap<String, u64>, heap: Heap, anchor: String) -> Result<Text, Memory>
     requires { AreNumbered entries.old }
-    ensures anchor { IfOk result (λ text. text ≡ string_bytes anchor.entry) }
+    ensures anchor { IfOk result (λ text. text ≡ string_bytes anchor) }
     ensures uses { OnOk result (Uses (names entries.new)
-        (name_of anchor.entry ∷ names entries.old)) }
+        (name_of anchor ∷ names entries.old)) }
     ensures numbered { AreNumbered entries.new }
     ensures err { OnErr result (names entries.new ≡ names entries.old) }
 {

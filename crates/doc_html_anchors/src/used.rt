@@ -6,8 +6,8 @@ ghost use Rattle.doc_html_anchors.specs.Uses.{Uses};
 
 use crate::names::anchor_name;
 use crate::numbers::give;
-use doc_heap::{BTreeMap, Heap, String};
 use doc_page_parts::failure::Memory;
+use doc_page_parts::heap::{BTreeMap, Heap, String};
 use doc_page_parts::text::Text;
 use std::marker::Model;
 

@@ -8,13 +8,13 @@ ghost use Rattle.doc_http.specs.BuildingSteps.{EndsWithin, request_at_spans, nex
 
 use crate::fields::{asks_close, value_named};
 use crate::request::{Next, Request};
-use doc_heap::Heap;
 use doc_http_bodies::fault::Fault;
 use doc_http_bodies::fields::FramingFields;
 use doc_http_bodies::framing::Framing;
 use doc_http_bodies::reader::Reading;
 use doc_page_parts::bytes::Bytes;
 use doc_page_parts::failure::Memory;
+use doc_page_parts::heap::Heap;
 use doc_page_parts::text::Text;
 use httparse::spans::{HeaderSpan, RequestSpans};
 use std::str::from_utf8;

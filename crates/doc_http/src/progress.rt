@@ -11,9 +11,9 @@ ghost use Rattle.doc_http.specs.declared.request.Next.TheVariants as nexts;
 use crate::building::{framing_of, is_bare, next_read};
 use crate::head::{HeadSearch, HeadSpan, find_head, good_head_spans};
 use crate::request::Next;
-use doc_heap::Heap;
 use doc_http_bodies::reader::{BodyReader, Reading};
 use doc_page_parts::failure::Memory;
+use doc_page_parts::heap::Heap;
 use httparse::spans::EMPTY_HEADER_SPAN;
 
 /// How far the reading of unread bytes came. It keeps none of them.

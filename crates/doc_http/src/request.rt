@@ -4,9 +4,9 @@ ghost use Rattle.std.specs.Prelude.{length, IfOk, OnErr};
 ghost use Rattle.doc_http.specs.Requests.{IsNext, BeginsWithRequest, UsesAtMost};
 
 use crate::progress::Progress;
-use doc_heap::Heap;
 use doc_page_parts::bytes::Bytes;
 use doc_page_parts::failure::Memory;
+use doc_page_parts::heap::Heap;
 use doc_page_parts::text::Text;
 
 /// A whole request (RFC 9112, section 2.1).

@@ -5,8 +5,8 @@ ghost use Rattle.doc_http.specs.Requests.{IsNext, BeginsWithRequest, UsesAtMost}
 
 use crate::progress::Progress;
 use crate::request::Next;
-use doc_heap::{Heap, Vec};
 use doc_page_parts::failure::Memory;
+use doc_page_parts::heap::{Heap, Vec};
 use std::fmt;
 use std::fmt::Debug;
 use std::marker::Model;

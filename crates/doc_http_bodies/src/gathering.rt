@@ -5,9 +5,9 @@ ghost use Rattle.doc_http_bodies.specs.Chunks.{data_of};
 
 use crate::size_line::{SizeLine, size_line};
 use crate::slices::{behind, front};
-use doc_heap::{Heap, Vec};
 use doc_page_parts::bytes::Bytes;
 use doc_page_parts::failure::Memory;
+use doc_page_parts::heap::{Heap, Vec};
 
 /// The data of the chunks, joined, which are `len` bytes.
 pub fn gather(heap: Heap, encoded: &[u8], len: usize) -> Result<Bytes, Memory>

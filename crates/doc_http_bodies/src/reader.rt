@@ -11,9 +11,9 @@ use crate::framing::Framing;
 use crate::gathering::gather;
 use crate::slices::front;
 use crate::stage::{Stage, advance};
-use doc_heap::Heap;
 use doc_page_parts::bytes::Bytes;
 use doc_page_parts::failure::Memory;
+use doc_page_parts::heap::Heap;
 
 /// How many bytes a chunked body may take, with its sizes and its trailer.
 pub const ENCODED_LIMIT: usize = 2097152;

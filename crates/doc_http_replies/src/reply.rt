@@ -6,9 +6,9 @@ ghost use Rattle.doc_http_replies.specs.ReplyForms.{content_reply};
 ghost use Rattle.doc_http_replies.specs.ReplySteps.{reply_with};
 
 use crate::reply_parts::ReplyParts;
-use doc_heap::Heap;
 use doc_page_parts::bytes::Bytes;
 use doc_page_parts::failure::Memory;
+use doc_page_parts::heap::Heap;
 use doc_page_parts::text::Text;
 
 /// A reply to one request (RFC 9112, section 2.1).

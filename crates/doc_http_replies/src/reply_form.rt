@@ -8,9 +8,9 @@ ghost use Rattle.doc_http_replies.specs.ReplySteps.{reply_with};
 use crate::reply::{Allow, Reply};
 use crate::reply_parts::ReplyParts;
 use crate::status::Status;
-use doc_heap::{Heap, Vec};
 use doc_page_parts::bytes::Bytes;
 use doc_page_parts::failure::Memory;
+use doc_page_parts::heap::{Heap, Vec};
 use doc_page_parts::text::Text;
 
 /// A reply to one request, by its form.

@@ -6,9 +6,9 @@ ghost use Rattle.doc_http_replies.specs.ReplyForms.{content_reply, plain_reply};
 ghost use Rattle.doc_http_replies.specs.ReplySteps.{reply_with};
 
 use crate::reply::Allow;
-use doc_heap::{Heap, String};
 use doc_page_parts::bytes::Bytes;
 use doc_page_parts::failure::Memory;
+use doc_page_parts::heap::{Heap, String};
 use std::fmt::Write;
 
 /// Room for the head of a reply, and for a content of one line.

@@ -3,8 +3,8 @@
 ghost use Rattle.std.specs.Prelude.{◌≡◌, IfOk, option_map, string_bytes};
 ghost use Rattle.doc_http_targets.specs.Queries.{parameter, query_of, value_of};
 
-use doc_heap::{Heap, String};
 use doc_page_parts::failure::Memory;
+use doc_page_parts::heap::{Heap, String};
 use doc_page_parts::text::Text;
 
 /// The value of the first pair of this name in a target's query, which is read as a form (URL Standard,

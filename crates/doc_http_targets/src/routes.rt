@@ -9,8 +9,8 @@ ghost use Rattle.doc_http_targets.specs.Targets.{route_at, route_of, route_shown
 
 use crate::origin_form::{after_slash, origin_part, path_part};
 use crate::route::Route;
-use doc_heap::Heap;
 use doc_page_parts::failure::Memory;
+use doc_page_parts::heap::Heap;
 use matchit::{InsertError, Router};
 
 /// What a route leads to.
@@ -33,9 +33,9 @@ pub struct Routes {
 impl Routes {
     ghost use Rattle.doc_http_targets.specs.RouteSteps.{place_of};
 
-    /// The router takes its memory from the allocator below the heap, and none after this call.
+    /// The router takes no memory after this call.
     pub fn new(heap: Heap) -> Result<Routes, Memory> {
-        let mut router = Router::new(heap.global());
+        let mut router = Router::new(heap);
         add(&mut router, "/page/{*rest}", Place::Page)?;
         add(&mut router, "/backlinks/{*rest}", Place::Backlinks)?;
         add(&mut router, "/contents", Place::Contents)?;

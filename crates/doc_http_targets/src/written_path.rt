@@ -3,8 +3,8 @@
 ghost use Rattle.std.specs.Prelude.{◌≡◌, IfOk};
 ghost use Rattle.doc_http_targets.specs.WrittenPaths.{path_written};
 
-use doc_heap::Heap;
 use doc_page_parts::failure::Memory;
+use doc_page_parts::heap::Heap;
 use doc_page_parts::path::Path;
 
 /// The path that the text writes, as the path of a URI does behind its first `/`: `doc_resolve::written_path` of it.

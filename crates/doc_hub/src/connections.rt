@@ -9,9 +9,9 @@ ghost use Rattle.doc_hub.specs.declared.connection.Connection.{Connection};
 
 use crate::connection::Connection;
 use crate::refusal::PushError;
-use doc_heap::{BTreeMap, Heap};
 use doc_http::request::Next;
 use doc_page_parts::failure::Memory;
+use doc_page_parts::heap::{BTreeMap, Heap};
 use std::marker::Model;
 
 /// Connections by number. Contracts see a map.

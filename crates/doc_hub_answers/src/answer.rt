@@ -6,11 +6,11 @@ ghost use Rattle.doc_hub_answers.specs.AnswerSteps.{after_edit};
 ghost use Rattle.doc_hub_answers.specs.Replies.{fault_bytes};
 
 use crate::response::Edit;
-use doc_heap::Heap;
 use doc_http::reply_form::ReplyForm;
 use doc_http::status::Status;
 use doc_page_parts::bytes::Bytes;
 use doc_page_parts::failure::Memory;
+use doc_page_parts::heap::Heap;
 
 /// A reply as it is sent.
 #[derive(Drop)]

@@ -7,13 +7,13 @@ ghost use Rattle.doc_hub_answers.specs.Replies.{only_reply, refused};
 
 use crate::answer::Answer;
 use crate::method::Method;
-use doc_heap::Heap;
 use doc_http::reply::write_content;
 use doc_http::reply_form::ReplyForm;
 use doc_http::request::Request;
 use doc_http::status::Status;
 use doc_page_parts::bytes::Bytes;
 use doc_page_parts::failure::Memory;
+use doc_page_parts::heap::Heap;
 use doc_page_parts::text::Text;
 
 /// A request, and how the reply to it is written.

@@ -4,10 +4,10 @@ ghost use Rattle.std.specs.Prelude.{◌≡◌, IfOk};
 ghost use Rattle.doc_http.specs.ReplyForms.{reply_of};
 ghost use Rattle.doc_hub_answers.specs.Replies.{goal_reply, moved_reply};
 
-use doc_heap::{Heap, String};
 use doc_http::reply_form::ReplyForm;
 use doc_http::status::Status;
 use doc_page_parts::failure::Memory;
+use doc_page_parts::heap::{Heap, String};
 use doc_page_parts::path::Path;
 use doc_page_parts::sight::Sight;
 use doc_page_parts::text::Text;

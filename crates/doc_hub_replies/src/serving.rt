@@ -7,7 +7,6 @@ ghost use Rattle.doc_hub_answers.specs.Counts.{RendersPuts};
 ghost use Rattle.doc_hub_answers.specs.Edits.{puts_left};
 ghost use Rattle.doc_hub_answers.specs.Replies.{answer_of, method_of};
 
-use doc_heap::Heap;
 use doc_http::bearer::bearer;
 use doc_http::request::Request;
 use doc_http::status::Status;
@@ -18,6 +17,7 @@ use doc_hub_answers::method::Method;
 use doc_hub_answers::routes::at_route;
 use doc_page::renderer::Renderer;
 use doc_page_parts::failure::Memory;
+use doc_page_parts::heap::Heap;
 use doc_shelf::Shelf;
 use doc_store::reader::Reader;
 use doc_store::readers::Readers;

@@ -5,10 +5,10 @@ ghost use Rattle.std.specs.FinMap as map;
 ghost use Rattle.doc_index_tables.specs.Maps.{text_map};
 ghost use Rattle.doc_index_tables.specs.TableSteps.{HasCounts, HasSame, LacksCounts, number_at};
 
-use doc_heap::{BTreeMap, Heap, String};
 use doc_index_tables::packed::Packed;
 use doc_index_tables::table::Table;
 use doc_page_parts::failure::Memory;
+use doc_page_parts::heap::{BTreeMap, Heap, String};
 use std::marker::Model;
 
 /// The keys of a page, each with its count. Contracts see the map.

@@ -9,10 +9,10 @@ ghost use Rattle.doc_index_tables.specs.TableSteps.{HasCounts, HasSame, number_a
 
 use crate::counts::Counts;
 use crate::held::Held;
-use doc_heap::{BTreeMap, Heap, String, Vec};
 use doc_index_tables::row::Row;
 use doc_index_tables::table::Table;
 use doc_page_parts::failure::Memory;
+use doc_page_parts::heap::{BTreeMap, Heap, String, Vec};
 use doc_page_parts::path::Path;
 use slab::Slab;
 use std::marker::Model;

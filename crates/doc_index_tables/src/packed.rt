@@ -4,8 +4,8 @@ ghost use Rattle.std.specs.Prelude.{◌≡◌, ◌∷◌, ◌++◌, ◌<◌, [],
 ghost use Rattle.doc_index_tables.specs.Maps.{by_bytes};
 ghost use Rattle.doc_index_tables.specs.Packed.{IsPacked, start_of, unpacked};
 
-use doc_heap::{BTreeMap, Heap, String, Vec};
 use doc_page_parts::failure::Memory;
+use doc_page_parts::heap::{BTreeMap, Heap, String, Vec};
 use std::marker::Model;
 
 /// Texts, each with a number, one after another in one text with their ends. Contracts see the list.

@@ -3,8 +3,8 @@
 ghost use Rattle.std.specs.Prelude.{◌≡◌, ◌==◌, Some, OnOk, OnErr, IsTrue};
 ghost use Rattle.std.specs.FinMap as map;
 
-use doc_heap::{BTreeMap, Heap};
 use doc_page_parts::failure::Memory;
+use doc_page_parts::heap::{BTreeMap, Heap};
 use std::collections::btree_map::Iter;
 use std::marker::Model;
 

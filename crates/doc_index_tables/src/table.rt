@@ -7,8 +7,8 @@ ghost use Rattle.std.specs.String.{string_cmp};
 ghost use Rattle.doc_index_tables.specs.TableSteps.{left_in_row, number_at, numbers_of, row_numbers, with_number, without_number};
 
 use crate::row::Row;
-use doc_heap::{BTreeMap, Heap, String, Vec};
 use doc_page_parts::failure::Memory;
+use doc_page_parts::heap::{BTreeMap, Heap, String, Vec};
 use std::marker::Model;
 
 /// Numbers by text and number: a row for each text that has one. Contracts see the map of the rows.
@@ -85,7 +85,7 @@ impl Table {
     }
 
     fn insert(&mut self, text: String, row: Row) -> Result<(), Memory>
-        ensures ok { OnOk result (self.new ≡ map.insert self.old (string_bytes text.entry) row) }
+        ensures ok { OnOk result (self.new ≡ map.insert self.old (string_bytes text) row) }
         ensures err { OnErr result (self.new ≡ self.old) }
     {
         self.rows.insert(text, row)?;

@@ -16,13 +16,13 @@ ghost use Rattle.doc_inlines.specs.ClosingSteps.{tail_where, IsTaken, HasNoBrack
 
 use crate::bracket::Bracket;
 use crate::reader::Reader;
-use doc_heap::Heap;
 use doc_inlines_marks::target_ref::TargetRef;
 use doc_inlines_tails::link_tail;
 use doc_lines::entities::Entities;
 use doc_lines::scan::character::is;
 use doc_lines::scan::front::front;
 use doc_page_parts::failure::Memory;
+use doc_page_parts::heap::Heap;
 use doc_refs::RefMap;
 
 impl<'t, 'r> Reader<'t, 'r> {

@@ -17,11 +17,11 @@ ghost use Rattle.doc_inlines_emphasis.specs.Texts.{IsRunText, AddsEach};
 ghost use Rattle.doc_inlines.specs.DraftSteps.{IsDraft, made_of, AreOpen, IsRunOf, codes_of_bracket, AddsBracket, IsPopped, last_of};
 
 use crate::bracket::Bracket;
-use doc_heap::{Heap, Vec};
 use doc_inlines_emphasis::{Marks, Place};
 use doc_inlines_marks::mark_ref::{MarkRef, SpanRef};
 use doc_inlines_marks::target_ref::TargetRef;
 use doc_page_parts::failure::Memory;
+use doc_page_parts::heap::{Heap, Vec};
 
 /// The marks that were made of a text so far, and the brackets among them that are open. Of the brackets the first `dead` begin no
 /// link, unless they are images'.

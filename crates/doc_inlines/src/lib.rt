@@ -33,10 +33,10 @@ mod plain;
 mod reader;
 mod runs;
 
-use doc_heap::{Heap, Vec};
 use doc_inlines_marks::arena::Arena;
 use doc_lines::entities::Entities;
 use doc_page_parts::failure::Memory;
+use doc_page_parts::heap::{Heap, Vec};
 use doc_refs::RefMap;
 use mark::owned;
 pub use mark::{Mark, Span};

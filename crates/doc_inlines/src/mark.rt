@@ -5,10 +5,10 @@ ghost use Rattle.doc_inlines.specs.Marks.{span_shown, inlines_shown, slice_in, A
 ghost use Rattle.doc_inlines_marks.specs.Slices as lent;
 ghost use Rattle.doc_inlines_marks.specs.Views as lent_views;
 
-use doc_heap::{Heap, String, Vec};
 use doc_inlines_marks::mark_ref::{MarkRef, SpanRef};
 use doc_lines::pushing::push_characters;
 use doc_page_parts::failure::Memory;
+use doc_page_parts::heap::{Heap, String, Vec};
 use doc_page_parts::text::Text;
 use doc_refs::Target;
 

@@ -17,7 +17,6 @@ ghost use Rattle.doc_inlines.specs.ReaderSteps.{IsReader, GoesOn, ReadsOn, Reads
 
 use crate::draft::Draft;
 use crate::plain::behind_plain;
-use doc_heap::Heap;
 use doc_inlines_enclosed::{Backticks, MissingEnds};
 use doc_inlines_marks::arena::Arena;
 use doc_inlines_marks::mark_ref::MarkRef;
@@ -25,6 +24,7 @@ use doc_lines::entities::Entities;
 use doc_lines::scan::character::next_char;
 use doc_lines::scan::front::front;
 use doc_page_parts::failure::Memory;
+use doc_page_parts::heap::Heap;
 use doc_refs::RefMap;
 
 /// A reader of texts. It keeps its room from one text to the next, and the marks of the last text that it read.

@@ -14,9 +14,9 @@ use crate::openers::Openers;
 use crate::pair::put;
 use crate::pass::pass;
 use crate::run::Run;
-use doc_heap::{Heap, Vec};
 use doc_inlines_marks::mark_ref::MarkRef;
 use doc_page_parts::failure::Memory;
+use doc_page_parts::heap::{Heap, Vec};
 
 /// Marks made so far, and the delimiter runs among them. Each delimiter has a mark of its own.
 #[derive(Drop)]

@@ -7,8 +7,8 @@ ghost use Rattle.doc_inlines_pass.specs.PassSteps.{Stacked};
 ghost use Rattle.doc_inlines_emphasis.specs.RunSteps.{run_shown, all_placed};
 
 use crate::run::Run;
-use doc_heap::{Heap, Vec};
 use doc_page_parts::failure::Memory;
+use doc_page_parts::heap::{Heap, Vec};
 
 /// The runs that may still open, by their numbers, with a lower bound for each kind of closer: no run that is numbered below it opens
 /// for one of that kind. `looked` counts the runs that the searches looked at.

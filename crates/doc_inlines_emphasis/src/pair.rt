@@ -10,8 +10,8 @@ ghost use Rattle.doc_inlines_emphasis.specs.Views.{marks_shown};
 
 use crate::openers::Openers;
 use crate::run::{Run, span};
-use doc_heap::Vec;
 use doc_inlines_marks::mark_ref::{MarkRef, SpanRef};
+use doc_page_parts::heap::Vec;
 use std::alloc::Allocator;
 
 /// Sets the item at this place. It is written for items of any type, since the prover doesn't follow what is written into a list of

@@ -21,9 +21,9 @@ ghost use Rattle.doc_inlines_emphasis.specs.Views.{marks_shown};
 use crate::openers::Openers;
 use crate::pair::pair;
 use crate::run::Run;
-use doc_heap::Vec;
 use doc_inlines_marks::mark_ref::MarkRef;
 use doc_page_parts::failure::Memory;
+use doc_page_parts::heap::Vec;
 
 /// The run of this number is closed as often as it has an opener.
 fn close<'t, 'r>(

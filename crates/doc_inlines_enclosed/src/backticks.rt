@@ -9,8 +9,8 @@ ghost use Rattle.doc_inlines_enclosed.specs.LearnSteps.{HasLearned};
 
 use crate::code::code_text;
 use crate::runs::{learn_places, run, span_end};
-use doc_heap::{Heap, Vec};
 use doc_page_parts::failure::Memory;
+use doc_page_parts::heap::{Heap, Vec};
 
 /// What the searches for the ends of code spans in one text learned: nothing before the first that failed, and then for each length of a
 /// run where its last run begins.

@@ -4,10 +4,10 @@ ghost use Rattle.doc_rules.specs.Parsers.{run_length};
 ghost use Rattle.doc_inlines_enclosed.specs.ToldSteps.{size};
 ghost use Rattle.doc_inlines_enclosed.specs.RunSteps.{IsToRun, IsSpanEnd, IsLearned};
 
-use doc_heap::Vec;
 use doc_lines::scan::front::front;
 use doc_lines::scan::run::many;
 use doc_page_parts::failure::Memory;
+use doc_page_parts::heap::Vec;
 
 /// The text from its first backtick on; nothing where there is none. It looks at bytes.
 fn to_run(text: &str) -> &str

@@ -4,8 +4,8 @@ ghost use Rattle.std.specs.Prelude.{◌≡◌, IfOk};
 use crate::mark_ref::ReferenceRef;
 use crate::target_ref::TargetRef;
 use bumpalo::Bump;
-use doc_heap::Heap;
 use doc_page_parts::failure::Memory;
+use doc_page_parts::heap::Heap;
 
 /// Where the targets of links and the character references of marks stand, until all go at once. It takes memory in blocks that grow.
 pub struct Arena {

@@ -6,11 +6,11 @@ ghost use Rattle.doc_refs.specs.Targets.{target_shown};
 ghost use Rattle.doc_inlines_marks.specs.Targets.{named, read_of};
 
 use crate::unescaped::{Unescaped, without_escapes};
-use doc_heap::{Heap, String};
 use doc_lines::entities::Entities;
 use doc_lines::pushing::push_text;
 use doc_lines::scan::character::is;
 use doc_page_parts::failure::Memory;
+use doc_page_parts::heap::{Heap, String};
 use doc_page_parts::text::Text;
 use doc_refs::scan::inside::inside;
 use doc_refs::{Target, title_value};

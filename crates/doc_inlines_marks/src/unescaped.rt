@@ -5,11 +5,11 @@ ghost use Rattle.doc_rules.specs.Escapes.{unescape};
 ghost use Rattle.doc_inlines_marks.specs.EscapeSteps.{begins_escape};
 ghost use Rattle.doc_inlines_marks.specs.Targets.{read_of};
 
-use doc_heap::Heap;
 use doc_lines::entities::Entities;
 use doc_lines::scan::until::until;
 use doc_lines::unescape;
 use doc_page_parts::failure::Memory;
+use doc_page_parts::heap::Heap;
 use doc_page_parts::text::Text;
 
 /// A text with its escapes and references read (CommonMark 0.31.2, sections 2.4 and 2.5).

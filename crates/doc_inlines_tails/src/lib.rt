@@ -14,10 +14,10 @@ mod inline_tail;
 mod label;
 mod reference_tail;
 
-use doc_heap::Heap;
 use doc_inlines_marks::target_ref::TargetRef;
 use doc_lines::entities::Entities;
 use doc_page_parts::failure::Memory;
+use doc_page_parts::heap::Heap;
 use doc_refs::RefMap;
 use inline_tail::{TailSource, inline_tail};
 use reference_tail::reference_tail;

@@ -7,11 +7,11 @@ ghost use Rattle.doc_refs.specs.Targets.{targets_of};
 ghost use Rattle.doc_inlines_tails.specs.TailSteps.{tail_shown};
 
 use crate::label::{is_label, label};
-use doc_heap::Heap;
 use doc_inlines_marks::target_ref::TargetRef;
 use doc_lines::scan::front::front;
 use doc_lines::scan::word::word;
 use doc_page_parts::failure::Memory;
+use doc_page_parts::heap::Heap;
 use doc_refs::scan::inside::inside;
 use doc_refs::{RefMap, normalize_label};
 

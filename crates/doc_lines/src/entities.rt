@@ -14,8 +14,8 @@ ghost use Rattle.doc_lines.specs.Entities.{characters};
 ghost use Rattle.doc_lines.specs.Tables.{entities_of, twice_line, twice_or};
 
 use built_in::find_built_in;
-use doc_heap::{BTreeMap, Heap, String};
 use doc_page_parts::failure::Memory;
+use doc_page_parts::heap::{BTreeMap, Heap, String};
 use std::error::Error;
 use std::fmt;
 use std::marker::Model;

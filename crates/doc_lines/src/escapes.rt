@@ -11,8 +11,8 @@ use crate::entities::Entities;
 use crate::pushing::{push_characters, push_text};
 use crate::scan::character::next_char;
 use crate::scan::front::front;
-use doc_heap::{Heap, String};
 use doc_page_parts::failure::Memory;
+use doc_page_parts::heap::{Heap, String};
 use doc_page_parts::text::Text;
 pub use reference::character_reference;
 

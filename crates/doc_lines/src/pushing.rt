@@ -2,8 +2,8 @@
 ghost use Rattle.std.specs.Prelude.{◌≡◌, [], ◌∷◌, ◌++◌, chars, string_bytes, OnErr, OnOk};
 ghost use Rattle.doc_lines.specs.Entities.{characters};
 
-use doc_heap::String;
 use doc_page_parts::failure::Memory;
+use doc_page_parts::heap::String;
 
 /// Adds a character. Without memory `out` stays as it is.
 pub fn push_char(out: &mut String, c: char) -> Result<(), Memory>

@@ -4,11 +4,11 @@ ghost use Rattle.std.specs.Prelude.{◌≡◌, IfOk};
 ghost use Rattle.doc_links_pages.specs.Links.{contents, entry_of};
 ghost use Rattle.doc_links_seen.specs.SeenPages.{seen_page, seen_pages};
 
-use doc_heap::{Heap, Vec};
 use doc_links_pages::answers::Entry;
 use doc_links_pages::page_links::copy_of_headings;
 use doc_links_seen::seen::SeenPage;
 use doc_page_parts::failure::Memory;
+use doc_page_parts::heap::{Heap, Vec};
 use doc_page_parts::list::List;
 
 /// Copies of the pages' paths and headings.

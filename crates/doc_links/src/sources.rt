@@ -7,9 +7,9 @@ ghost use Rattle.doc_links.specs.IndexSteps.{goes_to, source_of, sources_of};
 ghost use Rattle.doc_links_pages.specs.Links.{backlinks};
 ghost use Rattle.doc_links_seen.specs.SeenPages.{seen_page, seen_pages};
 
-use doc_heap::{Heap, Vec};
 use doc_links_seen::seen::{SeenPage, page_at};
 use doc_page_parts::failure::Memory;
+use doc_page_parts::heap::{Heap, Vec};
 use doc_page_parts::list::List;
 use doc_page_parts::path::Path;
 use doc_page_parts::sight::Sight;

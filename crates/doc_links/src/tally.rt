@@ -13,11 +13,11 @@ ghost use Rattle.doc_links_pages.specs.KnownSteps.{count_at};
 ghost use Rattle.doc_links_pages.specs.PageLinks.{IsOnce};
 ghost use Rattle.doc_index.specs.Held.{slot_at};
 
-use doc_heap::{BTreeMap, Heap, Vec};
 use doc_index::index::Index;
 use doc_index::row::Row;
 use doc_links_pages::known::Known;
 use doc_page_parts::failure::Memory;
+use doc_page_parts::heap::{BTreeMap, Heap, Vec};
 use doc_page_parts::list::List;
 use doc_page_parts::path::Path;
 use doc_page_parts::sight::Sight;

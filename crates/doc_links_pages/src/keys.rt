@@ -6,8 +6,8 @@ ghost use Rattle.doc_index.specs.Maps.{text_map};
 ghost use Rattle.doc_links_pages.specs.KnownSteps.{HasKeys, count_at};
 ghost use Rattle.doc_links_pages.specs.Names.{writes};
 
-use doc_heap::{BTreeMap, Heap, String};
 use doc_page_parts::failure::Memory;
+use doc_page_parts::heap::{BTreeMap, Heap, String};
 use doc_resolve::LinkKind;
 
 /// The paths that these links write, each with the number of the links that write it.

@@ -6,8 +6,8 @@ ghost use Rattle.doc_links_pages.specs.Links.{has_anchor};
 ghost use Rattle.doc_links_pages.specs.PageLinks.{page_links};
 
 use crate::page_links::{PageLinks, copy_of_headings};
-use doc_heap::Heap;
 use doc_page_parts::failure::Memory;
+use doc_page_parts::heap::Heap;
 use doc_page_parts::list::List;
 use doc_page_parts::path::Path;
 use doc_page_parts::rendered::{Heading, Piece};

@@ -3,9 +3,9 @@
 ghost use Rattle.std.specs.Prelude.{◌≡◌, ◌++◌, IfOk, codes};
 ghost use Rattle.doc_page_encoding.specs.Encoding.{encoded};
 
-use doc_heap::{Heap, String};
 use doc_page_encoding::encoding::push_encoded;
 use doc_page_parts::failure::Memory;
+use doc_page_parts::heap::{Heap, String};
 use doc_page_parts::path::Path;
 use doc_page_parts::text::Text;
 

@@ -6,10 +6,10 @@ ghost use Rattle.doc_links_pages.specs.Links.{broken, broken_by, broken_from, fa
 ghost use Rattle.doc_links_seen.specs.SeenPages.{seen_page, seen_pages};
 
 use crate::seen::{SeenPage, page_at};
-use doc_heap::{Heap, Vec};
 use doc_links_pages::answers::{Broken, Reason};
 use doc_links_pages::reference::with_anchor;
 use doc_page_parts::failure::Memory;
+use doc_page_parts::heap::{Heap, Vec};
 use doc_page_parts::list::List;
 use doc_page_parts::path::Path;
 use doc_page_parts::sight::Sight;

@@ -8,11 +8,11 @@ ghost use Rattle.doc_links_seen.specs.SeenSteps.{IsInOrder, page_in};
 ghost use Rattle.doc_links_pages.specs.Links.{page_at};
 ghost use Rattle.doc_links_seen.specs.SeenPages.{seen_page, seen_pages};
 
-use doc_heap::{Heap, Vec};
 use doc_index::held::Held;
 use doc_index::index::Index;
 use doc_links_pages::known::Known;
 use doc_page_parts::failure::Memory;
+use doc_page_parts::heap::{Heap, Vec};
 use doc_page_parts::path::Path;
 use doc_page_parts::rendered::Heading;
 use doc_page_parts::sight::Sight;

@@ -5,8 +5,8 @@ ghost use Rattle.std.specs.Io.{StartsWith};
 ghost use Rattle.doc_listings.specs.Listings.{backlink_line, backlinks_text};
 
 use crate::number::{MOST_DIGITS, push_number};
-use doc_heap::{Heap, String};
 use doc_page_parts::failure::Memory;
+use doc_page_parts::heap::{Heap, String};
 use doc_page_parts::path::Path;
 
 /// Writes a line for each page with links to a page: its path, a tab, and how many.

@@ -8,11 +8,11 @@ ghost use Rattle.doc_listings.specs.Listings.{contents_text, entry_lines, headin
 ghost use Rattle.doc_listings.specs.Listings.{page_line, page_start};
 
 use crate::number::{MOST_DIGITS, push_number};
-use doc_heap::{Heap, String};
 use doc_links_pages::answers::Entry;
 use doc_page_encoding::encoding::{push_encoded, push_encoded_path};
 use doc_page_parts::escaping::push_escaped;
 use doc_page_parts::failure::Memory;
+use doc_page_parts::heap::{Heap, String};
 use doc_page_parts::path::Path;
 use doc_page_parts::rendered::Heading;
 

@@ -5,8 +5,8 @@ ghost use Rattle.std.specs.Io.{StartsWith};
 ghost use Rattle.doc_listings.specs.Listings.{hit_line, hits_text};
 
 use crate::number::{MOST_DIGITS, push_number};
-use doc_heap::{Heap, String};
 use doc_page_parts::failure::Memory;
+use doc_page_parts::heap::{Heap, String};
 use doc_words_search::hit::Hit;
 
 /// Writes a line for each page that a search found: its score, a tab, and its path.

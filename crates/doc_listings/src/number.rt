@@ -3,8 +3,8 @@
 ghost use Rattle.std.specs.Prelude.{◌≡◌, ◌++◌, decimal, string_bytes, OnOk, OnErr};
 ghost use Rattle.std.specs.Io.{StartsWith};
 
-use doc_heap::String;
 use doc_page_parts::failure::Memory;
+use doc_page_parts::heap::String;
 use std::fmt::Write;
 
 /// The most digits of a number.

@@ -5,9 +5,9 @@ ghost use Rattle.std.specs.Io.{StartsWith};
 ghost use Rattle.doc_listings.specs.Listings.{broken_line, place_of, reason_name, report_text, why};
 
 use crate::number::{MOST_DIGITS, push_number};
-use doc_heap::{Heap, String};
 use doc_links_pages::answers::{Broken, Reason};
 use doc_page_parts::failure::Memory;
+use doc_page_parts::heap::{Heap, String};
 
 /// Writes a line for each broken link: the path of its page, its number there, the reason and what it leads to, with tabs between.
 #[tactic(auto, unfolding(crate::specs::Listings::report_text), using(doc_page_parts::proofs::BufferSteps::front_same, doc_page_parts::proofs::BufferSteps::front_more))]

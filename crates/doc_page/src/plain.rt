@@ -4,10 +4,10 @@ ghost use Rattle.std.specs.Prelude.{◌≡◌, ◌<◌, ◌++◌, string_bytes, 
 ghost use Rattle.doc_page.specs.Plain.{plain_texts, plain_html, html_pieces, plain_page};
 
 use crate::renderer::Renderer;
-use doc_heap::{Heap, String, Vec};
 use doc_page_parts::count::Count;
 use doc_page_parts::escaping::push_escaped;
 use doc_page_parts::failure::Memory;
+use doc_page_parts::heap::{Heap, String, Vec};
 use doc_page_parts::list::List;
 use doc_page_parts::rendered::{Piece, Rendered};
 use doc_page_parts::text::Text;

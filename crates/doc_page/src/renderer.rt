@@ -3,8 +3,8 @@
 ghost use Rattle.std.specs.Prelude.{◌≡◌, ◌+◌, ℕ, List as Seq, IfOk};
 ghost use Rattle.doc_page_parts.specs.declared.rendered.Rendered.{Rendered};
 
-use doc_heap::Heap;
 use doc_page_parts::failure::Memory;
+use doc_page_parts::heap::Heap;
 use doc_page_parts::rendered::Rendered;
 
 /// Makes pages of texts, and counts how often it was asked.

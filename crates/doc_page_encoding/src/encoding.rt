@@ -6,9 +6,9 @@ ghost use Rattle.std.specs.Io.{StartsWith};
 ghost use Rattle.doc_page_parts.specs.Escaping.{escaped};
 ghost use Rattle.doc_page_encoding.specs.Encoding.{encoded, encoded_path, destination};
 
-use doc_heap::{Heap, String};
 use doc_page_parts::escaping::push_escaped;
 use doc_page_parts::failure::Memory;
+use doc_page_parts::heap::{Heap, String};
 use percent_encoding::{AsciiSet, NON_ALPHANUMERIC, ascii_set, utf8_percent_encode};
 use std::borrow::CowStr;
 

@@ -6,7 +6,7 @@ ghost use Rattle.std.specs.Cmp.{on_equiv};
 ghost use Rattle.std.specs.Cmp.Lexicographic.{pointwise, nat_list_eq_equiv};
 
 use crate::failure::Memory;
-use doc_heap::{Heap, Vec};
+use crate::heap::{Heap, Vec};
 use std::marker::Model;
 
 /// Bytes, which need not be a text. Contracts see their list; they are equal by it.
@@ -25,7 +25,7 @@ impl Model for Bytes {
 
 impl Bytes {
     pub fn new(inner: Vec<u8>) -> Self
-        ensures { result ≡ inner.entry.items }
+        ensures { result ≡ inner.items }
     {
         Bytes { inner }
     }

@@ -5,8 +5,8 @@ ghost use Rattle.std.specs.Io.{StartsWith};
 ghost use Rattle.doc_page_parts.specs.Escaping.{escaped, escaped_byte};
 
 use crate::failure::Memory;
+use crate::heap::{Heap, String};
 use crate::text::Text;
-use doc_heap::{Heap, String};
 
 /// The text with `&`, `<`, `>` and `"` written `&amp;`, `&lt;`, `&gt;` and `&quot;`.
 pub fn escape(heap: Heap, text: &str) -> Result<Text, Memory>

@@ -6,10 +6,10 @@ ghost use Rattle.doc_page_parts.specs.Pages.{filled, filled_piece, opening_tag, 
 
 use crate::escaping::push_escaped;
 use crate::failure::Memory;
+use crate::heap::{Heap, String};
 use crate::linker::{Linker, Shown};
 use crate::rendered::{Piece, Rendered};
 use crate::text::Text;
-use doc_heap::{Heap, String};
 
 /// The page's pieces, joined, with its links as the linker shows them.
 pub fn fill<L: Linker>(heap: Heap, page: &Rendered, linker: &L) -> Result<Text, Memory>

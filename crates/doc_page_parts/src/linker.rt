@@ -4,8 +4,8 @@ ghost use Rattle.std.specs.Prelude.{◌≡◌, ℕ, List as Seq, IfOk};
 ghost use Rattle.doc_page_parts.specs.declared.linker.Shown.{Shown};
 
 use crate::failure::Memory;
+use crate::heap::Heap;
 use crate::text::Text;
-use doc_heap::Heap;
 
 /// How a link is shown.
 #[derive(Debug, Drop)]

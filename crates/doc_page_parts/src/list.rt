@@ -6,7 +6,7 @@ ghost use Rattle.std.specs.Cmp.Lexicographic.{pointwise, lists_per, lists_equiv}
 ghost use Rattle.std.specs.Hash as fed;
 ghost use Rattle.std.specs.Hash.{on_Alike, items_Alike};
 
-use doc_heap::Vec;
+use crate::heap::Vec;
 use std::hash::{Hash, Hasher};
 use std::marker::Model;
 
@@ -26,7 +26,7 @@ impl<T> Model for List<T> {
 
 impl<T> List<T> {
     pub fn new(inner: Vec<T>) -> Self
-        ensures { result ≡ inner.entry.items }
+        ensures { result ≡ inner.items }
     {
         List { inner }
     }

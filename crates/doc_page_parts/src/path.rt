@@ -7,8 +7,8 @@ ghost use Rattle.doc_page_parts.specs.Paths.{is_path, path_of, segments, is_segm
 ghost use Rattle.doc_page_parts.specs.Refusals.{IsAnswer};
 
 use crate::failure::Memory;
+use crate::heap::Heap;
 use crate::text::Text;
-use doc_heap::Heap;
 use std::cmp::Ordering;
 use std::error::Error;
 use std::fmt;

@@ -11,7 +11,7 @@ ghost use Rattle.std.specs.Hash.{on_Alike};
 ghost use Rattle.std.specs.Ordering.{nat_cmp};
 
 use crate::failure::Memory;
-use doc_heap::{Heap, String};
+use crate::heap::{Heap, String};
 use std::cmp::Ordering;
 use std::fmt;
 use std::hash::{Hash, Hasher};
@@ -34,7 +34,7 @@ impl Model for Text {
 
 impl Text {
     pub fn new(inner: String) -> Self
-        ensures { result ≡ string_bytes inner.entry }
+        ensures { result ≡ string_bytes inner }
     {
         Text { inner }
     }

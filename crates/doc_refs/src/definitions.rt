@@ -6,9 +6,9 @@ ghost use Rattle.doc_refs_parts.specs.Targets.{targets_of};
 
 use crate::labels::normalize_label;
 use crate::ref_map::RefMap;
-use doc_heap::Heap;
 use doc_lines::entities::Entities;
 use doc_page_parts::failure::Memory;
+use doc_page_parts::heap::Heap;
 use doc_refs_parts::scan::definition::definition_source;
 use doc_refs_parts::target::read_target;
 

@@ -5,11 +5,11 @@ ghost use Rattle.doc_rules.specs.Characters.{strip, strip_end, is_space_tab_or_e
 ghost use Rattle.doc_rules.specs.Labels.{collapse, normal_label};
 
 use caseless::Caseless;
-use doc_heap::{Heap, String};
 use doc_lines::pushing::{push_char, push_text};
 use doc_lines::scan::front::front;
 use doc_lines::scan::run::many;
 use doc_page_parts::failure::Memory;
+use doc_page_parts::heap::{Heap, String};
 use doc_page_parts::text::Text;
 use doc_refs_parts::scan::label::is_space_tab_or_ending;
 

@@ -4,8 +4,8 @@ ghost use Rattle.std.specs.FinMap as finite;
 ghost use Rattle.doc_refs_parts.specs.Targets.{target_found, target_shown, single, joined};
 ghost use Rattle.doc_refs.specs.EntrySteps.{targets_shown, with_entry, earlier, AreGrown};
 
-use doc_heap::{BTreeMap, Heap, String};
 use doc_page_parts::failure::Memory;
+use doc_page_parts::heap::{BTreeMap, Heap, String};
 use doc_refs_parts::target::Target;
 use std::marker::Model;
 
@@ -60,7 +60,7 @@ impl RefMap {
     /// Lets a label name a target, where it names none yet.
     pub(crate) fn add(&mut self, label: String, target: Target) -> Result<(), Memory>
         ensures ok { OnOk result (self.new
-            ≡ joined self.old (single (chars (string_bytes label.entry)) (target_shown target))) }
+            ≡ joined self.old (single (chars (string_bytes label)) (target_shown target))) }
         ensures err { OnErr result (self.new ≡ self.old) }
     {
         put(&mut self.entries, label, target)
@@ -86,7 +86,7 @@ impl RefMap {
 /// Puts in an entry for a label, where there is none yet.
 fn put(entries: &mut BTreeMap<String, Entry>, label: String, target: Target) -> Result<(), Memory>
     ensures ok { OnOk result (entries.new.entries
-        ≡ with_entry entries.old.entries label.entry target) }
+        ≡ with_entry entries.old.entries label target) }
     ensures err { OnErr result (entries.new.entries ≡ entries.old.entries) }
 {
     if entries.contains_key(label.as_str()) {
@@ -103,7 +103,7 @@ fn put_all(
     other: BTreeMap<String, Entry>,
 ) -> Result<(), Memory>
     ensures ok { OnOk result (targets_shown entries.new.entries
-        ≡ joined (targets_shown entries.old.entries) (targets_shown other.entry.entries)) }
+        ≡ joined (targets_shown entries.old.entries) (targets_shown other.entries)) }
     ensures grown { AreGrown entries.old.entries entries.new.entries }
 {
     'labels: for (label, entry) in other {

@@ -5,11 +5,11 @@ ghost use Rattle.doc_refs_parts.specs.Sources.{text_shown};
 ghost use Rattle.doc_refs_parts.specs.Targets.{target_shown};
 
 use crate::scan::inside::inside;
-use doc_heap::Heap;
 use doc_lines::entities::Entities;
 use doc_lines::scan::character::is;
 use doc_lines::unescape;
 use doc_page_parts::failure::Memory;
+use doc_page_parts::heap::Heap;
 use doc_page_parts::text::Text;
 
 /// Where a link leads, and its title, both with their escapes and references read (CommonMark 0.31.2, section 6.3). An empty title is

@@ -4,8 +4,8 @@ ghost use Rattle.std.specs.Prelude.{◌≡◌, ◌++◌, map, IfOk, OnOk};
 ghost use Rattle.doc_page_parts.specs.Paths.{segments};
 ghost use Rattle.doc_resolve.specs.DotSegments.{is_dot, is_two_dots, is_dots, but_last, back, put_out, put_all, ends_in_dots, without_dots};
 
-use doc_heap::{Heap, Vec};
 use doc_page_parts::failure::Memory;
+use doc_page_parts::heap::{Heap, Vec};
 
 /// Adds the segments of a path, which `/` parts.
 pub fn push_segments<'a>(out: &mut Vec<&'a str>, path: &'a str) -> Result<(), Memory>

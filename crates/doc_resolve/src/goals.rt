@@ -5,8 +5,8 @@ ghost use Rattle.doc_resolve.specs.Decisions.{decisions, goals_of, goal_of};
 
 use crate::link_kind::LinkKind;
 use crate::links::kinds;
-use doc_heap::{Heap, Vec};
 use doc_page_parts::failure::Memory;
+use doc_page_parts::heap::{Heap, Vec};
 use doc_page_parts::list::List;
 use doc_page_parts::path::Path;
 use doc_page_parts::rendered::Rendered;

@@ -10,8 +10,8 @@ ghost use Rattle.doc_resolve.specs.Resolution.{query_on, folder, is_no_path, is_
 use crate::dot_segments::{push_segments, without_dots};
 use crate::reference::Reference;
 use crate::resolved::Resolved;
-use doc_heap::{Heap, Vec};
 use doc_page_parts::failure::Memory;
+use doc_page_parts::heap::{Heap, Vec};
 
 /// The reference, resolved on the base (RFC 3986, section 5.2.2; strict, so that a reference with the base's scheme is absolute too).
 /// The base may lack a scheme. No text is copied.

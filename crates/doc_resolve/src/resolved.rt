@@ -4,8 +4,8 @@ ghost use Rattle.std.specs.Prelude.{◌≡◌, ◌++◌, ◌∷◌, map, string_
 ghost use Rattle.std.specs.List.{flat_map, join_with_byte};
 ghost use Rattle.doc_resolve.specs.Resolution.{uri_of_resolved, recomposed, part};
 
-use doc_heap::{Heap, String, Vec};
 use doc_page_parts::failure::Memory;
+use doc_page_parts::heap::{Heap, String, Vec};
 use doc_page_parts::text::Text;
 
 /// A reference, resolved on a base (RFC 3986, section 5.2). Its components are slices of the reference and of the base.

@@ -8,9 +8,9 @@ ghost use Rattle.doc_resolve.specs.Hrefs.{shown_by, shown_page, page_href, fragm
 
 use crate::link_kind::LinkKind;
 use crate::links::classify;
-use doc_heap::{Heap, String};
 use doc_page_encoding::encoding::{push_destination, push_encoded, push_encoded_path};
 use doc_page_parts::failure::Memory;
+use doc_page_parts::heap::{Heap, String};
 use doc_page_parts::linker::{Linker, Shown};
 use doc_page_parts::path::Path;
 use doc_page_parts::sight::Sight;

@@ -7,8 +7,8 @@ ghost use Rattle.doc_resolve.specs.WrittenPaths.{path_written, holds_slash};
 ghost use Rattle.doc_resolve.specs.WrittenPathSteps.{decoded_segments, ends_empty, index_of, path_of_bytes};
 
 use crate::dot_segments::push_segments;
-use doc_heap::{Heap, Vec};
 use doc_page_parts::failure::Memory;
+use doc_page_parts::heap::{Heap, Vec};
 use doc_page_parts::path::{Path, PathError};
 use percent_encoding::percent_decode;
 use std::str::from_utf8;

@@ -7,8 +7,8 @@ ghost use Rattle.doc_server_streams.specs.Streams.{AppendsPrefix};
 ghost use Rattle.doc_server.specs.Checks.{report_status, Checks, StopsCheck};
 
 use crate::site::site_hub;
-use doc_heap::Heap;
 use doc_page::renderer::Renderer;
+use doc_page_parts::heap::Heap;
 use doc_page_parts::text::Text;
 use doc_server_config::config::SiteConfig;
 use doc_server_input::fault::Fault;

@@ -4,8 +4,8 @@ ghost use Rattle.std.specs.Prelude.{◌≡◌, string_bytes, IfOk};
 ghost use Rattle.doc_server.specs.Examples.{count_line, differs_line, next_number, one_more, status_of};
 ghost use Rattle.doc_server.specs.ExampleSteps.{HasRoom};
 
-use doc_heap::{Heap, String};
 use doc_page_parts::failure::Memory;
+use doc_page_parts::heap::{Heap, String};
 use std::fmt::Write;
 
 /// How many examples passed, and how many did not.

@@ -11,11 +11,11 @@ ghost use Rattle.doc_server_input.specs.Faults.{failed_writes_after, ReadsFailed
 ghost use Rattle.doc_server_input.specs.InputSteps.{IsRead};
 
 use crate::demo_site::demo_hub;
-use doc_heap::Heap;
 use doc_hub::event::{ConnId, Step};
 use doc_hub::hub::Hub;
 use doc_hub::refusal::{ConnectError, PushError, StepError};
 use doc_page::renderer::Renderer;
+use doc_page_parts::heap::Heap;
 use doc_server_input::fault::Fault;
 use doc_server_input::input::read_whole;
 use doc_server_input::output::{flush, send};

@@ -4,9 +4,9 @@ ghost use Rattle.std.specs.Prelude.{◌≡◌, IfOk, IfErr};
 ghost use Rattle.doc_server.specs.DemoSite.{demo_config, demo_world};
 
 use crate::site::site_hub;
-use doc_heap::Heap;
 use doc_hub::hub::Hub;
 use doc_page::renderer::Renderer;
+use doc_page_parts::heap::Heap;
 use doc_server_config::config::{ConfigError, SiteConfig};
 use doc_server_input::fault::Fault;
 

@@ -3,8 +3,8 @@
 ghost use Rattle.doc_page_parts.specs.Refusals.{IsAnswer};
 ghost use Rattle.doc_server.specs.EntityTables.{table_of};
 
-use doc_heap::Heap;
 use doc_lines::entities::{Entities, TableError};
+use doc_page_parts::heap::Heap;
 use doc_server_input::fault::Fault;
 
 /// The built-in character references and those of a table (`Entities::from_table`). `BadTable` says that a row of it is bad, or gives a

@@ -4,8 +4,8 @@ ghost use Rattle.std.specs.Prelude.{◌≡◌, ◌++◌, string_bytes, option_ma
 ghost use Rattle.doc_server.specs.Examples.{Between, begins_example, ends_input, ends_output, example_before, meant, place_after, tab_or};
 ghost use Rattle.doc_server.specs.ExampleSteps.{example_shown, place_of};
 
-use doc_heap::{Heap, String};
 use doc_page_parts::failure::Memory;
+use doc_page_parts::heap::{Heap, String};
 
 /// Where a line stands.
 #[derive(Clone, Copy)]

@@ -12,7 +12,7 @@ ghost use Rattle.doc_server_input.specs.Inputs.{OfText};
 use crate::count::Count;
 use crate::example_reader::ExampleReader;
 use crate::rendering::html_of;
-use doc_heap::Heap;
+use doc_page_parts::heap::Heap;
 use doc_server_input::fault::Fault;
 use doc_server_input::input::read_text;
 use doc_server_input::output::{flush, send};

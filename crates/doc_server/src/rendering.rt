@@ -4,10 +4,10 @@ ghost use Rattle.std.specs.Prelude.{◌≡◌, true, string_bytes, IfOk, IfErr, 
 ghost use Rattle.doc_server_input.specs.Faults.{failed_writes_after, IsNoText, ReadsFailed};
 ghost use Rattle.doc_server.specs.Rendering.{rendered, Renders, StopsRendering};
 
-use doc_heap::{Heap, String};
 use doc_html::render_plain;
 use doc_lines::entities::Entities;
 use doc_page_parts::failure::Memory;
+use doc_page_parts::heap::{Heap, String};
 use doc_server_input::fault::Fault;
 use doc_server_input::input::read_text;
 use doc_server_input::output::{flush, send};

@@ -10,11 +10,11 @@ ghost use Rattle.doc_server.specs.ReplaySteps.{StopsScript};
 
 use crate::script::events_of;
 use crate::site::site_hub;
-use doc_heap::{Heap, String};
 use doc_hub::hub::Hub;
 use doc_hub::outcome::Outcome;
 use doc_page::renderer::Renderer;
 use doc_page_parts::failure::Memory;
+use doc_page_parts::heap::{Heap, String};
 use doc_page_parts::text::Text;
 use doc_server_config::config::SiteConfig;
 use doc_server_input::fault::Fault;

@@ -5,9 +5,9 @@ ghost use Rattle.doc_server_script.specs.Lines.{event_of};
 ghost use Rattle.doc_server.specs.ScriptSteps.{cut};
 ghost use Rattle.doc_server.specs.Scripts.{events_of, lines};
 
-use doc_heap::{Heap, Vec};
 use doc_hub::event::Event;
 use doc_page_parts::failure::Memory;
+use doc_page_parts::heap::{Heap, Vec};
 use doc_page_parts::list::List;
 use doc_server_input::fault::Fault;
 use doc_server_script::line::event_of;

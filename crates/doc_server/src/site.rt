@@ -4,10 +4,10 @@ ghost use Rattle.std.specs.Prelude.{◌≡◌, ◌≢◌, true, false, None, Som
 ghost use Rattle.doc_hub.specs.Worlds.{is_capacity, new_world};
 ghost use Rattle.doc_server.specs.Sites.{site_world, text_of, texts_behind, with_page, with_pages};
 
-use doc_heap::Heap;
 use doc_hub::hub::Hub;
 use doc_hub::refusal::HubError;
 use doc_page::renderer::Renderer;
+use doc_page_parts::heap::Heap;
 use doc_page_parts::text::Text;
 use doc_server_config::config::SiteConfig;
 use doc_server_config::page_row::{PageRow, Source};

@@ -9,8 +9,8 @@ ghost use Rattle.doc_server_config.specs.ConfigurationSteps.{config_beside};
 
 use crate::page_row::{PageRow, pages_of};
 use crate::settings::{Settings, settings_in};
-use doc_heap::Heap;
 use doc_page_parts::failure::Memory;
+use doc_page_parts::heap::Heap;
 use doc_page_parts::list::List;
 use doc_page_parts::text::Text;
 use doc_store::readers::{Readers, ReadersError};

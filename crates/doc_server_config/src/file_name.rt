@@ -3,8 +3,8 @@
 ghost use Rattle.std.specs.Prelude.{◌≡◌, ◌≢◌, Ok, Err, IfOk, IfErr, string_bytes};
 ghost use Rattle.doc_server_config.specs.FileNames.{is_page_name, is_prefix, is_shown, is_shown_part, joined, path_in_folder};
 
-use doc_heap::{Heap, String};
 use doc_page_parts::failure::Memory;
+use doc_page_parts::heap::{Heap, String};
 use doc_page_parts::path::{Path, PathError};
 
 /// The path of the page in a file of a folder, of the folder's prefix and of the file's name in it, with `/` between a folder in the

@@ -10,7 +10,7 @@ use crate::file_name::path_in_folder;
 use crate::folder::Folder;
 use crate::growth::push;
 use crate::walk::{files_in, joined};
-use doc_heap::{Heap, String, Vec};
+use doc_page_parts::heap::{Heap, String, Vec};
 use doc_page_parts::list::List;
 use doc_page_parts::path::{Path, PathError};
 use doc_page_parts::text::Text;
@@ -136,7 +136,7 @@ fn read_file<R: AllocGlobal + Files>(rt: &R, heap: Heap, name: &str) -> Result<T
 
 /// The bytes as a text.
 fn text_of(heap: Heap, name: &str, bytes: Vec<u8>) -> Result<Text, Fault>
-    ensures { IfOk result (λ text. text ≡ bytes.entry.items) }
+    ensures { IfOk result (λ text. text ≡ bytes.items) }
 {
     match String::from_utf8(bytes) {
         Ok(text) => Ok(Text::new(text)),

@@ -2,8 +2,8 @@
 
 ghost use Rattle.std.specs.Prelude.{◌≡◌, ◌++◌, ◌∷◌, [], OnOk};
 
-use doc_heap::Vec;
 use doc_page_parts::failure::Memory;
+use doc_page_parts::heap::Vec;
 
 /// Adds a value at the end of a list.
 pub(crate) fn push<T: Drop>(list: &mut Vec<T>, value: T) -> Result<(), Memory>

@@ -6,8 +6,8 @@ ghost use Rattle.doc_server_config.specs.Listenings.{listening_of, listening_of_
 
 use crate::bounds::bounds_in;
 use crate::folder::{Folder, FolderFault, folders_of};
-use doc_heap::Heap;
 use doc_page_parts::failure::Memory;
+use doc_page_parts::heap::Heap;
 use doc_page_parts::list::List;
 use doc_store::readers::ReadersError;
 use doc_store_readers::tables::{document_of, tables_at};

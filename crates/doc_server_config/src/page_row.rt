@@ -7,8 +7,8 @@ ghost use Rattle.doc_server_config.specs.PageRows.{page_of, pages_from, path_at,
 
 use crate::config::ConfigError;
 use crate::growth::push;
-use doc_heap::{Heap, Vec};
 use doc_page_parts::failure::Memory;
+use doc_page_parts::heap::{Heap, Vec};
 use doc_page_parts::list::List;
 use doc_page_parts::path::{Path, PathError};
 use doc_page_parts::text::Text;

@@ -6,8 +6,8 @@ ghost use Rattle.toml.specs.View.{table_view};
 ghost use Rattle.doc_server_config.specs.Settings.{cache_at, capacity_of, entities_at, keep_alive_at, settings_in};
 
 use crate::table::value_at;
-use doc_heap::Heap;
 use doc_page_parts::failure::Memory;
+use doc_page_parts::heap::Heap;
 use doc_page_parts::text::Text;
 use toml::Table;
 

@@ -2,8 +2,8 @@
 
 use crate::file_name;
 use crate::growth::push;
-use doc_heap::{Heap, String, Vec};
 use doc_page_parts::failure::Memory;
+use doc_page_parts::heap::{Heap, String, Vec};
 use doc_server_input::fault::Fault;
 use doc_server_input::input::cannot_read;
 use std::alloc::AllocGlobal;

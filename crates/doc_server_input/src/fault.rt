@@ -1,7 +1,7 @@
 //! What stops the program.
 
-use doc_heap::String;
 use doc_page_parts::failure::Memory;
+use doc_page_parts::heap::String;
 use std::alloc::AllocError;
 use std::error::Error;
 use std::fmt;

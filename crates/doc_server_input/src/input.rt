@@ -6,7 +6,7 @@ ghost use Rattle.doc_server_input.specs.Faults.{IsNoText, IsTooLong, IsUnread, R
 ghost use Rattle.doc_server_input.specs.InputSteps.{IsNamed, IsNoTextOf, IsUnadded};
 
 use crate::fault::Fault;
-use doc_heap::{Heap, String, Vec};
+use doc_page_parts::heap::{Heap, String, Vec};
 use doc_server_streams::input::Input;
 
 /// How often an input is read at most, so that reading it ends.
@@ -53,8 +53,8 @@ pub fn read_text<I: Input>(heap: Heap, name: &str, input: &mut I) -> Result<Stri
 
 /// The bytes as a text.
 fn text_of(heap: Heap, name: &str, bytes: Vec<u8>) -> Result<String, Fault>
-    ensures text { IfOk result (λ text. string_bytes text ≡ bytes.entry.items) }
-    ensures fault { IfErr result (IsNoTextOf name.now bytes.entry.items) }
+    ensures text { IfOk result (λ text. string_bytes text ≡ bytes.items) }
+    ensures fault { IfErr result (IsNoTextOf name.now bytes.items) }
 {
     match String::from_utf8(bytes) {
         Ok(text) => Ok(text),

@@ -4,8 +4,8 @@ ghost use Rattle.std.specs.Prelude.{◌≡◌, ◌≤◌, ◌<◌, List, ℕ, Bo
 ghost use Rattle.doc_server_journal.specs.Devices.{Writes, CutsTo, Torn, Shortened, Follows, LeavesFile, Elapses, is_failed};
 
 use crate::fault::{DeviceFault, LoadError};
-use doc_heap::Heap;
 use doc_page_parts::bytes::Bytes;
+use doc_page_parts::heap::Heap;
 
 /// A file, used until the first call of it that fails. Of a file of the system nothing is known: its bytes are `None`, and no
 /// outcome of a crash is named.

@@ -8,7 +8,7 @@ ghost use Rattle.doc_server_journal.specs.Journals.{IsOpen, IsBeforeOrAfter};
 use crate::device::Device;
 use crate::fault::AppendError;
 use crate::writing::write_and_sync;
-use doc_heap::Heap;
+use doc_page_parts::heap::Heap;
 use doc_server_journal_records::record::Record;
 
 /// How many bytes a journal may have before a record.

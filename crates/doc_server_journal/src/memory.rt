@@ -6,9 +6,9 @@ ghost use Rattle.doc_server_journal.specs.Memories.{memory_bytes, memory_leaves,
 
 use crate::device::Device;
 use crate::fault::{DeviceFault, LoadError};
-use doc_heap::{Heap, Vec};
 use doc_page_parts::bytes::Bytes;
 use doc_page_parts::failure::Memory;
+use doc_page_parts::heap::{Heap, Vec};
 
 /// A change of a file, or a sync, at which it held those bytes.
 #[derive(Drop)]

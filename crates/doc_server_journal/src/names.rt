@@ -1,7 +1,7 @@
 //! The name of a file, and how another file takes it.
 
 use crate::file_fault::FileFault;
-use doc_heap::{Heap, String};
+use doc_page_parts::heap::{Heap, String};
 use std::alloc::AllocGlobal;
 use std::fs::{File, canonicalize, rename};
 use std::rt::Files;

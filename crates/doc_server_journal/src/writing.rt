@@ -5,8 +5,8 @@ ghost use Rattle.doc_server_journal.specs.Devices.{Writes, CutsTo, Torn, Shorten
 
 use crate::device::Device;
 use crate::fault::{DeviceFault, LoadError};
-use doc_heap::Heap;
 use doc_page_parts::bytes::Bytes;
+use doc_page_parts::heap::Heap;
 
 /// Reads all bytes, `most` at most.
 pub fn load<D: Device>(device: &mut D, heap: Heap, most: usize) -> Result<Bytes, LoadError>

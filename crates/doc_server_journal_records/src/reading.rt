@@ -8,9 +8,9 @@ use crate::found::Found;
 use crate::front::{is_end, open_record};
 use crate::read_error::ReadError;
 use crate::record::seed;
-use doc_heap::{Heap, Vec};
 use doc_page_parts::bytes::Bytes;
 use doc_page_parts::failure::Memory;
+use doc_page_parts::heap::{Heap, Vec};
 use doc_page_parts::list::List;
 
 /// Reads a journal. A torn last record is passed over. All else that isn't whole is damage.

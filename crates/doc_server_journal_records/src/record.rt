@@ -3,9 +3,9 @@
 ghost use Rattle.std.specs.Prelude.{◌≡◌, ◌≤◌, ◌++◌, ◌∷◌, [], length, IfOk};
 ghost use Rattle.doc_server_journal_records.specs.Records.{text_limit, seed, digest_behind, record_bytes};
 
-use doc_heap::{Heap, Vec};
 use doc_page_parts::bytes::Bytes;
 use doc_page_parts::failure::Memory;
+use doc_page_parts::heap::{Heap, Vec};
 use sha2::{Digest, Sha256};
 
 /// How many bytes the text of a record may have: 16 MiB.

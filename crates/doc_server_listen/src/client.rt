@@ -14,12 +14,12 @@ use crate::channel::{Came, Channel};
 use crate::edit_lines::{EditLines, step_and_keep};
 use crate::sending::send_replies;
 use crate::stage::Stage;
-use doc_heap::Heap;
 use doc_hub::event::{ConnId, Step};
 use doc_hub::hub::Hub;
 use doc_hub::refusal::{ConnectError, StepError};
 use doc_page::renderer::Renderer;
 use doc_page_parts::bytes::Bytes;
+use doc_page_parts::heap::Heap;
 use std::collections::VecDeque;
 use std::marker::Model;
 

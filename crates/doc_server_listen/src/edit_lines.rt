@@ -9,13 +9,13 @@ ghost use Rattle.doc_hub.specs.declared.event.Event.TheVariants as events;
 ghost use Rattle.doc_server_script.specs.PageLines.{line_of, lines_of};
 ghost use Rattle.doc_server_listen.specs.Edits.{Adds, MakesIn, edit_at};
 
-use doc_heap::{Heap, String};
 use doc_hub::edited::Edited;
 use doc_hub::event::{ConnId, Step};
 use doc_hub::hub::Hub;
 use doc_hub::refusal::StepError;
 use doc_page::renderer::Renderer;
 use doc_page_parts::failure::Memory;
+use doc_page_parts::heap::{Heap, String};
 use doc_page_parts::path::Path;
 use doc_server_journal_records::record::TEXT_LIMIT;
 use doc_server_script::edit::push_put;

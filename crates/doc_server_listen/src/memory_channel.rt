@@ -4,8 +4,8 @@ ghost use Rattle.std.specs.Prelude.{◌≡◌, [], Some, false};
 ghost use Rattle.doc_server_listen.specs.MemoryChannels.{unread_in, written_to, has_failed};
 
 use crate::channel::{Came, Channel};
-use doc_heap::{Heap, Vec};
 use doc_page_parts::bytes::Bytes;
+use doc_page_parts::heap::{Heap, Vec};
 use doc_server_streams::fault::StreamFault;
 
 /// Bytes that are read, and those that were handed over. A call moves one piece at most, every second call nothing where it is told

@@ -5,8 +5,8 @@ ghost use Rattle.doc_server_listen.specs.Peers.{Starts, left_of};
 ghost use Rattle.doc_server_listen.specs.Served.{HandsOver};
 
 use crate::channel::Channel;
-use doc_heap::Heap;
 use doc_page_parts::bytes::Bytes;
+use doc_page_parts::heap::Heap;
 use doc_server_streams::fault::StreamFault;
 use std::collections::VecDeque;
 

@@ -4,9 +4,9 @@ ghost use Rattle.std.specs.Prelude.{◌≡◌, OnOk};
 ghost use Rattle.doc_server_listen.specs.Turns.{ServesAll};
 ghost use Rattle.doc_server_poll.specs.Keepings.{IsReady, KeepsEdits};
 
-use doc_heap::Heap;
 use doc_hub::hub::Hub;
 use doc_page::renderer::Renderer;
+use doc_page_parts::heap::Heap;
 use doc_server_journal::device::Device;
 use doc_server_journal::journal::Journal;
 use doc_server_listen::channel::Channel;

@@ -3,7 +3,7 @@
 use crate::channel::MioChannel;
 use crate::watch::Watch;
 use crate::wire::Wire;
-use doc_heap::Heap;
+use doc_page_parts::heap::Heap;
 use doc_server_listen::channel::Came;
 use doc_server_listen::client::Client;
 use std::rc::Rc;

@@ -3,8 +3,8 @@
 ghost use Rattle.std.specs.Prelude.{◌≤◌};
 
 use crate::watch::{Handed, Watch};
-use doc_heap::{Heap, Vec};
 use doc_hub::event::ConnId;
+use doc_page_parts::heap::{Heap, Vec};
 use std::time::Instant;
 
 /// What passed at once.

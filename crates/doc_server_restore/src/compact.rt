@@ -13,8 +13,8 @@ ghost use Rattle.doc_server_restore.specs.WriterSteps.{HasWritten, IsWriter, Wro
 
 use crate::compact_fault::CompactFault;
 use crate::writer::EditWriter;
-use doc_heap::{Heap, String, Vec};
 use doc_page_parts::failure::Memory;
+use doc_page_parts::heap::{Heap, String, Vec};
 use doc_page_parts::path::Path;
 use doc_server_journal::device::Device;
 use doc_server_journal::journal::Journal;

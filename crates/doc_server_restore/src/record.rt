@@ -7,9 +7,9 @@ ghost use Rattle.doc_server.specs.Scripts.{events_of};
 ghost use Rattle.doc_server_restore.specs.Restores.{edit_in, edits_in, edits_of};
 ghost use Rattle.doc_server_restore.specs.RestoreSteps.{Reads, is_edit};
 
-use doc_heap::Heap;
 use doc_hub::event::Event;
 use doc_page_parts::failure::Memory;
+use doc_page_parts::heap::Heap;
 use doc_page_parts::list::List;
 use doc_server::script::events_of;
 use doc_server_input::fault::Fault;

@@ -7,10 +7,10 @@ ghost use Rattle.doc_server_restore.specs.RestoreSteps.{Tells, made_by, made_of}
 use crate::edits::Edits;
 use crate::fault::RestoreFault;
 use crate::record::edits_of;
-use doc_heap::Heap;
 use doc_hub::event::Event;
 use doc_page_parts::bytes::Bytes;
 use doc_page_parts::failure::Memory;
+use doc_page_parts::heap::Heap;
 
 /// Makes the edits of a journal's records, in their order. A record is a text of lines, each the edit that doc_server_script reads
 /// of it; none of a record's edits is made where one of its lines is none. The first record that is no such text, and the first of

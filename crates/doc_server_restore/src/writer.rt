@@ -9,7 +9,7 @@ ghost use Rattle.doc_server_script.specs.PageLines.{line_of};
 ghost use Rattle.doc_server_restore.specs.WriterSteps.{IsWriter, Wrote};
 
 use crate::compact_fault::CompactFault;
-use doc_heap::{Heap, String};
+use doc_page_parts::heap::{Heap, String};
 use doc_page_parts::path::Path;
 use doc_server_journal::device::Device;
 use doc_server_journal::journal::Journal;

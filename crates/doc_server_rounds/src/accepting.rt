@@ -6,10 +6,10 @@ ghost use Rattle.doc_server_rounds.specs.Made.{Makes, MakesOne};
 
 use crate::fault::ServeFault;
 use crate::link::Link;
-use doc_heap::Vec;
 use doc_hub::hub::Hub;
 use doc_page::renderer::Renderer;
 use doc_page_parts::failure::Memory;
+use doc_page_parts::heap::Vec;
 use doc_server_streams::tcp_link::TcpLink;
 use std::net::TcpListener;
 

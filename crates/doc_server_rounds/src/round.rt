@@ -4,10 +4,10 @@ ghost use Rattle.std.specs.Prelude.{◌≡◌, ◌≤◌, ◌<◌, ◌⊎◌, le
 ghost use Rattle.doc_server_rounds.specs.Rounds.{ServesAll, AreClosed, fault_places, failures_in, risen_from};
 
 use crate::link::Link;
-use doc_heap::{Heap, Vec};
 use doc_hub::hub::Hub;
 use doc_page::renderer::Renderer;
 use doc_page_parts::failure::Memory;
+use doc_page_parts::heap::{Heap, Vec};
 use doc_page_parts::list::List;
 use doc_server_streams::stream::Stream;
 

@@ -8,9 +8,9 @@ use crate::dropping::disconnect_all;
 use crate::fault::ServeFault;
 use crate::link::Link;
 use crate::round::{Round, serve_round};
-use doc_heap::{Heap, Vec};
 use doc_hub::hub::Hub;
 use doc_page::renderer::Renderer;
+use doc_page_parts::heap::{Heap, Vec};
 use doc_server_streams::tcp_link::TcpLink;
 use std::net::TcpListener;
 

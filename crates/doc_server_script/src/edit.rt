@@ -7,8 +7,8 @@ ghost use Rattle.doc_server_script.specs.Escapes.{escaped, spaceless};
 ghost use Rattle.doc_server_script.specs.Edits.{behind_commas, groups_text, move_line, put_line, remove_line};
 
 use crate::escaping::{push_escaped, push_plain, push_spaceless};
-use doc_heap::String;
 use doc_page_parts::failure::Memory;
+use doc_page_parts::heap::String;
 use doc_page_parts::path::Path;
 use doc_page_parts::text::Text;
 use doc_store::groups::Groups;

@@ -5,8 +5,8 @@ ghost use Rattle.std.specs.Io.{StartsWith};
 ghost use Rattle.std.specs.List.{flat_map};
 ghost use Rattle.doc_server_script.specs.Escapes.{by_number, escaped, escaped_byte, hex_digit, spaceless, spaceless_byte};
 
-use doc_heap::String;
 use doc_page_parts::failure::Memory;
+use doc_page_parts::heap::String;
 
 /// Writes bytes, escaped, at the end of the buffer, where after a refusal part of them may stand.
 #[tactic(auto, unfolding(crate::specs::Escapes::escaped), using(doc_page_parts::proofs::BufferSteps::front_same, doc_page_parts::proofs::BufferSteps::front_more))]

@@ -8,9 +8,9 @@ ghost use Rattle.doc_server_script.specs.Reads.{Reads};
 
 use crate::field_error::FieldError;
 use crate::unescaping::unescape;
-use doc_heap::{Heap, String};
 use doc_hub::event::ConnId;
 use doc_page_parts::bytes::Bytes;
+use doc_page_parts::heap::{Heap, String};
 use doc_page_parts::path::{Path, PathError};
 use doc_page_parts::text::Text;
 use doc_store::groups::{Groups, GroupsError};

@@ -10,9 +10,9 @@ use crate::command::{Command, command_of};
 use crate::field_error::FieldError;
 use crate::fields::{connection_of, cut, groups_in, owner_in, path_in, text_of};
 use crate::unescaping::unescape;
-use doc_heap::Heap;
 use doc_hub::event::Event;
 use doc_page_parts::failure::Memory;
+use doc_page_parts::heap::Heap;
 use doc_page_parts::text::Text;
 use doc_store::reader::Reader;
 

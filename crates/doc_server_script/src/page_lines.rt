@@ -9,8 +9,8 @@ ghost use Rattle.doc_server_script.specs.PageLines.{line_of, lines_of};
 
 use crate::edit::{push_move, push_put, push_remove};
 use crate::escaping::push_plain;
-use doc_heap::String;
 use doc_page_parts::failure::Memory;
+use doc_page_parts::heap::String;
 use doc_page_parts::path::Path;
 use doc_store::page::Page;
 

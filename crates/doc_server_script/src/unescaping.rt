@@ -4,9 +4,9 @@ ghost use Rattle.std.specs.Prelude.{◌≡◌, ◌<◌, length, IfOk, IfSome, Ma
 ghost use Rattle.std.specs.Char.{digit_value, is_ascii_hexdigit};
 ghost use Rattle.doc_server_script.specs.Escapes.{behind_backslash, behind_digit, behind_x, hex_byte, in_front, letter, unescaped};
 
-use doc_heap::{Heap, Vec};
 use doc_page_parts::bytes::Bytes;
 use doc_page_parts::failure::Memory;
+use doc_page_parts::heap::{Heap, Vec};
 
 /// The bytes that an escaped text stands for. `None` says that a backslash in it begins no escape.
 #[tactic(auto, unfolding(crate::specs::Escapes::unescaped))]

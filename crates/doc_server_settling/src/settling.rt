@@ -6,9 +6,9 @@ ghost use Rattle.doc_server_listen.specs.Turns.{ServesAll};
 ghost use Rattle.doc_server_settling.specs.Settling.{GiveFronts, IsKept, IsSafe, Settles};
 
 use crate::fault::TurnFault;
-use doc_heap::Heap;
 use doc_hub::hub::Hub;
 use doc_page::renderer::Renderer;
+use doc_page_parts::heap::Heap;
 use doc_server_journal::device::Device;
 use doc_server_journal::journal::Journal;
 use doc_server_journal_records::record::TEXT_LIMIT;

@@ -6,8 +6,8 @@ ghost use Rattle.doc_server_streams.specs.MemoryStreams.{unread_in, written_to, 
 
 use crate::fault::StreamFault;
 use crate::stream::Stream;
-use doc_heap::{Heap, Vec};
 use doc_page_parts::bytes::Bytes;
+use doc_page_parts::heap::{Heap, Vec};
 
 /// Bytes that are read, and those that were written. A call moves one piece at most.
 #[derive(Drop)]

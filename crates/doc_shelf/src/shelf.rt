@@ -14,11 +14,11 @@ ghost use Rattle.doc_store.specs.Store.{fits_in, moved_in, put_into, with_page, 
 
 use doc_cache::cache::PageCache;
 use doc_cache::failure::CacheError;
-use doc_heap::Heap;
 use doc_http::reply_form::ReplyForm;
 use doc_page::renderer::Renderer;
 use doc_page_parts::bytes::Bytes;
 use doc_page_parts::failure::Memory;
+use doc_page_parts::heap::Heap;
 use doc_page_parts::path::Path;
 use doc_page_parts::text::Text;
 use doc_shelf_documents::{Writing, reply_with_page};

@@ -3,10 +3,10 @@
 ghost use Rattle.std.specs.Prelude.{◌≡◌, ◌++◌, string_bytes, IfOk};
 ghost use Rattle.doc_page_parts.specs.Pages.{body_of, title_of};
 
-use doc_heap::{Heap, String};
 use doc_page_parts::escaping::push_escaped;
 use doc_page_parts::failure::Memory;
 use doc_page_parts::filling::push_filled;
+use doc_page_parts::heap::{Heap, String};
 use doc_page_parts::linker::Linker;
 use doc_page_parts::path::Path;
 use doc_page_parts::rendered::{Heading, Piece, Rendered};

@@ -12,10 +12,10 @@ ghost use Rattle.doc_shelf_pages.specs.KeptPages.{IsFree, with_page as kept_with
 ghost use Rattle.doc_shelf_views.specs.Views.{Renders};
 ghost use Rattle.doc_store.specs.Store.{IsStore, fits_in, may_move, moved_in, stamp_after, with_page, without_page};
 
-use doc_heap::Heap;
 use doc_page::renderer::Renderer;
 use doc_page_parts::bytes::Bytes;
 use doc_page_parts::failure::Memory;
+use doc_page_parts::heap::Heap;
 use doc_page_parts::path::Path;
 use doc_shelf_pages::KeptPages;
 use doc_store::groups::Groups;

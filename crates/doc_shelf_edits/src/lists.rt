@@ -8,9 +8,9 @@ ghost use Rattle.doc_store.specs.Pages.{Page};
 ghost use Rattle.doc_store.specs.Sites.{page_at};
 ghost use Rattle.doc_store.specs.Store.{IsStore};
 
-use doc_heap::{Heap, String};
 use doc_listings::{push_backlinks, push_contents, push_hits, push_report};
 use doc_page_parts::failure::Memory;
+use doc_page_parts::heap::{Heap, String};
 use doc_page_parts::path::Path;
 use doc_page_parts::text::Text;
 use doc_shelf_pages::KeptPages;

@@ -3,8 +3,8 @@
 ghost use Rattle.std.specs.Prelude.{◌≡◌, IfOk};
 ghost use Rattle.doc_shelf_pages.specs.KeptPages.{without_texts};
 
-use doc_heap::{Heap, Vec};
 use doc_page_parts::failure::Memory;
+use doc_page_parts::heap::{Heap, Vec};
 use doc_page_parts::list::List;
 use doc_page_parts::rendered::{Heading, LinkSpot, Piece, Rendered};
 use doc_page_parts::text::Text;

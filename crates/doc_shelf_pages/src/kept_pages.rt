@@ -5,9 +5,9 @@ ghost use Rattle.std.specs.FinMap as map;
 ghost use Rattle.doc_shelf_pages.specs.KeptPages.{IsFree, carried, none_kept, with_page, without_page};
 
 use crate::renderings::Renderings;
-use doc_heap::Heap;
 use doc_links::LinkIndex;
 use doc_page_parts::failure::Memory;
+use doc_page_parts::heap::Heap;
 use doc_page_parts::path::Path;
 use doc_page_parts::rendered::Rendered;
 use doc_words::index::WordIndex;

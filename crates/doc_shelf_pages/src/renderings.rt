@@ -6,9 +6,9 @@ ghost use Rattle.doc_shelf_pages.specs.KeptPages.{without_texts};
 ghost use Rattle.doc_shelf_pages.specs.RenderingSteps.{with_copy};
 
 use crate::copying::{copy_of, without_texts};
-use doc_heap::{BTreeMap, Heap, String};
 use doc_index::index::Index;
 use doc_page_parts::failure::Memory;
+use doc_page_parts::heap::{BTreeMap, Heap, String};
 use doc_page_parts::path::Path;
 use doc_page_parts::rendered::Rendered;
 use std::marker::Model;

@@ -10,8 +10,8 @@ ghost use Rattle.doc_store.specs.Store.{aliases_after, goal_after, without_goal}
 use crate::by_goal::ByGoal;
 use crate::goals::Goals;
 use crate::path_set::PathSet;
-use doc_heap::{Heap, Vec};
 use doc_page_parts::failure::Memory;
+use doc_page_parts::heap::{Heap, Vec};
 use doc_page_parts::path::Path;
 use std::marker::Model;
 

@@ -5,8 +5,8 @@ ghost use Rattle.std.specs.FinMap as map;
 ghost use Rattle.doc_store.specs.AliasSteps.{aliases_at, copies_for, with_alias, with_value, without_alias};
 
 use crate::path_set::PathSet;
-use doc_heap::{BTreeMap, Heap, Vec};
 use doc_page_parts::failure::Memory;
+use doc_page_parts::heap::{BTreeMap, Heap, Vec};
 use doc_page_parts::path::Path;
 use std::marker::Model;
 

@@ -7,8 +7,8 @@ ghost use Rattle.doc_store.specs.Store.{aliases_after};
 
 use crate::aliases::Aliases;
 use crate::pages::Pages;
-use doc_heap::Heap;
 use doc_page_parts::failure::Memory;
+use doc_page_parts::heap::Heap;
 use doc_page_parts::path::Path;
 use std::error::Error;
 use std::fmt;

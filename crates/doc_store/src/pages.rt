@@ -7,8 +7,8 @@ ghost use Rattle.doc_store.specs.MoveSteps.{with_stamped};
 ghost use Rattle.doc_store_readers.specs.Pages.{empty_page};
 ghost use Rattle.doc_store_readers.specs.Sites.{may_see};
 
-use doc_heap::{BTreeMap, Heap};
 use doc_page_parts::failure::Memory;
+use doc_page_parts::heap::{BTreeMap, Heap};
 use doc_page_parts::path::Path;
 use doc_store_readers::page::Page;
 use doc_store_readers::reader::Reader;

@@ -9,8 +9,8 @@ ghost use Rattle.std.specs.Ordering.{nat_cmp};
 ghost use Rattle.doc_store.specs.AliasSteps.{copies_for};
 ghost use Rattle.doc_store_readers.specs.Groups.{texts_of};
 
-use doc_heap::{BTreeMap, Heap, Vec};
 use doc_page_parts::failure::Memory;
+use doc_page_parts::heap::{BTreeMap, Heap, Vec};
 use doc_page_parts::path::Path;
 use std::collections::btree_map::Keys;
 use std::marker::Model;

@@ -6,7 +6,7 @@ ghost use Rattle.doc_store_readers.specs.Readers.{readers_of_document};
 
 use crate::entries::entries_of;
 use crate::readers::{Readers, ReadersError};
-use doc_heap::Heap;
+use doc_page_parts::heap::Heap;
 use toml::Table;
 
 /// The readers of a document that was read already, as [`Readers::from_toml`] reads them. It stands apart from `Readers`, so that a

@@ -8,8 +8,8 @@ ghost use Rattle.doc_store_readers.specs.Readers.{entries_from, entries_of, entr
 use crate::reader::Reader;
 use crate::readers::ReadersError;
 use crate::tables::{groups_in, tables_at};
-use doc_heap::{Heap, Vec};
 use doc_page_parts::failure::Memory;
+use doc_page_parts::heap::{Heap, Vec};
 use doc_page_parts::list::List;
 use doc_page_parts::text::Text;
 use doc_page_parts::token::is_token;

@@ -6,8 +6,8 @@ ghost use Rattle.doc_store_readers.specs.Groups.{IsGroups, groups_of, groups_of_
 
 use crate::names::{add_name, are_groups, are_groups_in_text, have_common_name};
 use arrayvec::ArrayVec;
-use doc_heap::{Heap, Vec};
 use doc_page_parts::failure::Memory;
+use doc_page_parts::heap::{Heap, Vec};
 use doc_page_parts::list::List;
 use doc_page_parts::text::Text;
 use std::error::Error;

@@ -4,8 +4,8 @@ ghost use Rattle.std.specs.Prelude.{◌≡◌, Some, IfOk};
 
 use crate::groups::Groups;
 use crate::page::Page;
-use doc_heap::Heap;
 use doc_page_parts::failure::Memory;
+use doc_page_parts::heap::Heap;
 
 /// Who reads: an owner, who sees and edits each page, or a reader who sees the pages of their
 /// groups.

@@ -9,8 +9,8 @@ ghost use Rattle.doc_store_readers.specs.Readers.{are_tables, groups_at, strings
 
 use crate::groups::{Groups, GroupsError};
 use crate::readers::ReadersError;
-use doc_heap::{Heap, Vec};
 use doc_page_parts::failure::Memory;
+use doc_page_parts::heap::{Heap, Vec};
 use toml::value::Array;
 use toml::{Table, Value};
 
@@ -21,7 +21,7 @@ pub fn document_of(heap: Heap, text: &str) -> Result<Table, ReadersError>
         (λ e. e ≢ ReadersError.Memory
         → (e ≡ ReadersError.BadToml) × (parse_document text.now ≡ None)) }
 {
-    match toml::table_from_str(heap.global(), text) {
+    match toml::table_from_str(heap, text) {
         Ok(document) => Ok(document),
         Err(error) => Err(if error.is_memory() {
             ReadersError::Memory

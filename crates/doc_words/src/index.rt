@@ -7,9 +7,9 @@ ghost use Rattle.doc_words_search.specs.Held.{counts_or_none};
 ghost use Rattle.doc_words_search.specs.Searches.{pages_of, search};
 ghost use Rattle.doc_words_search.specs.Words.{word_counts};
 
-use doc_heap::Heap;
 use doc_index::index::Index;
 use doc_page_parts::failure::Memory;
+use doc_page_parts::heap::Heap;
 use doc_page_parts::list::List;
 use doc_page_parts::path::Path;
 use doc_page_parts::rendered::Rendered;

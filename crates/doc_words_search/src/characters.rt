@@ -4,8 +4,8 @@ ghost use Rattle.std.specs.Prelude.{◌≡◌, ◌∷◌, ◌++◌, [], chars, s
 ghost use Rattle.doc_words_search.specs.Words.{folded, is_word_char};
 
 use caseless::Caseless;
-use doc_heap::{Heap, String};
 use doc_page_parts::failure::Memory;
+use doc_page_parts::heap::{Heap, String};
 use unicode::properties::{GeneralCategory, GeneralCategoryGroup};
 
 /// Whether the character is a letter, a mark or a number.

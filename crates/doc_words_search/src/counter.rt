@@ -9,8 +9,8 @@ ghost use Rattle.doc_words_search.specs.WordSteps.{counted, one_more, word_if, w
 
 use crate::characters::{folded, is_word_char, push_char};
 use crate::word::Word;
-use doc_heap::{BTreeMap, Heap, String, Vec};
 use doc_page_parts::failure::Memory;
+use doc_page_parts::heap::{BTreeMap, Heap, String, Vec};
 use doc_page_parts::list::List;
 use doc_page_parts::text::Text;
 use std::marker::Model;
@@ -65,7 +65,7 @@ impl Counter {
 
     /// Counts a word.
     fn add(&mut self, word: String) -> Result<(), Memory>
-        ensures { OnOk result (self.new ≡ one_more self.old (string_bytes word.entry)) }
+        ensures { OnOk result (self.new ≡ one_more self.old (string_bytes word)) }
     {
         let Some(count) = self.counts.get_mut(word.as_str()) else {
             return self.add_first(word);
@@ -77,7 +77,7 @@ impl Counter {
     /// Counts a word that has no count.
     fn add_first(&mut self, word: String) -> Result<(), Memory>
         requires { map.get self.old (string_bytes word) ≡ None }
-        ensures { OnOk result (self.new ≡ map.insert self.old (string_bytes word.entry) 1) }
+        ensures { OnOk result (self.new ≡ map.insert self.old (string_bytes word) 1) }
     {
         self.counts.insert(word, 1)?;
         Ok(())

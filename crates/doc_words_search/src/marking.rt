@@ -8,10 +8,10 @@ ghost use Rattle.doc_words_search.specs.Searches.{pages_of};
 ghost use Rattle.doc_words_search.specs.SearchSteps.{AgreeEach, AgreeFor, AreMarked, StayMarked, marked_at, pages_at};
 
 use crate::word::Word;
-use doc_heap::{Heap, Vec};
 use doc_index::index::Index;
 use doc_index::row::Row;
 use doc_page_parts::failure::Memory;
+use doc_page_parts::heap::{Heap, Vec};
 
 /// The slots of the pages that a search for these words needs, each once: those that have one of them, and all pages where the list
 /// is empty.

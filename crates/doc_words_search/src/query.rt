@@ -5,8 +5,8 @@ ghost use Rattle.doc_words_search.specs.Words.{checked, different, query_of, wor
 
 use crate::counter::{Counter, count_text};
 use crate::word::Word;
-use doc_heap::Heap;
 use doc_page_parts::failure::Memory;
+use doc_page_parts::heap::Heap;
 use doc_page_parts::list::List;
 use std::error::Error;
 use std::fmt;

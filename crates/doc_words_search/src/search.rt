@@ -9,9 +9,9 @@ ghost use Rattle.doc_words_search.specs.SearchSteps.{hit_at, hit_in, hit_of, pag
 use crate::hit::Hit;
 use crate::weighing::{Weighed, score_of, weigh_all};
 use crate::word::Word;
-use doc_heap::{Heap, Vec};
 use doc_index::index::Index;
 use doc_page_parts::failure::Memory;
+use doc_page_parts::heap::{Heap, Vec};
 use doc_page_parts::list::List;
 use doc_page_parts::path::Path;
 use doc_page_parts::sight::Sight;

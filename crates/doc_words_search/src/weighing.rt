@@ -4,10 +4,10 @@ ghost use Rattle.std.specs.Prelude.{◌≡◌, ◌/◌, IfOk, count_by, if◌the
 ghost use Rattle.doc_words_search.specs.SearchSteps.{AreWeighed, IsWeighed, count_at, pages_at, rarity_in, score_at};
 
 use crate::word::Word;
-use doc_heap::{Heap, Vec};
 use doc_index::index::Index;
 use doc_index::row::Row;
 use doc_page_parts::failure::Memory;
+use doc_page_parts::heap::{Heap, Vec};
 
 /// The counts of a word in the pages that have it, by their slots.
 #[derive(Drop)]

@@ -2,7 +2,7 @@
 
 ghost use Rattle.std.specs.Prelude.{◌≡◌, string_bytes};
 
-use doc_heap::String;
+use doc_page_parts::heap::String;
 use doc_page_parts::text::Text;
 use std::marker::Model;
 

@@ -5,11 +5,11 @@ ghost use Rattle.doc_server_poll.specs.Keepings.{IsReady};
 ghost use Rattle.doc_server_poll.specs.Servers.{Leads};
 
 use crate::unanswered::Unanswered;
-use doc_heap::{BTreeMap, Heap, String};
 use doc_hub::event::ConnId;
 use doc_hub::hub::Hub;
 use doc_page::renderer::Renderer;
 use doc_page_parts::failure::Memory;
+use doc_page_parts::heap::{BTreeMap, Heap, String};
 use doc_server_journal::device::Device;
 use doc_server_poll::fault::PollFault;
 use doc_server_poll::keeping::Keeping;

@@ -6,8 +6,8 @@ ghost use Rattle.std.specs.List.{list_all};
 ghost use Rattle.docs_server.specs.Arguments.{are_digits, count_of};
 
 use crate::listen_options::options_of;
-use doc_heap::{Heap, String, Vec};
 use doc_page_parts::failure::Memory;
+use doc_page_parts::heap::{Heap, String, Vec};
 use doc_server_input::fault::Fault;
 use std::env;
 use std::io::ErrorKind;

@@ -5,8 +5,8 @@ ghost use Rattle.docs_server.specs.Listening.{row_of};
 
 use crate::files::{Pages, Site, config_of, read_file, site_of};
 use crate::listen_fault::ListenFault;
-use doc_heap::{Heap, Vec, heap};
 use doc_page_parts::failure::Memory;
+use doc_page_parts::heap::{Heap, Vec};
 use doc_page_parts::list::List;
 use doc_server_config::bounds::Bounds;
 use doc_server_config::config::SiteConfig;
@@ -28,7 +28,7 @@ pub fn read_bounded<R: AllocGlobal + Files + Clone + Drop>(
     rt: &R,
     name: &str,
 ) -> Result<Bounded, ListenFault> {
-    let heap = heap(rt.alloc(), u64::MAX)?;
+    let heap = rt.alloc();
     let text = read_file(rt, heap, name)?;
     let config = config_of(heap, &text)?;
     let listening = listening_of(heap, &text)?;

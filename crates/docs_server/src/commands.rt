@@ -3,8 +3,6 @@
 ghost use Rattle.std.specs.Prelude.{◌≡◌, ◌<◌};
 
 use crate::files::open_file;
-use crate::status::status_of;
-use doc_heap::heap;
 use doc_html::CommonMark;
 use doc_lines::entities::Entities;
 use doc_page::renderer::Renderer;
@@ -19,29 +17,24 @@ use std::rt::Files;
 use std::sync::ledger::{Blank, Ledger};
 
 /// Runs `demo` over pages of CommonMark, and answers the status to end with.
-pub fn run_demo<L: Ledger, P: AllocGlobal + Eprint + Input + Print>(rt: &P, blank: Blank) -> u8
+pub fn run_demo<L: Ledger, P: AllocGlobal + Input + Print>(
+    rt: &P,
+    blank: Blank,
+) -> Result<u8, Fault>
     requires name { blank.name ≡ L.name }
     requires parts { blank.parts ≡ L.parts }
     requires some { 0 < L.parts }
 {
     let renderer: CommonMark<L> = CommonMark::new(Entities::built_in(), blank);
-    run_demo_with(rt, renderer)
+    demo_with(rt, renderer)
 }
 
-/// The same with any renderer: a call that names both a renderer which holds texts and the heap, as a fault does, can't be proved.
-fn run_demo_with<R: Renderer + Drop, P: AllocGlobal + Eprint + Input + Print>(
-    rt: &P,
-    renderer: R,
-) -> u8 {
-    status_of(rt, demo_with(rt, renderer))
-}
-
-/// The same, as a result, on a heap of its own.
+/// The same with any renderer.
 fn demo_with<R: Renderer + Drop, P: AllocGlobal + Input + Print>(
     rt: &P,
     renderer: R,
 ) -> Result<u8, Fault> {
-    let heap = heap(rt.alloc(), u64::MAX)?;
+    let heap = rt.alloc();
     let mut input = ReadFrom::new(rt.reader());
     let mut output = WriteTo::new(io::writer(rt));
     demo(heap, renderer, &mut input, &mut output)?;
@@ -50,7 +43,7 @@ fn demo_with<R: Renderer + Drop, P: AllocGlobal + Input + Print>(
 
 /// Runs `render` over standard input and output.
 pub fn run_render<R: AllocGlobal + Input + Print>(rt: &R) -> Result<u8, Fault> {
-    let heap = heap(rt.alloc(), u64::MAX)?;
+    let heap = rt.alloc();
     let mut input = ReadFrom::new(rt.reader());
     let mut output = WriteTo::new(io::writer(rt));
     render(heap, &mut input, &mut output)?;
@@ -59,7 +52,7 @@ pub fn run_render<R: AllocGlobal + Input + Print>(rt: &R) -> Result<u8, Fault> {
 
 /// Runs `examples` over the file of this name.
 pub fn run_examples<R: AllocGlobal + Files + Print>(rt: &R, name: &str) -> Result<u8, Fault> {
-    let heap = heap(rt.alloc(), u64::MAX)?;
+    let heap = rt.alloc();
     let mut input = open_file(rt, heap, name)?;
     let mut output = WriteTo::new(io::writer(rt));
     examples(heap, name, &mut input, &mut output)

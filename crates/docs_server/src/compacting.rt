@@ -8,9 +8,8 @@ use crate::journal::open_journal;
 use crate::listen_fault::ListenFault;
 use crate::site_store::site_store;
 use crate::status::status_of;
-use doc_heap::{Heap, heap};
+use doc_page_parts::heap::Heap;
 use doc_server_journal::file_device::FileDevice;
-use doc_server_journal::journal::Journal;
 use doc_server_journal::names::Replacement;
 use doc_server_restore::compact::compact;
 use doc_store::store::Store;
@@ -53,7 +52,7 @@ fn compact_over<P: AllocGlobal + Files<File = File>>(
     pages: &Pages,
     command: &Compact<'_>,
 ) -> Result<(), ListenFault> {
-    let heap = heap(rt.alloc(), u64::MAX)?;
+    let heap = rt.alloc();
     let config = site_store(heap, &pages.config, pages.texts.get())?;
     compact_beside(rt, heap, pages, &config, command)
 }
@@ -91,8 +90,7 @@ fn compact_file<P: AllocGlobal + Files<File = File>>(
     site: &mut Store,
 ) -> Result<(), ListenFault> {
     let device = FileDevice::open(rt, name)?;
-    let opened: Result<Journal<FileDevice>, ListenFault> = open_journal(heap, device, site);
-    let journal = opened?;
+    let journal = open_journal(heap, device, site)?;
     replace(rt, heap, name, &journal.device, config, site)
 }
 

@@ -1,8 +1,8 @@
 //! The files that the arguments and a configuration name.
 
-use doc_heap::{Heap, String, Vec, heap};
 use doc_lines::entities::Entities;
 use doc_page_parts::failure::Memory;
+use doc_page_parts::heap::{Heap, String, Vec};
 use doc_page_parts::list::List;
 use doc_page_parts::text::Text;
 use doc_server::entity_table::entities_of;
@@ -31,7 +31,7 @@ pub struct Pages {
 
 /// The site of the configuration of this name. All files are read before the table of entities is looked at.
 pub fn read_site<R: AllocGlobal + Files>(rt: &R, name: &str) -> Result<Site, Fault> {
-    let heap = heap(rt.alloc(), u64::MAX)?;
+    let heap = rt.alloc();
     let text = read_file(rt, heap, name)?;
     let config = config_of(heap, &text)?;
     site_of(rt, heap, config)

@@ -1,6 +1,6 @@
 //! The options of `listen`: `--journal FILE` and `--log`, each at most once, in any order.
 
-use doc_heap::String;
+use doc_page_parts::heap::String;
 use doc_server_input::fault::Fault;
 
 /// What the options say.

@@ -12,15 +12,14 @@ use crate::journal::open_journal;
 use crate::listen_fault::ListenFault;
 use crate::serving::tell_address;
 use crate::status::status_of;
-use doc_heap::{Heap, heap};
 use doc_html::CommonMark;
 use doc_hub::hub::Hub;
 use doc_page::renderer::Renderer;
+use doc_page_parts::heap::Heap;
 use doc_server::site::site_hub;
 use doc_server_config::bounds::Bounds;
 use doc_server_journal::device::Device;
 use doc_server_journal::file_device::FileDevice;
-use doc_server_journal::journal::Journal;
 use doc_server_poll::keeping::Keeping;
 use doc_server_poll::server::Server;
 use doc_server_streams::write_to::WriteTo;
@@ -43,22 +42,13 @@ pub fn run_listen<
         Ok(Bounded { site, bounds }) => {
             let Site { pages, entities } = site;
             let renderer: CommonMark<L> = CommonMark::new(entities, blank);
-            run_listen_with(rt, renderer, pages, bounds, command)
+            status_of(rt, listen_with(rt, renderer, pages, bounds, command))
         }
         Err(fault) => status_of(rt, Err(fault)),
     }
 }
 
-/// The same with any renderer: a call that names both a renderer which holds texts and the heap, as the pages do, can't be proved.
-fn run_listen_with<
-    R: Renderer + Drop,
-    S: Into<Pages>,
-    P: AllocGlobal + Clock + Eprint + Files<File = File> + Net + Print,
->(rt: &P, renderer: R, pages: S, bounds: Bounds, command: &Listen<'_>) -> u8 {
-    status_of(rt, listen_with(rt, renderer, pages.into(), bounds, command))
-}
-
-/// The same, as a result. All pages stand, and the journal's edits are made, before the address is bound; peers are accepted behind the
+/// The same with any renderer, as a result. All pages stand, and the journal's edits are made, before the address is bound; peers are accepted behind the
 /// line that tells it.
 fn listen_with<
     R: Renderer + Drop,
@@ -70,7 +60,7 @@ fn listen_with<
     bounds: Bounds,
     command: &Listen<'_>,
 ) -> Result<u8, ListenFault> {
-    let heap = heap(rt.alloc(), u64::MAX)?;
+    let heap = rt.alloc();
     let mut hub = site_hub(heap, renderer, pages.config, pages.texts.get())?;
     listen_on(rt, heap, &mut hub, &bounds, command)
 }
@@ -103,8 +93,7 @@ fn serve_journal<R: Renderer + Drop, P: Clock + Eprint + Files<File = File> + Ne
     name: &str,
 ) -> Result<u8, ListenFault> {
     let device = FileDevice::open(rt, name)?;
-    let opened: Result<Journal<FileDevice>, ListenFault> = open_journal(heap, device, hub);
-    let mut keeps = Keeping::Keeps(opened?);
+    let mut keeps = Keeping::Keeps(open_journal(heap, device, hub)?);
     serve_keeping(rt, heap, hub, bounds, command, &mut keeps)
 }
 

@@ -26,7 +26,6 @@ use crate::listening::run_listen;
 use crate::serving::run_serve;
 use crate::sites::{run_check, run_replay};
 use crate::status::status_of;
-use doc_heap::heap;
 use doc_server_input::fault::Fault;
 use std::fs::File;
 use std::marker::Brand;
@@ -53,9 +52,9 @@ where
         + Net<Listener = TcpListener, Stream = TcpStream>
         + Print,
 {
-    let words = words_of(rt, heap(rt.alloc(), u64::MAX)?)?;
+    let words = words_of(rt, rt.alloc())?;
     match command_of(&words)? {
-        Command::Demo => Ok(run_demo::<Brand, R>(rt, Blank::new(1))),
+        Command::Demo => run_demo::<Brand, R>(rt, Blank::new(1)),
         Command::Render => run_render(rt),
         Command::Examples(file) => run_examples(rt, file),
         Command::Check(check) => run_check::<Brand, R>(rt, Blank::new(1), &check),

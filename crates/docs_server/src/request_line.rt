@@ -6,9 +6,9 @@ ghost use Rattle.std.specs.Char.{is_ascii_uppercase};
 ghost use Rattle.std.specs.List.{list_all};
 ghost use Rattle.docs_server.specs.RequestLines.{before_query, is_shown, shown_method, shown_path, shown_target};
 
-use doc_heap::String;
 use doc_http_bodies::slices::front;
 use doc_page_parts::failure::Memory;
+use doc_page_parts::heap::String;
 use percent_encoding::{AsciiSet, CONTROLS, ascii_set, percent_encode};
 
 /// How many bytes a method has at most that is written.

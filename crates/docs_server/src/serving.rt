@@ -5,8 +5,6 @@ ghost use Rattle.docs_server.specs.Serving.{fault_of};
 
 use crate::arguments::Serve;
 use crate::files::{Pages, Site, read_site};
-use crate::status::status_of;
-use doc_heap::heap;
 use doc_html::CommonMark;
 use doc_page::renderer::Renderer;
 use doc_server::site::site_hub;
@@ -24,7 +22,7 @@ use std::sync::ledger::{Blank, Ledger};
 /// Runs `serve` over pages of CommonMark, and answers the status to end with.
 pub fn run_serve<
     L: Ledger,
-    P: AllocGlobal + Eprint + Files + Net<Listener = TcpListener, Stream = TcpStream> + Print,
+    P: AllocGlobal + Files + Net<Listener = TcpListener, Stream = TcpStream> + Print,
 >(rt: &P, blank: Blank, command: &Serve<'_>) -> Result<u8, Fault>
     requires name { blank.name ≡ L.name }
     requires parts { blank.parts ≡ L.parts }
@@ -32,24 +30,15 @@ pub fn run_serve<
 {
     let Site { pages, entities } = read_site(rt, command.config)?;
     let renderer: CommonMark<L> = CommonMark::new(entities, blank);
-    Ok(run_serve_with(rt, renderer, pages, command))
+    serve_with(rt, renderer, pages, command)
 }
 
-/// The same with any renderer: a call that names both a renderer which holds texts and the heap, as the pages do, can't be proved.
-fn run_serve_with<
-    R: Renderer + Drop,
-    S: Into<Pages>,
-    P: AllocGlobal + Eprint + Net<Listener = TcpListener, Stream = TcpStream> + Print,
->(rt: &P, renderer: R, pages: S, command: &Serve<'_>) -> u8 {
-    status_of(rt, serve_with(rt, renderer, pages.into(), command))
-}
-
-/// The same, as a result. All pages stand before the address is bound, and peers are accepted behind the line that tells it.
+/// The same with any renderer. All pages stand before the address is bound, and peers are accepted behind the line that tells it.
 fn serve_with<
     R: Renderer + Drop,
     P: AllocGlobal + Net<Listener = TcpListener, Stream = TcpStream> + Print,
 >(rt: &P, renderer: R, pages: Pages, command: &Serve<'_>) -> Result<u8, Fault> {
-    let heap = heap(rt.alloc(), u64::MAX)?;
+    let heap = rt.alloc();
     let mut hub = site_hub(heap, renderer, pages.config, pages.texts.get())?;
     let Ok(listener) = TcpListener::bind(rt, command.address) else {
         return Err(Fault::Socket);

@@ -6,8 +6,8 @@ ghost use Rattle.doc_server_restore.specs.Restores.{unstamped};
 ghost use Rattle.doc_server.specs.Sites.{site_world, text_of, texts_behind};
 ghost use Rattle.docs_server.specs.Compacting.{store_in, stored_page, stored_pages};
 
-use doc_heap::Heap;
 use doc_page_parts::failure::Memory;
+use doc_page_parts::heap::Heap;
 use doc_page_parts::text::Text;
 use doc_server_config::config::SiteConfig;
 use doc_server_config::page_row::{PageRow, Source};

@@ -4,8 +4,6 @@ ghost use Rattle.std.specs.Prelude.{◌≡◌, ◌<◌};
 
 use crate::arguments::{Check, Replay};
 use crate::files::{Pages, Site, read_site};
-use crate::status::status_of;
-use doc_heap::heap;
 use doc_html::CommonMark;
 use doc_page::renderer::Renderer;
 use doc_server::check::check;
@@ -18,7 +16,7 @@ use std::rt::Files;
 use std::sync::ledger::{Blank, Ledger};
 
 /// Runs `check` over pages of CommonMark, and answers the status to end with.
-pub fn run_check<L: Ledger, P: AllocGlobal + Eprint + Files + Print>(
+pub fn run_check<L: Ledger, P: AllocGlobal + Files + Print>(
     rt: &P,
     blank: Blank,
     command: &Check<'_>,
@@ -29,26 +27,17 @@ pub fn run_check<L: Ledger, P: AllocGlobal + Eprint + Files + Print>(
 {
     let Site { pages, entities } = read_site(rt, command.config)?;
     let renderer: CommonMark<L> = CommonMark::new(entities, blank);
-    Ok(run_check_with(rt, renderer, pages, command.token))
+    check_with(rt, renderer, pages, command.token)
 }
 
-/// The same with any renderer: a call that names both a renderer which holds texts and the heap, as the pages do, can't be proved.
-fn run_check_with<R: Renderer + Drop, S: Into<Pages>, P: AllocGlobal + Eprint + Print>(
-    rt: &P,
-    renderer: R,
-    pages: S,
-    token: &str,
-) -> u8 {
-    status_of(rt, check_with(rt, renderer, pages.into(), token))
-}
-
+/// The same with any renderer.
 fn check_with<R: Renderer + Drop, P: AllocGlobal + Print>(
     rt: &P,
     renderer: R,
     pages: Pages,
     token: &str,
 ) -> Result<u8, Fault> {
-    let heap = heap(rt.alloc(), u64::MAX)?;
+    let heap = rt.alloc();
     let mut output = WriteTo::new(io::writer(rt));
     check(
         heap,
@@ -61,7 +50,7 @@ fn check_with<R: Renderer + Drop, P: AllocGlobal + Print>(
 }
 
 /// Runs `replay` over pages of CommonMark, and answers the status to end with.
-pub fn run_replay<L: Ledger, P: AllocGlobal + Eprint + Files + Input + Print>(
+pub fn run_replay<L: Ledger, P: AllocGlobal + Files + Input + Print>(
     rt: &P,
     blank: Blank,
     command: &Replay<'_>,
@@ -72,25 +61,16 @@ pub fn run_replay<L: Ledger, P: AllocGlobal + Eprint + Files + Input + Print>(
 {
     let Site { pages, entities } = read_site(rt, command.config)?;
     let renderer: CommonMark<L> = CommonMark::new(entities, blank);
-    Ok(run_replay_with(rt, renderer, pages))
+    replay_with(rt, renderer, pages)
 }
 
-/// The same with any renderer: as `run_check_with`.
-fn run_replay_with<R: Renderer + Drop, S: Into<Pages>, P: AllocGlobal + Eprint + Input + Print>(
-    rt: &P,
-    renderer: R,
-    pages: S,
-) -> u8 {
-    status_of(rt, replay_with(rt, renderer, pages.into()))
-}
-
-/// The same, as a result.
+/// The same with any renderer.
 fn replay_with<R: Renderer + Drop, P: AllocGlobal + Input + Print>(
     rt: &P,
     renderer: R,
     pages: Pages,
 ) -> Result<u8, Fault> {
-    let heap = heap(rt.alloc(), u64::MAX)?;
+    let heap = rt.alloc();
     let mut input = ReadFrom::new(rt.reader());
     let mut output = WriteTo::new(io::writer(rt));
     replay(

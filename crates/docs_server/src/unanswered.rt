@@ -1,10 +1,10 @@
 //! What came on a connection and isn't answered yet, as the log knows it.
 
 use crate::request_line::{first_line, push_request_line};
-use doc_heap::{Heap, String};
 use doc_http::request::Next;
 use doc_http::unread::Unread;
 use doc_page_parts::failure::Memory;
+use doc_page_parts::heap::{Heap, String};
 use std::time::Instant;
 
 /// What came on a connection and isn't answered yet: the same bytes as the server's, which reads them in the same way.

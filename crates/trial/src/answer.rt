@@ -1,7 +1,7 @@
 //! What is printed for a call, and what a call is given.
 
-use doc_heap::{Heap, String};
 use doc_page_parts::failure::Memory;
+use doc_page_parts::heap::{Heap, String};
 use std::fmt::Debug;
 
 /// What is printed for a line that is no call.

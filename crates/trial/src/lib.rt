@@ -8,12 +8,11 @@
 //!   no `}`, and so neither a `\u{85}` nor another repetition.
 //! - An answer is printed as the value that it is in Rust, in the form `{:?}`, where a program does not say otherwise. A line that is no
 //!   call gives `no call`.
-//!
-//! A call whose name begins with `grow_` is made again and again while the heap refuses growths, as [`growths::tried`] says.
+//! - Memory may run out for a line. `scripts/refusals.sh` lets that happen, growth by growth: the line then tells of it, and the next
+//!   lines show what the call has changed.
 #![tactic(auto)]
 
 pub mod answer;
-pub mod growths;
 pub mod leads;
 pub mod line;
 pub mod run;

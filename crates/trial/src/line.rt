@@ -1,8 +1,8 @@
 //! Lines of standard input.
 
 use crate::written::text_of;
-use doc_heap::{Heap, String};
 use doc_page_parts::failure::Memory;
+use doc_page_parts::heap::{Heap, String};
 
 /// A line of input.
 #[derive(Drop)]

@@ -2,8 +2,8 @@
 
 use crate::answer::no_call;
 use crate::line::{Line, read_line};
-use doc_heap::{Heap, String, heap};
 use doc_page_parts::failure::Memory;
+use doc_page_parts::heap::{Heap, String};
 use std::io;
 
 /// The calls of a trial program, and what they change.
@@ -26,7 +26,7 @@ pub fn run_lines<R: AllocGlobal + Print, C: Calls>(
     text: &str,
     calls: &mut C,
 ) -> io::Result<()> {
-    let heap = heap(rt.alloc(), u64::MAX)?;
+    let heap = rt.alloc();
     for line in text.lines() {
         print_answer(rt, answer_of(heap, line, calls))?;
     }

@@ -1,8 +1,8 @@
 //! Texts that are written with escapes.
 
 use crate::answer::number_and_text;
-use doc_heap::{Heap, String};
 use doc_page_parts::failure::Memory;
+use doc_page_parts::heap::{Heap, String};
 
 /// The text that is written so, or `None` where it is not written as the head of this crate says.
 pub fn text_of(heap: Heap, written: &str) -> Result<Option<String>, Memory> {

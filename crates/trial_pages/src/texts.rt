@@ -1,12 +1,10 @@
-//! The calls from a text to its HTML: those of `doc_heap`, `doc_lines`, `doc_blocks_starts`, `doc_refs`, `doc_blocks`, `doc_inlines`,
+//! The calls from a text to its HTML: those of `doc_lines`, `doc_blocks_starts`, `doc_refs`, `doc_blocks`, `doc_inlines`,
 //! `doc_html_anchors` and `doc_html`, and those of `doc_page` on texts and pages. A page is printed on several lines.
 
-mod growing;
 mod hides;
 mod of_anchors;
 mod of_blocks;
 mod of_filling;
-mod of_heap;
 mod of_html;
 mod of_inlines;
 mod of_lines;
@@ -17,40 +15,31 @@ mod of_starts;
 mod printed;
 mod tools;
 
-use doc_heap::{Heap, String, heap};
 use doc_lines::entities::Entities;
 use doc_page_parts::failure::Memory;
+use doc_page_parts::heap::{Heap, String};
 use std::io;
 use tools::Tools;
 use trial::run::{Calls, run_lines};
 
 #[derive(Drop)]
 struct TextCalls {
-    tried: Heap,
     entities: Entities,
 }
 
 impl Calls for TextCalls {
     fn called(&mut self, heap: Heap, name: &str, given: &str) -> Result<String, Memory> {
         let tools = Tools {
-            tried: self.tried,
-            desk: heap,
+            heap,
             entities: &self.entities,
         };
-        if let Some(name) = name.strip_prefix("grow_") {
-            return growing::called(tools, name, given);
-        }
-        match name.strip_prefix("heap_") {
-            Some(name) => of_heap::called(tools, name, given),
-            None => of_lines::called(tools, name, given),
-        }
+        of_lines::called(tools, name, given)
     }
 }
 
 /// Prints what the lines answer.
 pub fn run_texts<P: AllocGlobal + Print>(rt: &P, lines: &str) -> io::Result<()> {
     let mut calls = TextCalls {
-        tried: heap(rt.alloc(), u64::MAX)?,
         entities: Entities::built_in(),
     };
     let ran = run_lines(rt, lines, &mut calls);

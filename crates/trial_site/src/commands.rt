@@ -4,8 +4,8 @@ ghost use Rattle.std.specs.Prelude.{◌≡◌, ◌<◌};
 
 use crate::feed::Feed;
 use crate::sink::Sink;
-use doc_heap::Heap;
 use doc_page::plain::PlainRenderer;
+use doc_page_parts::heap::Heap;
 use doc_server::demo::demo;
 use doc_server::examples::examples;
 use doc_server::fault::Fault;

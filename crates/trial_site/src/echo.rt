@@ -3,8 +3,8 @@
 ghost use Rattle.std.specs.Prelude.{◌≡◌};
 
 use crate::streams::Streamed;
-use doc_heap::{Heap, String};
 use doc_page_parts::failure::Memory;
+use doc_page_parts::heap::{Heap, String};
 use doc_server_streams::memory_stream::MemoryStream;
 use doc_server_streams::stream::Stream;
 use std::str::from_utf8;
@@ -15,13 +15,6 @@ const ROOM: usize = 4;
 
 /// More turns than a call here takes.
 const MANY: u32 = 100;
-
-/// What a stream is made of, and how many growths its calls have.
-#[derive(Clone, Copy)]
-struct Given<'a> {
-    growths: u64,
-    streamed: Streamed<'a>,
-}
 
 /// Why no further turn is made.
 #[derive(Clone, Copy, Debug)]
@@ -43,28 +36,17 @@ struct Told {
     end: End,
 }
 
-/// What is printed for `GROWTHS PIECE READ WRITE TEXT`: what came of a stream of this text, whose read and write of these numbers fail
-/// (0: none), and whose calls have so many growths.
+/// What is printed for `PIECE READ WRITE TEXT`: what came of a stream of this text, whose read and write of these numbers fail (0: none).
 pub fn answer(heap: Heap, given: &str) -> Result<String, Memory> {
-    match read_given(given) {
-        Some(given) => echoed(heap, &given),
+    match Streamed::read(given) {
+        Some(streamed) => echoed(heap, streamed),
         None => no_call(heap),
     }
 }
 
-fn read_given(given: &str) -> Option<Given<'_>> {
-    let (growths, given) = given.split_once(' ')?;
-    Some(Given {
-        growths: growths.parse::<u64>().ok()?,
-        streamed: Streamed::read(given)?,
-    })
-}
-
-fn echoed(heap: Heap, given: &Given<'_>) -> Result<String, Memory> {
-    let mut stream = given.streamed.stream(heap)?;
-    heap.refuse_after(given.growths);
-    let told = echo(&mut stream, given.streamed.text.as_bytes());
-    heap.refuse_after(u64::MAX);
+fn echoed(heap: Heap, streamed: Streamed<'_>) -> Result<String, Memory> {
+    let mut stream = streamed.stream(heap)?;
+    let told = echo(&mut stream, streamed.text.as_bytes());
     let printed = printed(heap, told, &stream);
     drop(stream);
     printed

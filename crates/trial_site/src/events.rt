@@ -3,80 +3,80 @@
 
 use crate::given::{both, connection, groups_of, id_and_bytes, path_of, reader_of, text_of, two};
 use crate::stop::Stop;
-use doc_heap::{Heap, Vec};
 use doc_hub::event::Event;
 use doc_page_parts::bytes::Bytes;
+use doc_page_parts::heap::{Heap, Vec};
 use doc_page_parts::path::Path;
 
 /// Events with ` ; ` between two.
-pub fn events_of(desk: Heap, given: &str) -> Result<Vec<Event>, Stop> {
-    let mut events = Vec::new(desk);
-    match push_events(desk, &mut events, given) {
+pub fn events_of(heap: Heap, given: &str) -> Result<Vec<Event>, Stop> {
+    let mut events = Vec::new(heap);
+    match push_events(heap, &mut events, given) {
         Ok(()) => Ok(events),
         Err(stop) => Err(stop),
     }
 }
 
-fn push_events(desk: Heap, events: &mut Vec<Event>, given: &str) -> Result<(), Stop> {
+fn push_events(heap: Heap, events: &mut Vec<Event>, given: &str) -> Result<(), Stop> {
     for line in given.split(" ; ") {
-        push_event(desk, events, line)?;
+        push_event(heap, events, line)?;
     }
     Ok(())
 }
 
-fn push_event(desk: Heap, events: &mut Vec<Event>, line: &str) -> Result<(), Stop> {
+fn push_event(heap: Heap, events: &mut Vec<Event>, line: &str) -> Result<(), Stop> {
     let (name, given) = line.split_once(' ').unwrap_or((line, ""));
-    events.push(event_of(desk, name, given)?)?;
+    events.push(event_of(heap, name, given)?)?;
     Ok(())
 }
 
 /// The event of this name.
-pub fn event_of(desk: Heap, name: &str, given: &str) -> Result<Event, Stop> {
+pub fn event_of(heap: Heap, name: &str, given: &str) -> Result<Event, Stop> {
     match name {
         "connect" => Ok(Event::Connect),
-        "push" => push(desk, given),
+        "push" => push(heap, given),
         "step" => Ok(Event::Step(connection(given)?)),
         "disconnect" => Ok(Event::Disconnect(connection(given)?)),
-        _ => edit_of(desk, name, given),
+        _ => edit_of(heap, name, given),
     }
 }
 
 /// The event of this name that changes pages or readers.
-fn edit_of(desk: Heap, name: &str, given: &str) -> Result<Event, Stop> {
+fn edit_of(heap: Heap, name: &str, given: &str) -> Result<Event, Stop> {
     match name {
-        "put" => put(desk, given),
-        "remove" => Ok(Event::Remove(path_of(desk, given)?)),
-        "move" => move_page(desk, given),
-        "reader" => set_reader(desk, given),
-        "unreader" => Ok(Event::RemoveReader(text_of(desk, given)?)),
+        "put" => put(heap, given),
+        "remove" => Ok(Event::Remove(path_of(heap, given)?)),
+        "move" => move_page(heap, given),
+        "reader" => set_reader(heap, given),
+        "unreader" => Ok(Event::RemoveReader(text_of(heap, given)?)),
         _ => Err(Stop::NoCall),
     }
 }
 
-fn push(desk: Heap, given: &str) -> Result<Event, Stop> {
-    let (id, bytes) = id_and_bytes(desk, given)?;
+fn push(heap: Heap, given: &str) -> Result<Event, Stop> {
+    let (id, bytes) = id_and_bytes(heap, given)?;
     Ok(Event::Push(id, Bytes::new(bytes)))
 }
 
-fn put(desk: Heap, given: &str) -> Result<Event, Stop> {
+fn put(heap: Heap, given: &str) -> Result<Event, Stop> {
     let (path, rest) = two(given)?;
     let (groups, text) = two(rest)?;
-    put_at(desk, path_of(desk, path)?, groups, text)
+    put_at(heap, path_of(heap, path)?, groups, text)
 }
 
-fn put_at(desk: Heap, path: Path, groups: &str, text: &str) -> Result<Event, Stop> {
-    let (groups, text) = both(groups_of(desk, groups), text_of(desk, text))?;
+fn put_at(heap: Heap, path: Path, groups: &str, text: &str) -> Result<Event, Stop> {
+    let (groups, text) = both(groups_of(heap, groups), text_of(heap, text))?;
     Ok(Event::Put(path, groups, text))
 }
 
-fn move_page(desk: Heap, given: &str) -> Result<Event, Stop> {
+fn move_page(heap: Heap, given: &str) -> Result<Event, Stop> {
     let (from, to) = two(given)?;
-    let (from, to) = both(path_of(desk, from), path_of(desk, to))?;
+    let (from, to) = both(path_of(heap, from), path_of(heap, to))?;
     Ok(Event::MovePage(from, to))
 }
 
-fn set_reader(desk: Heap, given: &str) -> Result<Event, Stop> {
+fn set_reader(heap: Heap, given: &str) -> Result<Event, Stop> {
     let (token, reader) = two(given)?;
-    let (token, reader) = both(text_of(desk, token), reader_of(desk, reader))?;
+    let (token, reader) = both(text_of(heap, token), reader_of(heap, reader))?;
     Ok(Event::SetReader(token, reader))
 }

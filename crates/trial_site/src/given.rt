@@ -1,8 +1,8 @@
 //! What calls are given.
 
 use crate::stop::Stop;
-use doc_heap::{Heap, Vec};
 use doc_hub::event::ConnId;
+use doc_page_parts::heap::{Heap, Vec};
 use doc_page_parts::path::Path;
 use doc_page_parts::text::Text;
 use doc_store::groups::Groups;
@@ -32,9 +32,9 @@ pub fn connection(digits: &str) -> Result<ConnId, Stop> {
 }
 
 /// `ID BYTES`.
-pub fn id_and_bytes(desk: Heap, given: &str) -> Result<(ConnId, Vec<u8>), Stop> {
+pub fn id_and_bytes(heap: Heap, given: &str) -> Result<(ConnId, Vec<u8>), Stop> {
     let (id, text) = number_first(given)?;
-    Ok((ConnId(id), bytes_of(desk, text)?))
+    Ok((ConnId(id), bytes_of(heap, text)?))
 }
 
 /// Two values of which each may be refused.
@@ -42,28 +42,28 @@ pub fn both<A: Drop, B: Drop>(a: Result<A, Stop>, b: Result<B, Stop>) -> Result<
     Ok((a?, b?))
 }
 
-pub fn text_of(desk: Heap, given: &str) -> Result<Text, Stop> {
-    Ok(Text::copy_of(desk, given)?)
+pub fn text_of(heap: Heap, given: &str) -> Result<Text, Stop> {
+    Ok(Text::copy_of(heap, given)?)
 }
 
-pub fn path_of(desk: Heap, given: &str) -> Result<Path, Stop> {
-    Ok(Path::new(desk, given)?)
+pub fn path_of(heap: Heap, given: &str) -> Result<Path, Stop> {
+    Ok(Path::new(heap, given)?)
 }
 
-pub fn groups_of(desk: Heap, given: &str) -> Result<Groups, Stop> {
-    Ok(Groups::new(desk, given)?)
+pub fn groups_of(heap: Heap, given: &str) -> Result<Groups, Stop> {
+    Ok(Groups::new(heap, given)?)
 }
 
 /// The reader that a text names: `owner`, or a reader of groups.
-pub fn reader_of(desk: Heap, text: &str) -> Result<Reader, Stop> {
+pub fn reader_of(heap: Heap, text: &str) -> Result<Reader, Stop> {
     let owner = text == "owner";
-    let groups = groups_of(desk, if owner { "" } else { text })?;
+    let groups = groups_of(heap, if owner { "" } else { text })?;
     Ok(Reader { owner, groups })
 }
 
 /// The bytes of a text, in which `\xff` is one of that hexadecimal number.
-pub fn bytes_of(desk: Heap, text: &str) -> Result<Vec<u8>, Stop> {
-    let mut bytes = Vec::with_capacity(desk, text.len())?;
+pub fn bytes_of(heap: Heap, text: &str) -> Result<Vec<u8>, Stop> {
+    let mut bytes = Vec::with_capacity(heap, text.len())?;
     match push_bytes(&mut bytes, text) {
         Ok(()) => Ok(bytes),
         Err(stop) => Err(stop),

@@ -2,47 +2,43 @@
 
 use crate::events::{event_of, events_of};
 use crate::given::id_and_bytes;
-use crate::outcomes::said_of;
-use crate::stop::{Answer, Stop};
-use crate::world::{World, asked, set_witness};
-use crate::written::push_after;
-use doc_heap::{Heap, String};
-use doc_hub::event::Event;
+use crate::outcomes::{push_all, push_outcome};
+use crate::stop::Stop;
+use crate::world::World;
+use crate::written::{push, push_after};
+use doc_hub::event::{ConnId, Event};
 use doc_hub::hub::Hub;
 use doc_hub::outcome::Outcome;
 use doc_page::renderer::Renderer;
-use doc_page_parts::text::Text;
-use std::slice::from_ref;
+use doc_page_parts::failure::Memory;
+use doc_page_parts::heap::{Heap, String};
 
-/// What a call of this name answers: that of an event, or of one of these.
+/// Writes what a call of this name answers: that of an event, or of one of these.
 pub fn called<R: Renderer + Drop>(
+    out: &mut String,
     world: &mut World<R>,
     name: &str,
     given: &str,
-) -> Result<Answer, Stop> {
-    let desk = world.heaps.desk;
+) -> Result<(), Stop> {
+    let World { heap, hub } = world;
     match name {
-        "ask" => ask(desk, &mut world.hub, given),
-        "report" => report(desk, &mut world.hub, given),
-        "run" => run(desk, &mut world.hub, given),
-        "witness" => set_witness(world, given),
-        _ => call(desk, &mut world.hub, name, given),
+        "ask" => ask(out, *heap, hub, given),
+        "report" => report(out, hub, given),
+        "run" => run(out, *heap, hub, given),
+        _ => {
+            let event = event_of(*heap, name, given)?;
+            let outcome = happened(hub, &event);
+            drop(event);
+            told(out, outcome)
+        }
     }
 }
 
-/// The call of an event.
-fn call<R: Renderer + Drop>(
-    desk: Heap,
-    hub: &mut Hub<R>,
-    name: &str,
-    given: &str,
-) -> Result<Answer, Stop> {
-    let event = event_of(desk, name, given)?;
-    let outcome = happened(hub, &event);
-    drop(event);
-    let said = said_of(desk, from_ref(&outcome));
+/// Writes what came of an event.
+fn told(out: &mut String, outcome: Outcome) -> Result<(), Stop> {
+    let pushed = push_outcome(out, &outcome);
     drop(outcome);
-    said
+    Ok(pushed?)
 }
 
 /// What comes of the call of an event.
@@ -61,49 +57,53 @@ fn happened<R: Renderer + Drop>(hub: &mut Hub<R>, event: &Event) -> Outcome {
 }
 
 /// `ID BYTES`: a push and a step.
-fn ask<R: Renderer + Drop>(desk: Heap, hub: &mut Hub<R>, given: &str) -> Result<Answer, Stop> {
-    let (id, bytes) = id_and_bytes(desk, given)?;
+fn ask<R: Renderer + Drop>(
+    out: &mut String,
+    heap: Heap,
+    hub: &mut Hub<R>,
+    given: &str,
+) -> Result<(), Stop> {
+    let (id, bytes) = id_and_bytes(heap, given)?;
     let outcome = asked(hub, id, &bytes);
     drop(bytes);
-    let said = said_of(desk, from_ref(&outcome));
-    drop(outcome);
-    said
+    told(out, outcome)
 }
 
-/// `TOKEN`: the report of the token's reader.
-fn report<R: Renderer + Drop>(desk: Heap, hub: &mut Hub<R>, token: &str) -> Result<Answer, Stop> {
-    match hub.report(token) {
-        Ok(Some(text)) => reported(desk, text),
-        Ok(None) => Ok(Answer::of(String::from_str(desk, "no reader")?)),
-        Err(_) => Answer::memory(desk),
+/// What comes of a step on a connection once these bytes are pushed.
+fn asked<R: Renderer + Drop>(hub: &mut Hub<R>, id: ConnId, bytes: &[u8]) -> Outcome {
+    match hub.push(id, bytes) {
+        Ok(()) => Outcome::from(hub.step(id)),
+        refused => Outcome::from(refused),
     }
 }
 
-fn reported(desk: Heap, report: Text) -> Result<Answer, Stop> {
-    let mut text = String::new(desk);
-    let pushed = push_after(&mut text, "report ", report.get().as_bytes());
-    drop(report);
-    Answer::if_written(text, pushed)
+/// `TOKEN`: the report of the token's reader.
+fn report<R: Renderer + Drop>(out: &mut String, hub: &mut Hub<R>, token: &str) -> Result<(), Stop> {
+    match hub.report(token) {
+        Ok(Some(text)) => {
+            let pushed = push_after(out, "report ", text.get().as_bytes());
+            drop(text);
+            Ok(pushed?)
+        }
+        Ok(None) => Ok(push(out, "no reader")?),
+        Err(Memory) => Err(Stop::Refused),
+    }
 }
 
 /// `EVENT ; EVENT ..`: a run of these events.
-fn run<R: Renderer + Drop>(desk: Heap, hub: &mut Hub<R>, given: &str) -> Result<Answer, Stop> {
-    let events = events_of(desk, given)?;
-    let said = run_of(desk, hub, &events);
-    drop(events);
-    said
-}
-
-/// What comes of these events, one after another.
-pub fn run_of<R: Renderer + Drop>(
-    desk: Heap,
+fn run<R: Renderer + Drop>(
+    out: &mut String,
+    heap: Heap,
     hub: &mut Hub<R>,
-    events: &[Event],
-) -> Result<Answer, Stop> {
-    let Ok(outcomes) = hub.run(events) else {
-        return Answer::memory(desk);
+    given: &str,
+) -> Result<(), Stop> {
+    let events = events_of(heap, given)?;
+    let outcomes = hub.run(&events);
+    drop(events);
+    let Ok(outcomes) = outcomes else {
+        return Err(Stop::Refused);
     };
-    let said = said_of(desk, outcomes.get());
+    let pushed = push_all(out, outcomes.get());
     drop(outcomes);
-    said
+    Ok(pushed?)
 }

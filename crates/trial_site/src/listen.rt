@@ -23,10 +23,10 @@ mod told;
 use crate::listen::calls::answer;
 use crate::listen::files::files_called;
 use crate::listen::scene::{Scene, new_scene};
-use doc_heap::{Heap, String, Vec, heap};
 use doc_page::plain::PlainRenderer;
 use doc_page::renderer::Renderer;
 use doc_page_parts::failure::Memory;
+use doc_page_parts::heap::{Heap, String, Vec};
 use std::fs::File;
 use std::io;
 use std::marker::Brand;
@@ -43,7 +43,7 @@ pub fn run_servers<P: AllocGlobal + Clock + Files<File = File> + Net + Print>(
     text: &str,
 ) -> io::Result<()> {
     let (front, servers) = text.split_once("\nserver ").unwrap_or((text, ""));
-    let heap = heap(rt.alloc(), u64::MAX)?;
+    let heap = rt.alloc();
     call_files(rt, heap, front)?;
     let mut file = Vec::new(heap);
     for lines in servers.split("\nserver ") {
@@ -94,8 +94,7 @@ fn begin_server<L: Ledger, P: AllocGlobal + Clock + Net + Print>(
     requires some { 0 < L.parts }
 {
     let renderer: PlainRenderer<L> = PlainRenderer::new(blank);
-    let heap = heap(rt.alloc(), u64::MAX)?;
-    run_server(rt, heap, renderer, texts, file)
+    run_server(rt, rt.alloc(), renderer, texts, file)
 }
 
 /// The same with any renderer.

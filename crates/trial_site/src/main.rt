@@ -4,14 +4,13 @@
 //!
 //! - `world keep CACHE READERS` makes a hub with the readers of a TOML text, and `world close CACHE READERS` one that keeps no connection
 //!   alive. It answers `()`, or what refuses it; then no calls follow.
-//! - `next BYTES` and `drip BYTES` (`requests`), an event (`events`), and `ask ID BYTES`, `report TOKEN`, `run EVENT ; EVENT ..` and
-//!   `witness EVENT ; EVENT ..` (`hubs`) are the calls. Pages are rendered as CommonMark.
-//! - `times N CALL` makes a call N times, and `only N CALL` with one growth refused; a call whose name begins with `grow_` is made with
-//!   each of its growths refused (`rounds`).
+//! - `next BYTES` and `drip BYTES` (`requests`), an event (`events`), and `ask ID BYTES`, `report TOKEN` and `run EVENT ; EVENT ..`
+//!   (`hubs`) are the calls. Pages are rendered as CommonMark. `times N CALL` makes a call N times (`times`).
 //!
 //! Bytes are those of a text, in which `\xff` is the byte with that hexadecimal number: so `\\xff` in a line. An answer is a word with what
 //! the call gave, or `refused: ` with what the refusal prints. Bytes are written in it as in a line, but those that are no printable ASCII
-//! as `\xff`, and 32 and more equal ones as `{999*a}`.
+//! as `\xff`, and 32 and more equal ones as `{999*a}`. Where a call finds no memory, the answer is `refused: out of memory`, and where what
+//! it is given or answers finds none, `no memory for the line`.
 //!
 //! Values that own memory go by calls of `drop`, once on each way: that is much cheaper to prove than what the end of a scope does, which
 //! is written out at each exit.
@@ -30,34 +29,30 @@ mod listen;
 mod outcomes;
 mod programs;
 mod requests;
-mod rounds;
 mod scene;
 mod scripts;
 mod sink;
 mod stop;
 mod streams;
+mod times;
 mod tried;
 mod ways;
 mod world;
 mod written;
 
-use doc_heap::{Heap, String, heap};
 use doc_html::CommonMark;
 use doc_lines::entities::Entities;
 use doc_page::renderer::Renderer;
-use doc_page_parts::failure::Memory;
 use listen::run_servers;
-use rounds::answer;
-use std::alloc::AllocError;
+use programs::Programs;
 use std::fs::File;
 use std::io;
 use std::marker::Brand;
 use std::net::Net;
 use std::rt::{Clock, Files};
 use std::sync::ledger::{Blank, Ledger};
-use stop::said;
-use trial::run::{Calls, run_lines};
-use world::{Heaps, World, new_world};
+use trial::run::run_lines;
+use world::{World, new_world};
 
 fn main(rt: HostRuntime) -> io::Result<()> {
     let text = io::read_to_string(rt.alloc(), rt.reader())?;
@@ -82,25 +77,17 @@ fn run<P: AllocGlobal + Clock + Files<File = File> + Net + Print>(
 /// Prints what the lines in front of the first world answer, and then those of each world.
 fn run_worlds<P: AllocGlobal + Print>(rt: &P, text: &str) -> io::Result<()> {
     let (lines, worlds) = text.split_once("\nworld ").unwrap_or((text, ""));
-    let mut heaps = new_heaps(rt)?;
-    run_lines(rt, lines, &mut heaps)?;
+    run_lines(rt, lines, &mut Programs)?;
     for lines in worlds.split("\nworld ") {
         begin_world(rt, lines)?;
     }
     Ok(())
 }
 
-/// Makes a world and its calls on new heaps.
+/// Makes a world and its calls.
 fn begin_world<P: AllocGlobal + Print>(rt: &P, lines: &str) -> io::Result<()> {
     let (line, calls) = lines.split_once('\n').unwrap_or((lines, ""));
     run_world::<Brand, P>(rt, Blank::new(1), &[line, calls])
-}
-
-/// The heaps of one world.
-fn new_heaps<P: AllocGlobal>(rt: &P) -> Result<Heaps, AllocError> {
-    let tried = heap(rt.alloc(), u64::MAX)?;
-    let desk = heap(rt.alloc(), u64::MAX)?;
-    Ok(Heaps { tried, desk })
 }
 
 /// Makes a world of CommonMark as the first of two texts says, and the calls of the lines of the second.
@@ -117,14 +104,13 @@ fn run_world<L: Ledger, P: AllocGlobal + Print>(
     run_world_with(rt, renderer, texts)
 }
 
-/// The same with any renderer, on heaps of its own: a call that names both a renderer which holds texts and a heap can't be proved.
+/// The same with any renderer.
 fn run_world_with<R: Renderer + Drop, P: AllocGlobal + Print>(
     rt: &P,
     renderer: R,
     texts: &[&str; 2],
 ) -> io::Result<()> {
-    let heaps = new_heaps(rt)?;
-    match new_world(heaps, renderer, texts[0]) {
+    match new_world(rt.alloc(), renderer, texts[0]) {
         Ok(mut world) => {
             let ran = run_calls(rt, &mut world, texts[1]);
             drop(world);
@@ -142,10 +128,4 @@ fn run_calls<R: Renderer + Drop, P: AllocGlobal + Print>(
 ) -> io::Result<()> {
     println!(rt; "()")?;
     run_lines(rt, calls, world)
-}
-
-impl<R: Renderer + Drop> Calls for World<R> {
-    fn called(&mut self, heap: Heap, name: &str, given: &str) -> Result<String, Memory> {
-        said(heap, answer(self, name, given))
-    }
 }

@@ -1,17 +1,15 @@
 //! How outcomes of events are written.
 
-use crate::stop::{Answer, Stop};
 use crate::written::{push, push_after};
-use doc_heap::{Heap, String};
 use doc_hub::event::{ConnId, Step};
 use doc_hub::outcome::Outcome;
-use doc_hub::refusal::Refusal;
 use doc_page_parts::failure::Memory;
+use doc_page_parts::heap::String;
 use doc_store::readers::Set;
 use doc_store::store::Put;
 
 /// Writes an outcome: a word, and of a connection its number, of a step its bytes, and of a refusal what it prints.
-fn push_outcome(out: &mut String, outcome: &Outcome) -> Result<(), Memory> {
+pub fn push_outcome(out: &mut String, outcome: &Outcome) -> Result<(), Memory> {
     match outcome {
         Outcome::Conn(ConnId(number)) => Ok(write!(out, "connection {number}")?),
         Outcome::Stepped(Step::Sent(reply)) => push_after(out, "sent ", reply.get()),
@@ -38,22 +36,8 @@ fn word_of(outcome: &Outcome) -> &'static str {
     }
 }
 
-/// Whether memory ran out in the event.
-fn is_memory(outcome: &Outcome) -> bool {
-    matches!(outcome, Outcome::Refused(Refusal::Memory))
-}
-
-/// The outcomes with ` | ` between two, and whether memory ran out in one of them.
-pub fn said_of(desk: Heap, outcomes: &[Outcome]) -> Result<Answer, Stop> {
-    let memory = outcomes.iter().any(is_memory);
-    let mut text = String::new(desk);
-    match push_all(&mut text, outcomes) {
-        Ok(()) => Ok(Answer { text, memory }),
-        Err(Memory) => Err(Stop::Memory),
-    }
-}
-
-fn push_all(out: &mut String, outcomes: &[Outcome]) -> Result<(), Memory> {
+/// Writes outcomes, with ` | ` between two.
+pub fn push_all(out: &mut String, outcomes: &[Outcome]) -> Result<(), Memory> {
     for outcome in outcomes {
         push_said(out, outcome)?;
     }

@@ -5,23 +5,24 @@
 //!
 //! The answer is the status that the command ends with or what stops it, whether it left bytes of the input, and what it wrote.
 //!
-//! `echo` is given `GROWTHS PIECE READ WRITE TEXT`: a stream over memory (`echo`). `rounds SCRIPT` serves rounds over links (`scripts`),
-//! and `faults PLACE REPLY | SCRIPT` and `grow_rounds TURNS SCRIPT` play a script with calls of a stream, or growths, failing in turn
-//! (`in_turn`).
+//! `echo` is given `PIECE READ WRITE TEXT`: a stream over memory (`echo`). `rounds SCRIPT` and `ended SCRIPT` serve rounds over links
+//! (`scripts`), and `faults PLACE REPLY | SCRIPT` plays a script with each call of a stream failing in turn (`in_turn`).
 
-use crate::world::Heaps;
 use crate::{echo, in_turn, scripts, tried};
-use doc_heap::{Heap, String};
 use doc_page_parts::failure::Memory;
+use doc_page_parts::heap::{Heap, String};
 use trial::run::Calls;
 
-impl Calls for Heaps {
+/// The calls that stand in front of the first world.
+#[derive(Clone, Copy)]
+pub struct Programs;
+
+impl Calls for Programs {
     fn called(&mut self, heap: Heap, name: &str, given: &str) -> Result<String, Memory> {
-        let heaps = *self;
         match name {
-            "rounds" => scripts::answer(heaps, given),
-            "grow_rounds" => in_turn::grown(heaps, given),
-            "faults" => in_turn::faults(heaps, given),
+            "rounds" => scripts::answer(heap, given),
+            "ended" => scripts::ended(heap, given),
+            "faults" => in_turn::faults(heap, given),
             "echo" => echo::answer(heap, given),
             _ => tried::called(heap, name, given),
         }

@@ -1,56 +1,30 @@
 //! Calls of `doc_http`: what bytes begin with.
 
 use crate::given::bytes_of;
-use crate::stop::{Answer, Stop};
-use crate::world::Heaps;
+use crate::stop::Stop;
 use crate::written::{push, push_after, push_bytes};
-use doc_heap::{Heap, String};
 use doc_http::request::{Next, Request, next_request};
 use doc_http::unread::Unread;
 use doc_page_parts::failure::Memory;
+use doc_page_parts::heap::{Heap, String};
 
 /// `BYTES`: what they begin with.
-pub fn next(heaps: Heaps, given: &str) -> Result<Answer, Stop> {
-    let bytes = bytes_of(heaps.desk, given)?;
-    let next = next_request(heaps.tried, &bytes);
+pub fn next(out: &mut String, heap: Heap, given: &str) -> Result<(), Stop> {
+    let bytes = bytes_of(heap, given)?;
+    let next = next_request(heap, &bytes);
     drop(bytes);
-    let answer = match &next {
-        Ok(next) => found(heaps.desk, None, next),
-        Err(Memory) => Answer::memory(heaps.desk),
-    };
-    drop(next);
-    answer
-}
-
-/// What bytes begin with, behind how many decide it, where that is told.
-fn found(desk: Heap, count: Option<usize>, next: &Next) -> Result<Answer, Stop> {
-    let mut out = String::new(desk);
-    let pushed = push_found(&mut out, count, next);
-    Answer::if_written(out, pushed)
-}
-
-fn push_found(out: &mut String, count: Option<usize>, next: &Next) -> Result<(), Memory> {
-    if let Some(count) = count {
-        write!(out, "{count}: ")?;
-    }
-    push_next(out, next)
+    push_found(out, None, next)
 }
 
 /// `BYTES`: how many of them decide what they begin with, and what that is, where they come one by one.
-pub fn drip(heaps: Heaps, given: &str) -> Result<Answer, Stop> {
-    let bytes = bytes_of(heaps.desk, given)?;
-    let mut unread = Unread::new(heaps.tried);
-    let answer = dripped(heaps, &mut unread, &bytes);
+pub fn drip(out: &mut String, heap: Heap, given: &str) -> Result<(), Stop> {
+    let bytes = bytes_of(heap, given)?;
+    let mut unread = Unread::new(heap);
+    let next = next_of_bytes(&mut unread, &bytes);
+    let count = unread.get().len();
     drop(unread);
     drop(bytes);
-    answer
-}
-
-fn dripped(heaps: Heaps, unread: &mut Unread, bytes: &[u8]) -> Result<Answer, Stop> {
-    let next = next_of_bytes(unread, bytes)?;
-    let answer = found(heaps.desk, Some(unread.get().len()), &next);
-    drop(next);
-    answer
+    push_found(out, Some(count), next)
 }
 
 /// What bytes come to that are pushed one by one, until that is decided.
@@ -67,6 +41,27 @@ fn next_of_bytes(unread: &mut Unread, bytes: &[u8]) -> Result<Next, Memory> {
 fn next_with(unread: &mut Unread, byte: u8) -> Result<Next, Memory> {
     unread.push(&[byte])?;
     unread.next_request()
+}
+
+/// Writes what bytes begin with, behind how many decide it, where that is told.
+fn push_found(
+    out: &mut String,
+    count: Option<usize>,
+    next: Result<Next, Memory>,
+) -> Result<(), Stop> {
+    let Ok(next) = next else {
+        return Err(Stop::Refused);
+    };
+    let pushed = push_counted(out, count, &next);
+    drop(next);
+    Ok(pushed?)
+}
+
+fn push_counted(out: &mut String, count: Option<usize>, next: &Next) -> Result<(), Memory> {
+    if let Some(count) = count {
+        write!(out, "{count}: ")?;
+    }
+    push_next(out, next)
 }
 
 /// Writes what bytes begin with.

@@ -1,8 +1,8 @@
 //! The writer that a command is tried with.
 
 use crate::ways::{Given, Way};
-use doc_heap::{Heap, String, Vec};
 use doc_page_parts::failure::Memory;
+use doc_page_parts::heap::{Heap, String, Vec};
 use std::io;
 use std::io::{ErrorKind, Write};
 

@@ -1,6 +1,5 @@
-//! What a call answers, or why it has no answer.
+//! Why a line has no answer.
 
-use doc_heap::{Heap, String};
 use doc_hub::refusal::HubError;
 use doc_page_parts::failure::Memory;
 use doc_page_parts::path::PathError;
@@ -9,45 +8,6 @@ use doc_store::readers::ReadersError;
 use std::alloc::{AllocError, AllocFailed};
 use std::fmt;
 
-/// What is printed for a call, and whether memory ran out in it.
-#[derive(Drop)]
-pub struct Answer {
-    pub text: String,
-    pub memory: bool,
-}
-
-impl Answer {
-    pub fn of(text: String) -> Answer {
-        Answer {
-            text,
-            memory: false,
-        }
-    }
-
-    /// The text, where memory did not run out for it.
-    pub fn if_written(text: String, written: Result<(), Memory>) -> Result<Answer, Stop> {
-        match written {
-            Ok(()) => Ok(Answer::of(text)),
-            Err(Memory) => Err(Stop::Memory),
-        }
-    }
-
-    pub fn memory(desk: Heap) -> Result<Answer, Stop> {
-        Ok(Answer {
-            text: String::from_str(desk, "refused: out of memory")?,
-            memory: true,
-        })
-    }
-}
-
-/// What is printed for a call.
-pub fn said(desk: Heap, answer: Result<Answer, Stop>) -> Result<String, Memory> {
-    match answer {
-        Ok(answer) => Ok(answer.text),
-        Err(stop) => Ok(format!(in desk; "{stop}")?),
-    }
-}
-
 /// Why a line has no answer.
 #[derive(Clone, Copy)]
 pub enum Stop {
@@ -55,8 +15,8 @@ pub enum Stop {
     Memory,
     /// The line is no call.
     NoCall,
-    /// Growths were refused, and the line isn't answered as it is to be then.
-    Failed(&'static str),
+    /// Memory ran out in what the line calls, and not for what is given and answered.
+    Refused,
     Path(PathError),
     Groups(GroupsError),
     Readers(ReadersError),
@@ -68,7 +28,7 @@ impl fmt::Display for Stop {
         match self {
             Stop::Memory => write!(f, "no memory for the line"),
             Stop::NoCall => write!(f, "no call"),
-            Stop::Failed(why) => write!(f, "failed: {why}"),
+            Stop::Refused => write!(f, "refused: {Memory}"),
             Stop::Path(e) => write!(f, "refused: {e}"),
             Stop::Groups(e) => write!(f, "refused: {e}"),
             Stop::Readers(e) => write!(f, "refused: {e}"),

@@ -3,9 +3,9 @@
 ghost use Rattle.std.specs.Prelude.{◌≡◌, IfOk};
 ghost use Rattle.doc_server_streams.specs.MemoryStreams.{failures_of};
 
-use doc_heap::Heap;
 use doc_page_parts::bytes::Bytes;
 use doc_page_parts::failure::Memory;
+use doc_page_parts::heap::Heap;
 use doc_server_streams::memory_stream::MemoryStream;
 
 /// What a stream is made of.

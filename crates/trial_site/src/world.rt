@@ -1,37 +1,29 @@
-//! What the calls of one world share.
+//! The hub of one world, and its calls.
 
-use crate::events::events_of;
 use crate::given::number_first;
-use crate::hubs::run_of;
-use crate::stop::{Answer, Stop};
-use doc_heap::{Heap, String, Vec};
-use doc_hub::event::{ConnId, Event};
+use crate::stop::Stop;
+use crate::times::push_answer;
 use doc_hub::hub::Hub;
-use doc_hub::outcome::Outcome;
 use doc_page::renderer::Renderer;
+use doc_page_parts::failure::Memory;
+use doc_page_parts::heap::{Heap, String};
 use doc_store::readers::Readers;
+use trial::run::Calls;
 use trial::written::text_of;
 
-/// The heap of the crates under trial, whose growths may be refused, and the heap of what is given and answered, whose growths never
-/// are.
-#[derive(Clone, Copy)]
-pub struct Heaps {
-    pub tried: Heap,
-    pub desk: Heap,
-}
+/// A refusal has room in so many bytes: so it is told also where all growths behind the first one are refused.
+const ROOM: usize = 64;
 
 /// What the calls of one world share.
 #[derive(Drop)]
 pub struct World<R: Renderer + Drop> {
-    pub heaps: Heaps,
+    pub heap: Heap,
     pub hub: Hub<R>,
-    /// Requests on other connections, as events, which are to be answered as before after each refused growth.
-    pub witness: Option<Vec<Event>>,
 }
 
 /// The world of a line `keep CACHE READERS`, or `close CACHE READERS` where no connection is kept alive.
 pub fn new_world<R: Renderer + Drop>(
-    heaps: Heaps,
+    heap: Heap,
     renderer: R,
     line: &str,
 ) -> Result<World<R>, Stop> {
@@ -39,11 +31,10 @@ pub fn new_world<R: Renderer + Drop>(
         keep_alive,
         cache,
         readers,
-    } = read_begin(heaps, line)?;
+    } = read_begin(heap, line)?;
     Ok(World {
-        heaps,
-        hub: Hub::new(heaps.tried, renderer, readers, keep_alive, cache)?,
-        witness: None,
+        heap,
+        hub: Hub::new(heap, renderer, readers, keep_alive, cache)?,
     })
 }
 
@@ -54,45 +45,45 @@ struct Begin {
     readers: Readers,
 }
 
-fn read_begin(heaps: Heaps, line: &str) -> Result<Begin, Stop> {
-    let Some(given) = text_of(heaps.desk, line)? else {
+fn read_begin(heap: Heap, line: &str) -> Result<Begin, Stop> {
+    let Some(given) = text_of(heap, line)? else {
         return Err(Stop::NoCall);
     };
-    let begin = begin_of(heaps.tried, &given);
+    let begin = begin_of(heap, &given);
     drop(given);
     begin
 }
 
-fn begin_of(tried: Heap, given: &str) -> Result<Begin, Stop> {
+fn begin_of(heap: Heap, given: &str) -> Result<Begin, Stop> {
     let (kind, rest) = given.split_once(' ').unwrap_or((given, ""));
     let (cache, readers) = number_first(rest)?;
     Ok(Begin {
         keep_alive: kind == "keep",
         cache: cache as usize,
-        readers: Readers::from_toml(tried, readers)?,
+        readers: Readers::from_toml(heap, readers)?,
     })
 }
 
-/// What comes of the witness's events, with ample memory; empty where there is no witness.
-pub fn witnessed<R: Renderer + Drop>(world: &mut World<R>) -> Result<String, Stop> {
-    let desk = world.heaps.desk;
-    let Some(events) = &world.witness else {
-        return Ok(String::new(desk));
-    };
-    let answer = run_of(desk, &mut world.hub, events)?;
-    Ok(answer.text)
-}
-
-/// What comes of a step on a connection once these bytes are pushed.
-pub fn asked<R: Renderer + Drop>(hub: &mut Hub<R>, id: ConnId, bytes: &[u8]) -> Outcome {
-    match hub.push(id, bytes) {
-        Ok(()) => Outcome::from(hub.step(id)),
-        refused => Outcome::from(refused),
+impl<R: Renderer + Drop> Calls for World<R> {
+    fn called(&mut self, heap: Heap, name: &str, given: &str) -> Result<String, Memory> {
+        let mut out = String::with_capacity(heap, ROOM)?;
+        match push_said(&mut out, self, name, given) {
+            Ok(()) => Ok(out),
+            Err(Memory) => Err(Memory),
+        }
     }
 }
 
-/// `EVENT ; EVENT ..`: has these events happen now, and after each refused growth from now on.
-pub fn set_witness<R: Renderer + Drop>(world: &mut World<R>, given: &str) -> Result<Answer, Stop> {
-    world.witness = Some(events_of(world.heaps.desk, given)?);
-    Ok(Answer::of(witnessed(world)?))
+/// Writes what is printed for a call.
+fn push_said<R: Renderer + Drop>(
+    out: &mut String,
+    world: &mut World<R>,
+    name: &str,
+    given: &str,
+) -> Result<(), Memory> {
+    match push_answer(out, world, name, given) {
+        Ok(()) => Ok(()),
+        Err(Stop::Memory) => Err(Memory),
+        Err(stop) => Ok(write!(out, "{stop}")?),
+    }
 }

@@ -1,7 +1,7 @@
 //! How bytes are written in answers.
 
-use doc_heap::String;
 use doc_page_parts::failure::Memory;
+use doc_page_parts::heap::String;
 
 /// Runs of as many equal bytes are written as a repetition.
 const LONG_RUN: u64 = 32;

@@ -11,9 +11,9 @@ use crate::leaf::kind::Kind;
 use crate::paragraph::paragraph_text;
 use doc_blocks_tags::tag::LeafBlock;
 use doc_blocks_tags::texts::Texts;
-use doc_heap::Heap;
 use doc_lines::entities::Entities;
 use doc_page_parts::failure::Memory;
+use doc_page_parts::heap::Heap;
 use doc_refs::RefMap;
 
 /// The block that an open leaf of these lines is, if it is one, with its texts in `texts`. The definitions that leave it join `refs`.

@@ -11,8 +11,8 @@ use super::TableError;
 use super::built_in::find_built_in;
 use super::row::{entity_of, is_row};
 use crate::lines::Lines;
-use doc_heap::{BTreeMap, Heap, String};
 use doc_page_parts::failure::Memory;
+use doc_page_parts::heap::{BTreeMap, Heap, String};
 
 /// The number of the first line that is no row, from 1.
 pub fn bad_line(text: &str) -> Option<usize>

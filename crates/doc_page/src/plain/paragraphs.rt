@@ -6,8 +6,8 @@ ghost use Rattle.doc_page_parts.specs.Pages.{is_empty};
 ghost use Rattle.doc_page.specs.ParagraphSteps.{lines_after};
 ghost use Rattle.doc_page.specs.Plain.{paragraphs, plain_texts};
 
-use doc_heap::{Heap, String, Vec};
 use doc_page_parts::failure::Memory;
+use doc_page_parts::heap::{Heap, String, Vec};
 use doc_page_parts::lines::Lines;
 use doc_page_parts::text::Text;
 use doc_page_parts::trimming::{stripped, without_ending};

@@ -8,18 +8,18 @@ use crate::sites::of_site::Site;
 use crate::sites::of_words::{query_told, words_told};
 use crate::sites::stop::{Stop, told, told_whether, written};
 use crate::sites::{of_cache, of_keys};
-use doc_heap::{Heap, String};
+use doc_page_parts::heap::{Heap, String};
 use doc_store::reader::Reader;
 
 /// What a call answers.
 pub fn called(trial: &mut Trial, name: &str, given: &str) -> Result<String, Stop> {
-    let heaps = trial.heaps;
+    let heap = trial.heap;
     match name {
-        "resolve" => resolved(heaps, given),
-        "words" => words_told(heaps, given),
-        "query" => query_told(heaps, given),
+        "resolve" => resolved(heap, given),
+        "words" => words_told(heap, given),
+        "query" => query_told(heap, given),
         "new" => renewed(trial),
-        "next_stamp" => written(heaps.desk, trial.site.store.next_stamp()),
+        "next_stamp" => written(heap, trial.site.store.next_stamp()),
         "watch" => watch(trial, given),
         "asked" => asked(trial),
         _ => of_tokens(trial, name, given),
@@ -28,60 +28,60 @@ pub fn called(trial: &mut Trial, name: &str, given: &str) -> Result<String, Stop
 
 /// Begins an empty site.
 fn renewed(trial: &mut Trial) -> Result<String, Stop> {
-    trial.site = Site::new(trial.heaps.tried);
-    told(trial.heaps.desk, "()")
+    trial.site = Site::new(trial.heap);
+    told(trial.heap, "()")
 }
 
 /// `PATH`: counts from now on how often a question asks whether the page of this path is seen.
 fn watch(trial: &mut Trial, given: &str) -> Result<String, Stop> {
-    trial.watched = String::from_str(trial.heaps.desk, given)?;
-    told(trial.heaps.desk, "()")
+    trial.watched = String::from_str(trial.heap, given)?;
+    told(trial.heap, "()")
 }
 
 /// How often the last question asked that.
 fn asked(trial: &Trial) -> Result<String, Stop> {
     if trial.asked <= 1 {
-        return written(trial.heaps.desk, "at most once");
+        return written(trial.heap, "at most once");
     }
-    written(trial.heaps.desk, trial.asked)
+    written(trial.heap, trial.asked)
 }
 
 /// A call of the readers: `reader TOKEN` is who the token stands for, `remove_reader TOKEN` whether it stood for one.
 fn of_tokens(trial: &mut Trial, name: &str, given: &str) -> Result<String, Stop> {
-    let desk = trial.heaps.desk;
+    let heap = trial.heap;
     match name {
-        "reader" => reader_told(desk, trial.readers.find(given)),
-        "remove_reader" => told_whether(desk, trial.readers.remove(given)),
-        "set_reader" | "find_reader" => behind_token(desk, &mut trial.readers, name, given),
+        "reader" => reader_told(heap, trial.readers.find(given)),
+        "remove_reader" => told_whether(heap, trial.readers.remove(given)),
+        "set_reader" | "find_reader" => behind_token(heap, &mut trial.readers, name, given),
         _ => of_keys(trial, name, given),
     }
 }
 
-fn reader_told(desk: Heap, reader: Option<&Reader>) -> Result<String, Stop> {
-    Ok(format!(in desk; "{reader:?}")?)
+fn reader_told(heap: Heap, reader: Option<&Reader>) -> Result<String, Stop> {
+    Ok(format!(in heap; "{reader:?}")?)
 }
 
 /// A call of the index by key.
 fn of_keys(trial: &mut Trial, name: &str, given: &str) -> Result<String, Stop> {
-    let heaps = trial.heaps;
+    let heap = trial.heap;
     match name {
-        "index" => of_keys::renewed(heaps, &mut trial.index),
-        "enter" => of_keys::entered(heaps.desk, &mut trial.index, given),
-        "copy" => of_keys::copied(heaps.desk, &mut trial.index, given),
-        "drop" => of_keys::dropped(heaps.desk, &mut trial.index, given),
-        "pages" => of_keys::listed(heaps, &trial.index, None),
-        "key" => of_keys::listed(heaps, &trial.index, Some(given)),
+        "index" => of_keys::renewed(heap, &mut trial.index),
+        "enter" => of_keys::entered(heap, &mut trial.index, given),
+        "copy" => of_keys::copied(heap, &mut trial.index, given),
+        "drop" => of_keys::dropped(heap, &mut trial.index, given),
+        "pages" => of_keys::listed(heap, &trial.index, None),
+        "key" => of_keys::listed(heap, &trial.index, Some(given)),
         _ => of_cache(trial, name, given),
     }
 }
 
 /// A call of the cache.
 fn of_cache(trial: &mut Trial, name: &str, given: &str) -> Result<String, Stop> {
-    let heaps = trial.heaps;
+    let heap = trial.heap;
     match name {
-        "cache" => of_cache::renewed(heaps, &mut trial.cache, given),
-        "keep" => of_cache::kept(heaps.desk, &mut trial.cache, given),
-        "look" => of_cache::looked(heaps.desk, &mut trial.cache, given),
+        "cache" => of_cache::renewed(heap, &mut trial.cache, given),
+        "keep" => of_cache::kept(heap, &mut trial.cache, given),
+        "look" => of_cache::looked(heap, &mut trial.cache, given),
         _ => of_pages(trial, name, given),
     }
 }
@@ -92,6 +92,6 @@ fn of_pages(trial: &mut Trial, name: &str, given: &str) -> Result<String, Stop> 
         "goal" | "sees" | "show" | "goals" | "decisions" => asked_by(trial, name, given),
         "contents" | "report" | "search" | "search_among" => asked_by(trial, name, given),
         "backlinks" | "backlinks_under" => asked_by(trial, name, given),
-        _ => at_path(trial.heaps, &mut trial.site, name, given),
+        _ => at_path(trial.heap, &mut trial.site, name, given),
     }
 }

@@ -3,7 +3,7 @@
 use crate::sites::call::called;
 use crate::sites::given::{Trial, last_word_of};
 use crate::sites::stop::Stop;
-use doc_heap::String;
+use doc_page_parts::heap::String;
 
 /// FNV-1a of 64 bits: where it begins, and what it multiplies by (the Internet-Draft on FNV, section 5).
 const OFFSET: u64 = 0xcbf2_9ce4_8422_2325;
@@ -13,7 +13,7 @@ const PRIME: u64 = 0x0000_0100_0000_01b3;
 /// `CALL ; CALL ; ..`: makes the calls, and answers FNV-1a of their answers with a LF behind each.
 pub fn digested(trial: &mut Trial, calls: &str) -> Result<String, Stop> {
     let value = digest_of(trial, calls)?;
-    Ok(format!(in trial.heaps.desk; "{value:016x}")?)
+    Ok(format!(in trial.heap; "{value:016x}")?)
 }
 
 /// `CALL ; CALL ; ..`: makes the calls, and answers what the last does.
@@ -33,7 +33,7 @@ fn answer_to(trial: &mut Trial, call: &str) -> Result<String, Stop> {
 }
 
 /// The number of what calls answer.
-pub fn digest_of(trial: &mut Trial, calls: &str) -> Result<u64, Stop> {
+fn digest_of(trial: &mut Trial, calls: &str) -> Result<u64, Stop> {
     let mut value = OFFSET;
     for call in calls.split(" ; ") {
         value = with_answer(trial, value, call)?;

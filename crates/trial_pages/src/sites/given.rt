@@ -3,32 +3,22 @@
 use crate::sites::of_site::Site;
 use crate::sites::stop::Stop;
 use doc_cache::cache::PageCache;
-use doc_heap::{Heap, String};
 use doc_index::index::Index;
+use doc_page_parts::heap::{Heap, String};
 use doc_page_parts::path::{Path, PathError};
 use doc_store::groups::{Groups, GroupsError};
 use doc_store::reader::Reader;
 use doc_store::readers::Readers;
 use trial::answer::{two_texts, word_and_text};
 
-/// The heap of the crates under trial, whose growths may be refused, and the heap of what is given and answered, whose growths never
-/// are.
-#[derive(Clone, Copy)]
-pub struct Heaps {
-    pub tried: Heap,
-    pub desk: Heap,
-}
-
 /// What the calls change.
 #[derive(Drop)]
 pub struct Trial {
-    pub heaps: Heaps,
+    pub heap: Heap,
     pub site: Site,
     pub readers: Readers,
     pub index: Index<u64>,
     pub cache: PageCache,
-    /// The calls whose answers a refused call must leave as they were. There are none at first.
-    pub witness: String,
     /// The path of the page of which it is counted how often a reader is asked for it, and how often that was for the last answer.
     pub watched: String,
     pub asked: u64,
@@ -36,23 +26,22 @@ pub struct Trial {
 
 impl Trial {
     /// Everything empty.
-    pub fn new(heaps: Heaps) -> Result<Trial, Stop> {
-        match PageCache::new(heaps.tried, 1) {
-            Ok(cache) => Trial::with_cache(heaps, cache),
+    pub fn new(heap: Heap) -> Result<Trial, Stop> {
+        match PageCache::new(heap, 1) {
+            Ok(cache) => Trial::with_cache(heap, cache),
             Err(_) => Err(Stop::Memory),
         }
     }
 
-    fn with_cache(heaps: Heaps, cache: PageCache) -> Result<Trial, Stop> {
-        match Readers::from_toml(heaps.tried, "") {
+    fn with_cache(heap: Heap, cache: PageCache) -> Result<Trial, Stop> {
+        match Readers::from_toml(heap, "") {
             Ok(readers) => Ok(Trial {
-                heaps,
-                site: Site::new(heaps.tried),
+                heap,
+                site: Site::new(heap),
                 readers,
-                index: Index::new(heaps.tried),
+                index: Index::new(heap),
                 cache,
-                witness: String::new(heaps.desk),
-                watched: String::new(heaps.desk),
+                watched: String::new(heap),
                 asked: 0,
             }),
             Err(_) => {
@@ -104,8 +93,8 @@ pub fn number_of(text: &str) -> Result<u64, Stop> {
 }
 
 /// The path that a text is.
-pub fn path_of(desk: Heap, text: &str) -> Result<Path, Stop> {
-    match Path::new(desk, text) {
+pub fn path_of(heap: Heap, text: &str) -> Result<Path, Stop> {
+    match Path::new(heap, text) {
         Ok(path) => Ok(path),
         Err(PathError::BadPath) => Err(Stop::NoCall),
         Err(PathError::Memory) => Err(Stop::Memory),
@@ -113,8 +102,8 @@ pub fn path_of(desk: Heap, text: &str) -> Result<Path, Stop> {
 }
 
 /// The groups of names with commas between them.
-pub fn groups_of(desk: Heap, names: &str) -> Result<Groups, Stop> {
-    match Groups::new(desk, names) {
+pub fn groups_of(heap: Heap, names: &str) -> Result<Groups, Stop> {
+    match Groups::new(heap, names) {
         Ok(groups) => Ok(groups),
         Err(GroupsError::Memory) => Err(Stop::Memory),
         Err(_) => Err(Stop::NoCall),
@@ -122,8 +111,8 @@ pub fn groups_of(desk: Heap, names: &str) -> Result<Groups, Stop> {
 }
 
 /// The reader that a text names: `owner`, or a reader of groups.
-pub fn reader_of(desk: Heap, text: &str) -> Result<Reader, Stop> {
+pub fn reader_of(heap: Heap, text: &str) -> Result<Reader, Stop> {
     let owner = text == "owner";
-    let groups = groups_of(desk, if owner { "" } else { text })?;
+    let groups = groups_of(heap, if owner { "" } else { text })?;
     Ok(Reader { owner, groups })
 }

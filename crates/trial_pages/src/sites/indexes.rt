@@ -2,9 +2,9 @@
 
 ghost use Rattle.doc_links.specs.PageLinks.{IsOnce};
 
-use doc_heap::Heap;
 use doc_links::LinkIndex;
 use doc_page_parts::failure::Memory;
+use doc_page_parts::heap::Heap;
 use doc_page_parts::path::Path;
 use doc_page_parts::rendered::Rendered;
 use doc_words::index::WordIndex;

@@ -1,17 +1,17 @@
 //! Calls of an index of pages, each held under a path and a stamp with a number as its value. Paths and keys have no spaces here.
 
-use crate::sites::given::{Heaps, last_word_of, number_of, path_of, word_of};
+use crate::sites::given::{last_word_of, number_of, path_of, word_of};
 use crate::sites::stop::{Stop, told, told_whether};
-use doc_heap::{BTreeMap, Heap, String};
 use doc_index::held::Held;
 use doc_index::index::Index;
 use doc_page_parts::failure::Memory;
+use doc_page_parts::heap::{BTreeMap, Heap, String};
 use doc_page_parts::path::Path;
 
 /// Begins an empty index.
-pub fn renewed(heaps: Heaps, index: &mut Index<u64>) -> Result<String, Stop> {
-    *index = Index::new(heaps.tried);
-    told(heaps.desk, "()")
+pub fn renewed(heap: Heap, index: &mut Index<u64>) -> Result<String, Stop> {
+    *index = Index::new(heap);
+    told(heap, "()")
 }
 
 /// A path and a stamp.
@@ -22,26 +22,26 @@ struct Place {
 }
 
 /// What begins with a path and a stamp, and the words behind them.
-fn place_of(desk: Heap, given: &str) -> Result<(Place, &str), Stop> {
+fn place_of(heap: Heap, given: &str) -> Result<(Place, &str), Stop> {
     let (path, rest) = word_of(given)?;
     let (stamp, rest) = last_word_of(rest);
     let stamp = number_of(stamp)?;
-    let path = path_of(desk, path)?;
+    let path = path_of(heap, path)?;
     Ok((Place { path, stamp }, rest))
 }
 
 /// `PATH STAMP VALUE KEY:COUNT ..`: holds a page, and answers whether there was none under that path and stamp.
-pub fn entered(desk: Heap, index: &mut Index<u64>, given: &str) -> Result<String, Stop> {
-    let (place, rest) = place_of(desk, given)?;
-    let is_free = enter(desk, index, &place, rest);
+pub fn entered(heap: Heap, index: &mut Index<u64>, given: &str) -> Result<String, Stop> {
+    let (place, rest) = place_of(heap, given)?;
+    let is_free = enter(heap, index, &place, rest);
     drop(place);
-    told_whether(desk, is_free?)
+    told_whether(heap, is_free?)
 }
 
-fn enter(desk: Heap, index: &mut Index<u64>, place: &Place, rest: &str) -> Result<bool, Stop> {
+fn enter(heap: Heap, index: &mut Index<u64>, place: &Place, rest: &str) -> Result<bool, Stop> {
     let (value, keys) = last_word_of(rest);
     let value = number_of(value)?;
-    let keys = keys_of(desk, keys)?;
+    let keys = keys_of(heap, keys)?;
     let is_free = add(index, place, value, &keys);
     drop(keys);
     Ok(is_free?)
@@ -60,40 +60,40 @@ fn add(
     Ok(true)
 }
 
-fn keys_of(desk: Heap, given: &str) -> Result<BTreeMap<String, u64>, Stop> {
-    let mut keys = BTreeMap::new(desk);
-    add_keys(desk, &mut keys, given)?;
+fn keys_of(heap: Heap, given: &str) -> Result<BTreeMap<String, u64>, Stop> {
+    let mut keys = BTreeMap::new(heap);
+    add_keys(heap, &mut keys, given)?;
     Ok(keys)
 }
 
-fn add_keys(desk: Heap, keys: &mut BTreeMap<String, u64>, given: &str) -> Result<(), Stop> {
+fn add_keys(heap: Heap, keys: &mut BTreeMap<String, u64>, given: &str) -> Result<(), Stop> {
     for key in given.split(' ') {
-        add_key(desk, keys, key)?;
+        add_key(heap, keys, key)?;
     }
     Ok(())
 }
 
 /// `KEY:COUNT`; anything else is no key.
-fn add_key(desk: Heap, keys: &mut BTreeMap<String, u64>, given: &str) -> Result<(), Stop> {
+fn add_key(heap: Heap, keys: &mut BTreeMap<String, u64>, given: &str) -> Result<(), Stop> {
     let Some((key, count)) = given.split_once(':') else {
         return Ok(());
     };
     let count = number_of(count)?;
-    let key = String::from_str(desk, key)?;
+    let key = String::from_str(heap, key)?;
     keys.insert(key, count)?;
     Ok(())
 }
 
 /// `PATH STAMP PATH STAMP VALUE`: holds a page with the keys of another, and answers likewise.
-pub fn copied(desk: Heap, index: &mut Index<u64>, given: &str) -> Result<String, Stop> {
-    let (from, rest) = place_of(desk, given)?;
-    let is_free = copy_from(desk, index, &from, rest);
+pub fn copied(heap: Heap, index: &mut Index<u64>, given: &str) -> Result<String, Stop> {
+    let (from, rest) = place_of(heap, given)?;
+    let is_free = copy_from(heap, index, &from, rest);
     drop(from);
-    told_whether(desk, is_free?)
+    told_whether(heap, is_free?)
 }
 
-fn copy_from(desk: Heap, index: &mut Index<u64>, from: &Place, rest: &str) -> Result<bool, Stop> {
-    let (to, value) = place_of(desk, rest)?;
+fn copy_from(heap: Heap, index: &mut Index<u64>, from: &Place, rest: &str) -> Result<bool, Stop> {
+    let (to, value) = place_of(heap, rest)?;
     let is_free = copy_to(index, from, &to, value);
     drop(to);
     is_free
@@ -109,28 +109,28 @@ fn copy_to(index: &mut Index<u64>, from: &Place, to: &Place, value: &str) -> Res
 }
 
 /// `PATH STAMP`: whether a page was there.
-pub fn dropped(desk: Heap, index: &mut Index<u64>, given: &str) -> Result<String, Stop> {
-    let (place, _) = place_of(desk, given)?;
+pub fn dropped(heap: Heap, index: &mut Index<u64>, given: &str) -> Result<String, Stop> {
+    let (place, _) = place_of(heap, given)?;
     let was_there = index.drop_page(&place.path, place.stamp);
     drop(place);
-    told_whether(desk, was_there)
+    told_whether(heap, was_there)
 }
 
 /// The pages with their values, or those that have a key with its counts.
-pub fn listed(heaps: Heaps, index: &Index<u64>, key: Option<&str>) -> Result<String, Stop> {
-    let slots = index.in_order(heaps.tried)?;
-    let told = told_of(heaps.desk, index, &slots, key);
+pub fn listed(heap: Heap, index: &Index<u64>, key: Option<&str>) -> Result<String, Stop> {
+    let slots = index.in_order(heap)?;
+    let told = told_of(heap, index, &slots, key);
     drop(slots);
     Ok(told?)
 }
 
 fn told_of(
-    desk: Heap,
+    heap: Heap,
     index: &Index<u64>,
     slots: &[u64],
     key: Option<&str>,
 ) -> Result<String, Memory> {
-    let mut out = String::new(desk);
+    let mut out = String::new(heap);
     push_pages(&mut out, index, slots, key)?;
     Ok(out)
 }

@@ -7,13 +7,12 @@ ghost use Rattle.doc_store.specs.Sites.{goal_in};
 ghost use Rattle.doc_words.specs.Searches.{pages_of};
 
 use crate::sites::counting::Counting;
-use crate::sites::given::Heaps;
 use crate::sites::indexes::STAMP;
 use crate::sites::of_answers::{hits_told, sources_told};
 use crate::sites::of_site::Site;
 use crate::sites::stop::Stop;
-use doc_heap::{Heap, String};
 use doc_links::LinkIndex;
+use doc_page_parts::heap::{Heap, String};
 use doc_page_parts::list::List;
 use doc_page_parts::path::Path;
 use doc_page_parts::sight::Sight;
@@ -25,13 +24,13 @@ use doc_words::word::Word;
 
 /// The text of the pages with links to a page that is held and seen.
 pub fn backlinks_to(
-    heaps: Heaps,
+    heap: Heap,
     site: &Site,
     reader: &Reader,
     target: &Path,
 ) -> Result<String, Stop> {
     let all = sources(&site.store, site.indexes.links(), reader, target)?;
-    let told = sources_told(heaps, all.get());
+    let told = sources_told(heap, all.get());
     drop(all);
     Ok(told?)
 }
@@ -62,14 +61,14 @@ fn sources(
 
 /// The text of the pages that have these words, of fewer than 100 that are seen.
 pub fn search_among(
-    heaps: Heaps,
+    heap: Heap,
     index: &WordIndex,
     sight: &Counting,
     words: &[Word],
 ) -> Result<String, Stop> {
-    let count = count_seen(heaps.desk, index, sight.plain())?;
-    let all = index.search_among(heaps.tried, words, sight, count)?;
-    let told = hits_told(heaps, all.get());
+    let count = count_seen(heap, index, sight.plain())?;
+    let all = index.search_among(heap, words, sight, count)?;
+    let told = hits_told(heap, all.get());
     drop(all);
     Ok(told?)
 }

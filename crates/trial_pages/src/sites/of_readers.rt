@@ -1,54 +1,54 @@
 //! What a site answers a reader, who is `owner` or has groups, and the readers of tokens.
 
 use crate::sites::counting::Counting;
-use crate::sites::given::{Heaps, Trial, last_of_two, path_of, reader_of, two};
+use crate::sites::given::{Trial, last_of_two, path_of, reader_of, two};
 use crate::sites::of_answers::{backlinks_to, contents, report, search};
 use crate::sites::of_links::links_told;
 use crate::sites::of_postings;
 use crate::sites::stop::{Stop, answered, written, written_made};
-use doc_heap::{Heap, String};
+use doc_page_parts::heap::{Heap, String};
 use doc_page_parts::linker::Linker;
 use doc_page_parts::path::Path;
 use doc_page_parts::sight::Sight;
 use doc_resolve::SiteLinker;
 use doc_store::reader::Reader;
-use doc_store::readers::Readers;
+use doc_store::readers::{ReaderError, Readers};
 
 /// `TOKEN | READER`.
 pub fn behind_token(
-    desk: Heap,
+    heap: Heap,
     readers: &mut Readers,
     name: &str,
     given: &str,
 ) -> Result<String, Stop> {
     let (token, reader) = two(given)?;
-    let reader = reader_of(desk, reader)?;
-    let told = of_token(desk, readers, name, token, &reader);
+    let reader = reader_of(heap, reader)?;
+    let told = of_token(heap, readers, name, token, &reader);
     drop(reader);
     told
 }
 
 /// `set_reader`, or whether that is the reader of a token.
 fn of_token(
-    desk: Heap,
+    heap: Heap,
     readers: &mut Readers,
     name: &str,
     token: &str,
     reader: &Reader,
 ) -> Result<String, Stop> {
     if name == "set_reader" {
-        return answered(desk, readers.set(token, reader));
+        return answered(heap, readers.set(token, reader), ReaderError::Memory);
     }
     match readers.find(token) {
-        Some(found) => written(desk, *found == *reader),
-        None => written(desk, "no reader"),
+        Some(found) => written(heap, *found == *reader),
+        None => written(heap, "no reader"),
     }
 }
 
 /// `READER` or `READER | REST`.
 pub fn asked_by(trial: &mut Trial, name: &str, given: &str) -> Result<String, Stop> {
     let (reader, rest) = last_of_two(given);
-    let reader = reader_of(trial.heaps.desk, reader)?;
+    let reader = reader_of(trial.heap, reader)?;
     let (answer, asked) = answer_of(trial, &reader, name, rest);
     drop(reader);
     trial.asked = asked;
@@ -76,9 +76,9 @@ fn answer_to(
 ) -> Result<String, Stop> {
     let indexes = &trial.site.indexes;
     match name {
-        "contents" => Ok(contents(trial.heaps, indexes.links(), sight)?),
-        "report" => Ok(report(trial.heaps, indexes.links(), sight)?),
-        "search" | "search_among" => search(trial.heaps, indexes.words(), sight, name, rest),
+        "contents" => Ok(contents(trial.heap, indexes.links(), sight)?),
+        "report" => Ok(report(trial.heap, indexes.links(), sight)?),
+        "search" | "search_among" => search(trial.heap, indexes.words(), sight, name, rest),
         _ => behind_path(trial, reader, sight, name, rest),
     }
 }
@@ -92,11 +92,11 @@ fn behind_path(
     given: &str,
 ) -> Result<String, Stop> {
     let (path, rest) = last_of_two(given);
-    let path = path_of(trial.heaps.desk, path)?;
+    let path = path_of(trial.heap, path)?;
     let told = match name {
-        "backlinks" => backlinks_to(trial.heaps, trial.site.indexes.links(), sight, &path),
-        "backlinks_under" => of_postings::backlinks_to(trial.heaps, &trial.site, reader, &path),
-        _ => of_path(trial.heaps, sight, name, &path, rest),
+        "backlinks" => backlinks_to(trial.heap, trial.site.indexes.links(), sight, &path),
+        "backlinks_under" => of_postings::backlinks_to(trial.heap, &trial.site, reader, &path),
+        _ => of_path(trial.heap, sight, name, &path, rest),
     };
     drop(path);
     told
@@ -108,33 +108,28 @@ fn behind_path(
 /// - `goals READER | PAGE | DESTINATION | ..`: the pages that the links of a page lead to for a reader, who is asked once it is known what
 ///   they lead to. `decisions ..`: the same by one call.
 fn of_path<'a>(
-    heaps: Heaps,
+    heap: Heap,
     sight: &'a Counting,
     name: &str,
     path: &'a Path,
     rest: &str,
 ) -> Result<String, Stop> {
     match name {
-        "goal" => goal_told(heaps.desk, sight.goal(path)),
-        "sees" => written(heaps.desk, sight.sees(path)),
-        "show" => shown(heaps, path, sight, rest),
-        _ => links_told(heaps, name, path, sight, rest),
+        "goal" => goal_told(heap, sight.goal(path)),
+        "sees" => written(heap, sight.sees(path)),
+        "show" => shown(heap, path, sight, rest),
+        _ => links_told(heap, name, path, sight, rest),
     }
 }
 
-fn shown<'a>(
-    heaps: Heaps,
-    page: &'a Path,
-    sight: &'a Counting,
-    dest: &str,
-) -> Result<String, Stop> {
+fn shown<'a>(heap: Heap, page: &'a Path, sight: &'a Counting, dest: &str) -> Result<String, Stop> {
     let linker = SiteLinker::new(page, sight);
-    written_made(heaps.desk, linker.show(heaps.tried, dest))
+    written_made(heap, linker.show(heap, dest))
 }
 
-fn goal_told(desk: Heap, goal: Option<&Path>) -> Result<String, Stop> {
+fn goal_told(heap: Heap, goal: Option<&Path>) -> Result<String, Stop> {
     match goal {
-        Some(goal) => written(desk, goal.text()),
-        None => written(desk, "nowhere"),
+        Some(goal) => written(heap, goal.text()),
+        None => written(heap, "nowhere"),
     }
 }

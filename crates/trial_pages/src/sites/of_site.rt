@@ -3,7 +3,7 @@
 use crate::sites::indexes::Indexes;
 use crate::sites::page::{Kind, page_of};
 use crate::sites::stop::Stop;
-use doc_heap::Heap;
+use doc_page_parts::heap::Heap;
 use doc_page_parts::path::Path;
 use doc_page_parts::rendered::Rendered;
 use doc_store::groups::Groups;
@@ -26,16 +26,16 @@ impl Site {
     }
 
     /// What is made of the page of a path.
-    fn page(&self, desk: Heap, path: &Path) -> Result<Rendered, Stop> {
+    fn page(&self, heap: Heap, path: &Path) -> Result<Rendered, Stop> {
         match self.store.get(path) {
-            Some(page) => page_of(desk, Kind::Lines, page.text()),
+            Some(page) => page_of(heap, Kind::Lines, page.text()),
             None => Err(Stop::NoCall),
         }
     }
 
     /// Holds the page of a path in the index of links for `add_links`, in that of words for `add_words`, and else in both.
-    pub fn hold(&mut self, desk: Heap, path: &Path, name: &str) -> Result<(), Stop> {
-        let page = self.page(desk, path)?;
+    pub fn hold(&mut self, heap: Heap, path: &Path, name: &str) -> Result<(), Stop> {
+        let page = self.page(heap, path)?;
         let held = match name {
             "add_links" => self.indexes.add_links(path, &page),
             "add_words" => self.indexes.add_words(path, &page),
@@ -48,14 +48,14 @@ impl Site {
     /// Puts a page into the store and both indexes.
     pub fn put(
         &mut self,
-        desk: Heap,
+        heap: Heap,
         path: &Path,
         groups: &Groups,
         text: &str,
     ) -> Result<Result<Put, EditError>, Stop> {
         let put = self.store.put(path, groups, text);
         if put.is_ok() {
-            self.hold(desk, path, "put")?;
+            self.hold(heap, path, "put")?;
         }
         Ok(put)
     }
@@ -63,14 +63,14 @@ impl Site {
     /// Moves a page, in both indexes too.
     pub fn move_page(
         &mut self,
-        desk: Heap,
+        heap: Heap,
         from: &Path,
         to: &Path,
     ) -> Result<Result<(), MoveError>, Stop> {
         let moved = self.store.move_page(from, to);
         if moved.is_ok() {
             self.indexes.remove(from);
-            self.hold(desk, to, "move")?;
+            self.hold(heap, to, "move")?;
         }
         Ok(moved)
     }

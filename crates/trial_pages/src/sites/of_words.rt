@@ -1,32 +1,31 @@
 //! Calls of words and queries.
 
-use crate::sites::given::Heaps;
 use crate::sites::page::{Kind, page_of};
 use crate::sites::stop::{Stop, written};
-use doc_heap::{Heap, String};
 use doc_page_parts::failure::Memory;
+use doc_page_parts::heap::{Heap, String};
 use doc_page_parts::rendered::Rendered;
 use doc_words::query::{QueryError, query};
 use doc_words::word::Word;
 use doc_words::words::words;
 
 /// `TEXT | TEXT ..`: the words of a page of these texts, each with its count.
-pub fn words_told(heaps: Heaps, given: &str) -> Result<String, Stop> {
-    let page = page_of(heaps.desk, Kind::Texts, given)?;
-    let told = words_of(heaps, &page);
+pub fn words_told(heap: Heap, given: &str) -> Result<String, Stop> {
+    let page = page_of(heap, Kind::Texts, given)?;
+    let told = words_of(heap, &page);
     drop(page);
     Ok(told?)
 }
 
-fn words_of(heaps: Heaps, page: &Rendered) -> Result<String, Memory> {
-    let counts = words(heaps.tried, page)?;
-    let told = counts_told(heaps.desk, counts.get());
+fn words_of(heap: Heap, page: &Rendered) -> Result<String, Memory> {
+    let counts = words(heap, page)?;
+    let told = counts_told(heap, counts.get());
     drop(counts);
     told
 }
 
-fn counts_told(desk: Heap, counts: &[(Word, u64)]) -> Result<String, Memory> {
-    let mut out = String::new(desk);
+fn counts_told(heap: Heap, counts: &[(Word, u64)]) -> Result<String, Memory> {
+    let mut out = String::new(heap);
     push_counts(&mut out, counts)?;
     Ok(out)
 }
@@ -40,20 +39,20 @@ fn push_counts(out: &mut String, counts: &[(Word, u64)]) -> Result<(), Memory> {
 }
 
 /// `TEXT`: the words of a query, or why it has none.
-pub fn query_told(heaps: Heaps, given: &str) -> Result<String, Stop> {
-    match query(heaps.tried, given) {
+pub fn query_told(heap: Heap, given: &str) -> Result<String, Stop> {
+    match query(heap, given) {
         Ok(words) => {
-            let told = listed(heaps.desk, words.get());
+            let told = listed(heap, words.get());
             drop(words);
             Ok(told?)
         }
-        Err(QueryError::Memory) => Err(Stop::Memory),
-        Err(e) => written(heaps.desk, e),
+        Err(QueryError::Memory) => Err(Stop::Refused),
+        Err(e) => written(heap, e),
     }
 }
 
-fn listed(desk: Heap, words: &[Word]) -> Result<String, Memory> {
-    let mut out = String::new(desk);
+fn listed(heap: Heap, words: &[Word]) -> Result<String, Memory> {
+    let mut out = String::new(heap);
     push_words(&mut out, words)?;
     Ok(out)
 }

@@ -3,8 +3,8 @@
 
 use crate::sites::given::word_of;
 use crate::sites::stop::Stop;
-use doc_heap::{Heap, Vec};
 use doc_page_parts::failure::Memory;
+use doc_page_parts::heap::{Heap, Vec};
 use doc_page_parts::list::List;
 use doc_page_parts::rendered::{Heading, LinkSpot, Piece, Rendered};
 use doc_page_parts::text::Text;

@@ -1,15 +1,17 @@
 //! Why a line has no answer.
 
-use doc_heap::{Heap, String};
 use doc_page_parts::failure::Memory;
+use doc_page_parts::heap::{Heap, String};
 use std::alloc::{AllocError, AllocFailed};
 use std::fmt::Debug;
 use trial::answer::shown;
 
 /// Why a line has no answer.
-#[derive(Clone, Copy, PartialEq, Eq)]
+#[derive(Clone, Copy)]
 pub enum Stop {
-    /// No memory was left.
+    /// The call had no memory.
+    Refused,
+    /// No memory was left for what is printed, perhaps behind the call.
     Memory,
     /// The line is no call.
     NoCall,
@@ -17,7 +19,7 @@ pub enum Stop {
 
 impl From<Memory> for Stop {
     fn from(_e: Memory) -> Stop {
-        Stop::Memory
+        Stop::Refused
     }
 }
 
@@ -33,34 +35,37 @@ impl<T: Drop> From<AllocFailed<T>> for Stop {
     }
 }
 
-/// What is printed for what a call answers or is refused for, which may be `Memory`.
-pub fn answered<T: Debug + Drop, E: Debug + Drop>(
-    desk: Heap,
+/// What is printed for what a call answers or is refused for, which may be want of memory.
+pub fn answered<T: Copy + Debug + Drop, E: Copy + Debug + Drop + PartialEq>(
+    heap: Heap,
     answer: Result<T, E>,
+    memory: E,
 ) -> Result<String, Stop> {
-    let text = shown(desk, answer)?;
-    if text.as_str() == "Err(Memory)" {
-        return Err(Stop::Memory);
+    match answer {
+        Err(error) if error == memory => Err(Stop::Refused),
+        _ => written(heap, answer),
     }
-    Ok(text)
 }
 
 /// What is printed for a value.
-pub fn written<T: Debug + Drop>(desk: Heap, value: T) -> Result<String, Stop> {
-    Ok(shown(desk, value)?)
+pub fn written<T: Debug + Drop>(heap: Heap, value: T) -> Result<String, Stop> {
+    match shown(heap, value) {
+        Ok(text) => Ok(text),
+        Err(Memory) => Err(Stop::Memory),
+    }
 }
 
 /// The same, where memory did not run out for it.
-pub fn written_made<T: Debug + Drop>(desk: Heap, made: Result<T, Memory>) -> Result<String, Stop> {
-    written(desk, made?)
+pub fn written_made<T: Debug + Drop>(heap: Heap, made: Result<T, Memory>) -> Result<String, Stop> {
+    written(heap, made?)
 }
 
 /// What is printed for a value that is written so.
-pub fn told(desk: Heap, text: &str) -> Result<String, Stop> {
-    Ok(String::from_str(desk, text)?)
+pub fn told(heap: Heap, text: &str) -> Result<String, Stop> {
+    Ok(String::from_str(heap, text)?)
 }
 
 /// What is printed for whether something is so.
-pub fn told_whether(desk: Heap, is_so: bool) -> Result<String, Stop> {
-    told(desk, if is_so { "true" } else { "false" })
+pub fn told_whether(heap: Heap, is_so: bool) -> Result<String, Stop> {
+    told(heap, if is_so { "true" } else { "false" })
 }

@@ -1,7 +1,7 @@
 //! A linker that shows no link.
 
-use doc_heap::Heap;
 use doc_page_parts::failure::Memory;
+use doc_page_parts::heap::Heap;
 use doc_page_parts::linker::{Linker, Shown};
 
 /// Shows no link.

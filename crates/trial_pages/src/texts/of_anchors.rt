@@ -1,10 +1,10 @@
 //! Calls of `doc_html_anchors`.
 
 use crate::texts::of_filling;
-use crate::texts::tools::{Tools, shown_made};
-use doc_heap::{BTreeMap, Heap, String, Vec};
+use crate::texts::tools::Tools;
 use doc_html_anchors::anchors_of;
 use doc_page_parts::failure::Memory;
+use doc_page_parts::heap::{BTreeMap, Heap, String, Vec};
 use doc_page_parts::list::List;
 use doc_page_parts::text::Text;
 use trial::answer::no_call;
@@ -20,43 +20,34 @@ pub fn called(tools: Tools<'_>, name: &str, given: &str) -> Result<String, Memor
 
 /// `HEADING | HEADING ..`: the anchors of headings with these texts.
 fn anchors(tools: Tools<'_>, given: &str) -> Result<String, Memory> {
-    let anchors = anchors_for(tools, given)?;
-    let told = shown_each(tools.desk, anchors.get());
+    let mut headings = Vec::new(tools.heap);
+    let pushed = push_headings(tools.heap, &mut headings, given);
+    let anchors = anchors_unless(tools.heap, pushed, headings)?;
+    let told = shown_each(tools.heap, anchors.get());
     drop(anchors);
     told
 }
 
-fn shown_each(desk: Heap, anchors: &[Text]) -> Result<String, Memory> {
-    Ok(format!(in desk; "{anchors:?}")?)
-}
-
-/// The same as a list.
-pub fn shown_anchors(tools: Tools<'_>, given: &str) -> Result<String, Memory> {
-    shown_made(tools.desk, anchors_for(tools, given))
-}
-
-fn anchors_for(tools: Tools<'_>, given: &str) -> Result<List<Text>, Memory> {
-    let mut headings = Vec::new(tools.desk);
-    let pushed = push_headings(tools.desk, &mut headings, given);
-    anchors_unless(tools.tried, pushed, headings)
+fn shown_each(heap: Heap, anchors: &[Text]) -> Result<String, Memory> {
+    Ok(format!(in heap; "{anchors:?}")?)
 }
 
 fn anchors_unless(
-    tried: Heap,
+    heap: Heap,
     pushed: Result<(), Memory>,
     headings: Vec<Text>,
 ) -> Result<List<Text>, Memory> {
     let anchors = match pushed {
-        Ok(()) => anchors_of(tried, &headings),
+        Ok(()) => anchors_of(heap, &headings),
         Err(Memory) => Err(Memory),
     };
     drop(headings);
     anchors
 }
 
-fn push_headings(desk: Heap, headings: &mut Vec<Text>, given: &str) -> Result<(), Memory> {
+fn push_headings(heap: Heap, headings: &mut Vec<Text>, given: &str) -> Result<(), Memory> {
     for heading in given.split(" | ") {
-        headings.push(Text::copy_of(desk, heading)?)?;
+        headings.push(Text::copy_of(heap, heading)?)?;
     }
     Ok(())
 }
@@ -64,34 +55,34 @@ fn push_headings(desk: Heap, headings: &mut Vec<Text>, given: &str) -> Result<()
 /// `N`: the anchors of N headings `A`.
 fn anchors_of_equal(tools: Tools<'_>, given: &str) -> Result<String, Memory> {
     let Ok(count) = given.parse::<usize>() else {
-        return no_call(tools.desk);
+        return no_call(tools.heap);
     };
-    let mut headings = Vec::new(tools.desk);
-    let pushed = push_equal(tools.desk, &mut headings, count);
-    let anchors = anchors_unless(tools.tried, pushed, headings)?;
-    let told = shown_ends(tools.desk, anchors.get());
+    let mut headings = Vec::new(tools.heap);
+    let pushed = push_equal(tools.heap, &mut headings, count);
+    let anchors = anchors_unless(tools.heap, pushed, headings)?;
+    let told = shown_ends(tools.heap, anchors.get());
     drop(anchors);
     told
 }
 
-fn push_equal(desk: Heap, headings: &mut Vec<Text>, count: usize) -> Result<(), Memory> {
+fn push_equal(heap: Heap, headings: &mut Vec<Text>, count: usize) -> Result<(), Memory> {
     for _ in 0..count {
-        headings.push(Text::copy_of(desk, "A")?)?;
+        headings.push(Text::copy_of(heap, "A")?)?;
     }
     Ok(())
 }
 
 /// The first and the last of some anchors, and how many different ones there are.
-fn shown_ends(desk: Heap, anchors: &[Text]) -> Result<String, Memory> {
+fn shown_ends(heap: Heap, anchors: &[Text]) -> Result<String, Memory> {
     let first = anchors.first();
     let last = anchors.last();
-    let different = different(desk, anchors)?;
-    Ok(format!(in desk; "Ends {{ first: {first:?}, last: {last:?}, different: {different} }}")?)
+    let different = different(heap, anchors)?;
+    Ok(format!(in heap; "Ends {{ first: {first:?}, last: {last:?}, different: {different} }}")?)
 }
 
 /// How many of the texts differ from all before them.
-fn different(desk: Heap, texts: &[Text]) -> Result<usize, Memory> {
-    let mut seen: BTreeMap<&str, ()> = BTreeMap::new(desk);
+fn different(heap: Heap, texts: &[Text]) -> Result<usize, Memory> {
+    let mut seen: BTreeMap<&str, ()> = BTreeMap::new(heap);
     for text in texts {
         seen.insert(text.get(), ())?;
     }

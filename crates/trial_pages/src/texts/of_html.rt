@@ -3,41 +3,36 @@
 use crate::texts::hides::Hides;
 use crate::texts::of_anchors;
 use crate::texts::printed::{compared, printed_made};
-use crate::texts::tools::{Tools, shown_made};
+use crate::texts::tools::Tools;
 use doc_blocks::blocks;
-use doc_heap::String;
 use doc_html::{render_plain, to_html};
 use doc_page_parts::failure::Memory;
+use doc_page_parts::heap::String;
 use doc_page_parts::text::Text;
 use trial::answer::{no_call, two_texts};
 
 /// What is printed for a call of this name.
 pub fn called(tools: Tools<'_>, name: &str, given: &str) -> Result<String, Memory> {
     match name {
-        "html" => printed_made(tools.desk, rendered(tools, given)),
+        "html" => printed_made(tools.heap, rendered(tools, given)),
         "html_is" => is_html(tools, given),
         "html_of_runs" => html_of_runs(tools, given),
-        "html_without_links" => printed_made(tools.desk, html_without_links(tools, given)),
+        "html_without_links" => printed_made(tools.heap, html_without_links(tools, given)),
         _ => of_anchors::called(tools, name, given),
     }
 }
 
 fn rendered(tools: Tools<'_>, text: &str) -> Result<Text, Memory> {
-    render_plain(tools.tried, text, tools.entities)
-}
-
-/// The HTML of a text in quotes.
-pub fn shown_html(tools: Tools<'_>, text: &str) -> Result<String, Memory> {
-    shown_made(tools.desk, rendered(tools, text))
+    render_plain(tools.heap, text, tools.entities)
 }
 
 /// `TEXT | HTML`: whether this is the text's HTML, and else where they differ.
 fn is_html(tools: Tools<'_>, given: &str) -> Result<String, Memory> {
     let Some((text, wanted)) = two_texts(given) else {
-        return no_call(tools.desk);
+        return no_call(tools.heap);
     };
     let html = rendered(tools, text)?;
-    let told = compared(tools.desk, html.get(), wanted);
+    let told = compared(tools.heap, html.get(), wanted);
     drop(html);
     told
 }
@@ -45,9 +40,9 @@ fn is_html(tools: Tools<'_>, given: &str) -> Result<String, Memory> {
 /// `N`: whether `a` and runs of 1 to N backticks, each behind a space, are one paragraph of that text.
 fn html_of_runs(tools: Tools<'_>, given: &str) -> Result<String, Memory> {
     let Ok(most) = given.parse::<usize>() else {
-        return no_call(tools.desk);
+        return no_call(tools.heap);
     };
-    let mut text = String::from_str(tools.desk, "a")?;
+    let mut text = String::from_str(tools.heap, "a")?;
     let told = html_of_more_runs(tools, &mut text, most);
     drop(text);
     told
@@ -56,7 +51,7 @@ fn html_of_runs(tools: Tools<'_>, given: &str) -> Result<String, Memory> {
 fn html_of_more_runs(tools: Tools<'_>, text: &mut String, most: usize) -> Result<String, Memory> {
     push_runs(text, most)?;
     let text = text.as_str();
-    let both = format!(in tools.desk; "{text} | <p>{text}</p>\n")?;
+    let both = format!(in tools.heap; "{text} | <p>{text}</p>\n")?;
     let told = is_html(tools, &both);
     drop(both);
     told
@@ -79,8 +74,8 @@ fn push_backticks(text: &mut String, length: usize) -> Result<(), Memory> {
 
 /// The HTML of a text by a linker that shows no link.
 fn html_without_links(tools: Tools<'_>, text: &str) -> Result<Text, Memory> {
-    let document = blocks(tools.tried, text, tools.entities)?;
-    let html = to_html(tools.tried, &document, tools.entities, &Hides);
+    let document = blocks(tools.heap, text, tools.entities)?;
+    let html = to_html(tools.heap, &document, tools.entities, &Hides);
     drop(document);
     html
 }

@@ -3,10 +3,10 @@
 
 use crate::texts::of_html;
 use crate::texts::of_refs::refs_of;
-use crate::texts::tools::{Tools, shown_made};
-use doc_heap::{Heap, String};
+use crate::texts::tools::Tools;
 use doc_inlines::{Mark, Span, inlines, inlines_counted};
 use doc_page_parts::failure::Memory;
+use doc_page_parts::heap::{Heap, String};
 use doc_refs::{RefMap, Target};
 use trial::answer::{no_call, number_and_text, shown, two_texts};
 
@@ -25,13 +25,8 @@ pub fn called(tools: Tools<'_>, name: &str, given: &str) -> Result<String, Memor
 fn with_definitions(tools: Tools<'_>, given: &str) -> Result<String, Memory> {
     match two_texts(given) {
         Some((definitions, text)) => written(tools, definitions, text),
-        None => no_call(tools.desk),
+        None => no_call(tools.heap),
     }
-}
-
-/// The same as a text in quotes.
-pub fn shown_marks(tools: Tools<'_>, given: &str) -> Result<String, Memory> {
-    shown_made(tools.desk, with_definitions(tools, given))
 }
 
 /// Whether the marks of a text are that text.
@@ -39,22 +34,22 @@ fn are_text(tools: Tools<'_>, text: &str) -> Result<String, Memory> {
     let read = written(tools, "", text)?;
     let is_text = read.as_str() == text;
     drop(read);
-    shown(tools.desk, is_text)
+    shown(tools.heap, is_text)
 }
 
 /// `N TEXT`: whether the searches for openers look at N runs at most.
 fn look_at(tools: Tools<'_>, given: &str) -> Result<String, Memory> {
     let Some((most, text)) = number_and_text(given) else {
-        return no_call(tools.desk);
+        return no_call(tools.heap);
     };
-    let refs = RefMap::new(tools.tried);
+    let refs = RefMap::new(tools.heap);
     let looked = looked(tools, &refs, text);
     drop(refs);
-    shown(tools.desk, looked? <= most as u64)
+    shown(tools.heap, looked? <= most as u64)
 }
 
 fn looked(tools: Tools<'_>, refs: &RefMap, text: &str) -> Result<u64, Memory> {
-    let (_marks, looked) = inlines_counted(tools.tried, text, refs, tools.entities)?;
+    let (_marks, looked) = inlines_counted(tools.heap, text, refs, tools.entities)?;
     Ok(looked)
 }
 
@@ -67,14 +62,14 @@ fn written(tools: Tools<'_>, definitions: &str, text: &str) -> Result<String, Me
 }
 
 fn written_with(tools: Tools<'_>, refs: &RefMap, text: &str) -> Result<String, Memory> {
-    let marks = inlines(tools.tried, text, refs, tools.entities)?;
-    let written = written_marks(tools.desk, &marks);
+    let marks = inlines(tools.heap, text, refs, tools.entities)?;
+    let written = written_marks(tools.heap, &marks);
     drop(marks);
     written
 }
 
-fn written_marks(desk: Heap, marks: &[Mark]) -> Result<String, Memory> {
-    let mut out = String::new(desk);
+fn written_marks(heap: Heap, marks: &[Mark]) -> Result<String, Memory> {
+    let mut out = String::new(heap);
     match push_marks(&mut out, marks) {
         Ok(()) => Ok(out),
         Err(Memory) => Err(Memory),

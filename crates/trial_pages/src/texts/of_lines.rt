@@ -1,14 +1,15 @@
 //! Calls of `doc_lines` that answer for a line, a character or a whole text.
 
 use crate::texts::of_scanners;
-use crate::texts::tools::{Tools, shown_made};
-use doc_heap::{Heap, String};
+use crate::texts::tools::{Tools, refused, shown_made};
 use doc_lines::characters::{is_punctuation, is_white};
 use doc_lines::cursor::Cursor;
 use doc_lines::entities::{Entities, TableError};
 use doc_lines::lines::Lines;
+use doc_lines::pushing::{push_char, push_characters, push_text};
 use doc_lines::{html_tag, unescape};
 use doc_page_parts::failure::Memory;
+use doc_page_parts::heap::{Heap, String};
 use trial::answer::{
     no_call, number_and_text, only_char, shown, shown_if, two_texts, word_and_text,
 };
@@ -21,28 +22,29 @@ type Spot = (usize, u128, bool, Option<char>);
 
 /// What is printed for a call of this name.
 pub fn called(tools: Tools<'_>, name: &str, given: &str) -> Result<String, Memory> {
-    let desk = tools.desk;
+    let heap = tools.heap;
     match name {
-        "is_white" => shown_if(desk, only_char(given).map(is_white)),
-        "is_punctuation" => shown_if(desk, only_char(given).map(is_punctuation)),
-        "lines" => lines(desk, given),
-        "next" => shown_if(desk, after(given)),
-        "skip" => shown_if(desk, skipped(given)),
-        "walk" => walked(desk, given),
-        "entity" => shown(desk, tools.entities.find(given)),
+        "is_white" => shown_if(heap, only_char(given).map(is_white)),
+        "is_punctuation" => shown_if(heap, only_char(given).map(is_punctuation)),
+        "lines" => lines(heap, given),
+        "next" => shown_if(heap, after(given)),
+        "skip" => shown_if(heap, skipped(given)),
+        "walk" => walked(heap, given),
+        "entity" => shown(heap, tools.entities.find(given)),
         "table_entity" => table_entity(tools, given),
-        "table_refusal" => table_refusal(tools, given),
-        "unescape" => unescaped(tools, given),
+        "table_refusal" => table_refusal(heap, given),
+        "unescape" => shown_made(heap, unescape(heap, given, tools.entities)),
         "unescape_by_table" => unescaped_by_table(tools, given),
         "unescape_length" => unescaped_length(tools, given),
-        "html_tag" => shown(desk, html_tag(given)),
+        "html_tag" => shown(heap, html_tag(given)),
+        "push_text" | "push_char" | "push_characters" => pushed(heap, name, given),
         _ => of_scanners::called(tools, name, given),
     }
 }
 
 /// The lines of a text, each with a comma behind it.
-fn lines(desk: Heap, text: &str) -> Result<String, Memory> {
-    let mut out = String::new(desk);
+fn lines(heap: Heap, text: &str) -> Result<String, Memory> {
+    let mut out = String::new(heap);
     match push_lines(&mut out, text) {
         Ok(()) => Ok(out),
         Err(Memory) => Err(Memory),
@@ -77,8 +79,8 @@ fn skipped(given: &str) -> Option<(usize, Spot)> {
 /// `MOVES LINE`, where MOVES are numbers with `,` between two, 0 for `next` and another for `skip` with this number: for each move the spot
 /// before it, as a copy of the cursor gives it after the move, and what the move answers; then the last spot with what is left of the
 /// line.
-fn walked(desk: Heap, given: &str) -> Result<String, Memory> {
-    let mut out = String::new(desk);
+fn walked(heap: Heap, given: &str) -> Result<String, Memory> {
+    let mut out = String::new(heap);
     match push_walk(&mut out, given) {
         Ok(()) => Ok(out),
         Err(Memory) => Err(Memory),
@@ -121,17 +123,14 @@ fn spot(cursor: &Cursor) -> Spot {
 }
 
 /// `NAME TABLE`: the characters of the name with the table, or its refusal.
-pub fn table_entity(tools: Tools<'_>, given: &str) -> Result<String, Memory> {
+fn table_entity(tools: Tools<'_>, given: &str) -> Result<String, Memory> {
     let Some((name, table)) = word_and_text(given) else {
-        return no_call(tools.desk);
+        return no_call(tools.heap);
     };
-    let entities = Entities::from_table(tools.tried, table);
+    let entities = Entities::from_table(tools.heap, table);
     let found = found_by(&entities, name);
     drop(entities);
-    match found {
-        Err(TableError::Memory) => Err(Memory),
-        _ => shown(tools.desk, found),
-    }
+    shown(tools.heap, found)
 }
 
 fn found_by(
@@ -144,29 +143,19 @@ fn found_by(
     }
 }
 
-/// `N TABLE`: the text of the refusal of the table where N growths are granted.
-fn table_refusal(tools: Tools<'_>, given: &str) -> Result<String, Memory> {
-    let Some((growths, table)) = number_and_text(given) else {
-        return no_call(tools.desk);
-    };
-    tools.tried.refuse_after(growths as u64);
-    let refusal = Entities::from_table(tools.tried, table).err();
-    tools.tried.refuse_after(u64::MAX);
+/// The text of the refusal of a table.
+fn table_refusal(heap: Heap, table: &str) -> Result<String, Memory> {
+    let refusal = Entities::from_table(heap, table).err();
     match refusal {
-        Some(error) => Ok(format!(in tools.desk; "{error}")?),
-        None => shown(tools.desk, refusal),
+        Some(error) => Ok(format!(in heap; "{error}")?),
+        None => shown(heap, refusal),
     }
 }
 
-/// The text with its escapes and references read.
-pub fn unescaped(tools: Tools<'_>, text: &str) -> Result<String, Memory> {
-    shown_made(tools.desk, unescape(tools.tried, text, tools.entities))
-}
-
-/// `TABLE | TEXT`: the same by the names of a table.
-pub fn unescaped_by_table(tools: Tools<'_>, given: &str) -> Result<String, Memory> {
+/// `TABLE | TEXT`: the text with its escapes and references read by the names of a table.
+fn unescaped_by_table(tools: Tools<'_>, given: &str) -> Result<String, Memory> {
     let (table, text) = two_texts(given).unwrap_or(("", ""));
-    let entities = Entities::from_table(tools.desk, table);
+    let entities = Entities::from_table(tools.heap, table);
     let told = unescaped_by(tools, &entities, text);
     drop(entities);
     told
@@ -178,19 +167,54 @@ fn unescaped_by(
     text: &str,
 ) -> Result<String, Memory> {
     match entities {
-        Ok(entities) => shown_made(tools.desk, unescape(tools.tried, text, entities)),
-        Err(error) => shown(tools.desk, *error),
+        Ok(entities) => shown_made(tools.heap, unescape(tools.heap, text, entities)),
+        Err(error) => shown(tools.heap, *error),
     }
 }
 
 /// How many bytes and how many characters the text has with its escapes and references read.
 fn unescaped_length(tools: Tools<'_>, text: &str) -> Result<String, Memory> {
-    let read = unescape(tools.tried, text, tools.entities)?;
+    let read = unescape(tools.heap, text, tools.entities)?;
     let lengths = lengths(read.get());
     drop(read);
-    shown(tools.desk, lengths)
+    shown(tools.heap, lengths)
 }
 
 fn lengths(text: &str) -> (usize, usize) {
     (text.len(), text.chars().count())
+}
+
+/// `TEXT | END`: whether a text, one character, or one or two stand at the end of a text once they were pushed there.
+fn pushed(heap: Heap, name: &str, given: &str) -> Result<String, Memory> {
+    let (text, end) = two_texts(given).unwrap_or(("", ""));
+    let mut out = String::from_str(heap, text)?;
+    let pushed = push_end(&mut out, name, end);
+    let is_right = has_pushed(&out, text, end, pushed);
+    drop(out);
+    shown_made(heap, is_right)
+}
+
+fn push_end(out: &mut String, name: &str, end: &str) -> Result<(), Memory> {
+    let mut characters = end.chars();
+    let first = characters.next().unwrap_or('?');
+    match name {
+        "push_text" => push_text(out, end),
+        "push_char" => push_char(out, first),
+        _ => push_characters(out, (first, characters.next())),
+    }
+}
+
+fn has_pushed(
+    out: &str,
+    text: &str,
+    end: &str,
+    pushed: Result<(), Memory>,
+) -> Result<bool, Memory> {
+    match pushed {
+        Err(Memory) => refused(out == text),
+        Ok(()) => match out.strip_prefix(text) {
+            Some(rest) => Ok(rest == end),
+            None => Ok(false),
+        },
+    }
 }

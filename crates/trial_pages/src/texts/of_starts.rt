@@ -9,9 +9,9 @@ use doc_blocks_starts::indentation::{after_indent, indent_up_to, is_blank_line, 
 use doc_blocks_starts::item::{ListKind, take_item};
 use doc_blocks_starts::quote::take_quote;
 use doc_blocks_starts::thematic_break::is_thematic_break;
-use doc_heap::String;
 use doc_lines::cursor::Cursor;
 use doc_page_parts::failure::Memory;
+use doc_page_parts::heap::String;
 use trial::answer::{char_and_text, number_and_text, only_char, shown, shown_if, word_and_text};
 
 /// What stands behind a marker of a block quote: its columns of indentation, 9 at most, and the text behind them.
@@ -23,35 +23,35 @@ type Item<'a> = (ListKind, u32, usize, usize, &'a str);
 
 /// What is printed for a call of this name.
 pub fn called(tools: Tools<'_>, name: &str, given: &str) -> Result<String, Memory> {
-    let desk = tools.desk;
+    let heap = tools.heap;
     match name {
-        "is_thematic_break" => shown(desk, is_thematic_break(given)),
-        "atx_heading" => shown(desk, heading(given)),
-        "underline_level" => shown(desk, underline_level(given)),
-        "opening_fence" => shown_if(desk, fence(given)),
-        "is_closed_by" => shown_if(desk, is_closed_by(given)),
-        "html_start" => shown(desk, html_start(given)),
-        "html_kind" => shown_if(desk, html_kind(given)),
-        "html_ends_with" => shown_if(desk, html_ends_with(given)),
-        "indent_up_to" => shown_if(desk, indent(given)),
-        "is_same" => shown_if(desk, is_same(given)),
+        "is_thematic_break" => shown(heap, is_thematic_break(given)),
+        "atx_heading" => shown(heap, heading(given)),
+        "underline_level" => shown(heap, underline_level(given)),
+        "opening_fence" => shown_if(heap, fence(given)),
+        "is_closed_by" => shown_if(heap, is_closed_by(given)),
+        "html_start" => shown(heap, html_start(given)),
+        "html_kind" => shown_if(heap, html_kind(given)),
+        "html_ends_with" => shown_if(heap, html_ends_with(given)),
+        "indent_up_to" => shown_if(heap, indent(given)),
+        "is_same" => shown_if(heap, is_same(given)),
         _ => in_line(tools, name, &Cursor::new(given), given),
     }
 }
 
 /// What is printed for a call of this name that is made on what is left of a line.
 fn in_line(tools: Tools<'_>, name: &str, line: &Cursor, given: &str) -> Result<String, Memory> {
-    let desk = tools.desk;
+    let heap = tools.heap;
     match name {
-        "after_indent" => shown(desk, after_indent(line)),
-        "is_blank_line" => shown(desk, is_blank_line(line)),
-        "marker_text" => shown(desk, marker_text(line)),
-        "quote" => shown(desk, quoted(line)),
-        "quote_in_quote" => shown(desk, quoted_twice(line)),
-        "item" => shown(desk, item(line)),
-        "item_in_quote" => shown(desk, item_in_quote(line)),
-        "item_in_two_quotes" => shown(desk, item_in_two_quotes(line)),
-        "item_may_interrupt" => shown(desk, may_interrupt(line)),
+        "after_indent" => shown(heap, after_indent(line)),
+        "is_blank_line" => shown(heap, is_blank_line(line)),
+        "marker_text" => shown(heap, marker_text(line)),
+        "quote" => shown(heap, quoted(line)),
+        "quote_in_quote" => shown(heap, quoted_twice(line)),
+        "item" => shown(heap, item(line)),
+        "item_in_quote" => shown(heap, item_in_quote(line)),
+        "item_in_two_quotes" => shown(heap, item_in_two_quotes(line)),
+        "item_may_interrupt" => shown(heap, may_interrupt(line)),
         _ => of_refs::called(tools, name, given),
     }
 }

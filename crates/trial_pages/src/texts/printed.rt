@@ -1,19 +1,19 @@
 //! How texts are printed, and where two of them differ.
 
-use doc_heap::{Heap, String};
 use doc_page_parts::failure::Memory;
+use doc_page_parts::heap::{Heap, String};
 use doc_page_parts::text::Text;
 
 /// The text as it would be written in the input, on one line, where memory did not run out for it.
-pub fn printed_made(desk: Heap, made: Result<Text, Memory>) -> Result<String, Memory> {
+pub fn printed_made(heap: Heap, made: Result<Text, Memory>) -> Result<String, Memory> {
     let text = made?;
-    let told = printed(desk, text.get());
+    let told = printed(heap, text.get());
     drop(text);
     told
 }
 
-fn printed(desk: Heap, text: &str) -> Result<String, Memory> {
-    let mut out = String::new(desk);
+fn printed(heap: Heap, text: &str) -> Result<String, Memory> {
+    let mut out = String::new(heap);
     match push_printed(&mut out, text) {
         Ok(()) => Ok(out),
         Err(Memory) => Err(Memory),
@@ -37,12 +37,12 @@ fn push_printed(out: &mut String, text: &str) -> Result<(), Memory> {
 type Difference = (Option<char>, Option<char>, usize);
 
 /// `same`, or where the texts differ.
-pub fn compared(desk: Heap, found: &str, wanted: &str) -> Result<String, Memory> {
+pub fn compared(heap: Heap, found: &str, wanted: &str) -> Result<String, Memory> {
     if found == wanted {
-        return Ok(String::from_str(desk, "same")?);
+        return Ok(String::from_str(heap, "same")?);
     }
     let (found, wanted, place) = difference(found, wanted);
-    Ok(format!(in desk; "{found:?} and not {wanted:?} behind {place} characters")?)
+    Ok(format!(in heap; "{found:?} and not {wanted:?} behind {place} characters")?)
 }
 
 fn difference(found: &str, wanted: &str) -> Difference {

@@ -8,8 +8,8 @@
 ghost use Rattle.std.specs.Prelude.{◌≡◌, false};
 ghost use Rattle.doc_server_journal.specs.FileDevices.{has_failed};
 
-use doc_heap::{Heap, String};
 use doc_page_parts::failure::Memory;
+use doc_page_parts::heap::{Heap, String};
 use doc_server_journal::file_device::FileDevice;
 use doc_server_journal::file_fault::FileFault;
 use doc_server_journal::journal::Journal;

@@ -6,9 +6,9 @@
 //!   that it comes in a row.
 
 use crate::listen::told::push_told;
-use doc_heap::{Heap, String, Vec};
 use doc_page_parts::bytes::Bytes;
 use doc_page_parts::failure::Memory;
+use doc_page_parts::heap::{Heap, String, Vec};
 use doc_server_journal::fault::OpenFault;
 use doc_server_journal::journal::Journal;
 use doc_server_journal::memory::MemoryDevice;

@@ -1,6 +1,6 @@
 //! A peer of the server.
 
-use doc_heap::{Heap, Vec};
+use doc_page_parts::heap::{Heap, Vec};
 use mio::net::TcpStream;
 use std::io::{ErrorKind, Read, Write};
 use std::net::{Net, SocketAddr};

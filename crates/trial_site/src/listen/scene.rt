@@ -2,9 +2,9 @@
 
 use crate::listen::peer::Peer;
 use crate::listen::served::{Bounds, Served};
-use doc_heap::{Heap, Vec};
 use doc_hub::hub::Hub;
 use doc_page::renderer::Renderer;
+use doc_page_parts::heap::{Heap, Vec};
 use doc_store::readers::Readers;
 use std::net::Net;
 use std::rt::Clock;

@@ -5,10 +5,10 @@ ghost use Rattle.doc_server_journal.specs.Journals.{IsOpen};
 ghost use Rattle.doc_server_journal.specs.Memories.{has_failed, memory_leaves, memory_seen};
 ghost use Rattle.doc_server_poll.specs.Keepings.{IsReady};
 
-use doc_heap::Heap;
 use doc_hub::hub::Hub;
 use doc_page::renderer::Renderer;
 use doc_page_parts::bytes::Bytes;
+use doc_page_parts::heap::Heap;
 use doc_server_journal::device::Device;
 use doc_server_journal::journal::Journal;
 use doc_server_journal::memory::MemoryDevice;
@@ -136,17 +136,15 @@ fn keeping_of<R: Renderer + Drop>(
     ensures { IfSome result (IsReady memory_seen memory_leaves has_failed) }
 {
     let device = device_of(heap, calls, file)?;
-    let opened: Option<Journal<MemoryDevice>> = open_journal(heap, device, file.len(), hub);
-    match opened {
+    match open_journal(heap, device, file.len(), hub) {
         Some(journal) => Some(Keeping::Keeps(journal)),
         None => None,
     }
 }
 
-/// The journal of a device, opened, and its edits made on a site. The type of the heap is left open, since a call that names it beside a
-/// hub can't be proved.
-fn open_journal<D: Device + Drop, E: Edits, H: Into<Heap>>(
-    heap: H,
+/// The journal of a device, opened, and its edits made on a site.
+fn open_journal<D: Device + Drop, E: Edits>(
+    heap: Heap,
     device: D,
     most: usize,
     site: &mut E,
@@ -155,7 +153,6 @@ fn open_journal<D: Device + Drop, E: Edits, H: Into<Heap>>(
     ensures { IfSome result (λ journal. (texts : List (List ℕ))
         × IsOpen D.seen D.may_leave D.failed journal texts) }
 {
-    let heap = heap.into();
     match Journal::open(heap, device, most) {
         Ok(Opened { journal, texts }) => {
             let restored = restore(heap, site, texts.get());

@@ -1,7 +1,7 @@
 //! How bytes are printed.
 
-use doc_heap::String;
 use doc_page_parts::failure::Memory;
+use doc_page_parts::heap::String;
 use std::str::from_utf8;
 
 /// Up to how many bytes are printed as a text.

@@ -1,7 +1,5 @@
 use Rattle.std.proofs.Common.{◌≡◌, ◌∙◌, ap, sym, arith, length, List}
 use Rattle.std.proofs.Common.{Vec, Global}
-use denote.Bor.{Bor}
-use Rattle.doc_heap.specs.declared.refusing.Refusing.{Refusing}
 use Rattle.doc_blocks_tags.specs.Tags.{tags_of, tags_shown}
 use Rattle.doc_blocks_tags.specs.OpenTags.{Entry, open_tags}
 use Rattle.doc_blocks.specs.StackSteps.{Stack}
@@ -16,7 +14,7 @@ returns c =
     let f = c.finish_list.new.self in
     let e = c.in_ok-finish_list.ensures in
     let h = e.sound in
-    let none : length f.outer.items ≡ 0 = ap (λ (v : Vec Open (Bor (Refusing Global))). length v.items) e.outer
+    let none : length f.outer.items ≡ 0 = ap (λ (v : Vec Open Global). length v.items) e.outer
     ∙ omega (arith, c.requires.closed) in
     let nothing = none_sound f.outer.items h.entries none (bare_fits f.inner.list h.entries (AreSound (frames_of f.outer.items)) e.bare
     h.fits)
