@@ -48,8 +48,8 @@ pub fn run_listen<
     }
 }
 
-/// The same with any renderer, as a result. All pages stand, and the journal's edits are made, before the address is bound; peers are accepted behind the
-/// line that tells it.
+/// The same with any renderer, as a result. All pages stand, and the journal's edits are made, before the address is bound; peers are
+/// accepted behind the line that tells it.
 fn listen_with<
     R: Renderer + Drop,
     P: AllocGlobal + Clock + Eprint + Files<File = File> + Net + Print,
