@@ -26,6 +26,8 @@ from listening import Client, Refused, Server, Tally
 program, scratch, kills = sys.argv[1], sys.argv[2], int(sys.argv[3])
 tally = Tally()
 chance = random.Random(1)
+# Of the kills, which draw as often as the clock has it: so the edits behind them are the same in each run.
+moment = random.Random(2)
 CALLS = ("openat", "flock", "pread64", "pwrite64", "fsync", "ftruncate", "unlink", "rename", "fchown", "fchmod", "readlink", "write")
 CONFIG, JOURNAL = "site/config.toml", f"{scratch}/journal"
 with open(CONFIG, "rb") as file:
@@ -147,11 +149,11 @@ same("whole", wanted)
 outcomes = {"the old journal": 0, "the old journal, with a new one begun": 0, "the new journal": 0, "another": 0}
 for number in range(kills):
     put(large)
-    if os.path.exists(JOURNAL + ".compacting") and chance.random() < 0.5:
+    if os.path.exists(JOURNAL + ".compacting") and moment.random() < 0.5:
         os.remove(JOURNAL + ".compacting")
     words = [program, "compact", CONFIG, "--journal", JOURNAL]
     process = subprocess.Popen(words, stdin=subprocess.DEVNULL, stdout=subprocess.DEVNULL, stderr=subprocess.DEVNULL)
-    time.sleep(chance.random() * took * 1.5)
+    time.sleep(moment.random() * took * 1.5)
     process.kill()
     process.wait()
     begun = os.path.exists(JOURNAL + ".compacting")
