@@ -12,7 +12,7 @@ ghost use Rattle.doc_words.specs.Words.{query_of};
 
 use crate::answer::Answer;
 use crate::exchange::Exchange;
-use crate::goals::goal_reply;
+use crate::goals::goal_answer;
 use doc_http::request::Request;
 use doc_http::status::Status;
 use doc_http_targets::query::parameter;
@@ -21,6 +21,7 @@ use doc_page::renderer::Renderer;
 use doc_page_parts::failure::Memory;
 use doc_page_parts::heap::Heap;
 use doc_page_parts::list::List;
+use doc_page_parts::path::Path;
 use doc_shelf::Shelf;
 use doc_store::reader::Reader;
 use doc_words::query::{QueryError, query};
@@ -50,14 +51,26 @@ pub fn backlinks_answer<R: Renderer + Drop>(
         (R.page shelf.now.0) (view_of shelf.now.1.site (Some reader.now))
         (path_written rest.now)))) }
 {
-    let Some(path) = written_path(exchange.heap, rest)? else {
-        return exchange.status(Status::NotFound);
-    };
-    let Some(lines) = shelf.backlinks(&path, reader)? else {
-        let sight = shelf.store().sight(reader);
-        return exchange.reply(goal_reply(exchange.heap, "/backlinks/", &path, &sight)?);
-    };
-    exchange.content(false, &lines)
+    match written_path(exchange.heap, rest)? {
+        Some(path) => backlinks_under(exchange, shelf, reader, &path),
+        None => exchange.status(Status::NotFound),
+    }
+}
+
+/// The same of a path.
+fn backlinks_under<R: Renderer + Drop>(
+    exchange: &Exchange,
+    shelf: &Shelf<R>,
+    reader: &Reader,
+    path: &Path,
+) -> Result<Answer, Memory>
+    ensures { IfOk result (λ a. a ≡ sent_in exchange.now (only_reply (backlinks_at
+        (R.page shelf.now.0) (view_of shelf.now.1.site (Some reader.now)) (Some path.now)))) }
+{
+    match shelf.backlinks(path, reader)? {
+        Some(lines) => exchange.content(false, &lines),
+        None => goal_answer(exchange, "/backlinks/", path, &shelf.store().sight(reader)),
+    }
 }
 
 /// The pages that the reader sees and that have each word of the query, the best first.

@@ -8,11 +8,12 @@ ghost use Rattle.doc_hub_answers.specs.Replies.{at_path, only_reply};
 
 use crate::answer::Answer;
 use crate::exchange::Exchange;
-use crate::goals::goal_reply;
+use crate::goals::goal_answer;
 use doc_http::status::Status;
 use doc_http_targets::written_path::written_path;
 use doc_page::renderer::Renderer;
 use doc_page_parts::failure::Memory;
+use doc_page_parts::path::Path;
 use doc_shelf::Shelf;
 use doc_store::reader::Reader;
 
@@ -30,13 +31,26 @@ pub fn answer_at<R: Renderer + Drop>(
         (path_written rest.now)))) }
     ensures same { shelf.new ≡ shelf.old }
 {
-    let Some(path) = written_path(exchange.heap, rest)? else {
-        return exchange.status(Status::NotFound);
-    };
-    let shown = shelf.page(&path, reader, exchange.head_only(), exchange.close)?;
-    let Some(bytes) = shown else {
-        let sight = shelf.store().sight(reader);
-        return exchange.reply(goal_reply(exchange.heap, "/page/", &path, &sight)?);
-    };
-    Ok(exchange.sent(bytes))
+    match written_path(exchange.heap, rest)? {
+        Some(path) => answer_under(exchange, shelf, reader, &path),
+        None => exchange.status(Status::NotFound),
+    }
+}
+
+/// The same of a path.
+fn answer_under<R: Renderer + Drop>(
+    exchange: &Exchange,
+    shelf: &mut Shelf<R>,
+    reader: &Reader,
+    path: &Path,
+) -> Result<Answer, Memory>
+    ensures answer { IfOk result (λ a. a ≡ sent_in exchange.now
+        (only_reply (at_path (R.page shelf.old.0) (view_of shelf.old.1.site (Some reader.now))
+        (Some path.now)))) }
+    ensures same { shelf.new ≡ shelf.old }
+{
+    match shelf.page(path, reader, exchange.head_only(), exchange.close)? {
+        Some(bytes) => Ok(exchange.sent(bytes)),
+        None => goal_answer(exchange, "/page/", path, &shelf.store().sight(reader)),
+    }
 }
