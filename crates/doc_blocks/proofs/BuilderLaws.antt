@@ -7,10 +7,10 @@ use Rattle.doc_rules.specs.Entities.{Table}
 use Rattle.doc_rules.specs.ContainerStarts.{ItemStart, item_may_interrupt}
 use Rattle.doc_rules.specs.Trees.{Situation, NoParagraph, InParagraph, LazyParagraph, has_no_paragraph, item_may_begin, LeafLines}
 use Rattle.doc_rules.specs.Blocks.{Blocks}
-use Rattle.doc_refs.specs.Targets.{Targets, targets_of, joined}
-use Rattle.doc_blocks_pass.specs.Leaves.{OpenLeaf, NoLeaf, OpenParagraph, OpenCode, OpenFence, OpenHtml, open_of}
-use Rattle.doc_blocks_pass.specs.Paths.{Level, Here, finished, finished_list}
-use Rattle.doc_blocks_pass.specs.OpenBlocks.{paragraph_continued}
+use Rattle.doc_refs_parts.specs.Targets.{Targets, targets_of, joined}
+use Rattle.doc_blocks_leaves.specs.Leaves.{OpenLeaf, NoLeaf, OpenParagraph, OpenCode, OpenFence, OpenHtml, open_of}
+use Rattle.doc_blocks_leaves.specs.Paths.{Level, Here, finished, finished_list}
+use Rattle.doc_blocks_leaves.specs.OpenBlocks.{paragraph_continued}
 use Rattle.doc_blocks_leaves.specs.OpenLeaves.{is_open, paragraph_text, leaf_continued, underlined, with_underlined, underlined_references}
 use Rattle.doc_blocks_leaves.specs.OpenLeaves.{with_begun}
 use Rattle.doc_blocks.specs.StackSteps.{Outer, Stack, with_inner_blocks, block_begun}

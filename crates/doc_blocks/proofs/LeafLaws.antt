@@ -4,24 +4,22 @@ use Rattle.std.proofs.Common.{drop, length, refl, ap, sym, subst, None}
 use Rattle.std.proofs.lemmas.List.{drop_all, length-take-le}
 use Rattle.doc_rules.specs.Characters.{Text}
 use Rattle.doc_rules.specs.Lines.{line_content, lines_of}
-use Rattle.doc_rules.specs.Columns.{Line, cells_of, indent, is_blank_line}
+use Rattle.doc_rules.specs.Columns.{Line, cells_of, indent, is_blank_line, text_of}
 use Rattle.doc_rules.specs.Entities.{Table}
 use Rattle.doc_rules.specs.Definitions.{Definition}
 use Rattle.doc_rules.specs.LeafStarts.{closes_fence}
 use Rattle.doc_rules.specs.HtmlStarts.{ends_before_blank, ends_html}
-use Rattle.doc_rules.specs.Columns.{text_of}
-use Rattle.doc_rules.specs.Trees.{Situation, InParagraph, has_no_paragraph, LeafLines, NewLeaf, Underline}
-use Rattle.doc_rules.specs.Trees.{line_text}
+use Rattle.doc_rules.specs.Trees.{Situation, InParagraph, has_no_paragraph, LeafLines, NewLeaf, Underline, line_text}
 use Rattle.doc_rules.specs.Blocks.{Blocks, Document, document_of}
-use Rattle.doc_refs.specs.Targets.{Targets, targets_of, joined}
+use Rattle.doc_refs_parts.specs.Targets.{Targets, targets_of, joined}
 use Rattle.doc_refs_parts.proofs.MapLaws.{joins_definitions}
-use Rattle.doc_blocks_pass.specs.Leaves.{OpenLeaf, NoLeaf, OpenParagraph, OpenCode, OpenFence, OpenHtml, open_of, open_references}
-use Rattle.doc_blocks_pass.specs.Leaves.{with_open, code_with, kept_with, fence_with, html_with, taken, Taken, NotTaken, GoesOn, Closes}
-use Rattle.doc_blocks_pass.specs.Paths.{Level, Path, empty_path, Here, begun_at, finished, with_blocks}
-use Rattle.doc_blocks_pass.specs.Closing.{leaf_closed, closed, path_references}
-use Rattle.doc_blocks_pass.specs.OpenBlocks.{Moved, start_step, level_for, leaf_put, leaf_begun, underlined_path, paragraph_continued}
-use Rattle.doc_blocks_pass.specs.OpenBlocks.{text_put, leaf_takes, line_step, line_steps, path_document, one_pass}
-use Rattle.doc_blocks_pass.proofs.OnePassLaws.{one_pass_suffices}
+use Rattle.doc_blocks_leaves.specs.Leaves.{OpenLeaf, NoLeaf, OpenParagraph, OpenCode, OpenFence, OpenHtml, open_of, open_references}
+use Rattle.doc_blocks_leaves.specs.Leaves.{with_open, code_with, kept_with, fence_with, html_with, taken, Taken, NotTaken, GoesOn, Closes}
+use Rattle.doc_blocks_leaves.specs.Paths.{Level, Path, empty_path, Here, begun_at, finished, with_blocks}
+use Rattle.doc_blocks_leaves.specs.Closing.{leaf_closed, closed, path_references}
+use Rattle.doc_blocks_leaves.specs.OpenBlocks.{Moved, start_step, level_for, leaf_put, leaf_begun, underlined_path, paragraph_continued}
+use Rattle.doc_blocks_leaves.specs.OpenBlocks.{text_put, leaf_takes, line_step, line_steps, path_document, one_pass}
+use Rattle.doc_blocks_leaves.proofs.OnePassLaws.{one_pass_suffices}
 use Rattle.doc_blocks.specs.StackSteps.{Outer, inside, path_at, block_begun}
 use Rattle.doc_blocks.specs.PathSteps.{moved_within, stopped, room_behind, situation_in, GoesDown}
 use Rattle.doc_blocks.specs.StateSteps.{State, below, met, shown, reached, leaf_done, all_closed, leaf_opened, blank_met, leaf_behind}

@@ -7,18 +7,18 @@ use Rattle.doc_rules.specs.Forests.{none, ◌▹◌, node}
 use Rattle.doc_rules.specs.Blocks.{Blocks, Leaf, Container}
 use Rattle.doc_rules.specs.ContainerStarts.{ListKind, is_same_kind}
 use Rattle.doc_blocks_starts.specs.Items.{kind_of}
-use Rattle.doc_blocks_pass.specs.Paths as paths
-use Rattle.doc_blocks_pass.specs.Paths.{empty_level, gone_on, finished}
-use Rattle.doc_blocks_pass.specs.Closing.{container_closed, item_closed}
-use Rattle.doc_blocks_tags.specs.Tags.{Tag, OneLeaf, Start, End, tags_of, leaf_shown, tag_shown, tags_shown}
-use Rattle.doc_blocks_tags.specs.Tags.{container_shown as container_block}
-use Rattle.doc_blocks_tags.specs.OpenTags as tags
-use Rattle.doc_blocks_tags.specs.OpenTags.{Entry, read, open_tags}
-use Rattle.doc_blocks_tags.specs.declared.tag.Tag as code
-use Rattle.doc_blocks_tags.specs.declared.tag.Tag.TheVariants as tag
-use Rattle.doc_blocks_tags.specs.declared.tag.LeafBlock.{LeafBlock}
-use Rattle.doc_blocks_tags.specs.declared.tag.ContainerBlock.{ContainerBlock}
-use Rattle.doc_blocks_tags.proofs.TagLaws.{read_open, open_leaf, open_end, open_turned}
+use Rattle.doc_blocks_leaves.specs.Paths as paths
+use Rattle.doc_blocks_leaves.specs.Paths.{empty_level, gone_on, finished}
+use Rattle.doc_blocks_leaves.specs.Closing.{container_closed, item_closed}
+use Rattle.doc_blocks_starts.specs.Tags.{Tag, OneLeaf, Start, End, tags_of, leaf_shown, tag_shown, tags_shown}
+use Rattle.doc_blocks_starts.specs.Tags.{container_shown as container_block}
+use Rattle.doc_blocks_starts.specs.OpenTags as tags
+use Rattle.doc_blocks_starts.specs.OpenTags.{Entry, read, open_tags}
+use Rattle.doc_blocks_starts.specs.declared.tag.Tag as code
+use Rattle.doc_blocks_starts.specs.declared.tag.Tag.TheVariants as tag
+use Rattle.doc_blocks_starts.specs.declared.tag.LeafBlock.{LeafBlock}
+use Rattle.doc_blocks_starts.specs.declared.tag.ContainerBlock.{ContainerBlock}
+use Rattle.doc_blocks_starts.proofs.TagLaws.{read_open, open_leaf, open_end, open_turned}
 use Rattle.doc_blocks.specs.declared.levels.OpenList.{OpenList}
 use Rattle.doc_blocks.specs.declared.levels.Level.{Level}
 use Rattle.doc_blocks.specs.declared.levels.Open.{Open}

@@ -5,12 +5,12 @@ use Rattle.std.proofs.lemmas.List.{take-append-le, drop-append-le, take_all, dro
 use Rattle.doc_rules.specs.Columns.{Line}
 use Rattle.doc_rules.specs.Entities.{Table}
 use Rattle.doc_rules.specs.Trees.{Situation}
-use Rattle.doc_blocks_pass.specs.Leaves.{OpenLeaf, NoLeaf, OpenParagraph, OpenCode, OpenFence, OpenHtml, taken, Taken, NotTaken, GoesOn}
-use Rattle.doc_blocks_pass.specs.Leaves.{Closes, open_references}
-use Rattle.doc_blocks_pass.specs.Paths.{Level, OpenQuote, OpenItem, Path, Here, Inside, matched_open, gone_on}
-use Rattle.doc_blocks_pass.specs.Paths.{lazy_path_situation, paragraph_of}
-use Rattle.doc_blocks_pass.specs.Closing.{container_closed, leaf_closed, closed, path_blank, path_references}
-use Rattle.doc_blocks_pass.specs.OpenBlocks.{Moved, moved_inside, start_step, leaf_takes, line_step, paragraph_continued}
+use Rattle.doc_blocks_leaves.specs.Leaves.{OpenLeaf, NoLeaf, OpenParagraph, OpenCode, OpenFence, OpenHtml, taken, Taken, NotTaken, GoesOn}
+use Rattle.doc_blocks_leaves.specs.Leaves.{Closes, open_references}
+use Rattle.doc_blocks_leaves.specs.Paths.{Level, OpenQuote, OpenItem, Path, Here, Inside, matched_open, gone_on}
+use Rattle.doc_blocks_leaves.specs.Paths.{lazy_path_situation, paragraph_of}
+use Rattle.doc_blocks_leaves.specs.Closing.{container_closed, leaf_closed, closed, path_blank, path_references}
+use Rattle.doc_blocks_leaves.specs.OpenBlocks.{Moved, moved_inside, start_step, leaf_takes, line_step, paragraph_continued}
 use Rattle.doc_blocks.specs.StackSteps.{Outer, Stack, inside, container_blank, ClosesLast}
 use Rattle.doc_blocks.specs.PathSteps.{Descent, further, behind_these, descended, gone_on_at, moved_within, room_behind, stopped, lazy_leaf}
 use Rattle.doc_blocks.specs.PathSteps.{situation_in, closed_in, blank_in, closed_to}

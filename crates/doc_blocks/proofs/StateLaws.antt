@@ -9,17 +9,16 @@ use Rattle.doc_rules.specs.Definitions.{Definition}
 use Rattle.doc_rules.specs.Destinations.{Target}
 use Rattle.doc_rules.specs.ContainerStarts.{ListKind, ItemStart, quote_start, item_start}
 use Rattle.doc_rules.specs.Trees.{Situation, NoParagraph, LeafStart, leaf_begins, item_may_begin}
-use Rattle.doc_refs.specs.Targets.{Targets, targets_of, joined}
+use Rattle.doc_refs_parts.specs.Targets.{Targets, targets_of, joined}
 use Rattle.doc_refs_parts.proofs.MapLaws.{same_targets, first_of, get-joined, joined-empty, joins_definitions}
-use Rattle.doc_blocks_pass.specs.Leaves.{NoLeaf, open_references}
-use Rattle.doc_blocks_pass.specs.Paths.{Level, OpenQuote, OpenItem, Path, Inside, empty_path, begun_at, item_begun_at}
-use Rattle.doc_blocks_pass.specs.Closing.{closed, path_blank, path_references}
-use Rattle.doc_blocks_pass.specs.OpenBlocks.{Moved, quote_put, item_put, item_first, start_step, leaf_begun, text_put, item_step}
-use Rattle.doc_blocks_pass.specs.OpenBlocks.{leaf_or_item_step, leaf_step}
+use Rattle.doc_blocks_leaves.specs.Leaves.{NoLeaf, open_references}
+use Rattle.doc_blocks_leaves.specs.Paths.{Level, OpenQuote, OpenItem, Path, Inside, empty_path, begun_at, item_begun_at}
+use Rattle.doc_blocks_leaves.specs.Closing.{closed, path_blank, path_references}
+use Rattle.doc_blocks_leaves.specs.OpenBlocks.{Moved, quote_put, item_put, item_first, start_step, leaf_begun, text_put, item_step}
+use Rattle.doc_blocks_leaves.specs.OpenBlocks.{leaf_or_item_step, leaf_step}
 use Rattle.doc_blocks.specs.StackSteps.{Outer, inside, path_at}
 use Rattle.doc_blocks.specs.PathSteps.{situation_in, item_moved}
-use Rattle.doc_blocks.specs.StateSteps.{State, below, met, shown, reached, all_closed, quote_opened, item_opened}
-use Rattle.doc_blocks.specs.StateSteps.{item_met, StepsTo}
+use Rattle.doc_blocks.specs.StateSteps.{State, below, met, shown, reached, all_closed, quote_opened, item_opened, item_met, StepsTo}
 use Rattle.doc_blocks.proofs.PathLaws.{closes_inside, blank_inside, references_inside, inside_append}
 
 -- ---- the definitions' choices, at what is chosen by

@@ -4,10 +4,10 @@ use Rattle.std.proofs.Common.{Vec, Global}
 use Rattle.std.proofs.lemmas.List.{reverse-append, map-append, take_more}
 use Rattle.doc_rules.specs.Forests.{none, ◌▹◌, node}
 use Rattle.doc_rules.specs.Blocks.{Blocks, Leaf, Container}
-use Rattle.doc_blocks_tags.specs.Tags.{Tag, OneLeaf, Start, End, tag_shown, tags_shown}
-use Rattle.doc_blocks_tags.specs.OpenTags.{Entry, Open, read_one, read_on, read}
-use Rattle.doc_blocks_tags.specs.declared.tag.Tag as code
-use Rattle.doc_blocks_tags.proofs.TagLaws.{read_append}
+use Rattle.doc_blocks_starts.specs.Tags.{Tag, OneLeaf, Start, End, tag_shown, tags_shown}
+use Rattle.doc_blocks_starts.specs.OpenTags.{Entry, Open, read_one, read_on, read}
+use Rattle.doc_blocks_starts.specs.declared.tag.Tag as code
+use Rattle.doc_blocks_starts.proofs.TagLaws.{read_append}
 use Rattle.doc_blocks.specs.declared.block.Block.{Block}
 use Rattle.doc_blocks.specs.declared.tree.Tree.{Tree}
 use Rattle.doc_blocks.specs.Views.{behind, forest, blocks_shown}

@@ -3,8 +3,8 @@ use Rattle.std.specs.Prelude.{◌≡◌, ℕ, ◌≤◌, Bool, true, false, [], 
 use Rattle.doc_rules.specs.Columns.{Line}
 use Rattle.doc_rules.specs.Entities.{Table}
 use Rattle.doc_rules.specs.Trees.{Situation, InParagraph}
-use Rattle.doc_blocks_pass.specs.Leaves.{taken}
-use Rattle.doc_blocks_pass.specs.OpenBlocks.{leaf_takes}
+use Rattle.doc_blocks_leaves.specs.Leaves.{taken}
+use Rattle.doc_blocks_leaves.specs.OpenBlocks.{leaf_takes}
 use Rattle.doc_blocks.specs.declared.builder.Builder.{Builder}
 use Rattle.doc_blocks.specs.LevelSteps.{stack_of, IsSound}
 use Rattle.doc_blocks.specs.StateSteps.{State, shown, reached}

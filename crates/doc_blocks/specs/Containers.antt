@@ -1,5 +1,5 @@
 -- The open containers of the code, seen as those of a path.
-use Rattle.doc_blocks_pass.specs.Paths as paths
+use Rattle.doc_blocks_leaves.specs.Paths as paths
 use Rattle.doc_rules.specs.Blocks as blocks
 use Rattle.doc_blocks.specs.declared.container.Container.{Container}
 use Rattle.doc_blocks.specs.declared.container.Container.TheVariants.{Quote, Item}

@@ -3,9 +3,9 @@ use Rattle.std.specs.Prelude.{◌≡◌, Bool, true, List, [], ◌∷◌, ◌++�
 use Rattle.doc_rules.specs.Forests.{none, node}
 use Rattle.doc_rules.specs.Blocks.{Blocks, Container, BlockQuote, ListBlock, ListItem, list_start}
 use Rattle.doc_blocks_starts.specs.Items.{kind_of}
-use Rattle.doc_blocks_pass.specs.Paths as paths
-use Rattle.doc_blocks_tags.specs.Tags.{tags_shown}
-use Rattle.doc_blocks_tags.specs.OpenTags as tags
+use Rattle.doc_blocks_leaves.specs.Paths as paths
+use Rattle.doc_blocks_starts.specs.Tags.{tags_shown}
+use Rattle.doc_blocks_starts.specs.OpenTags as tags
 use Rattle.doc_blocks.specs.StackSteps.{Outer, Stack}
 use Rattle.doc_blocks.specs.Containers.{container_shown, block_of}
 use Rattle.doc_blocks.specs.declared.levels.OpenList.{OpenList}

@@ -4,11 +4,10 @@ use Rattle.doc_rules.specs.Columns.{Line}
 use Rattle.doc_rules.specs.Entities.{Table}
 use Rattle.doc_rules.specs.ContainerStarts.{ListKind}
 use Rattle.doc_rules.specs.Trees.{Situation, NoParagraph, InParagraph, LazyParagraph}
-use Rattle.doc_blocks_pass.specs.Leaves.{OpenLeaf, OpenParagraph, taken}
-use Rattle.doc_blocks_pass.specs.Paths.{Level, OpenItem, Path, Here, Inside, item_begun_at, matched_open, gone_on}
-use Rattle.doc_blocks_pass.specs.Paths.{lazy_path_situation}
-use Rattle.doc_blocks_pass.specs.Closing.{container_closed, closed, path_blank, path_references}
-use Rattle.doc_blocks_pass.specs.OpenBlocks.{Moved, start_step, leaf_takes}
+use Rattle.doc_blocks_leaves.specs.Leaves.{OpenLeaf, OpenParagraph, taken}
+use Rattle.doc_blocks_leaves.specs.Paths.{Level, OpenItem, Path, Here, Inside, item_begun_at, matched_open, gone_on, lazy_path_situation}
+use Rattle.doc_blocks_leaves.specs.Closing.{container_closed, closed, path_blank, path_references}
+use Rattle.doc_blocks_leaves.specs.OpenBlocks.{Moved, start_step, leaf_takes}
 use Rattle.doc_blocks.specs.StackSteps.{Outer, Stack, inside, container_blank}
 
 -- ---- going down

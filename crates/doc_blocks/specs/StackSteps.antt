@@ -2,10 +2,10 @@
 use Rattle.std.specs.Prelude.{◌≡◌, Bool, false, ◌&&◌, not, List, [], ◌∷◌, ◌++◌, ℕ, Option, Some, None}
 use Rattle.doc_rules.specs.ContainerStarts.{ListKind, is_same_kind}
 use Rattle.doc_rules.specs.Blocks.{Blocks}
-use Rattle.doc_blocks_pass.specs.Leaves.{OpenLeaf}
-use Rattle.doc_blocks_pass.specs.Paths.{OpenList, Level, OpenContainer, OpenQuote, OpenItem, Path, Here, Inside, empty_level}
-use Rattle.doc_blocks_pass.specs.Paths.{with_blocks, begun_at, item_begun_at}
-use Rattle.doc_blocks_pass.specs.Closing.{container_closed}
+use Rattle.doc_blocks_leaves.specs.Leaves.{OpenLeaf}
+use Rattle.doc_blocks_leaves.specs.Paths.{OpenList, Level, OpenContainer, OpenQuote, OpenItem, Path, Here, Inside, empty_level}
+use Rattle.doc_blocks_leaves.specs.Paths.{with_blocks, begun_at, item_begun_at}
+use Rattle.doc_blocks_leaves.specs.Closing.{container_closed}
 
 -- an open container and the level that it stands in
 abbrev pub Outer : Type 0

@@ -8,11 +8,11 @@ use Rattle.doc_rules.specs.ContainerStarts.{ListKind, ItemStart}
 use Rattle.doc_rules.specs.Trees.{Situation, LeafLines, item_may_begin}
 use Rattle.doc_rules.specs.Blocks.{Blocks, Heading, with_leaf, with_text}
 use Rattle.doc_rules.specs.Definitions.{definitions_of}
-use Rattle.doc_refs.specs.Targets.{Targets, targets_of, joined}
-use Rattle.doc_blocks_pass.specs.Leaves.{OpenLeaf, NoLeaf, open_references, open_of}
-use Rattle.doc_blocks_pass.specs.Paths.{OpenQuote, OpenItem, Path, Here, finished}
-use Rattle.doc_blocks_pass.specs.Closing.{leaf_closed, closed, path_references}
-use Rattle.doc_blocks_pass.specs.OpenBlocks.{Moved, start_step, line_step}
+use Rattle.doc_refs_parts.specs.Targets.{Targets, targets_of, joined}
+use Rattle.doc_blocks_leaves.specs.Leaves.{OpenLeaf, NoLeaf, open_references, open_of}
+use Rattle.doc_blocks_leaves.specs.Paths.{OpenQuote, OpenItem, Path, Here, finished}
+use Rattle.doc_blocks_leaves.specs.Closing.{leaf_closed, closed, path_references}
+use Rattle.doc_blocks_leaves.specs.OpenBlocks.{Moved, start_step, line_step}
 use Rattle.doc_blocks.specs.StackSteps.{Stack, inside, path_at, with_inner_blocks, block_begun, item_begun, container_opened}
 use Rattle.doc_blocks.specs.PathSteps.{situation_in, closed_to}
 

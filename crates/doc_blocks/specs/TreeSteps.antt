@@ -1,6 +1,6 @@
 -- A tree that grows by tags.
 use Rattle.std.specs.Prelude.{◌≡◌, map, reverse}
-use Rattle.doc_blocks_tags.specs.OpenTags.{Entry, Open}
+use Rattle.doc_blocks_starts.specs.OpenTags.{Entry, Open}
 use Rattle.doc_blocks.specs.Views.{blocks_shown}
 use Rattle.doc_blocks.specs.declared.tree.Tree.{Tree}
 

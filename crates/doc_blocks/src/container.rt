@@ -2,15 +2,15 @@
 //! its marker, with an item by its columns or by being blank, but for the second line of an item that started blank.
 ghost use Rattle.std.specs.Prelude.{◌≡◌, nat_le, false, ◌&&◌, ◌||◌, not};
 ghost use Rattle.doc_rules.specs.Columns.{indent, is_blank_line};
-ghost use Rattle.doc_blocks_pass.specs.Paths.{OpenItem, matched_open, gone_on};
+ghost use Rattle.doc_blocks_leaves.specs.Paths.{OpenItem, matched_open, gone_on};
 ghost use Rattle.doc_lines.specs.Cursors.{left_of};
 ghost use Rattle.doc_blocks_starts.specs.Lines.{inside_of};
-ghost use Rattle.doc_blocks_tags.specs.Tags as tags;
+ghost use Rattle.doc_blocks_starts.specs.Tags as tags;
 ghost use Rattle.doc_blocks.specs.Containers.{container_shown, block_of};
 
 use doc_blocks_starts::indentation::{indent_up_to, is_blank_line};
 use doc_blocks_starts::quote::take_quote;
-use doc_blocks_tags::tag::ContainerBlock;
+use doc_blocks_starts::tag::ContainerBlock;
 use doc_lines::cursor::Cursor;
 
 /// An open quote, or an open item with the columns before its content. An item is empty while it started blank and no line went on
@@ -23,7 +23,7 @@ pub(crate) enum Container {
 
 impl Container {
     /// Whether a line goes on with the container (CommonMark 0.31.2, sections 5.1 and 5.2). Where it does, it is inside then.
-    #[tactic(auto, unfolding(doc_blocks_pass::specs::Paths::matched_open))]
+    #[tactic(auto, unfolding(doc_blocks_leaves::specs::Paths::matched_open))]
     pub(crate) fn matched(self, line: &mut Cursor) -> bool
         ensures inside { inside_of result line.new
             ≡ matched_open (container_shown self) (left_of line.old) }
@@ -36,7 +36,7 @@ impl Container {
     }
 
     /// The container as a block.
-    #[tactic(auto, unfolding(doc_blocks_tags::specs::Tags::container_shown))]
+    #[tactic(auto, unfolding(doc_blocks_starts::specs::Tags::container_shown))]
     pub(crate) fn block(self) -> ContainerBlock
         ensures { tags.container_shown result ≡ block_of self }
     {
@@ -61,7 +61,7 @@ impl Container {
 }
 
 /// The same for an item.
-#[tactic(auto, unfolding(doc_blocks_pass::specs::Paths::matched_open))]
+#[tactic(auto, unfolding(doc_blocks_leaves::specs::Paths::matched_open))]
 fn matched_item(line: &mut Cursor, columns: usize, is_empty: bool) -> bool
     ensures inside { inside_of result line.new
         ≡ matched_open (OpenItem columns is_empty) (left_of line.old) }

@@ -1,13 +1,13 @@
 //! Documents as trees of blocks.
 ghost use Rattle.std.specs.Prelude.{◌≡◌, chars, IfOk};
 ghost use Rattle.doc_rules.specs.Blocks.{document_of};
-ghost use Rattle.doc_refs.specs.Targets.{targets_of};
+ghost use Rattle.doc_refs_parts.specs.Targets.{targets_of};
 ghost use Rattle.doc_blocks.specs.Views.{blocks_shown};
 
 use crate::block::Block;
 use crate::tagged::tags;
 use crate::tree::tree_of;
-use doc_blocks_tags::texts::Texts;
+use doc_blocks_starts::texts::Texts;
 use doc_lines::entities::Entities;
 use doc_page_parts::failure::Memory;
 use doc_page_parts::heap::{Heap, Vec};

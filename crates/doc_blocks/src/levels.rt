@@ -17,9 +17,9 @@
 ghost use Rattle.std.specs.Prelude.{◌≡◌, ◌+◌, ◌<◌, ◌≤◌, ℕ, false, None, OnOk, IfOk, IsTrue, vec_len};
 ghost use Rattle.doc_blocks_starts.specs.Items.{kind_of};
 ghost use Rattle.doc_rules.specs.Blocks.{ListItem, list_start};
-ghost use Rattle.doc_blocks_pass.specs.Paths.{finished};
+ghost use Rattle.doc_blocks_leaves.specs.Paths.{finished};
 ghost use Rattle.doc_blocks_leaves.specs.Views.{with_block};
-ghost use Rattle.doc_blocks_tags.specs.Tags as tags;
+ghost use Rattle.doc_blocks_starts.specs.Tags as tags;
 ghost use Rattle.doc_blocks.specs.StackSteps.{empty_stack, with_inner_blocks, block_begun, item_begun, container_opened, stack_loosened, IsNotOf, ClosesLast};
 ghost use Rattle.doc_blocks.specs.PathSteps.{gone_on_at, closed_to, GoesDown, MatchesAt};
 ghost use Rattle.doc_lines.specs.Cursors.{left_of};
@@ -29,7 +29,7 @@ ghost use Rattle.doc_blocks.specs.LevelSteps.{stack_of, list_of, Suits, IsSound,
 
 use crate::container::Container;
 use doc_blocks_starts::item::ListKind;
-use doc_blocks_tags::tag::{ContainerBlock, LeafBlock, Tag};
+use doc_blocks_starts::tag::{ContainerBlock, LeafBlock, Tag};
 use doc_lines::cursor::Cursor;
 use doc_page_parts::failure::Memory;
 use doc_page_parts::heap::{Heap, Vec};
@@ -341,7 +341,7 @@ impl<'t> Levels<'t> {
 
 impl OpenList {
     /// The list as a block.
-    #[tactic(auto, unfolding(doc_blocks_tags::specs::Tags::container_shown))]
+    #[tactic(auto, unfolding(doc_blocks_starts::specs::Tags::container_shown))]
     fn block(&self, tight: bool) -> ContainerBlock
         ensures { tags.container_shown result ≡ list_of self.now tight }
     {

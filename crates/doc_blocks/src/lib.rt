@@ -12,7 +12,7 @@
 //!
 //! What is finished stands as tags in a row, in the order of the text (`levels`): a leaf block is one, and a container has one where it
 //! starts and one where it ends, so nothing is moved. `tags` answers that row, and `blocks` the tree that it makes (`tree`). That one pass
-//! gives the document of the rules is the law of `doc_blocks_pass`; here each call is tied to its step there. Where a call answers
+//! gives the document of the rules is the law of `doc_blocks_leaves::laws`; here each call is tied to its step there. Where a call answers
 //! `Memory`, nothing is known of what is open: `tags` lets all of it go.
 #![tactic(auto)]
 

@@ -3,16 +3,16 @@ ghost use Rattle.std.specs.Prelude.{◌≡◌, [], false, chars, map, IfOk, OnOk
 ghost use Rattle.doc_rules.specs.Blocks.{document_of};
 ghost use Rattle.doc_rules.specs.Columns.{cells_of};
 ghost use Rattle.doc_rules.specs.Lines.{secure_char};
-ghost use Rattle.doc_refs.specs.Targets.{targets_of};
-ghost use Rattle.doc_blocks_tags.specs.Tags.{tags_of, tags_shown};
+ghost use Rattle.doc_refs_parts.specs.Targets.{targets_of};
+ghost use Rattle.doc_blocks_starts.specs.Tags.{tags_of, tags_shown};
 ghost use Rattle.doc_blocks.specs.StateSteps.{shown, after_line, document_left};
 ghost use Rattle.doc_blocks.specs.BuilderSteps.{state_of};
 ghost use Rattle.doc_blocks.specs.LevelSteps.{IsSound};
 
 use crate::builder::Builder;
 use crate::content::{FirstLine, first_line, secure_text};
-use doc_blocks_tags::tag::Tag;
-use doc_blocks_tags::texts::Texts;
+use doc_blocks_starts::tag::Tag;
+use doc_blocks_starts::texts::Texts;
 use doc_lines::cursor::Cursor;
 use doc_lines::entities::Entities;
 use doc_page_parts::failure::Memory;

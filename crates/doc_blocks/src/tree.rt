@@ -2,13 +2,13 @@
 ghost use Rattle.std.specs.Prelude.{◌≡◌, [], IfOk, OnOk};
 ghost use Rattle.doc_rules.specs.Blocks.{Blocks};
 ghost use Rattle.doc_rules.specs.Forests.{◌▹◌, node};
-ghost use Rattle.doc_blocks_tags.specs.Tags.{End, leaf_shown, container_shown, tag_shown, tags_shown};
-ghost use Rattle.doc_blocks_tags.specs.OpenTags.{Open, read, read_one};
+ghost use Rattle.doc_blocks_starts.specs.Tags.{End, leaf_shown, container_shown, tag_shown, tags_shown};
+ghost use Rattle.doc_blocks_starts.specs.OpenTags.{Open, read, read_one};
 ghost use Rattle.doc_blocks.specs.Views.{behind, blocks_shown};
 ghost use Rattle.doc_blocks.specs.TreeSteps.{Shows};
 
 use crate::block::Block;
-use doc_blocks_tags::tag::{ContainerBlock, LeafBlock, Tag};
+use doc_blocks_starts::tag::{ContainerBlock, LeafBlock, Tag};
 use doc_page_parts::failure::Memory;
 use doc_page_parts::heap::{Heap, Vec};
 use doc_page_parts::text::Text;

@@ -11,7 +11,7 @@ use Rattle.doc_rules.specs.Blocks.{Leaf, Blocks, with_text}
 use Rattle.doc_rules.specs.Labels.{label, label_text, is_label}
 use Rattle.doc_rules.specs.Definitions.{Definition, DefinitionSource, margin, after_label, definition_source, definitions_of}
 use Rattle.doc_lines.proofs.Ends.{empty_is_nothing}
-use Rattle.doc_refs.specs.Targets.{Targets, targets_of, joined}
+use Rattle.doc_refs_parts.specs.Targets.{Targets, targets_of, joined}
 use Rattle.doc_refs_parts.proofs.MapLaws.{joined-empty}
 use Rattle.doc_refs_parts.proofs.TakenLaws.{none_more}
 

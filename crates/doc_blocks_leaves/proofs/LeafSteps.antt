@@ -12,13 +12,13 @@ use Rattle.doc_rules.specs.Forests.{◌▹◌}
 use Rattle.doc_rules.specs.Trees.{AtxLine, FencedLines, HtmlLines, BreakLine}
 use Rattle.doc_rules.specs.Blocks.{Leaf, Paragraph, Heading, IndentedCode, FencedCode, HtmlBlock, Blocks, ended, joined, with_text}
 use Rattle.doc_rules.specs.Blocks.{with_leaf}
-use Rattle.doc_blocks_pass.specs.Leaves.{OpenLeaf, NoLeaf, OpenParagraph, OpenCode, OpenFence, OpenHtml, open_of, with_open}
+use Rattle.doc_blocks_leaves.specs.Leaves.{OpenLeaf, NoLeaf, OpenParagraph, OpenCode, OpenFence, OpenHtml, open_of, with_open}
 use Rattle.doc_lines.specs.RestSteps.{rest_of}
-use Rattle.doc_refs.specs.Targets.{Targets, targets_of}
-use Rattle.doc_refs.specs.Targets as maps
+use Rattle.doc_refs_parts.specs.Targets.{Targets, targets_of}
+use Rattle.doc_refs_parts.specs.Targets as maps
 use Rattle.doc_refs_parts.proofs.MapLaws.{joined-empty}
-use Rattle.doc_blocks_tags.specs.Tags.{leaf_shown}
-use Rattle.doc_blocks_tags.specs.declared.tag.LeafBlock.TheVariants as leaves
+use Rattle.doc_blocks_starts.specs.Tags.{leaf_shown}
+use Rattle.doc_blocks_starts.specs.declared.tag.LeafBlock.TheVariants as leaves
 use Rattle.doc_blocks_leaves.specs.OpenLeaves.{paragraph_text, with_leaf_of, underlined, with_underlined, underlined_references, with_begun}
 use Rattle.doc_blocks_leaves.specs.Views.{with_block}
 use Rattle.doc_blocks_leaves.proofs.LineSteps.{first_is_kept}

@@ -4,3 +4,10 @@ pub mod LeafSteps
 pub mod LineSteps
 pub mod StartSteps
 pub mod Tests
+mod Examples
+pub mod TreePaths
+pub mod LeafLaws
+pub mod StartLaws
+pub mod LineLaws
+pub mod ClosingLaws
+pub mod OnePassLaws

@@ -7,7 +7,7 @@ use Rattle.doc_rules.specs.Forests.{◌▹◌}
 use Rattle.doc_rules.specs.Trees.{LeafLines, line_text}
 use Rattle.doc_rules.specs.Definitions.{Definition, definitions_of}
 use Rattle.doc_rules.specs.Blocks.{Leaf, Heading, Blocks, with_leaf, with_text}
-use Rattle.doc_blocks_pass.specs.Leaves as rules
+use Rattle.doc_blocks_leaves.specs.Leaves as rules
 use Rattle.doc_blocks_starts.specs.Fences.{fence_shown}
 use Rattle.doc_blocks_starts.specs.HtmlKinds.{kind_of}
 use Rattle.doc_blocks_leaves.specs.declared.leaf.kind.Kind.{Kind}

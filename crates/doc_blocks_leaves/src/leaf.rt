@@ -4,10 +4,10 @@ ghost use Rattle.doc_rules.specs.Columns.{text_of};
 ghost use Rattle.doc_rules.specs.Entities.{Table};
 ghost use Rattle.doc_rules.specs.Trees.{HtmlLines, line_text};
 ghost use Rattle.doc_rules.specs.Blocks.{Blocks};
-ghost use Rattle.doc_blocks_pass.specs.Leaves.{NoLeaf, OpenParagraph, OpenCode, open_of, code_with, taken, with_open, open_references};
+ghost use Rattle.doc_blocks_leaves.specs.Leaves.{NoLeaf, OpenParagraph, OpenCode, open_of, code_with, taken, with_open, open_references};
 ghost use Rattle.doc_lines.specs.Cursors.{left_of};
 ghost use Rattle.doc_lines.specs.RestSteps.{rest_of};
-ghost use Rattle.doc_refs.specs.Targets.{targets_of, joined};
+ghost use Rattle.doc_refs_parts.specs.Targets.{targets_of, joined};
 ghost use Rattle.doc_blocks_leaves.specs.OpenLeaves.{is_open, paragraph_text, taken_shown, leaf_continued, underlined, with_underlined, underlined_references, with_begun};
 ghost use Rattle.doc_blocks_leaves.specs.Starts.{leaf_lines};
 ghost use Rattle.doc_blocks_leaves.specs.Views.{with_block};
@@ -25,8 +25,8 @@ use crate::start::NewLeaf;
 use close::closed;
 use doc_blocks_starts::html::HtmlKind;
 use doc_blocks_starts::indentation::is_blank_line;
-use doc_blocks_tags::tag::LeafBlock;
-use doc_blocks_tags::texts::Texts;
+use doc_blocks_starts::tag::LeafBlock;
+use doc_blocks_starts::texts::Texts;
 use doc_lines::cursor::Cursor;
 use doc_lines::entities::Entities;
 use doc_lines::unescape;
@@ -41,7 +41,7 @@ use take::{take_code, take_fenced, take_html};
 
 /// The last block of a document so far, where it may take the next line, or none. Its text is gathered as the document will hold it,
 /// in one room that is used again for the next leaf, and kept in [`Texts`] when it becomes a block. Contracts see it as
-/// `doc_blocks_pass` does.
+/// `specs/Leaves` does.
 ///
 /// Where a call answers [`Memory`], nothing is known of the leaf from then on.
 #[derive(Drop)]
@@ -52,7 +52,7 @@ pub struct OpenLeaf<'t> {
 }
 
 impl<'t> Model for OpenLeaf<'t> {
-    ghost use Rattle.doc_blocks_pass.specs.Leaves as rules;
+    ghost use Rattle.doc_blocks_leaves.specs.Leaves as rules;
     ghost use Rattle.doc_blocks_leaves.specs.OpenLeaves.{leaf_shown};
 
     ghost Value = { rules.OpenLeaf };
@@ -94,7 +94,7 @@ impl<'t> OpenLeaf<'t> {
 
     /// Offers a line to the leaf before anything may begin on it: fences, HTML blocks and indented code take theirs first.
     /// Where it is to be closed, [`OpenLeaf::close`] comes next.
-    #[tactic(auto, unfolding(crate::specs::OpenLeaves::leaf_shown, doc_blocks_pass::specs::Leaves::taken))]
+    #[tactic(auto, unfolding(crate::specs::OpenLeaves::leaf_shown, crate::specs::Leaves::taken))]
     pub fn take(&mut self, line: &Cursor) -> Result<LineTaken, Memory>
         ensures taken { IfOk result (λ answer. taken_shown answer self.new
             ≡ taken (left_of line.now) self.old) }

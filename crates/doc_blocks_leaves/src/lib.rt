@@ -3,6 +3,7 @@
 #![tactic(auto)]
 
 mod gathered;
+pub mod laws;
 pub mod leaf;
 pub mod line;
 mod paragraph;

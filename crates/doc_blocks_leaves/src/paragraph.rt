@@ -5,11 +5,11 @@ ghost use Rattle.doc_rules.specs.Entities.{Table};
 ghost use Rattle.doc_rules.specs.Definitions.{definitions_of};
 ghost use Rattle.doc_rules.specs.Blocks.{Leaf, Blocks, with_text};
 ghost use Rattle.doc_lines.specs.RestSteps.{rest_of};
-ghost use Rattle.doc_refs.specs.Targets.{targets_of, joined};
+ghost use Rattle.doc_refs_parts.specs.Targets.{targets_of, joined};
 ghost use Rattle.doc_blocks_leaves.specs.OpenLeaves.{with_leaf_of};
 
 use crate::strip::strip_end;
-use doc_blocks_tags::texts::Texts;
+use doc_blocks_starts::texts::Texts;
 use doc_lines::entities::Entities;
 use doc_lines::scan::character::next_char;
 use doc_page_parts::failure::Memory;

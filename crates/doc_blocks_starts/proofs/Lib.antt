@@ -4,3 +4,5 @@ pub mod Ends
 pub mod HtmlNames
 pub mod RunLaws
 pub mod StripLaws
+mod Examples
+pub mod TagLaws

@@ -4,3 +4,5 @@ pub mod HtmlKinds
 pub mod ItemSteps
 pub mod Items
 pub mod Lines
+pub mod Tags
+pub mod OpenTags

@@ -3,9 +3,9 @@ use Rattle.std.proofs.Common.{◌≡◌, ℕ, ◌<◌, ◌+◌, List, [], ◌∷
 use Rattle.std.specs.Prelude.{Result, OnOk}
 use Rattle.std.proofs.lemmas.List.{take_more, map-append}
 use Rattle.doc_rules.specs.Blocks.{Blocks}
-use Rattle.doc_blocks_tags.specs.declared.tag.Tag as code
-use Rattle.doc_blocks_tags.specs.Tags.{Tag, tag_shown, tags_shown}
-use Rattle.doc_blocks_tags.specs.OpenTags.{Entry, open_tags}
+use Rattle.doc_blocks_starts.specs.declared.tag.Tag as code
+use Rattle.doc_blocks_starts.specs.Tags.{Tag, tag_shown, tags_shown}
+use Rattle.doc_blocks_starts.specs.OpenTags.{Entry, open_tags}
 use Rattle.doc_blocks.specs.declared.block.Block.{Block}
 use Rattle.doc_blocks.specs.Views.{behind, forest}
 use Rattle.doc_blocks.proofs.Forests.{forest_push}

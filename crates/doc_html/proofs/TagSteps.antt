@@ -7,8 +7,8 @@ use Rattle.doc_rules.specs.Definitions.{Definition}
 use Rattle.doc_rules.specs.Entities.{Table}
 use Rattle.doc_rules.specs.Forests.{none, ◌▹◌, node}
 use Rattle.doc_rules.specs.Blocks.{Blocks}
-use Rattle.doc_blocks_tags.specs.declared.tag.Tag as code
-use Rattle.doc_blocks_tags.specs.Tags.{Tag, OneLeaf, Start, End, tags_of, tag_shown, tags_shown}
+use Rattle.doc_blocks_starts.specs.declared.tag.Tag as code
+use Rattle.doc_blocks_starts.specs.Tags.{Tag, OneLeaf, Start, End, tags_of, tag_shown, tags_shown}
 use Rattle.doc_html.specs.ProgressSteps.{Progress, Goes}
 use Rattle.doc_html.specs.TellingSteps.{Nested, outside, entered, left_at, nested_behind, start_told, tag_told, tags_told, blocks_told}
 

@@ -10,7 +10,7 @@ use Rattle.doc_rules.specs.Blocks.{Leaf, Paragraph, Heading, IndentedCode, Fence
 use Rattle.doc_rules.specs.Blocks.{ListBlock, ListItem, Blocks}
 use Rattle.doc_rules.specs.Html.{Output, characters, inlines_html, class_attribute, is_tight_inside, list_tag, list_end}
 use Rattle.doc_rules.specs.PlainTexts.{text_in}
-use Rattle.doc_blocks_tags.specs.Tags.{Tag, OneLeaf, Start, End}
+use Rattle.doc_blocks_starts.specs.Tags.{Tag, OneLeaf, Start, End}
 use Rattle.doc_html.specs.ProgressSteps.{Progress, told, on_new_line, text_met, heading_met}
 
 -- ---- leaves

@@ -2,8 +2,8 @@
 ghost use Rattle.std.specs.Prelude.{◌≡◌, List, OnOk, false};
 ghost use Rattle.doc_rules.specs.Blocks.{Blocks};
 ghost use Rattle.doc_rules.specs.Definitions.{Definition};
-ghost use Rattle.doc_refs.specs.Targets.{targets_of};
-ghost use Rattle.doc_blocks_tags.specs.Tags.{tag_shown, tags_shown, tags_of};
+ghost use Rattle.doc_refs_parts.specs.Targets.{targets_of};
+ghost use Rattle.doc_blocks_starts.specs.Tags.{tag_shown, tags_shown, tags_of};
 ghost use Rattle.doc_html.specs.ProgressSteps.{Progress, Goes};
 ghost use Rattle.doc_html.specs.TellingSteps.{nested_behind, tag_told, blocks_told};
 
@@ -12,7 +12,7 @@ use crate::leaves::push_leaf;
 use crate::nesting::Nesting;
 use crate::reading::Source;
 use crate::writer::Writer;
-use doc_blocks_tags::tag::Tag;
+use doc_blocks_starts::tag::Tag;
 use doc_inlines::Reader;
 use doc_page_parts::failure::Memory;
 
@@ -37,7 +37,7 @@ pub(crate) fn push_all<'d, W: Writer>(
 }
 
 /// Writes a leaf block, or the start or the end of a container block.
-#[tactic(auto, unfolding(doc_blocks_tags::specs::Tags::tag_shown, crate::specs::TellingSteps::nested_behind, crate::specs::TellingSteps::tag_told))]
+#[tactic(auto, unfolding(doc_blocks_starts::specs::Tags::tag_shown, crate::specs::TellingSteps::nested_behind, crate::specs::TellingSteps::tag_told))]
 fn push_tag<'d, W: Writer>(
     writer: &mut W,
     source: &Source<'d>,

@@ -2,18 +2,18 @@
 ghost use Rattle.std.specs.Prelude.{◌≡◌, ◌++◌, Bool, codes, decimal, OnOk};
 ghost use Rattle.doc_rules.specs.Blocks.{BlockQuote, ListBlock, ListItem};
 ghost use Rattle.doc_rules.specs.Html.{characters, list_tag, list_end};
-ghost use Rattle.doc_blocks_tags.specs.Tags.{container_shown};
+ghost use Rattle.doc_blocks_starts.specs.Tags.{container_shown};
 ghost use Rattle.doc_html.specs.ProgressSteps.{Goes, Writes};
 ghost use Rattle.doc_html.specs.TellingSteps.{start_told, end_told};
 
 use crate::leaves::push_decimal;
 use crate::writer::{Writer, markup};
-use doc_blocks_tags::tag::ContainerBlock;
+use doc_blocks_starts::tag::ContainerBlock;
 use doc_page_parts::failure::Memory;
 use doc_page_parts::heap::Heap;
 
 /// Writes the start of a container block.
-#[tactic(auto, unfolding(doc_blocks_tags::specs::Tags::container_shown))]
+#[tactic(auto, unfolding(doc_blocks_starts::specs::Tags::container_shown))]
 pub(crate) fn begin<W: Writer>(
     writer: &mut W,
     heap: Heap,
@@ -30,7 +30,7 @@ pub(crate) fn begin<W: Writer>(
 }
 
 /// Writes the end of a container block.
-#[tactic(auto, unfolding(doc_blocks_tags::specs::Tags::container_shown))]
+#[tactic(auto, unfolding(doc_blocks_starts::specs::Tags::container_shown))]
 pub(crate) fn end<W: Writer>(writer: &mut W, container: ContainerBlock) -> Result<(), Memory>
     ensures { OnOk result (Goes W.holds writer.old writer.new
         (end_told (container_shown container))) }

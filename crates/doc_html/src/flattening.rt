@@ -2,12 +2,12 @@
 ghost use Rattle.std.specs.Prelude.{◌≡◌, ◌∷◌, List, IfOk, OnOk};
 ghost use Rattle.doc_rules.specs.Forests.{none, ◌▹◌, node};
 ghost use Rattle.doc_rules.specs.Blocks.{Blocks};
-ghost use Rattle.doc_blocks_tags.specs.Tags.{container_shown, leaf_shown, tags_of, tags_shown};
-ghost use Rattle.doc_blocks_tags.specs.OpenTags.{Entry, open_tags};
+ghost use Rattle.doc_blocks_starts.specs.Tags.{container_shown, leaf_shown, tags_of, tags_shown};
+ghost use Rattle.doc_blocks_starts.specs.OpenTags.{Entry, open_tags};
 ghost use Rattle.doc_blocks.specs.Views.{behind, blocks_shown, forest};
 
 use doc_blocks::Block;
-use doc_blocks_tags::tag::{ContainerBlock, LeafBlock, Tag};
+use doc_blocks_starts::tag::{ContainerBlock, LeafBlock, Tag};
 use doc_page_parts::failure::Memory;
 use doc_page_parts::heap::{Heap, Vec};
 

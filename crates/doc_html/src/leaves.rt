@@ -6,15 +6,15 @@ ghost use Rattle.doc_rules.specs.Definitions.{Definition};
 ghost use Rattle.doc_rules.specs.Entities.{Table};
 ghost use Rattle.doc_rules.specs.Escaping.{html_escape};
 ghost use Rattle.doc_rules.specs.Html.{characters, class_attribute, first_word, language_class};
-ghost use Rattle.doc_refs.specs.Targets.{targets_of};
-ghost use Rattle.doc_blocks_tags.specs.Tags.{leaf_shown};
+ghost use Rattle.doc_refs_parts.specs.Targets.{targets_of};
+ghost use Rattle.doc_blocks_starts.specs.Tags.{leaf_shown};
 ghost use Rattle.doc_html.specs.ProgressSteps.{Goes, Writes};
 ghost use Rattle.doc_html.specs.TellingSteps.{leaf_told, code_told};
 
 use crate::inlines::push_marks;
 use crate::reading::Source;
 use crate::writer::{Writer, markup};
-use doc_blocks_tags::tag::LeafBlock;
+use doc_blocks_starts::tag::LeafBlock;
 use doc_inlines::Reader;
 use doc_lines::scan::character::next_char;
 use doc_lines::scan::front::front;
@@ -24,7 +24,7 @@ use doc_page_parts::failure::Memory;
 use doc_page_parts::heap::Heap;
 
 /// Writes a leaf block, which stands directly in an item of a tight list or not.
-#[tactic(auto, unfolding(doc_blocks_tags::specs::Tags::leaf_shown, crate::specs::TellingSteps::leaf_told))]
+#[tactic(auto, unfolding(doc_blocks_starts::specs::Tags::leaf_shown, crate::specs::TellingSteps::leaf_told))]
 pub(crate) fn push_leaf<'d, W: Writer>(
     writer: &mut W,
     source: &Source<'d>,

@@ -1,10 +1,10 @@
 //! The container blocks round what is written.
 ghost use Rattle.std.specs.Prelude.{◌≡◌, OnOk};
-ghost use Rattle.doc_blocks_tags.specs.Tags.{container_shown};
+ghost use Rattle.doc_blocks_starts.specs.Tags.{container_shown};
 ghost use Rattle.doc_rules.specs.Html.{is_tight_inside};
 ghost use Rattle.doc_html.specs.TellingSteps.{outside, entered, left};
 
-use doc_blocks_tags::tag::ContainerBlock;
+use doc_blocks_starts::tag::ContainerBlock;
 use doc_page_parts::failure::Memory;
 use doc_page_parts::heap::{Heap, Vec};
 use std::marker::Model;
@@ -63,7 +63,7 @@ impl Nesting {
 }
 
 /// The same inside a container block: in a list and in its items it is whether the list is tight (section 5.3).
-#[tactic(auto, unfolding(doc_rules::specs::Html::is_tight_inside, doc_blocks_tags::specs::Tags::container_shown))]
+#[tactic(auto, unfolding(doc_rules::specs::Html::is_tight_inside, doc_blocks_starts::specs::Tags::container_shown))]
 fn is_tight_inside(tight: bool, container: ContainerBlock) -> bool
     ensures { result ≡ is_tight_inside tight (container_shown container) }
 {

@@ -5,7 +5,7 @@ ghost use Rattle.doc_rules.specs.Html.{rendered_plain};
 use crate::document::write_html;
 use crate::links::AsTheyStand;
 use doc_blocks::tags;
-use doc_blocks_tags::texts::Texts;
+use doc_blocks_starts::texts::Texts;
 use doc_lines::entities::Entities;
 use doc_page_parts::failure::Memory;
 use doc_page_parts::heap::Heap;

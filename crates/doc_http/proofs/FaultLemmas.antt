@@ -18,7 +18,8 @@ use Rattle.doc_http_bodies.specs.Faults.{code_of}
 use Rattle.doc_http.specs.declared.request.Next.{Next}
 use Rattle.doc_http.specs.declared.request.Next.TheVariants as nexts
 use Rattle.doc_http.specs.declared.request.Request.{Request}
-use Rattle.doc_http.specs.Laws.{is_fault_code, FaultsHaveCodes}
+use Rattle.doc_http.specs.Laws.{FaultsHaveCodes}
+use Rattle.doc_http_replies.specs.Replies.{is_fault_code}
 
 -- if it is a fault, its code is one of a fault
 abbrev HasCode : Next → Type 0

@@ -4,7 +4,7 @@ use Rattle.doc_http.specs.declared.request.Request.{Request}
 use Rattle.doc_http.specs.declared.request.Next.{Next}
 use Rattle.doc_http.specs.declared.request.Next.TheVariants as next
 use Rattle.doc_http.specs.Requests.{IsNext}
-pub use Rattle.doc_http_replies.specs.Replies.{is_fault_code}
+use Rattle.doc_http_replies.specs.Replies.{is_fault_code}
 
 -- the bytes begin with one thing
 abbrev pub IsReadInOneWay : Type 0

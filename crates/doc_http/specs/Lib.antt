@@ -6,5 +6,3 @@ pub mod KnowledgeSteps
 pub mod Laws
 pub mod ProgressSteps
 pub mod Requests
-pub use Rattle.doc_http_replies.specs.Replies
-pub use Rattle.doc_http_replies.specs.ReplyForms

@@ -13,8 +13,7 @@ use Rattle.matchit.specs.Seek.{seek, step, or_else, param_step, has_slash}
 use Rattle.matchit.specs.declared.error.InsertError.{InsertError}
 use Rattle.matchit.specs.declared.error.InsertError.TheVariants.{Conflict, InvalidParam, InvalidParamSegment, InvalidCatchAll, OutOfMemory}
 use Rattle.doc_http_targets.specs.RouteSteps.{CanStand, leads_to, place_of, route_table}
-use Rattle.doc_http_targets.specs.Targets.{Route, after, at_path, if_not_empty}
-use Rattle.doc_http_targets.specs.Targets.{route_at}
+use Rattle.doc_http_targets.specs.Targets.{Route, after, at_path, if_not_empty, route_at}
 use Rattle.doc_http_targets.specs.Targets as targets
 use Rattle.doc_http_targets.specs.declared.routes.Place.{Place}
 use Rattle.doc_http_targets.specs.declared.routes.Place.TheVariants.{Page, Backlinks, Contents, Search, Broken}

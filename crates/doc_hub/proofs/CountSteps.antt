@@ -5,7 +5,7 @@ use Rattle.std.specs.FinMap as map
 use Rattle.std.specs.List.{list_any}
 use Rattle.doc_page_parts.specs.Refusals.{Gives}
 use Rattle.doc_shelf.specs.Shelves.{rendered_for}
-use Rattle.doc_store.specs.Pages.{Page}
+use Rattle.doc_store_readers.specs.Pages.{Page}
 use Rattle.doc_store.specs.Store.{StoreState, fits_in, may_move, moved_by, put_by, with_page}
 use Rattle.doc_store.specs.declared.moving.MoveError.{MoveError}
 use Rattle.doc_store.specs.declared.moving.MoveError.TheVariants as move_errors
@@ -17,9 +17,9 @@ use Rattle.doc_store.specs.declared.store.EditError.TheVariants as edit_errors
 use Rattle.doc_store.specs.declared.store.Put.{Put}
 use Rattle.doc_store.proofs.StoreSteps.{taken_out}
 use Rattle.doc_hub.specs.Counts.{Counted, CountsFor, moves_by, moves_in, ran_out}
-use Rattle.doc_hub_replies.specs.Counts.{RendersPuts}
+use Rattle.doc_hub_answers.specs.Counts.{RendersPuts}
 use Rattle.doc_hub.specs.Events.{Said, connecting, moving, outcome_of, pushing, putting, setting}
-use Rattle.doc_hub_replies.specs.Replies.{Renders}
+use Rattle.doc_hub_answers.specs.Replies.{Renders}
 use Rattle.doc_hub.specs.Runs.{Happens}
 use Rattle.doc_hub.specs.Worlds.{World, connected, last_id, store_of, with_store, world_pushed, world_reader_set}
 use Rattle.doc_hub.specs.declared.event.ConnId.{ConnId}

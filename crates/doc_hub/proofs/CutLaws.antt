@@ -2,7 +2,7 @@
 use Rattle.std.proofs.Common.{ap, sym}
 use Rattle.std.specs.FinMap as map
 use Rattle.doc_resolve.specs.Decisions.{decisions}
-use Rattle.doc_store.specs.Sites.{Site, View, goal_in}
+use Rattle.doc_store_readers.specs.Sites.{Site, View, goal_in}
 use Rattle.doc_store_readers.proofs.ViewLaw.{goals_of_views, view_of_view}
 use Rattle.doc_hub.specs.CutLaws.{DecisionsOfCut}
 

@@ -9,8 +9,8 @@ use Rattle.std.proofs.lemmas.Bool.Decides.{nat_tests}
 use Rattle.std.proofs.lemmas.Cmp.{nat_cmp_total, nat_list_cmp_total}
 use Rattle.std.proofs.lemmas.List.Elements.{All-nil, All-cons}
 use Rattle.doc_store_readers.specs.declared.reader.Reader.{Reader}
-use Rattle.doc_store.specs.Readers.{ReaderTable}
-use Rattle.doc_store.specs.Sites.{visible_to}
+use Rattle.doc_store_readers.specs.Readers.{ReaderTable}
+use Rattle.doc_store_readers.specs.Sites.{visible_to}
 use Rattle.doc_store.specs.Store.{put_limit}
 use Rattle.doc_store_readers.proofs.ViewLaw.{view_of_view}
 use Rattle.doc_http.specs.Bearers.{bearer_of}
@@ -20,11 +20,11 @@ use Rattle.doc_http.specs.declared.request.Next.{Next}
 use Rattle.doc_http.specs.declared.request.Next.TheVariants as nexts
 use Rattle.doc_http.proofs.LawLemmas.{read_in_one_way}
 use Rattle.doc_hub.specs.Connections.{Connections}
-use Rattle.doc_hub_replies.specs.Edits.{puts_left}
+use Rattle.doc_hub_answers.specs.Edits.{puts_left}
 use Rattle.doc_hub.specs.Events.{stepping, step_refusal}
 use Rattle.doc_hub.specs.FreshLaws.{LeavesPut, NewRepliesAsFresh, PutsAreLeft, RepliesAsFresh, SendsAsFresh, SendsAsFreshAlways, StepSays}
 use Rattle.doc_hub.specs.FreshLaws.{first_connection, fresh, fresh_for, only_reader}
-use Rattle.doc_hub_replies.specs.Replies.{Renders}
+use Rattle.doc_hub_answers.specs.Replies.{Renders}
 use Rattle.doc_hub.specs.Runs.{Happened, Leaves, Runs, nothing, first}
 use Rattle.doc_hub.specs.StepLaws.{Agree, AgreeOn, connection, is_owners_put, open_with, site_seen}
 use Rattle.doc_hub.specs.Worlds.{World, Answers, StepsAt, new_world, reader_of, stepped_by}

@@ -1,7 +1,7 @@
 -- What the unread bytes of a connection begin with, as a step finds it.
 use Rattle.std.proofs.Common.{◌≡◌, ℕ, List, Bool, subst}
 use Rattle.std.specs.Prelude.{IsTrue}
-use Rattle.doc_http.specs.Laws.{is_fault_code}
+use Rattle.doc_http_replies.specs.Replies.{is_fault_code}
 use Rattle.doc_http.specs.Requests.{IsNext}
 use Rattle.doc_http.specs.declared.request.Next.{Next}
 use Rattle.doc_http.specs.declared.request.Next.TheVariants as nexts

@@ -16,7 +16,7 @@ use Rattle.doc_hub.specs.Connections.{new_connection, pushed_at, pushed_onto, wi
 use Rattle.doc_hub.specs.Events.{Said}
 use Rattle.doc_hub.specs.ConnectionLaws.{NumbersAreGivenOnce}
 use Rattle.doc_hub.specs.StepLaws.{connection}
-use Rattle.doc_hub_replies.specs.Replies.{Renders}
+use Rattle.doc_hub_answers.specs.Replies.{Renders}
 use Rattle.doc_hub.specs.Runs.{Happens, Happened, Runs, nothing, first}
 use Rattle.doc_hub.specs.Worlds.{World, connected, world_pushed, world_put, world_moved, world_reader_set, answer_in, world_after}
 use Rattle.doc_hub.specs.Worlds.{stepped_by, Stays, Answers, StepsAt, last_id}

@@ -10,10 +10,10 @@ use Rattle.std.proofs.lemmas.Cmp.{nat_list_cmp_total}
 use Rattle.std.proofs.lemmas.List.Elements.{All-append, All-nil, All-cons}
 use Rattle.std.proofs.lemmas.Map.Lookups.{exact_bytes}
 use Rattle.doc_store_readers.proofs.KeySteps.{same_key, same_from, same_itself, get_set, get_taken, not_none}
-use Rattle.doc_store.specs.Maps.{TextMap}
-use Rattle.doc_store.specs.Pages.{Page}
-use Rattle.doc_store.specs.Readers.{ReaderTable}
-use Rattle.doc_store.specs.Sites.{Site, IsSite}
+use Rattle.doc_store_readers.specs.Maps.{TextMap}
+use Rattle.doc_store_readers.specs.Pages.{Page}
+use Rattle.doc_store_readers.specs.Readers.{ReaderTable}
+use Rattle.doc_store_readers.specs.Sites.{Site, IsSite}
 use Rattle.doc_store.specs.Store.{alias_limit, aliases_after, effect_of, fits, may_move, move_page, moved_by, page_limit, put_by, put_limit}
 use Rattle.doc_store.specs.Store.{set_page, text_limit}
 use Rattle.doc_store.specs.declared.moving.MoveError.{MoveError}
@@ -26,7 +26,7 @@ use Rattle.doc_hub.specs.Connections.{Connections, backlog_limit, new_connection
 use Rattle.doc_hub.specs.Events.{putting, moving, connecting, pushing}
 use Rattle.doc_hub.specs.FreshLaws.{only_reader}
 use Rattle.doc_hub.specs.MadeLaws.{FreshIsMade, IsMaking, makings}
-use Rattle.doc_hub_replies.specs.Replies.{Renders}
+use Rattle.doc_hub_answers.specs.Replies.{Renders}
 use Rattle.doc_hub.specs.Runs.{Happened, Leaves, Runs, nothing}
 use Rattle.doc_hub.specs.StepLaws.{open_with}
 use Rattle.doc_hub.specs.Worlds.{World, last_id, new_world, store_of, with_store}

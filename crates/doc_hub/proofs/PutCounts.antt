@@ -3,7 +3,7 @@ use Rattle.std.proofs.Common.{◌≡◌, ◌≤◌, ◌+◌, ℕ, List, Bool, tr
 use Rattle.std.specs.Prelude.{Option, Some, None, Result, Ok, Err, MatchBool, nat_lt, if◌then◌else◌}
 use Rattle.std.specs.FinMap as map
 use Rattle.doc_page_parts.specs.Refusals.{Gives}
-use Rattle.doc_store.specs.Pages.{Page}
+use Rattle.doc_store_readers.specs.Pages.{Page}
 use Rattle.doc_store.specs.Store.{StoreState, fits_in, may_move, moved_by, put_by}
 use Rattle.doc_store.specs.declared.moving.MoveError.{MoveError}
 use Rattle.doc_store.specs.declared.moving.MoveError.TheVariants as move_errors
@@ -14,10 +14,10 @@ use Rattle.doc_store.proofs.StoreSteps.{taken_out}
 use Rattle.doc_http.specs.declared.request.Next.{Next}
 use Rattle.doc_http.specs.declared.request.Next.TheVariants as nexts
 use Rattle.doc_hub.specs.Connections.{new_connection}
-use Rattle.doc_hub_replies.specs.Edits.{store_after}
+use Rattle.doc_hub_answers.specs.Edits.{store_after}
 use Rattle.doc_hub.specs.Events.{Said}
 use Rattle.doc_hub.specs.FreshLaws.{PutsAreCounted}
-use Rattle.doc_hub_replies.specs.Replies.{Renders}
+use Rattle.doc_hub_answers.specs.Replies.{Renders}
 use Rattle.doc_hub.specs.Runs.{Happens, Leaves, nothing, first}
 use Rattle.doc_hub.specs.Worlds.{World, Answers, Stays, StepsAt, answer_in, connected, last_id, stepped_by, store_of, world_moved}
 use Rattle.doc_hub.specs.Worlds.{world_pushed, world_put, world_reader_set}
@@ -33,8 +33,8 @@ use Rattle.doc_hub.specs.declared.refusal.ConnectError.TheVariants as connect_er
 use Rattle.doc_hub.specs.declared.refusal.PushError.TheVariants as push_errors
 use Rattle.doc_hub.specs.declared.refusal.StepError.{StepError}
 use Rattle.doc_hub.specs.declared.refusal.StepError.TheVariants as step_errors
-use Rattle.doc_hub_answers.specs.declared.response.Edit.{Edit}
-use Rattle.doc_hub_answers.specs.declared.response.Edit.TheVariants as edits
+use Rattle.doc_hub_answers.specs.declared.edit.Edit.{Edit}
+use Rattle.doc_hub_answers.specs.declared.edit.Edit.TheVariants as edits
 
 -- at most one more
 abbrev OneMore : ℕ → ℕ → Type 0

@@ -8,8 +8,8 @@ use Rattle.std.proofs.lemmas.Cmp.{nat_cmp_total}
 use Rattle.std.proofs.lemmas.List.{length-append, length-drop}
 use Rattle.std.proofs.lemmas.List.Elements.{All-nil, All-cons}
 use Rattle.doc_page_parts.specs.Refusals.{Gives}
-use Rattle.doc_store.specs.Pages.{Page}
-use Rattle.doc_store.specs.Readers.{ReaderTable}
+use Rattle.doc_store_readers.specs.Pages.{Page}
+use Rattle.doc_store_readers.specs.Readers.{ReaderTable}
 use Rattle.doc_store.specs.Store.{StoreState, fits_in, may_move, moved_by, put_by}
 use Rattle.doc_store.specs.declared.moving.MoveError.{MoveError}
 use Rattle.doc_store.specs.declared.moving.MoveError.TheVariants as move_errors
@@ -21,11 +21,11 @@ use Rattle.doc_http.specs.Bearers.{bearer_of}
 use Rattle.doc_http.specs.declared.request.Next.{Next}
 use Rattle.doc_http.specs.declared.request.Next.TheVariants as nexts
 use Rattle.doc_hub.specs.Connections.{Connections, backlog_limit, finished, new_connection, pushed_at, with_pushed}
-use Rattle.doc_hub_replies.specs.Edits.{CanBeMade, store_after}
+use Rattle.doc_hub_answers.specs.Edits.{CanBeMade, store_after}
 use Rattle.doc_hub.specs.Events.{Said}
 use Rattle.doc_hub.specs.FreshLaws.{SendsAsFreshAlways}
 use Rattle.doc_hub.specs.MadeLaws.{IsWithin, MadeReplies, SendsAsMade, makings}
-use Rattle.doc_hub_replies.specs.Replies.{Renders}
+use Rattle.doc_hub_answers.specs.Replies.{Renders}
 use Rattle.doc_hub.specs.Runs.{Happens, Happened, Runs, nothing, first}
 use Rattle.doc_hub.specs.StepLaws.{open_with, site_seen}
 use Rattle.doc_hub.specs.Worlds.{World, Answers, Stays, StepsAt, answer_in, connected, disconnected, last_id, new_world, reader_of}
@@ -42,8 +42,8 @@ use Rattle.doc_hub.specs.declared.refusal.PushError.{PushError}
 use Rattle.doc_hub.specs.declared.refusal.PushError.TheVariants as push_errors
 use Rattle.doc_hub.specs.declared.refusal.StepError.{StepError}
 use Rattle.doc_hub.specs.declared.refusal.StepError.TheVariants as step_errors
-use Rattle.doc_hub_answers.specs.declared.response.Edit.{Edit}
-use Rattle.doc_hub_answers.specs.declared.response.Edit.TheVariants as edits
+use Rattle.doc_hub_answers.specs.declared.edit.Edit.{Edit}
+use Rattle.doc_hub_answers.specs.declared.edit.Edit.TheVariants as edits
 use Rattle.doc_hub_answers.proofs.AnswerEdits.{answer_can_be_made}
 use Rattle.doc_hub.proofs.FreshLaws.{new_replies_as_fresh}
 use Rattle.doc_hub.proofs.MadeLaws.{fresh_is_made}

@@ -14,12 +14,12 @@ use Rattle.doc_page_parts.specs.Paths.{is_path}
 use Rattle.doc_page.specs.Plain.{paragraphs, plain_html, plain_page}
 use Rattle.doc_page_parts.specs.declared.rendered.Piece.TheVariants.{Html, Link}
 use Rattle.doc_page_parts.specs.declared.rendered.Rendered.{Rendered}
-use Rattle.doc_store.specs.Groups.{groups_of_names}
-use Rattle.doc_store.specs.Pages.{Page}
-use Rattle.doc_store.specs.Sites.{View, view_of}
+use Rattle.doc_store_readers.specs.Groups.{groups_of_names}
+use Rattle.doc_store_readers.specs.Pages.{Page}
+use Rattle.doc_store_readers.specs.Sites.{View, view_of}
 use Rattle.doc_store.specs.Store.{text_limit, page_limit}
 use Rattle.doc_store_readers.specs.declared.reader.Reader.{Reader}
-use Rattle.doc_http.specs.Replies.{reason_of, field_line, reply_head, reply_bytes}
+use Rattle.doc_http_replies.specs.Replies.{reason_of, field_line, reply_head, reply_bytes}
 use Rattle.doc_http.specs.declared.request.Next.TheVariants as nexts
 use Rattle.doc_http.specs.declared.request.Request.{Request}
 use Rattle.doc_resolve.specs.DotSegments.{put_all, without_dots}
@@ -28,11 +28,11 @@ use Rattle.doc_resolve.specs.Links.{kind_on, kinds}
 use Rattle.doc_resolve.specs.References.{reference}
 use Rattle.doc_resolve.specs.Resolution.{resolve}
 use Rattle.doc_resolve.specs.WrittenPaths.{path_written as target_path_written}
-use Rattle.doc_links.specs.Links.{backlinks, broken, contents}
+use Rattle.doc_links_pages.specs.Links.{backlinks, broken, contents}
 use Rattle.doc_listings.specs.Listings.{backlinks_text, entry_lines, heading_line, report_text}
 use Rattle.doc_hub.specs.Connections.{pushed_onto, finished, backlog_limit}
-use Rattle.doc_hub_replies.specs.Edits.{puts_left}
-use Rattle.doc_hub_replies.specs.Replies.{Renders, answer_of, fault_bytes}
+use Rattle.doc_hub_answers.specs.Edits.{puts_left}
+use Rattle.doc_hub_answers.specs.Replies.{Renders, answer_of, fault_bytes}
 use Rattle.doc_hub.specs.StepEdits.{edit_of_step, told_edit}
 use Rattle.doc_hub.specs.Worlds.{World, reader_of}
 use Rattle.doc_http_targets.specs.Queries.{value_of}
@@ -43,8 +43,8 @@ use Rattle.doc_hub.specs.declared.connection.Connection.{Connection}
 use Rattle.doc_hub.specs.declared.edited.Edited.{Edited}
 use Rattle.doc_hub.specs.declared.edited.Edited.TheVariants.{Put, Removed}
 use Rattle.doc_hub.specs.declared.refusal.PushError.TheVariants.{Closed}
-use Rattle.doc_hub_answers.specs.declared.response.Edit.{Edit}
-use Rattle.doc_hub_answers.specs.declared.response.Edit.TheVariants as edits
+use Rattle.doc_hub_answers.specs.declared.edit.Edit.{Edit}
+use Rattle.doc_hub_answers.specs.declared.edit.Edit.TheVariants as edits
 
 -- one name to unfold where an example computes
 unfoldable computing : Unit {0}

@@ -3,13 +3,13 @@ use Rattle.std.proofs.Common.{◌≡◌, ℕ, List, Bool, true, false, bytes_eq,
 use Rattle.std.specs.Prelude.{not, ◌&&◌, ◌||◌, Option, Some, None, Result, Ok, if◌then◌else◌}
 use Rattle.std.specs.FinMap as map
 use Rattle.doc_store_readers.specs.declared.reader.Reader.{Reader}
-use Rattle.doc_store.specs.Sites.{View, view_of}
+use Rattle.doc_store_readers.specs.Sites.{View, view_of}
 use Rattle.doc_http.specs.Requests.{IsNext, is_bare}
 use Rattle.doc_http.specs.declared.request.Request.{Request}
 use Rattle.doc_http.specs.declared.request.Next.{Next}
 use Rattle.doc_http.specs.declared.request.Next.TheVariants as nexts
 use Rattle.doc_http.proofs.LawLemmas.{read_in_one_way}
-use Rattle.doc_http.specs.Replies.{reply_bytes}
+use Rattle.doc_http_replies.specs.Replies.{reply_bytes}
 use Rattle.doc_http_targets.specs.Targets.{Route, route_of}
 use Rattle.doc_http_targets.specs.Targets as routes
 use Rattle.doc_hub_answers.specs.declared.answer.Answer.{Answer}
@@ -18,9 +18,9 @@ use Rattle.doc_hub.specs.declared.event.Step.{Step}
 use Rattle.doc_hub_answers.specs.declared.method.Method.{Method}
 use Rattle.doc_hub_answers.specs.declared.method.Method.TheVariants.{Get, Head, Put, Delete, Other}
 use Rattle.doc_hub.specs.declared.refusal.StepError.{StepError}
-use Rattle.doc_hub_replies.specs.Edits.{puts_left}
-use Rattle.doc_hub_replies.specs.Replies.{Renders, Response, answer_of, at_route, edit_at, edit_page, method_of, on_route, only_reply, put_by}
-use Rattle.doc_hub_replies.specs.Replies.{reads, refused, reply_at, response_to}
+use Rattle.doc_hub_answers.specs.Edits.{puts_left}
+use Rattle.doc_hub_answers.specs.Replies.{Renders, Response, answer_of, at_route, edit_at, edit_page, method_of, on_route, only_reply, put_by}
+use Rattle.doc_hub_answers.specs.Replies.{reads, refused, reply_at, response_to}
 use Rattle.doc_hub.specs.StepLaws.{AgreeOn, AnswersAlike, StepsAlike, connection, is_owners_put, open_with}
 use Rattle.doc_hub.specs.Worlds.{World, Steps, StepsAt, reader_of, stepped_by, step_said}
 

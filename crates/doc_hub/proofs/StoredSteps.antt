@@ -7,9 +7,9 @@ use Rattle.std.specs.Cmp.Lexicographic.{slice_cmp}
 use Rattle.std.specs.Ordering.{nat_cmp}
 use Rattle.std.proofs.lemmas.Bool.Decides.{nat_tests}
 use Rattle.std.proofs.lemmas.Cmp.{nat_list_cmp_total}
-use Rattle.doc_store.specs.Maps.{TextMap}
-use Rattle.doc_store.specs.Pages.{Page}
-use Rattle.doc_store.specs.Sites.{Site, may_see_at, page_of_alias, visible_to}
+use Rattle.doc_store_readers.specs.Maps.{TextMap}
+use Rattle.doc_store_readers.specs.Pages.{Page}
+use Rattle.doc_store_readers.specs.Sites.{Site, may_see_at, page_of_alias, visible_to}
 use Rattle.doc_store.specs.Store.{IsStore, StoreState, alias_limit, aliases_after, effect_of, fits, is_goal, move_fits, move_page}
 use Rattle.doc_store.specs.Store.{page_limit, remove_page, set_page, text_limit, with_key_at, without_goal}
 use Rattle.doc_store.specs.declared.moving.MoveError.{MoveError}

@@ -1,6 +1,6 @@
 -- How often texts are rendered: once for each put that is accepted, and for nothing else, where memory suffices.
 use Rattle.std.specs.Prelude.{◌≡◌, ℕ, ◌+◌, List, [], ◌∷◌, Bool, true, false}
-use Rattle.doc_hub_replies.specs.Counts.{RendersPuts}
+use Rattle.doc_hub_answers.specs.Counts.{RendersPuts}
 use Rattle.doc_shelf.specs.Shelves.{rendered_for}
 use Rattle.doc_store.specs.Store.{fits_in}
 use Rattle.doc_hub.specs.Events.{Said, stepping}

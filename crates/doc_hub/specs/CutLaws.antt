@@ -3,7 +3,7 @@ use Rattle.std.specs.Prelude.{◌≡◌, List, ℕ, Option}
 use Rattle.doc_page_parts.specs.declared.rendered.Rendered.{Rendered}
 use Rattle.doc_resolve.specs.Decisions.{decisions}
 use Rattle.doc_store_readers.specs.declared.reader.Reader.{Reader}
-use Rattle.doc_store.specs.Sites.{Site, goal_in, goal_of, view_of, visible_to}
+use Rattle.doc_store_readers.specs.Sites.{Site, goal_in, goal_of, view_of, visible_to}
 
 -- The law of the cut for decisions: which pages a page's links lead to for a reader is the same on the whole site and on what the reader
 -- sees of it, taken as a site: for that reader, and for whoever sees the whole of it.

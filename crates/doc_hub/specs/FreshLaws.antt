@@ -2,9 +2,9 @@
 use Rattle.std.specs.Prelude.{◌≡◌, ◌≤◌, ◌+◌, ℕ, All, Bool, List, length, nat_lt, true, Option, Some, None, Result, Ok, Err, ⊤}
 use Rattle.std.specs.FinMap as map
 use Rattle.doc_store_readers.specs.declared.reader.Reader.{Reader}
-use Rattle.doc_store.specs.Sites.{Site, empty_site}
+use Rattle.doc_store_readers.specs.Sites.{Site, empty_site}
 use Rattle.doc_store.specs.Store.{put_limit}
-use Rattle.doc_store.specs.Readers.{ReaderTable}
+use Rattle.doc_store_readers.specs.Readers.{ReaderTable}
 use Rattle.doc_http.specs.Bearers.{bearer_of}
 use Rattle.doc_http.specs.Requests.{IsNext}
 use Rattle.doc_http.specs.declared.request.Next.{Next}
@@ -15,8 +15,8 @@ use Rattle.doc_hub.specs.declared.event.Step.{Step}
 use Rattle.doc_hub.specs.declared.outcome.Outcome.TheVariants as outcomes
 use Rattle.doc_hub.specs.declared.refusal.StepError.{StepError}
 use Rattle.doc_hub.specs.declared.refusal.StepError.TheVariants as step_errors
-use Rattle.doc_hub_replies.specs.Edits.{puts_left}
-use Rattle.doc_hub_replies.specs.Replies.{Renders}
+use Rattle.doc_hub_answers.specs.Edits.{puts_left}
+use Rattle.doc_hub_answers.specs.Replies.{Renders}
 use Rattle.doc_hub.specs.Runs.{Happens, Happened, Runs}
 use Rattle.doc_hub.specs.StepLaws.{connection, is_owners_put, open_with, site_seen}
 use Rattle.doc_hub.specs.Worlds.{World, new_world, reader_of}

@@ -11,4 +11,3 @@ pub mod Runs
 pub mod StepEdits
 pub mod StepLaws
 pub mod Worlds
-pub use Rattle.doc_hub_answers.specs.Replies

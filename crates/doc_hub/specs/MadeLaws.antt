@@ -1,18 +1,18 @@
 -- The fresh server is a world that a hub can be in.
 use Rattle.std.specs.Prelude.{◌≡◌, ◌≤◌, ◌+◌, ℕ, All, Bool, true, List, length, nat_lt, Option, Some, ⊤}
 use Rattle.std.specs.FinMap as map
-use Rattle.doc_store.specs.Pages.{Page}
-use Rattle.doc_store.specs.Sites.{Site, IsSite}
+use Rattle.doc_store_readers.specs.Pages.{Page}
+use Rattle.doc_store_readers.specs.Sites.{Site, IsSite}
 use Rattle.doc_store.specs.Store.{alias_limit, page_limit, put_limit, text_limit}
-use Rattle.doc_store.specs.Readers.{ReaderTable}
+use Rattle.doc_store_readers.specs.Readers.{ReaderTable}
 use Rattle.doc_store_readers.specs.declared.reader.Reader.{Reader}
 use Rattle.doc_http.specs.Bearers.{bearer_of}
 use Rattle.doc_http.specs.declared.request.Request.{Request}
 use Rattle.doc_http.specs.declared.request.Next.TheVariants as nexts
 use Rattle.doc_hub.specs.Connections.{backlog_limit}
-use Rattle.doc_hub_replies.specs.Edits.{puts_left}
+use Rattle.doc_hub_answers.specs.Edits.{puts_left}
 use Rattle.doc_hub.specs.FreshLaws.{IsAnswered, StepSays, first_connection, fresh, fresh_for, only_reader}
-use Rattle.doc_hub_replies.specs.Replies.{Renders}
+use Rattle.doc_hub_answers.specs.Replies.{Renders}
 use Rattle.doc_hub.specs.Runs.{Happened, Runs}
 use Rattle.doc_hub.specs.StepLaws.{site_seen}
 use Rattle.doc_hub.specs.Worlds.{World, new_world, reader_of}

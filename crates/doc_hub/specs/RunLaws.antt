@@ -5,7 +5,7 @@ use Rattle.doc_http.specs.declared.request.Next.{Next}
 use Rattle.doc_hub.specs.declared.connection.Connection.{Connection}
 use Rattle.doc_hub.specs.declared.event.Event.{Event}
 use Rattle.doc_hub.specs.declared.event.Event.TheVariants as events
-use Rattle.doc_hub_replies.specs.Replies.{Renders}
+use Rattle.doc_hub_answers.specs.Replies.{Renders}
 use Rattle.doc_hub.specs.Runs.{IsOutOfMemory, Happened, Runs, events_on, sent_on}
 use Rattle.doc_hub.specs.StepLaws.{AgreeOn, connection}
 use Rattle.doc_hub.specs.Worlds.{World}

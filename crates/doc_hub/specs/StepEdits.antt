@@ -1,7 +1,7 @@
 -- The edit that a step makes, as the step tells it, and what of the site it changes.
 use Rattle.std.specs.Prelude.{◌≡◌, ℕ, List, true, MatchBool, Option, Some, None, Result, Ok, Err}
 use Rattle.std.specs.FinMap as map
-use Rattle.doc_store.specs.Pages.{Page}
+use Rattle.doc_store_readers.specs.Pages.{Page}
 use Rattle.doc_store.specs.Store.{set_page, remove_page, effect_of, fits_in}
 use Rattle.doc_http.specs.Requests.{IsNext}
 use Rattle.doc_http.specs.declared.request.Next.{Next}
@@ -13,9 +13,9 @@ use Rattle.doc_hub.specs.declared.event.ConnId.{ConnId}
 use Rattle.doc_hub.specs.declared.event.Event.TheVariants as events
 use Rattle.doc_hub.specs.declared.event.Step.{Step}
 use Rattle.doc_hub.specs.declared.refusal.StepError.{StepError}
-use Rattle.doc_hub_answers.specs.declared.response.Edit.{Edit}
-use Rattle.doc_hub_answers.specs.declared.response.Edit.TheVariants as edits
-use Rattle.doc_hub_replies.specs.Replies.{Renders}
+use Rattle.doc_hub_answers.specs.declared.edit.Edit.{Edit}
+use Rattle.doc_hub_answers.specs.declared.edit.Edit.TheVariants as edits
+use Rattle.doc_hub_answers.specs.Replies.{Renders}
 use Rattle.doc_hub.specs.Runs.{Happens}
 use Rattle.doc_hub.specs.Worlds.{World, answer_in, store_of}
 

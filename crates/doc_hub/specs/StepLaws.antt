@@ -2,7 +2,7 @@
 use Rattle.std.specs.Prelude.{◌≡◌, ℕ, List, Bool, true, false, ◌&&◌, bytes_eq, codes, Option, Some, None, Ok, ⊤}
 use Rattle.std.specs.FinMap as map
 use Rattle.doc_store_readers.specs.declared.reader.Reader.{Reader}
-use Rattle.doc_store.specs.Sites.{Site, visible_to}
+use Rattle.doc_store_readers.specs.Sites.{Site, visible_to}
 use Rattle.doc_http.specs.Requests.{IsNext}
 use Rattle.doc_http.specs.declared.request.Request.{Request}
 use Rattle.doc_http.specs.declared.request.Next.{Next}
@@ -11,8 +11,8 @@ use Rattle.doc_hub.specs.declared.connection.Connection.{Connection}
 use Rattle.doc_hub.specs.declared.event.ConnId.{ConnId}
 use Rattle.doc_hub.specs.declared.event.Event.TheVariants as events
 use Rattle.doc_hub.specs.declared.event.Step.{Step}
-use Rattle.doc_hub_replies.specs.Edits.{puts_left}
-use Rattle.doc_hub_replies.specs.Replies.{Renders}
+use Rattle.doc_hub_answers.specs.Edits.{puts_left}
+use Rattle.doc_hub_answers.specs.Replies.{Renders}
 use Rattle.doc_hub.specs.Runs.{Happens}
 use Rattle.doc_hub.specs.Worlds.{World, answer_in, reader_of}
 

@@ -4,8 +4,8 @@ use Rattle.std.specs.Prelude.{Result, Ok, Err, if◌then◌else◌, refl}
 use Rattle.std.specs.Coded.{Coded, code_by, coded×, coded_ℕ, coded_bool}
 use Rattle.std.specs.FinMap as map
 use Rattle.doc_store_readers.specs.declared.reader.Reader.{Reader}
-use Rattle.doc_store.specs.Sites.{Site, empty_site, site_code, view_of}
-use Rattle.doc_store.specs.Readers.{ReaderTable, set_reader}
+use Rattle.doc_store_readers.specs.Sites.{Site, empty_site, site_code, view_of}
+use Rattle.doc_store_readers.specs.Readers.{ReaderTable, set_reader}
 use Rattle.doc_store.specs.Store.{StoreState, put_into, without_page, moved_in}
 use Rattle.doc_store.specs.declared.moving.MoveError.{MoveError}
 use Rattle.doc_store_readers.specs.declared.readers.ReaderError.{ReaderError}
@@ -13,14 +13,14 @@ use Rattle.doc_store_readers.specs.declared.readers.Set.{Set}
 use Rattle.doc_store.specs.declared.store.EditError.{EditError}
 use Rattle.doc_store.specs.declared.store.Put.{Put}
 use Rattle.doc_http.specs.Bearers.{bearer_of}
-use Rattle.doc_shelf_views.specs.Views.{report_body}
+use Rattle.doc_shelf_pages.specs.Views.{report_body}
 use Rattle.doc_http.specs.Requests.{IsNext}
 use Rattle.doc_http.specs.declared.request.Request.{Request}
 use Rattle.doc_http.specs.declared.request.Next.{Next}
 use Rattle.doc_http.specs.declared.request.Next.TheVariants as nexts
 use Rattle.doc_hub.specs.Connections.{Connections, new_connection, pushed, finished}
-use Rattle.doc_hub_replies.specs.Edits.{puts_left, store_after}
-use Rattle.doc_hub_replies.specs.Replies.{Renders, answer_of, fault_bytes}
+use Rattle.doc_hub_answers.specs.Edits.{puts_left, store_after}
+use Rattle.doc_hub_answers.specs.Replies.{Renders, answer_of, fault_bytes}
 use Rattle.doc_hub_answers.specs.declared.answer.Answer.{Answer}
 use Rattle.doc_hub.specs.declared.connection.Connection.{Connection}
 use Rattle.doc_hub.specs.declared.event.ConnId.{ConnId}

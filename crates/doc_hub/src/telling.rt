@@ -6,8 +6,8 @@ ghost use Rattle.doc_hub.specs.Worlds.{step_said};
 
 use crate::edited::Edited;
 use crate::event::Step;
-use doc_hub_replies::answer::Answer;
-use doc_hub_replies::response::Edit;
+use doc_hub_answers::answer::Answer;
+use doc_hub_answers::edit::Edit;
 
 /// What the step does that sends an answer, and the edit that it tells. The path is moved, so that none
 /// is copied.

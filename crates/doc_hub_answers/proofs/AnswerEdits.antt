@@ -2,8 +2,8 @@
 use Rattle.std.proofs.Common.{◌≡◌, ℕ, List, Bool, true, false, refl, sym, ◌∙◌}
 use Rattle.std.specs.Prelude.{codes, is_some, Option, Some, None, Result, Ok, Err, if◌then◌else◌}
 use Rattle.std.specs.Str.{is_utf8}
-use Rattle.doc_store.specs.Groups.{groups_of}
-use Rattle.doc_store.specs.Sites.{page_at, view_of}
+use Rattle.doc_store_readers.specs.Groups.{groups_of}
+use Rattle.doc_store_readers.specs.Sites.{page_at, view_of}
 use Rattle.doc_store.specs.Store.{StoreState}
 use Rattle.doc_store_readers.specs.declared.groups.GroupsError.{GroupsError}
 use Rattle.doc_store_readers.specs.declared.reader.Reader.{Reader}
@@ -18,7 +18,7 @@ use Rattle.doc_hub_answers.specs.Replies.{Renders, Response, answer_of, at_route
 use Rattle.doc_hub_answers.specs.Replies.{on_route, only_reply, put_at, put_by, put_page, reads, refused, reply_at, response_to}
 use Rattle.doc_hub_answers.specs.declared.method.Method.{Method}
 use Rattle.doc_hub_answers.specs.declared.method.Method.TheVariants.{Get, Head, Put, Delete, Other}
-use Rattle.doc_hub_answers.specs.declared.response.Edit.TheVariants as edits
+use Rattle.doc_hub_answers.specs.declared.edit.Edit.TheVariants as edits
 use Rattle.doc_hub_answers.proofs.OwnerSteps.{owner_fits, owner_stands}
 
 module _ (store : StoreState) (reader : Reader) where

@@ -3,10 +3,10 @@ use Rattle.std.proofs.Common.{◌≡◌, ℕ, List, Bor, Bool, true, false, byte
 use Rattle.std.specs.Prelude.{not, ◌||◌, IfOk, Option, Some, None, Result, Ok, Err, if◌then◌else◌}
 use Rattle.std.proofs.lemmas.Slice.Eq.{bytes_eq-Decides}
 use Rattle.doc_page_parts.specs.declared.failure.Memory.{Memory}
-use Rattle.doc_store.specs.Sites.{Site, View, view_of}
+use Rattle.doc_store_readers.specs.Sites.{Site, View, view_of}
 use Rattle.doc_store.specs.Store.{StoreState}
 use Rattle.doc_store_readers.specs.declared.reader.Reader.{Reader}
-use Rattle.doc_http.specs.Replies.{reply_bytes}
+use Rattle.doc_http_replies.specs.Replies.{reply_bytes}
 use Rattle.doc_http_replies.specs.declared.reply.Allow.TheVariants.{Read}
 use Rattle.doc_http.specs.Requests.{is_bare}
 use Rattle.doc_http.specs.declared.request.Request.{Request}
@@ -22,7 +22,7 @@ use Rattle.doc_hub_answers.specs.declared.answer.Answer.{Answer}
 use Rattle.doc_hub_answers.specs.declared.exchange.Exchange.{Exchange}
 use Rattle.doc_hub_answers.specs.declared.method.Method.{Method}
 use Rattle.doc_hub_answers.specs.declared.method.Method.TheVariants.{Get, Head, Put, Delete, Other}
-use Rattle.doc_hub_answers.specs.declared.response.Edit.{Edit}
+use Rattle.doc_hub_answers.specs.declared.edit.Edit.{Edit}
 
 by_tests : (get head put delete : Bool) → (get ≡ true → head ≡ false)
     → is_head (if get then Get else (if head then Head else (if put then Put else (if delete then Delete else Other)))) ≡ head

@@ -5,9 +5,9 @@ use Rattle.std.specs.FinMap as map
 use Rattle.std.proofs.lemmas.Bool.Decides.{nat_tests}
 use Rattle.std.proofs.lemmas.Cmp.{nat_list_cmp_total}
 use Rattle.std.proofs.lemmas.Map.Lookups.{exact_bytes}
-use Rattle.doc_store.specs.Groups.{meet}
-use Rattle.doc_store.specs.Pages.{Page}
-use Rattle.doc_store.specs.Sites.{Site, may_see_at, page_at, view_of, visible_to}
+use Rattle.doc_store_readers.specs.Groups.{meet}
+use Rattle.doc_store_readers.specs.Pages.{Page}
+use Rattle.doc_store_readers.specs.Sites.{Site, may_see_at, page_at, view_of, visible_to}
 use Rattle.doc_store.specs.Store.{StoreState, fits, fits_in, text_limit, page_limit, put_limit}
 use Rattle.doc_store_readers.specs.declared.reader.Reader.{Reader}
 use Rattle.doc_store.specs.declared.store.EditError.{EditError}

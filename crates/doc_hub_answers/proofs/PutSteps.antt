@@ -6,14 +6,14 @@ use Rattle.std.specs.Result.{is_err, result_ok}
 use Rattle.std.proofs.lemmas.Bool.{both_ways}
 use Rattle.std.specs.Str.{IsUtf8, is_utf8}
 use Rattle.std.proofs.lemmas.Str.{IsUtf8-from_is_utf8, is_utf8-from_IsUtf8}
-use Rattle.doc_store.specs.Sites.{View, page_at, view_of}
+use Rattle.doc_store_readers.specs.Sites.{View, page_at, view_of}
 use Rattle.doc_store.specs.Store.{StoreState, fits_in}
 use Rattle.doc_store_readers.specs.declared.groups.GroupsError.{GroupsError}
 use Rattle.doc_store_readers.specs.declared.reader.Reader.{Reader}
 use Rattle.doc_store.specs.declared.store.EditError.{EditError}
 use Rattle.doc_hub_answers.specs.Edits.{puts_left}
 use Rattle.doc_hub_answers.specs.Replies.{delete_at, edited, put_at, put_page, refused}
-use Rattle.doc_hub_answers.specs.declared.response.Edit.TheVariants as edits
+use Rattle.doc_hub_answers.specs.declared.edit.Edit.TheVariants as edits
 use Rattle.doc_hub_answers.proofs.OwnerSteps.{owner_room, owner_stands}
 
 module _ (store : StoreState) (reader : Reader) (path : List ℕ) (owns : reader.owner ≡ true) where

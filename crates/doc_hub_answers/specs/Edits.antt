@@ -3,8 +3,8 @@ use Rattle.std.specs.Prelude.{◌≡◌, ℕ, List, Bool, true, nat_lt, Option, 
 use Rattle.std.specs.FinMap as map
 use Rattle.std.specs.Str.{is_utf8}
 use Rattle.doc_store.specs.Store.{StoreState, fits_in, put_limit, with_page, without_page}
-use Rattle.doc_hub_answers.specs.declared.response.Edit.{Edit}
-use Rattle.doc_hub_answers.specs.declared.response.Edit.TheVariants as edits
+use Rattle.doc_hub_answers.specs.declared.edit.Edit.{Edit}
+use Rattle.doc_hub_answers.specs.declared.edit.Edit.TheVariants as edits
 
 -- whether a put is left: fewer than 2^64 - 1 puts and moves were accepted
 abbrev pub puts_left : ℕ → Bool

@@ -4,36 +4,36 @@
 use Rattle.std.specs.Prelude.{ℕ, List, [], ◌++◌, Bool, true, false, not, ◌||◌, ◌&&◌, bytes_eq, codes, is_some, length, nat_lt, nat_le}
 use Rattle.std.specs.Prelude.{Option, Some, None, Result, Ok, Err, if◌then◌else◌}
 use Rattle.std.specs.Str.{is_utf8}
-use Rattle.doc_page_parts.specs.Pages.{body_of}
+use Rattle.doc_shelf_pages.specs.Templates.{body_of}
 use Rattle.doc_page_parts.specs.declared.linker.Shown.{Shown}
 use Rattle.doc_page_parts.specs.declared.rendered.Rendered.{Rendered}
-use Rattle.doc_store.specs.Groups.{groups_of}
-use Rattle.doc_store.specs.Pages.{Page}
+use Rattle.doc_store_readers.specs.Groups.{groups_of}
+use Rattle.doc_store_readers.specs.Pages.{Page}
 use Rattle.doc_store.specs.Store.{text_limit, page_limit}
 use Rattle.doc_store_readers.specs.declared.groups.GroupsError.{GroupsError}
 use Rattle.doc_store_readers.specs.declared.reader.Reader.{Reader}
-use Rattle.doc_store.specs.Sites.{View, page_at, goal_in}
+use Rattle.doc_store_readers.specs.Sites.{View, page_at, goal_in}
 use Rattle.doc_page_encoding.specs.Encoding.{encoded_path}
 use Rattle.doc_resolve.specs.Hrefs.{shown}
 use Rattle.doc_http_replies.specs.declared.reply.Allow.{Allow}
 use Rattle.doc_http_replies.specs.declared.reply.Allow.TheVariants as resources
 use Rattle.doc_http_replies.specs.declared.reply.Reply.{Reply}
 use Rattle.doc_http.specs.declared.request.Request.{Request}
-use Rattle.doc_http.specs.Replies.{reply_bytes}
-use Rattle.doc_http.specs.ReplyForms.{content_reply}
+use Rattle.doc_http_replies.specs.Replies.{reply_bytes}
+use Rattle.doc_http_replies.specs.ReplyForms.{content_reply}
 use Rattle.doc_http.specs.Requests.{is_bare}
 use Rattle.doc_http_targets.specs.Queries.{parameter}
 use Rattle.doc_http_targets.specs.Targets.{Route, route_of}
 use Rattle.doc_http_targets.specs.Targets as routes
 use Rattle.doc_http_targets.specs.WrittenPaths.{path_written}
-use Rattle.doc_shelf_views.specs.Views.{backlinks_body, contents_body, report_body, search_body}
-use Rattle.doc_words.specs.Words.{query_of}
+use Rattle.doc_shelf_pages.specs.Views.{backlinks_body, contents_body, report_body, search_body}
+use Rattle.doc_words_search.specs.Words.{query_of}
 use Rattle.doc_words_search.specs.declared.query.QueryError.{QueryError}
 use Rattle.doc_hub_answers.specs.declared.answer.Answer.{Answer}
 use Rattle.doc_hub_answers.specs.declared.method.Method.{Method}
 use Rattle.doc_hub_answers.specs.declared.method.Method.TheVariants.{Get, Head, Put, Delete, Other}
-use Rattle.doc_hub_answers.specs.declared.response.Edit.{Edit}
-use Rattle.doc_hub_answers.specs.declared.response.Edit.TheVariants as edits
+use Rattle.doc_hub_answers.specs.declared.edit.Edit.{Edit}
+use Rattle.doc_hub_answers.specs.declared.edit.Edit.TheVariants as edits
 
 -- what a renderer makes of each text
 abbrev pub Renders : Type 0

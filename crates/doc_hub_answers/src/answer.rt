@@ -1,11 +1,11 @@
 //! What a request or a fault is answered.
 
 ghost use Rattle.std.specs.Prelude.{◌≡◌, IsTrue, IfOk};
-ghost use Rattle.doc_http.specs.Laws.{is_fault_code};
+ghost use Rattle.doc_http_replies.specs.Replies.{is_fault_code};
 ghost use Rattle.doc_hub_answers.specs.AnswerSteps.{after_edit};
 ghost use Rattle.doc_hub_answers.specs.Replies.{fault_bytes};
 
-use crate::response::Edit;
+use crate::edit::Edit;
 use doc_http::reply_form::ReplyForm;
 use doc_http::status::Status;
 use doc_page_parts::bytes::Bytes;

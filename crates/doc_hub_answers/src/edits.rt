@@ -3,11 +3,11 @@
 ghost use Rattle.std.specs.Prelude.{◌≡◌, IfOk, OnOk, Some, true, codes, if◌then◌else◌};
 ghost use Rattle.std.specs.FinMap as map;
 ghost use Rattle.std.specs.Result.{result_ok};
-ghost use Rattle.doc_http.specs.ReplyForms.{code_of};
+ghost use Rattle.doc_http_replies.specs.ReplyForms.{code_of};
 ghost use Rattle.doc_http_targets.specs.Queries.{parameter};
 ghost use Rattle.doc_http_targets.specs.WrittenPaths.{path_written};
-ghost use Rattle.doc_store.specs.Groups.{groups_of};
-ghost use Rattle.doc_store.specs.Sites.{view_of};
+ghost use Rattle.doc_store_readers.specs.Groups.{groups_of};
+ghost use Rattle.doc_store_readers.specs.Sites.{view_of};
 ghost use Rattle.doc_store_readers.specs.declared.reader.Reader.{Reader};
 ghost use Rattle.doc_hub_answers.specs.AnswerSteps.{Answered, AnsweredSo, sent_in};
 ghost use Rattle.doc_hub_answers.specs.Counts.{RendersPuts};
@@ -15,8 +15,8 @@ ghost use Rattle.doc_hub_answers.specs.Edits.{puts_left};
 ghost use Rattle.doc_hub_answers.specs.Replies.{delete_at, put_by, put_page};
 
 use crate::answer::Answer;
+use crate::edit::Edit;
 use crate::exchange::Exchange;
-use crate::response::Edit;
 use doc_http::reply_form::ReplyForm;
 use doc_http::request::Request;
 use doc_http::status::Status;

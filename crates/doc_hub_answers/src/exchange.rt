@@ -1,7 +1,7 @@
 //! One request, and how the reply to it is written.
 
 ghost use Rattle.std.specs.Prelude.{◌≡◌, IfOk, None};
-ghost use Rattle.doc_http.specs.ReplyForms.{code_of, content_reply, reply_of};
+ghost use Rattle.doc_http_replies.specs.ReplyForms.{code_of, content_reply, reply_of};
 ghost use Rattle.doc_hub_answers.specs.AnswerSteps.{is_head, sent_in};
 ghost use Rattle.doc_hub_answers.specs.Replies.{only_reply, refused};
 

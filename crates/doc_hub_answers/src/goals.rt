@@ -1,7 +1,7 @@
 //! Where a path leads at which a reader sees no page.
 
 ghost use Rattle.std.specs.Prelude.{◌≡◌, IfOk};
-ghost use Rattle.doc_http.specs.ReplyForms.{reply_of};
+ghost use Rattle.doc_http_replies.specs.ReplyForms.{reply_of};
 ghost use Rattle.doc_hub_answers.specs.AnswerSteps.{sent_in};
 ghost use Rattle.doc_hub_answers.specs.Replies.{goal_reply, moved_reply, only_reply};
 

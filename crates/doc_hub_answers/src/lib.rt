@@ -5,11 +5,11 @@
 #![tactic(auto)]
 
 pub mod answer;
+pub mod edit;
 mod edits;
 pub mod exchange;
 mod goals;
 mod lists;
 pub mod method;
 mod reading;
-pub mod response;
 pub mod routes;

@@ -6,9 +6,9 @@ ghost use Rattle.doc_http_targets.specs.Queries.{parameter};
 ghost use Rattle.doc_http_targets.specs.WrittenPaths.{path_written};
 ghost use Rattle.doc_hub_answers.specs.AnswerSteps.{sent_in};
 ghost use Rattle.doc_hub_answers.specs.Replies.{backlinks_at, html_reply, only_reply, search_at, text_reply};
-ghost use Rattle.doc_shelf_views.specs.Views.{contents_body, report_body};
-ghost use Rattle.doc_store.specs.Sites.{view_of};
-ghost use Rattle.doc_words.specs.Words.{query_of};
+ghost use Rattle.doc_shelf_pages.specs.Views.{contents_body, report_body};
+ghost use Rattle.doc_store_readers.specs.Sites.{view_of};
+ghost use Rattle.doc_words_search.specs.Words.{query_of};
 
 use crate::answer::Answer;
 use crate::exchange::Exchange;

@@ -1,7 +1,7 @@
 //! What a reader gets of a page.
 
 ghost use Rattle.std.specs.Prelude.{◌≡◌, IfOk, Some};
-ghost use Rattle.doc_store.specs.Sites.{view_of};
+ghost use Rattle.doc_store_readers.specs.Sites.{view_of};
 ghost use Rattle.doc_http_targets.specs.WrittenPaths.{path_written};
 ghost use Rattle.doc_hub_answers.specs.AnswerSteps.{sent_in};
 ghost use Rattle.doc_hub_answers.specs.Replies.{at_path, only_reply};

@@ -1,7 +1,7 @@
 //! What a reader gets where a route leads: to GET and HEAD, and to the methods that edit.
 
 ghost use Rattle.std.specs.Prelude.{◌≡◌, IfOk, OnOk, Some};
-ghost use Rattle.doc_store.specs.Sites.{view_of};
+ghost use Rattle.doc_store_readers.specs.Sites.{view_of};
 ghost use Rattle.doc_hub_answers.specs.AnswerSteps.{Answered, sent_in};
 ghost use Rattle.doc_hub_answers.specs.Counts.{RendersPuts};
 ghost use Rattle.doc_hub_answers.specs.Edits.{puts_left};

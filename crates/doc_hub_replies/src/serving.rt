@@ -1,7 +1,7 @@
 //! How requests are answered: each from what its reader may see.
 
 ghost use Rattle.std.specs.Prelude.{◌≡◌, ◌||◌, not, OnOk, option_copied};
-ghost use Rattle.doc_store.specs.Sites.{view_of};
+ghost use Rattle.doc_store_readers.specs.Sites.{view_of};
 ghost use Rattle.doc_hub_answers.specs.AnswerSteps.{AnsweredSo, entry_of};
 ghost use Rattle.doc_hub_answers.specs.Counts.{RendersPuts};
 ghost use Rattle.doc_hub_answers.specs.Edits.{puts_left};

@@ -5,7 +5,7 @@ use Rattle.std.specs.FinMap as map
 use Rattle.std.proofs.lemmas.Cmp.{nat_list_cmp_total}
 use Rattle.doc_index.specs.declared.held.Held.{Held}
 use Rattle.doc_index.specs.Held.{count_in, entries_of, held, known_as, slot_at}
-use Rattle.doc_index.proofs.HeldSteps.{pairs_total}
+use Rattle.doc_index_tables.proofs.PairSteps.{pairs_total}
 
 abbrev two_kiwis : List (List ℕ × ℕ)
 two_kiwis = (codes "kiwi", 2) ∷ (codes "lime", 1) ∷ []

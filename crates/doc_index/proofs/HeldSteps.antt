@@ -9,7 +9,7 @@ use Rattle.doc_index.specs.Held.{Known, entries_of, held, known, slot_at}
 use Rattle.doc_index.specs.IndexSteps.{IsIndex}
 use Rattle.doc_index_tables.specs.Maps.{pair_cmp}
 use Rattle.doc_index_tables.specs.TableSteps.{HasSame, NumberTable, number_at, number_in}
-pub use Rattle.doc_index_tables.proofs.PairSteps.{both_same, pair_is, pair_itself, pairs_exact, pairs_total, same_pair}
+use Rattle.doc_index_tables.proofs.PairSteps.{both_same, pair_is, pair_itself, pairs_exact, pairs_total, same_pair}
 
 pub some_is : {A : Type 0} (x y : A) → Some x ≡ Some y → x ≡ y
 some_is x y e = cc

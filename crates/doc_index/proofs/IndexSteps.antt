@@ -8,7 +8,8 @@ use Rattle.doc_index.specs.Held.{AreApart, count_in, held, known, slot_at}
 use Rattle.doc_index.specs.IndexSteps.{IsIndex}
 use Rattle.doc_index_tables.specs.TableSteps.{HasCounts, LacksCounts, NumberTable, number_at, same_number, with_number, without_number}
 use Rattle.doc_index_tables.proofs.CountSteps.{at_set, at_taken, number_is, number_itself}
-use Rattle.doc_index.proofs.HeldSteps.{both_same, held_at, known_at, not_some, pair_is, pair_itself, pair_of, pairs_exact, pairs_total, same_pair, some_is}
+use Rattle.doc_index.proofs.HeldSteps.{held_at, known_at, not_some, pair_of, some_is}
+use Rattle.doc_index_tables.proofs.PairSteps.{both_same, pair_is, pair_itself, pairs_exact, pairs_total, same_pair}
 use Rattle.doc_index_tables.proofs.TableSteps.{none_is}
 
 -- by pairs

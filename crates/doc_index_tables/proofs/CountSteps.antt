@@ -8,8 +8,7 @@ use Rattle.std.proofs.lemmas.Cmp.{nat_list_cmp_total, nat_cmp_total, tied_itself
 use Rattle.std.proofs.lemmas.Map.Lookups.{exact_unsigned}
 use Rattle.doc_index_tables.specs.Maps.{NumberMap, TextMap}
 use Rattle.doc_index_tables.specs.TableSteps.{HasCounts, HasSame, LacksCounts, NumberTable, left_in_row, number_at, number_in, row_or_empty, same_number, same_text, with_number, without_number}
-use Rattle.doc_index_tables.proofs.TableSteps.{equal_from, none_is}
-use Rattle.doc_index_tables.proofs.TableSteps.{same_text as text_is}
+use Rattle.doc_index_tables.proofs.TableSteps.{equal_from, none_is, same_text as text_is}
 
 pub number_is : (m n : ℕ) → same_number m n ≡ true → m ≡ n
 number_is m n e = exact_unsigned m n (equal_from (nat_cmp m n) e)

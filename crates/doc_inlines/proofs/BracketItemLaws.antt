@@ -13,8 +13,8 @@ use Rattle.doc_rules.specs.Links.{Tail, LastBracket, link_tail, last_bracket, li
 use Rattle.doc_rules.specs.Reading.{read_item, item_of_kind, kind_in, kinds, bang}
 use Rattle.doc_rules.specs.Rests.{IsRest}
 use Rattle.doc_rules.proofs.ParserLaws.{is_all}
-use Rattle.doc_refs.specs.Targets.{Targets, targets_of}
-use Rattle.doc_inlines_pass.specs.Marks.{Placed}
+use Rattle.doc_refs_parts.specs.Targets.{Targets, targets_of}
+use Rattle.doc_inlines_emphasis.specs.Marks.{Placed}
 use Rattle.doc_inlines_marks.specs.declared.mark_ref.MarkRef.{MarkRef}
 use Rattle.doc_inlines_marks.specs.declared.mark_ref.MarkRef.TheVariants as mark
 use Rattle.doc_inlines_marks.specs.Slices.{AreSlices, is_cut, IsCut, AreCut}

@@ -10,9 +10,9 @@ use Rattle.doc_rules.specs.Inlines.{Inline, Start, End, Span, Link, Image, onto}
 use Rattle.doc_rules.specs.Links.{last_bracket, without_links, linked}
 use Rattle.doc_rules.specs.Emphasis.{emphasis_of}
 use Rattle.doc_rules.specs.Destinations.{Target}
-use Rattle.doc_inlines_pass.specs.Marks.{Placed, ArePlaced, seen, stretch}
-use Rattle.doc_inlines_pass.proofs.Stretches.{Agree, placed_same, placed_until}
-use Rattle.doc_inlines_pass.proofs.Growing.{stretch_all}
+use Rattle.doc_inlines_emphasis.specs.Marks.{Placed, ArePlaced, seen, stretch}
+use Rattle.doc_inlines_emphasis.proofs.Stretches.{Agree, placed_same, placed_until}
+use Rattle.doc_inlines_emphasis.proofs.Growing.{stretch_all}
 use Rattle.doc_inlines_marks.specs.declared.mark_ref.MarkRef.{MarkRef}
 use Rattle.doc_inlines_marks.specs.declared.mark_ref.MarkRef.TheVariants as mark
 use Rattle.doc_inlines_marks.specs.declared.mark_ref.SpanRef as spans

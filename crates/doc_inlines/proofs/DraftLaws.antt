@@ -8,10 +8,10 @@ use Rattle.std.proofs.lemmas.List.{map-append, length-map, length-replicate, len
 use Rattle.std.proofs.Math.Bool.{or-true}
 use Rattle.doc_rules.specs.Inlines.{Inline, Delimiters, Open, literals, onto}
 use Rattle.doc_rules.specs.Characters.{Text}
-use Rattle.doc_inlines_pass.specs.Marks.{Placed, ArePlaced, IsFinal}
-use Rattle.doc_inlines_pass.proofs.Stretches.{Agree, placed_at}
-use Rattle.doc_inlines_pass.proofs.Growing.{seen_none}
-use Rattle.doc_inlines_pass.proofs.Finals.{AreFinal, final_marks}
+use Rattle.doc_inlines_emphasis.specs.Marks.{Placed, ArePlaced, IsFinal}
+use Rattle.doc_inlines_emphasis.proofs.Stretches.{Agree, placed_at}
+use Rattle.doc_inlines_emphasis.proofs.Growing.{seen_none}
+use Rattle.doc_inlines_emphasis.proofs.Finals.{AreFinal, final_marks}
 use Rattle.doc_inlines_marks.specs.declared.mark_ref.MarkRef.{MarkRef}
 use Rattle.doc_inlines_marks.specs.declared.mark_ref.MarkRef.TheVariants as mark
 use Rattle.doc_inlines_marks.specs.Views.{inlines_in}

@@ -19,24 +19,24 @@ use Rattle.doc_rules.specs.Rests.{IsRest}
 use Rattle.doc_rules.proofs.ParserLaws.{Takes, is_rest_again, rest_is_shorter, one_leaves, word_leaves, then_leaves, first_takes, or_takes}
 use Rattle.doc_rules.proofs.ParserLaws.{maybe_leaves, repeated_leaves, through_leaves, spacing_leaves}
 use Rattle.doc_rules.proofs.GrammarLaws.{is_leaves, is_takes, tag_name_leaves, attribute_leaves, raw_html_leaves, uri_leaves, mail_leaves}
-use Rattle.doc_refs.specs.Targets.{Targets}
+use Rattle.doc_refs_parts.specs.Targets.{Targets}
 use Rattle.doc_inlines_marks.specs.declared.mark_ref.MarkRef.{MarkRef}
 use Rattle.doc_inlines_marks.specs.declared.mark_ref.MarkRef.TheVariants as mark
 use Rattle.doc_inlines_marks.specs.declared.mark_ref.SpanRef.{SpanRef}
 use Rattle.doc_inlines_marks.specs.Slices.{slice_in, AreSlices, is_cut, AreCut}
 use Rattle.doc_inlines_marks.specs.Views.{inlines_in, span_shown}
-use Rattle.doc_inlines_enclosed.specs.declared.backticks.Backticks.{Backticks}
-use Rattle.doc_inlines_enclosed.specs.CodeSpans.{code_span_at, code_found}
-use Rattle.doc_inlines_enclosed.specs.declared.enclosed.Enclosed.{Enclosed}
-use Rattle.doc_inlines_enclosed.specs.declared.enclosed.Enclosed.TheVariants as enclosed
-use Rattle.doc_inlines_enclosed.specs.Enclosed as definition
-use Rattle.doc_inlines_enclosed.specs.Enclosed.{Enclosing, enclosed_behind, enclosed_at}
-use Rattle.doc_inlines_enclosed.specs.FoundSteps.{slice_of, enclosing_of}
-use Rattle.doc_inlines_enclosed.specs.Reads.{code_read, enclosed_read, angle_read}
-use Rattle.doc_inlines_enclosed.specs.Slices.{StandsBefore}
-use Rattle.doc_inlines_enclosed.specs.ToldSteps.{TellsOfRuns, TellsOfEnds}
-use Rattle.doc_inlines_enclosed.specs.declared.ends.MissingEnds.{MissingEnds}
-use Rattle.doc_inlines_enclosed.proofs.ReadLaws.{code_span_reads, run_is_taken, left_angle_reads}
+use Rattle.doc_inlines_marks.specs.declared.backticks.Backticks.{Backticks}
+use Rattle.doc_inlines_marks.specs.CodeSpans.{code_span_at, code_found}
+use Rattle.doc_inlines_marks.specs.declared.enclosed.Enclosed.{Enclosed}
+use Rattle.doc_inlines_marks.specs.declared.enclosed.Enclosed.TheVariants as enclosed
+use Rattle.doc_inlines_marks.specs.Enclosed as definition
+use Rattle.doc_inlines_marks.specs.Enclosed.{Enclosing, enclosed_behind, enclosed_at}
+use Rattle.doc_inlines_marks.specs.FoundSteps.{slice_of, enclosing_of}
+use Rattle.doc_inlines_marks.specs.Reads.{code_read, enclosed_read, angle_read}
+use Rattle.doc_inlines_marks.specs.PlaceSteps.{StandsBefore}
+use Rattle.doc_inlines_marks.specs.ToldSteps.{TellsOfRuns, TellsOfEnds}
+use Rattle.doc_inlines_marks.specs.declared.ends.MissingEnds.{MissingEnds}
+use Rattle.doc_inlines_marks.proofs.ReadLaws.{code_span_reads, run_is_taken, left_angle_reads}
 use Rattle.doc_inlines.specs.declared.reader.Reader.{Reader}
 use Rattle.doc_inlines.specs.PieceSteps.{AddsText, IsPiece}
 use Rattle.doc_inlines.specs.ReaderSteps.{is_uncut, made_before, outcome, IsReader, GoesOn, MarkStands}

@@ -6,7 +6,7 @@ use Rattle.doc_rules.specs.Characters.{Text}
 use Rattle.doc_rules.specs.Destinations as rules
 use Rattle.doc_rules.specs.Inlines as inlines
 use Rattle.doc_rules.specs.Inlines.{Inline, literals}
-use Rattle.doc_refs.specs.Targets.{target_shown}
+use Rattle.doc_refs_parts.specs.Targets.{target_shown}
 use Rattle.doc_refs_parts.specs.declared.target.Target.{Target}
 use Rattle.doc_inlines.specs.Marks.{inlines_in, inlines_shown, slice_in, span_shown}
 use Rattle.doc_inlines.specs.declared.mark.Mark.{Mark}

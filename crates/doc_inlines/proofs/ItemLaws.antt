@@ -10,7 +10,7 @@ use Rattle.doc_rules.specs.Inlines.{Inline, Literal, literals, onto}
 use Rattle.doc_rules.specs.Reading.{Other, kinds, kind_in, read}
 use Rattle.doc_rules.specs.Rests.{IsRest}
 use Rattle.doc_rules.proofs.ParserLaws.{before_rest, is_rest_again, rest_is_shorter}
-use Rattle.doc_refs.specs.Targets.{Targets}
+use Rattle.doc_refs_parts.specs.Targets.{Targets}
 use Rattle.doc_inlines_marks.specs.declared.mark_ref.MarkRef.TheVariants as mark
 use Rattle.doc_inlines_marks.specs.Slices.{AreSlices, is_cut}
 use Rattle.doc_inlines_marks.specs.Views.{inlines_in}

@@ -7,10 +7,10 @@ use Rattle.std.proofs.lemmas.Bool.{lt-leb}
 use Rattle.doc_rules.specs.Inlines.{Inline, Delimiters, Open, Bracket, bracket_text, onto}
 use Rattle.doc_rules.specs.Links.{last_bracket, without_links}
 use Rattle.doc_rules.specs.Emphasis.{emphasis_of}
-use Rattle.doc_inlines_pass.specs.OnePass.{plain_brackets}
-use Rattle.doc_inlines_pass.specs.Marks.{Marks, Placed, stretch, seen, ArePlaced, IsFinal}
-use Rattle.doc_inlines_pass.proofs.BracketLaws.{brackets_are_text, plain_append, plain_final}
-use Rattle.doc_inlines_pass.proofs.Finals.{AreFinal, final_stretch}
+use Rattle.doc_inlines_emphasis.specs.OnePass.{plain_brackets}
+use Rattle.doc_inlines_emphasis.specs.Marks.{Marks, Placed, stretch, seen, ArePlaced, IsFinal}
+use Rattle.doc_inlines_emphasis.proofs.BracketLaws.{brackets_are_text, plain_append, plain_final}
+use Rattle.doc_inlines_emphasis.proofs.Finals.{AreFinal, final_stretch}
 use Rattle.doc_inlines.specs.MadeSteps.{OpenBracket, bracket_shown, text_of_bracket, made_below, AreBrackets}
 use Rattle.doc_inlines.proofs.MadeLaws.{onto_both, placed_joined, seen_joined, seen_one, made_joined, brackets_joined, brackets_placed}
 use Rattle.std.proofs.Math.Bool.{or-false}

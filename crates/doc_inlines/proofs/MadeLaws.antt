@@ -4,9 +4,9 @@ use Rattle.std.proofs.Common.{subst, arith, append_assoc, append-nil, length-app
 use Rattle.std.proofs.Math.Seq.{drop-length, take-length}
 use Rattle.std.proofs.lemmas.List.{reverse-append, take-append-drop, drop-append-le, take-append-le}
 use Rattle.doc_rules.specs.Inlines.{Inline, Delimiters, Open, onto}
-use Rattle.doc_inlines_pass.specs.Marks.{Marks, Placed, stretch, seen, ArePlaced, AreDelimiters}
-use Rattle.doc_inlines_pass.proofs.Stretches.{Agree, stretch_to, placed_order, placed_until, placed_same, seen_same}
-use Rattle.doc_inlines_pass.proofs.Growing.{seen_none}
+use Rattle.doc_inlines_emphasis.specs.Marks.{Marks, Placed, stretch, seen, ArePlaced, AreDelimiters}
+use Rattle.doc_inlines_emphasis.proofs.Stretches.{Agree, stretch_to, placed_order, placed_until, placed_same, seen_same}
+use Rattle.doc_inlines_emphasis.proofs.Growing.{seen_none}
 use Rattle.doc_inlines.specs.MadeSteps.{OpenBracket, bracket_shown, text_of_bracket, made_below, AreBrackets}
 
 -- ---- lists

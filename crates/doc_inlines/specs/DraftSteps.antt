@@ -4,7 +4,7 @@ use Rattle.std.specs.Prelude.{if◌then◌else◌}
 use Rattle.doc_rules.specs.Characters.{Text}
 use Rattle.doc_rules.specs.Inlines.{Inline, onto}
 use Rattle.doc_rules.specs.Links.{LastBracket, last_bracket}
-use Rattle.doc_inlines_pass.specs.Marks.{Placed, seen}
+use Rattle.doc_inlines_emphasis.specs.Marks.{Placed, seen}
 use Rattle.doc_inlines_marks.specs.declared.mark_ref.MarkRef.{MarkRef}
 use Rattle.doc_inlines_emphasis.specs.Views.{items_of, marks_in, marks_shown, runs_in, IsSound}
 use Rattle.doc_inlines.specs.declared.bracket.Bracket.{Bracket}

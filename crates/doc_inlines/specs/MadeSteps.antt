@@ -3,7 +3,7 @@ use Rattle.std.specs.Prelude.{◌≡◌, ℕ, suc, ◌≤◌, nat_le, Bool, ◌|
 use Rattle.std.proofs.Math.ListN.{get_or}
 use Rattle.doc_rules.specs.Characters.{Text}
 use Rattle.doc_rules.specs.Inlines.{Inline, Open, Bracket, literals, onto}
-use Rattle.doc_inlines_pass.specs.Marks.{Marks, Placed, seen, ArePlaced}
+use Rattle.doc_inlines_emphasis.specs.Marks.{Marks, Placed, seen, ArePlaced}
 
 -- a bracket that is open: its mark, how many runs stand before it, whether it is an image's, and the text behind it
 pub record OpenBracket : Type 0 where

@@ -3,7 +3,7 @@ use Rattle.std.specs.Prelude.{◌≡◌, true, List, [], ◌∷◌, flat_map, ch
 use Rattle.doc_rules.specs.Characters as rules
 use Rattle.doc_rules.specs.Inlines as inlines
 use Rattle.doc_rules.specs.Inlines.{Inline, literals}
-use Rattle.doc_refs.specs.Targets.{target_shown}
+use Rattle.doc_refs_parts.specs.Targets.{target_shown}
 use Rattle.doc_inlines_marks.specs.Slices.{StandIn, is_cut}
 use Rattle.doc_inlines_marks.specs.Slices as lent
 use Rattle.doc_inlines_marks.specs.Views as lent_views

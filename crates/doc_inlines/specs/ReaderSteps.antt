@@ -8,11 +8,11 @@ use Rattle.doc_rules.specs.Definitions.{Definition}
 use Rattle.doc_rules.specs.Inlines.{Inline, literals, onto}
 use Rattle.doc_rules.specs.Reading.{read_item}
 use Rattle.doc_rules.specs.Rests.{IsRest}
-use Rattle.doc_refs.specs.Targets.{Targets, targets_of}
+use Rattle.doc_refs_parts.specs.Targets.{Targets, targets_of}
 use Rattle.doc_inlines_marks.specs.declared.mark_ref.MarkRef.{MarkRef}
 use Rattle.doc_inlines_marks.specs.Slices.{AreSlices, IsCut, AreCut}
 use Rattle.doc_inlines_emphasis.specs.Views.{items_of}
-use Rattle.doc_inlines_enclosed.specs.ToldSteps.{TellsOfRuns, TellsOfEnds}
+use Rattle.doc_inlines_marks.specs.ToldSteps.{TellsOfRuns, TellsOfEnds}
 use Rattle.doc_inlines.specs.declared.bracket.Bracket.{Bracket}
 use Rattle.doc_inlines.specs.declared.reader.Reader.{Reader}
 use Rattle.doc_inlines.specs.DraftSteps.{IsDraft, made_of}

@@ -6,9 +6,9 @@ ghost use Rattle.doc_rules.specs.Parsers.{before};
 ghost use Rattle.doc_rules.specs.Inlines.{Open};
 ghost use Rattle.doc_rules.specs.Links.{linked};
 ghost use Rattle.doc_rules.specs.Rests.{IsRest};
-ghost use Rattle.doc_refs.specs.Targets.{Targets, targets_of};
+ghost use Rattle.doc_refs_parts.specs.Targets.{Targets, targets_of};
 ghost use Rattle.doc_inlines_marks.specs.Targets.{named};
-ghost use Rattle.doc_inlines_tails.specs.TailSteps.{tail_shown};
+ghost use Rattle.doc_inlines_marks.specs.TailSteps.{tail_shown};
 ghost use Rattle.doc_inlines_emphasis.specs.Views.{items_of, runs_in};
 ghost use Rattle.doc_inlines.specs.DraftSteps.{AreOpen, codes_of_bracket, last_of};
 ghost use Rattle.doc_inlines.specs.ReaderSteps.{IsReader, GoesOn, state_made};
@@ -16,8 +16,8 @@ ghost use Rattle.doc_inlines.specs.ClosingSteps.{tail_where, IsTaken, HasNoBrack
 
 use crate::bracket::Bracket;
 use crate::reader::Reader;
+use doc_inlines_marks::tails::link_tail;
 use doc_inlines_marks::target_ref::TargetRef;
-use doc_inlines_tails::link_tail;
 use doc_lines::entities::Entities;
 use doc_lines::scan::character::is;
 use doc_lines::scan::front::front;

@@ -1,7 +1,7 @@
 //! Escapes and character references (CommonMark 0.31.2, sections 2.4 and 2.5).
 ghost use Rattle.std.specs.Prelude.{◌≡◌, ◌∷◌, chars, OnOk};
 ghost use Rattle.doc_rules.specs.Entities.{Table};
-ghost use Rattle.doc_refs.specs.Targets.{Targets};
+ghost use Rattle.doc_refs_parts.specs.Targets.{Targets};
 ghost use Rattle.doc_inlines.specs.ReaderSteps.{IsReader, GoesOn};
 
 use crate::reader::Reader;

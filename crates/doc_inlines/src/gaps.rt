@@ -3,7 +3,7 @@ ghost use Rattle.std.specs.Prelude.{◌≡◌, suc, nat_le, [], ◌∷◌, chars
 ghost use Rattle.doc_rules.specs.Parsers.{run_length};
 ghost use Rattle.doc_rules.specs.Entities.{Table};
 ghost use Rattle.doc_rules.specs.Inlines.{SoftBreak, HardBreak};
-ghost use Rattle.doc_refs.specs.Targets.{Targets};
+ghost use Rattle.doc_refs_parts.specs.Targets.{Targets};
 ghost use Rattle.doc_inlines_marks.specs.Slices.{slice_in, IsCut};
 ghost use Rattle.doc_inlines_marks.specs.Views.{inlines_in};
 ghost use Rattle.doc_inlines.specs.ReaderSteps.{IsReader, GoesOn};

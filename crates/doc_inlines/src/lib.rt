@@ -11,14 +11,14 @@
 //!    both stay text. So brackets bind before emphasis;
 //! 5. at the end of the text all that is left is wrapped in emphasis.
 //!
-//! Each search that may run to the end of the text in vain leaves a note, so that it isn't made again (`doc_inlines_enclosed`), and a label
+//! Each search that may run to the end of the text in vain leaves a note, so that it isn't made again (`doc_inlines_marks`), and a label
 //! is looked at up to 1,000 characters. Where a call answers `Memory`, nothing is known of the marks.
 #![tactic(auto)]
 
 ghost use Rattle.std.specs.Prelude.{◌≡◌, List, chars, IfOk};
 ghost use Rattle.doc_rules.specs.Definitions.{Definition};
 ghost use Rattle.doc_rules.specs.Reading.{inlines_of};
-ghost use Rattle.doc_refs.specs.Targets.{targets_of};
+ghost use Rattle.doc_refs_parts.specs.Targets.{targets_of};
 ghost use Rattle.doc_inlines.specs.Marks.{inlines_shown, AreSlices, AreCut};
 
 mod bracket;

@@ -5,7 +5,7 @@ ghost use Rattle.doc_rules.specs.Characters.{last_or};
 ghost use Rattle.doc_rules.specs.Entities.{Table};
 ghost use Rattle.doc_rules.specs.Inlines.{Literal};
 ghost use Rattle.doc_rules.specs.Reading.{Other, kinds, kind_in};
-ghost use Rattle.doc_refs.specs.Targets.{Targets};
+ghost use Rattle.doc_refs_parts.specs.Targets.{Targets};
 ghost use Rattle.doc_lines.specs.RestSteps.{IsCutBefore};
 ghost use Rattle.doc_inlines.specs.ReadingSteps.{is_plain, begins_something};
 ghost use Rattle.doc_inlines.specs.PlainSteps.{IsPlainEnd, IsPlainStop, IsWithoutSpaces, StandsInFront};

@@ -10,16 +10,16 @@ ghost use Rattle.doc_rules.specs.Inlines.{literals, onto};
 ghost use Rattle.doc_rules.specs.Reading.{inlines_of};
 ghost use Rattle.doc_rules.specs.Rests.{IsRest};
 ghost use Rattle.doc_rules.specs.Entities.{Table};
-ghost use Rattle.doc_refs.specs.Targets.{Targets, targets_of};
+ghost use Rattle.doc_refs_parts.specs.Targets.{Targets, targets_of};
 ghost use Rattle.doc_inlines_marks.specs.Slices.{AreSlices, AreCut};
 ghost use Rattle.doc_inlines_marks.specs.Views.{inlines_in, inlines_shown};
 ghost use Rattle.doc_inlines.specs.ReaderSteps.{IsReader, GoesOn, ReadsOn, ReadsAll, marks_of, state_made, is_uncut, MarkStands};
 
 use crate::draft::Draft;
 use crate::plain::behind_plain;
-use doc_inlines_enclosed::{Backticks, MissingEnds};
 use doc_inlines_marks::arena::Arena;
 use doc_inlines_marks::mark_ref::MarkRef;
+use doc_inlines_marks::{Backticks, MissingEnds};
 use doc_lines::entities::Entities;
 use doc_lines::scan::character::next_char;
 use doc_lines::scan::front::front;

@@ -7,7 +7,7 @@ ghost use Rattle.doc_rules.specs.Emphasis as rules;
 ghost use Rattle.doc_rules.specs.Entities.{Table};
 ghost use Rattle.doc_rules.specs.Inlines.{Delimiters};
 ghost use Rattle.doc_rules.specs.Rests.{IsRest};
-ghost use Rattle.doc_refs.specs.Targets.{Targets};
+ghost use Rattle.doc_refs_parts.specs.Targets.{Targets};
 ghost use Rattle.doc_inlines_emphasis.specs.Texts.{IsRunText};
 ghost use Rattle.doc_inlines.specs.DraftSteps.{IsRunOf};
 ghost use Rattle.doc_inlines.specs.ReaderSteps.{IsReader, GoesOn, state_made};

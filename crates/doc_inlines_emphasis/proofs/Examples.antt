@@ -2,9 +2,9 @@
 use Rattle.std.proofs.Common.{◌≡◌, true, false, [], ◌∷◌, refl}
 use Rattle.doc_rules.specs.Inlines.{Literal, Start, End, Delimiters, Emphasis}
 use Rattle.doc_rules.specs.Emphasis.{matches, strength}
-use Rattle.doc_inlines_pass.specs.Marks.{seen, stretch}
-use Rattle.doc_inlines_pass.specs.InPlace.{paired}
-use Rattle.doc_inlines_pass.specs.Openers.{closer_kind}
+use Rattle.doc_inlines_emphasis.specs.Marks.{seen, stretch}
+use Rattle.doc_inlines_emphasis.specs.InPlace.{paired}
+use Rattle.doc_inlines_emphasis.specs.Openers.{closer_kind}
 use Rattle.doc_inlines_emphasis.specs.declared.run.Run.{Run}
 use Rattle.doc_inlines_emphasis.specs.RunSteps.{run_shown, placed_shown}
 

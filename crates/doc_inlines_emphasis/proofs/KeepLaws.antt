@@ -9,9 +9,9 @@ use Rattle.doc_rules.specs.Characters as rules
 use Rattle.doc_rules.specs.Inlines.{Inline}
 use Rattle.doc_rules.specs.Inlines as inlines
 use Rattle.doc_rules.specs.Emphasis.{span_of}
-use Rattle.doc_inlines_pass.specs.Marks as delimiters
-use Rattle.doc_inlines_pass.specs.InPlace.{paired}
-use Rattle.doc_inlines_pass.specs.PassSteps.{OneOrTwo}
+use Rattle.doc_inlines_emphasis.specs.Marks as delimiters
+use Rattle.doc_inlines_emphasis.specs.InPlace.{paired}
+use Rattle.doc_inlines_emphasis.specs.PassSteps.{OneOrTwo}
 use Rattle.doc_inlines_marks.specs.declared.mark_ref.SpanRef.{SpanRef}
 use Rattle.doc_inlines_marks.specs.declared.mark_ref.MarkRef.{MarkRef}
 use Rattle.doc_inlines_marks.specs.declared.mark_ref.MarkRef.TheVariants.{Text, Start, End}

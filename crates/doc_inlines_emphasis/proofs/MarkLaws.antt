@@ -10,10 +10,10 @@ use Rattle.std.proofs.Math.ListN.{drop_of_length-le}
 use Rattle.std.proofs.lemmas.Str.{encodes-chars, encodes-IsAscii, chars-IsAscii}
 use Rattle.doc_rules.specs.Characters as rules
 use Rattle.doc_rules.specs.Inlines.{Literal}
-use Rattle.doc_inlines_pass.specs.Marks.{Placed, AreDelimiters, ArePlaced}
-use Rattle.doc_inlines_pass.specs.Marks as delimiters
-use Rattle.doc_inlines_pass.proofs.Stretches.{Agree, placed_order, placed_same, placed_until}
-use Rattle.doc_inlines_pass.proofs.Growing.{placed_run}
+use Rattle.doc_inlines_emphasis.specs.Marks.{Placed, AreDelimiters, ArePlaced}
+use Rattle.doc_inlines_emphasis.specs.Marks as delimiters
+use Rattle.doc_inlines_emphasis.proofs.Stretches.{Agree, placed_order, placed_same, placed_until}
+use Rattle.doc_inlines_emphasis.proofs.Growing.{placed_run}
 use Rattle.doc_inlines_marks.specs.declared.mark_ref.MarkRef.{MarkRef}
 use Rattle.doc_inlines_marks.specs.declared.mark_ref.MarkRef.TheVariants.{Text, Code, Soft, Hard, Raw, Reference, Start, End}
 use Rattle.doc_inlines_marks.specs.Slices.{slice_in, is_cut, IsCut, AreCut}

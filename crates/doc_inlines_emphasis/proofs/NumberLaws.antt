@@ -5,13 +5,12 @@ use Rattle.std.specs.Prelude.{suc, ◌≤◌, Some, slice_index, if◌then◌els
 use Rattle.std.proofs.lemmas.List.{map-set, get_or-map, length-map}
 use Rattle.doc_rules.specs.Inlines as rules
 use Rattle.doc_rules.specs.Emphasis.{matches}
-use Rattle.doc_inlines_pass.specs.Marks.{Placed}
-use Rattle.doc_inlines_pass.specs.Openers.{closer_kind, MissedFrom, NearestIs, AreBounds, Ascend, StandBefore}
-use Rattle.doc_inlines_pass.specs.NumberSteps.{no_run, numbered, run_numbered, taken_opener, paired_runs}
-use Rattle.doc_inlines_pass.specs.Marks.{less_closer}
-use Rattle.doc_inlines_pass.specs.PassSteps.{Stacked}
-use Rattle.doc_inlines_pass.proofs.BoundLaws.{missed_more, missed_below}
-use Rattle.doc_inlines_pass.proofs.NumberLoops.{stacked_failed}
+use Rattle.doc_inlines_emphasis.specs.Marks.{Placed, less_closer}
+use Rattle.doc_inlines_emphasis.specs.Openers.{closer_kind, MissedFrom, NearestIs, AreBounds, Ascend, StandBefore}
+use Rattle.doc_inlines_emphasis.specs.NumberSteps.{no_run, numbered, run_numbered, taken_opener, paired_runs}
+use Rattle.doc_inlines_emphasis.specs.PassSteps.{Stacked}
+use Rattle.doc_inlines_emphasis.proofs.BoundLaws.{missed_more, missed_below}
+use Rattle.doc_inlines_emphasis.proofs.NumberLoops.{stacked_failed}
 use Rattle.doc_inlines_emphasis.specs.declared.run.Run.{Run}
 use Rattle.doc_inlines_emphasis.specs.RunSteps.{char_of, run_shown, placed_shown, all_placed}
 

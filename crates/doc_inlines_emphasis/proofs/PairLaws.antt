@@ -4,17 +4,17 @@ use Rattle.std.proofs.Common.{drop, refl, ap, ap₂, sym, ◌∙◌, subst, Some
 use Rattle.std.specs.Prelude.{nat_lt, if◌then◌else◌}
 use Rattle.std.proofs.lemmas.List.{length-map, get_or_default}
 use Rattle.doc_rules.specs.Emphasis.{strength}
-use Rattle.doc_inlines_pass.specs.Marks.{Placed, ArePlaced, AreDelimiters, IsPaired, less_closer}
-use Rattle.doc_inlines_pass.specs.Marks as delimiters
-use Rattle.doc_inlines_pass.specs.InPlace.{paired}
-use Rattle.doc_inlines_pass.specs.Openers.{NearestIs}
-use Rattle.doc_inlines_pass.specs.NumberSteps.{no_run, numbered, run_numbered, stack_of, taken_opener, paired_runs, paired_openers}
-use Rattle.doc_inlines_pass.proofs.Stretches.{placed_order, placed_front, placed_at}
-use Rattle.doc_inlines_pass.specs.PassSteps.{OneOrTwo, Stands, outcome, ClosesAt, Stacked}
-use Rattle.doc_inlines_pass.proofs.Pairs.{strength_fits}
-use Rattle.doc_inlines_pass.proofs.InPlaceLaws.{paired_is}
-use Rattle.doc_inlines_pass.proofs.Numbers.{stack_split, pair_at}
-use Rattle.doc_inlines_pass.proofs.NumberLoops.{stacked_pair}
+use Rattle.doc_inlines_emphasis.specs.Marks.{Placed, ArePlaced, AreDelimiters, IsPaired, less_closer}
+use Rattle.doc_inlines_emphasis.specs.Marks as delimiters
+use Rattle.doc_inlines_emphasis.specs.InPlace.{paired}
+use Rattle.doc_inlines_emphasis.specs.Openers.{NearestIs}
+use Rattle.doc_inlines_emphasis.specs.NumberSteps.{no_run, numbered, run_numbered, stack_of, taken_opener, paired_runs, paired_openers}
+use Rattle.doc_inlines_emphasis.proofs.Stretches.{placed_order, placed_front, placed_at}
+use Rattle.doc_inlines_emphasis.specs.PassSteps.{OneOrTwo, Stands, outcome, ClosesAt, Stacked}
+use Rattle.doc_inlines_emphasis.proofs.Pairs.{strength_fits}
+use Rattle.doc_inlines_emphasis.proofs.InPlaceLaws.{paired_is}
+use Rattle.doc_inlines_emphasis.proofs.Numbers.{stack_split, pair_at}
+use Rattle.doc_inlines_emphasis.proofs.NumberLoops.{stacked_pair}
 use Rattle.doc_inlines_marks.specs.declared.mark_ref.MarkRef.{MarkRef}
 use Rattle.doc_inlines_marks.specs.Views.{inlines_in}
 use Rattle.doc_inlines_emphasis.specs.declared.run.Run.{Run}

@@ -5,16 +5,16 @@ use Rattle.std.specs.Prelude.{flat_map, chars}
 use Rattle.std.proofs.lemmas.List.{length-map}
 use Rattle.doc_rules.specs.Inlines.{Inline}
 use Rattle.doc_rules.specs.Inlines as rules
-use Rattle.doc_inlines_pass.specs.OnePass.{passed}
-use Rattle.doc_inlines_pass.specs.Marks.{ArePlaced, ArePlain, IsFinal, stretch, seen}
-use Rattle.doc_inlines_pass.specs.Openers.{NearestIs}
-use Rattle.doc_inlines_pass.specs.NumberSteps.{numbered, run_numbered, stack_of, joined_openers}
-use Rattle.doc_inlines_pass.proofs.BoundLaws.{reach_first}
-use Rattle.doc_inlines_pass.proofs.Stretches.{placed_order}
-use Rattle.doc_inlines_pass.specs.PassSteps.{Stands, outcome, ClosesAt, Stacked, WalksAt}
-use Rattle.doc_inlines_pass.proofs.NumberLoops.{starts_at, stacked_first, comes_at, emptied_at, failed_at, not_closing_at}
-use Rattle.doc_inlines_pass.proofs.Growing.{stretch_all}
-use Rattle.doc_inlines_pass.proofs.Finals.{AreFinal, final_marks, final_plain, final_emphasis}
+use Rattle.doc_inlines_emphasis.specs.OnePass.{passed}
+use Rattle.doc_inlines_emphasis.specs.Marks.{ArePlaced, ArePlain, IsFinal, stretch, seen}
+use Rattle.doc_inlines_emphasis.specs.Openers.{NearestIs}
+use Rattle.doc_inlines_emphasis.specs.NumberSteps.{numbered, run_numbered, stack_of, joined_openers}
+use Rattle.doc_inlines_emphasis.proofs.BoundLaws.{reach_first}
+use Rattle.doc_inlines_emphasis.proofs.Stretches.{placed_order}
+use Rattle.doc_inlines_emphasis.specs.PassSteps.{Stands, outcome, ClosesAt, Stacked, WalksAt}
+use Rattle.doc_inlines_emphasis.proofs.NumberLoops.{starts_at, stacked_first, comes_at, emptied_at, failed_at, not_closing_at}
+use Rattle.doc_inlines_emphasis.proofs.Growing.{stretch_all}
+use Rattle.doc_inlines_emphasis.proofs.Finals.{AreFinal, final_marks, final_plain, final_emphasis}
 use Rattle.doc_inlines_marks.specs.declared.mark_ref.MarkRef.{MarkRef}
 use Rattle.doc_inlines_marks.specs.declared.mark_ref.MarkRef.TheVariants.{Text, Code, Soft, Hard, Raw, Reference, Start, End}
 use Rattle.doc_inlines_marks.specs.Views.{inlines_in, inlines_shown}

@@ -3,8 +3,8 @@ use Rattle.std.proofs.Common.{◌≡◌, ℕ, ◌+◌, ◌<◌, Bool, true, fals
 use Rattle.std.specs.Prelude.{◌%◌, ◌&&◌, ◌||◌, ◌==◌, not, if◌then◌else◌}
 use mathlib.Core.Bool.{beq}
 use Rattle.doc_rules.specs.Emphasis.{matches}
-use Rattle.doc_inlines_pass.specs.Openers.{closer_kind}
-use Rattle.doc_inlines_pass.proofs.BoundLaws.{kind_below}
+use Rattle.doc_inlines_emphasis.specs.Openers.{closer_kind}
+use Rattle.doc_inlines_emphasis.proofs.BoundLaws.{kind_below}
 use Rattle.doc_inlines_emphasis.specs.declared.run.Run.{Run}
 use Rattle.doc_inlines_emphasis.specs.RunSteps.{run_shown}
 

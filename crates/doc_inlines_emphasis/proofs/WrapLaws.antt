@@ -2,8 +2,8 @@
 use Rattle.std.proofs.Common.{◌≡◌, ℕ, ◌-◌, ◌≤◌, List, ◌++◌, length, take, drop, ap, sym, ◌∙◌, subst, arith, min, append_assoc}
 use Rattle.std.proofs.lemmas.List.{length-take-le, take-append-le, take-take, take-map, drop-map, take_rest, length-take}
 use Rattle.doc_rules.specs.Emphasis.{emphasis_of}
-use Rattle.doc_inlines_pass.specs.Marks.{Placed, ArePlaced, seen}
-use Rattle.doc_inlines_pass.proofs.Stretches.{Agree, placed_same, placed_until}
+use Rattle.doc_inlines_emphasis.specs.Marks.{Placed, ArePlaced, seen}
+use Rattle.doc_inlines_emphasis.proofs.Stretches.{Agree, placed_same, placed_until}
 use Rattle.doc_inlines_marks.specs.declared.mark_ref.MarkRef.{MarkRef}
 use Rattle.doc_inlines_marks.specs.Views.{inlines_shown}
 use Rattle.doc_inlines_emphasis.specs.declared.run.Run.{Run}

@@ -2,3 +2,10 @@ pub mod RunSteps
 pub mod Views
 pub mod Texts
 pub mod Steps
+pub mod OnePass
+pub mod Openers
+pub mod Marks
+pub mod InPlace
+pub mod NumberSteps
+pub mod PassSteps
+pub mod Laws

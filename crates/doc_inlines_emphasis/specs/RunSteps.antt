@@ -1,7 +1,7 @@
 -- The delimiter runs of the code, as the rules speak of them.
 use Rattle.std.specs.Prelude.{ℕ, Bool, List, map, if◌then◌else◌}
 use Rattle.doc_rules.specs.Inlines as rules
-use Rattle.doc_inlines_pass.specs.Marks.{Placed}
+use Rattle.doc_inlines_emphasis.specs.Marks.{Placed}
 use Rattle.doc_inlines_emphasis.specs.declared.run.Run.{Run}
 
 -- '*' or '_'

@@ -3,10 +3,10 @@ use Rattle.std.specs.Prelude.{◌≡◌, ℕ, suc, ◌≤◌, List, [], length, 
 use Rattle.doc_rules.specs.Characters as rules
 use Rattle.doc_rules.specs.Inlines.{Inline}
 use Rattle.doc_rules.specs.Emphasis.{emphasis_of}
-use Rattle.doc_inlines_pass.specs.OnePass.{passed}
-use Rattle.doc_inlines_pass.specs.Marks.{ArePlaced, seen}
-use Rattle.doc_inlines_pass.specs.NumberSteps.{numbered, stack_of, joined_openers}
-use Rattle.doc_inlines_pass.specs.PassSteps.{Stands, ClosesAt, WalksAt}
+use Rattle.doc_inlines_emphasis.specs.OnePass.{passed}
+use Rattle.doc_inlines_emphasis.specs.Marks.{ArePlaced, seen}
+use Rattle.doc_inlines_emphasis.specs.NumberSteps.{numbered, stack_of, joined_openers}
+use Rattle.doc_inlines_emphasis.specs.PassSteps.{Stands, ClosesAt, WalksAt}
 use Rattle.doc_inlines_marks.specs.declared.mark_ref.MarkRef.{MarkRef}
 use Rattle.doc_inlines_marks.specs.Slices.{AreSlices, AreCut}
 use Rattle.doc_inlines_marks.specs.Views.{inlines_shown}

@@ -1,7 +1,7 @@
 -- The marks of a run's delimiters.
 use Rattle.std.specs.Prelude.{◌≡◌, ℕ, suc, Bool, List, [], ◌∷◌, ◌++◌, replicate, chars, ⊤}
 use Rattle.doc_rules.specs.Characters as rules
-use Rattle.doc_inlines_pass.specs.Marks.{Placed}
+use Rattle.doc_inlines_emphasis.specs.Marks.{Placed}
 use Rattle.doc_inlines_emphasis.specs.RunSteps.{delimiter}
 use Rattle.doc_inlines_marks.specs.declared.mark_ref.MarkRef.{MarkRef}
 use Rattle.doc_inlines_marks.specs.declared.mark_ref.MarkRef.TheVariants.{Text}

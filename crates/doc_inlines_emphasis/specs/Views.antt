@@ -1,8 +1,8 @@
 -- The marks made so far and the runs among them, as the rules' emphasis speaks of them.
 use Rattle.std.specs.Prelude.{ℕ, ◌≤◌, List, length, map, take, drop}
 use Rattle.doc_rules.specs.Inlines.{Inline}
-use Rattle.doc_inlines_pass.specs.Marks.{Placed, ArePlaced, seen}
-use Rattle.doc_inlines_pass.specs.Marks as delimiters
+use Rattle.doc_inlines_emphasis.specs.Marks.{Placed, ArePlaced, seen}
+use Rattle.doc_inlines_emphasis.specs.Marks as delimiters
 use Rattle.doc_inlines_marks.specs.declared.mark_ref.MarkRef.{MarkRef}
 use Rattle.doc_inlines_marks.specs.Views.{inlines_in}
 use Rattle.doc_inlines_emphasis.specs.declared.marks.Marks.{Marks}

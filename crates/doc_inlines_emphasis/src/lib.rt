@@ -7,6 +7,7 @@
 //! pass over the runs there (`pass`), which then leave; what is left of them stays the text that its marks are.
 #![tactic(auto)]
 
+pub mod laws;
 mod marks;
 mod openers;
 mod pair;

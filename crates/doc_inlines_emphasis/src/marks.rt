@@ -2,7 +2,7 @@
 ghost use Rattle.std.specs.Prelude.{◌≡◌, ℕ, suc, ◌≤◌, ◌<◌, [], ◌∷◌, ◌++◌, length, take, drop, replicate, chars, slice_set, OnOk};
 ghost use Rattle.doc_rules.specs.Characters as rules;
 ghost use Rattle.doc_rules.specs.Emphasis.{emphasis_of};
-ghost use Rattle.doc_inlines_pass.specs.Marks.{ArePlaced};
+ghost use Rattle.doc_inlines_emphasis.specs.Marks.{ArePlaced};
 ghost use Rattle.doc_inlines_marks.specs.Slices.{AreSlices, AreCut};
 ghost use Rattle.doc_inlines_marks.specs.Views.{inlines_shown};
 ghost use Rattle.doc_inlines_emphasis.specs.declared.marks.Place.{Place as Spot};

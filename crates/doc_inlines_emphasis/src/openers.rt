@@ -1,9 +1,9 @@
 //! The runs that may still open: a stack of their numbers, and for each of 12 kinds of closers (by character, by whether it may open too,
 //! and by its length modulo 3) a lower bound, below which none opens for it. A search goes down from the top and ends at the bound.
 ghost use Rattle.std.specs.Prelude.{◌≡◌, ◌+◌, ◌<◌, true, if◌then◌else◌, [], length, replicate, take, OnOk};
-ghost use Rattle.doc_inlines_pass.specs.Openers.{NearestIs, AreBounds, Ascend, StandBefore};
-ghost use Rattle.doc_inlines_pass.specs.NumberSteps.{run_numbered, joined_openers};
-ghost use Rattle.doc_inlines_pass.specs.PassSteps.{Stacked};
+ghost use Rattle.doc_inlines_emphasis.specs.Openers.{NearestIs, AreBounds, Ascend, StandBefore};
+ghost use Rattle.doc_inlines_emphasis.specs.NumberSteps.{run_numbered, joined_openers};
+ghost use Rattle.doc_inlines_emphasis.specs.PassSteps.{Stacked};
 ghost use Rattle.doc_inlines_emphasis.specs.RunSteps.{run_shown, all_placed};
 
 use crate::run::Run;

@@ -1,9 +1,9 @@
 //! A pair of runs, in place: the last delimiters that are left of one and the first ones of the other become a start and an end.
 ghost use Rattle.std.specs.Prelude.{◌≡◌, ℕ, ◌+◌, ◌<◌, ◌≤◌, ◌^◌, length, slice_set, Some};
-ghost use Rattle.doc_inlines_pass.specs.InPlace.{paired};
-ghost use Rattle.doc_inlines_pass.specs.Openers.{NearestIs};
-ghost use Rattle.doc_inlines_pass.specs.NumberSteps.{numbered, run_numbered, paired_runs};
-ghost use Rattle.doc_inlines_pass.specs.PassSteps.{OneOrTwo, Stacked};
+ghost use Rattle.doc_inlines_emphasis.specs.InPlace.{paired};
+ghost use Rattle.doc_inlines_emphasis.specs.Openers.{NearestIs};
+ghost use Rattle.doc_inlines_emphasis.specs.NumberSteps.{numbered, run_numbered, paired_runs};
+ghost use Rattle.doc_inlines_emphasis.specs.PassSteps.{OneOrTwo, Stacked};
 ghost use Rattle.doc_inlines_emphasis.specs.RunSteps.{all_placed};
 ghost use Rattle.doc_inlines_emphasis.specs.Steps.{Keeps, StandAt, GoesOn};
 ghost use Rattle.doc_inlines_emphasis.specs.Views.{marks_shown};

@@ -12,8 +12,8 @@
 //! An opener that a search looks at in vain leaves the stack, or isn't looked at again for a closer of that kind, of which there are 12: so
 //! the time is linear in the number of delimiters.
 ghost use Rattle.std.specs.Prelude.{◌≡◌, ◌<◌, ℕ, length, OnOk};
-ghost use Rattle.doc_inlines_pass.specs.Marks.{ArePlaced};
-ghost use Rattle.doc_inlines_pass.specs.PassSteps.{Stacked};
+ghost use Rattle.doc_inlines_emphasis.specs.Marks.{ArePlaced};
+ghost use Rattle.doc_inlines_emphasis.specs.PassSteps.{Stacked};
 ghost use Rattle.doc_inlines_emphasis.specs.RunSteps.{all_placed};
 ghost use Rattle.doc_inlines_emphasis.specs.Steps.{StandAt, GoesPast, IsWrapped};
 ghost use Rattle.doc_inlines_emphasis.specs.Views.{marks_shown};

@@ -1,7 +1,7 @@
 //! Delimiter runs: which may open for which (rules 9 and 10 of CommonMark 0.31.2, section 6.2), and how many delimiters a pair takes.
 ghost use Rattle.std.specs.Prelude.{◌≡◌, ◌<◌, if◌then◌else◌};
 ghost use Rattle.doc_rules.specs.Emphasis.{matches, strength, span_of};
-ghost use Rattle.doc_inlines_pass.specs.Openers.{closer_kind};
+ghost use Rattle.doc_inlines_emphasis.specs.Openers.{closer_kind};
 ghost use Rattle.doc_inlines_marks.specs.Views.{span_shown};
 ghost use Rattle.doc_inlines_emphasis.specs.RunSteps.{run_shown};
 

@@ -2,3 +2,16 @@ pub mod EscapeSteps
 pub mod Targets
 pub mod Views
 pub mod Slices
+pub mod LabelSteps
+pub mod TailSteps
+pub mod AddressSteps
+pub mod CodeSpans
+pub mod CodeSteps
+pub mod Enclosed
+pub mod EndSteps
+pub mod FoundSteps
+pub mod LearnSteps
+pub mod Reads
+pub mod RunSteps
+pub mod PlaceSteps
+pub mod ToldSteps

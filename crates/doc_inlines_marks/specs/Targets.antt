@@ -3,8 +3,8 @@ use Rattle.std.specs.Prelude.{◌++◌, chars, None}
 use Rattle.doc_rules.specs.Characters.{Text}
 use Rattle.doc_rules.specs.Destinations as rules
 use Rattle.doc_rules.specs.Destinations.{target_of}
-use Rattle.doc_refs.specs.Sources.{text_shown}
-use Rattle.doc_refs.specs.Targets.{target_shown}
+use Rattle.doc_refs_parts.specs.Sources.{text_shown}
+use Rattle.doc_refs_parts.specs.Targets.{target_shown}
 use Rattle.doc_inlines_marks.specs.declared.target_ref.TargetRef.{TargetRef}
 use Rattle.doc_inlines_marks.specs.declared.target_ref.TargetRef.TheVariants.{Written, Defined, Address}
 use Rattle.doc_inlines_marks.specs.declared.unescaped.Unescaped.{Unescaped}

@@ -1,8 +1,8 @@
 //! What links name, as it stands.
 ghost use Rattle.std.specs.Prelude.{◌≡◌, ◌++◌, chars, option_map, IfOk};
 ghost use Rattle.doc_rules.specs.Destinations.{destination_value, title_value};
-ghost use Rattle.doc_refs.specs.Sources.{text_shown};
-ghost use Rattle.doc_refs.specs.Targets.{target_shown};
+ghost use Rattle.doc_refs_parts.specs.Sources.{text_shown};
+ghost use Rattle.doc_refs_parts.specs.Targets.{target_shown};
 ghost use Rattle.doc_inlines_marks.specs.Targets.{named, read_of};
 
 use crate::unescaped::{Unescaped, without_escapes};

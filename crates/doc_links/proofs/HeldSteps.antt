@@ -4,10 +4,10 @@ use Rattle.std.specs.Prelude.{Option, Some, None, option_map, map as mapped, Res
 use Rattle.std.specs.FinMap as map
 use Rattle.std.specs.List.{flat_map}
 use Rattle.doc_index.specs.Held.{Known, entries_of, held, known_as, slot_at}
-use Rattle.doc_index.specs.Maps.{PairMap, TextMap}
+use Rattle.doc_index_tables.specs.Maps.{PairMap, TextMap}
 use Rattle.doc_index.specs.declared.held.Held.{Held}
-use Rattle.doc_index.proofs.HeldSteps.{pairs_exact, pairs_total}
-use Rattle.doc_index.proofs.TableSteps.{on_ok}
+use Rattle.doc_index_tables.proofs.PairSteps.{pairs_exact, pairs_total}
+use Rattle.doc_index_tables.proofs.TableSteps.{on_ok}
 use Rattle.doc_page_parts.specs.Sights.{leads_to_itself, seen}
 use Rattle.doc_links_seen.specs.SeenSteps.{page_in}
 use Rattle.doc_links.specs.IndexSteps.{with_values, without_counts}

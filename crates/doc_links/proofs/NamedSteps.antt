@@ -15,8 +15,9 @@ use Rattle.std.proofs.lemmas.Map.Lookups.{exact_bytes}
 use Rattle.std.proofs.lemmas.Map.Text.{is_eq-slice_cmp}
 use Rattle.doc_index.specs.declared.held.Held.{Held}
 use Rattle.doc_index.specs.Held.{Known, count_in, entries_of, held, known, slot_at}
-use Rattle.doc_index.specs.Maps.{TextMap, pair_cmp}
-use Rattle.doc_index.proofs.HeldSteps.{not_some, pair_is, pair_itself, pairs_total, same_pair, some_is}
+use Rattle.doc_index_tables.specs.Maps.{TextMap, pair_cmp}
+use Rattle.doc_index.proofs.HeldSteps.{not_some, some_is}
+use Rattle.doc_index_tables.proofs.PairSteps.{pair_is, pair_itself, pairs_total, same_pair}
 use Rattle.doc_page_parts.proofs.Maps.{entries_in_order}
 use Rattle.doc_page_parts.specs.Sights.{leads_to_itself, seen}
 use Rattle.doc_resolve.specs.declared.link_kind.LinkKind.{LinkKind}

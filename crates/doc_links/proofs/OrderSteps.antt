@@ -11,8 +11,8 @@ use Rattle.std.specs.Map.{keys_of}
 use Rattle.std.specs.Ordering.{nat_cmp, ordering_then}
 use Rattle.std.proofs.lemmas.Cmp.{nat_cmp_total, tied_itself}
 use Rattle.std.proofs.lemmas.Map.Lookups.{exact_bytes}
-use Rattle.doc_index.specs.Maps.{PairMap, pair_cmp}
-use Rattle.doc_index.proofs.HeldSteps.{pairs_total, same_pair}
+use Rattle.doc_index_tables.specs.Maps.{PairMap, pair_cmp}
+use Rattle.doc_index_tables.proofs.PairSteps.{pairs_total, same_pair}
 use Rattle.doc_page_parts.specs.Sights.{leads_to_itself, seen}
 use Rattle.doc_links_seen.proofs.SearchSteps.{path_cmp}
 use Rattle.doc_links_seen.specs.SeenSteps.{IsInOrder}

@@ -10,7 +10,7 @@ use Rattle.std.proofs.lemmas.Map.Lookups.{exact_bytes}
 use Rattle.std.proofs.lemmas.Map.Text.{is_eq-slice_cmp}
 use Rattle.std.specs.Cmp.Lexicographic.{slice_cmp}
 use Rattle.std.specs.Ordering.{nat_cmp}
-use Rattle.doc_index.proofs.TableSteps.{equal_from}
+use Rattle.doc_index_tables.proofs.TableSteps.{equal_from}
 use Rattle.doc_page_parts.proofs.Bools.{and_false}
 use Rattle.doc_page_parts.specs.Sights.{leads_to_itself}
 use Rattle.doc_resolve.specs.declared.link_kind.LinkKind.{LinkKind}

@@ -4,8 +4,8 @@ use Rattle.std.specs.Prelude.{IsTrue, Some, None}
 use Rattle.std.specs.Ordering.{eq_by_cmp}
 use Rattle.std.specs.FinMap as map
 use Rattle.std.proofs.lemmas.Bool.{both_ways}
-use Rattle.doc_index.specs.Maps.{PairMap, pair_cmp}
-use Rattle.doc_index.proofs.HeldSteps.{pair_is, pair_itself, pairs_total}
+use Rattle.doc_index_tables.specs.Maps.{PairMap, pair_cmp}
+use Rattle.doc_index_tables.proofs.PairSteps.{pair_is, pair_itself, pairs_total}
 use Rattle.doc_links.specs.StampSteps.{HasStamp}
 
 module _ {X : Type 0} (held : PairMap X) (n : ℕ) where

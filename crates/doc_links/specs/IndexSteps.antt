@@ -4,7 +4,7 @@ use Rattle.std.specs.FinMap as map
 use Rattle.std.specs.List.{flat_map}
 use Rattle.std.specs.declared.cmp.Ordering.{Ordering}
 use Rattle.doc_index.specs.Held.{Known, count_in, held, slot_at}
-use Rattle.doc_index.specs.Maps.{PairMap, TextMap}
+use Rattle.doc_index_tables.specs.Maps.{PairMap, TextMap}
 use Rattle.doc_index.specs.declared.held.Held.{Held}
 use Rattle.doc_page_parts.specs.Sights.{leads_to_itself}
 use Rattle.doc_resolve.specs.declared.link_kind.LinkKind.{LinkKind}

@@ -46,7 +46,7 @@ impl Drop for LinkIndex {
 impl Model for LinkIndex {
     ghost use Rattle.std.specs.Coded.{coded_ℕ, coded_list, coded×};
     ghost use Rattle.std.specs.FinMap as map;
-    ghost use Rattle.doc_index.specs.Maps.{PairMap};
+    ghost use Rattle.doc_index_tables.specs.Maps.{PairMap};
     ghost use Rattle.doc_links_pages.specs.contracts.page_links.PageLinks as one;
     ghost use Rattle.doc_links_pages.specs.declared.page_links.PageLinks.{PageLinks};
     ghost use Rattle.doc_links.specs.IndexSteps.{without_counts};

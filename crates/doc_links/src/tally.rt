@@ -33,7 +33,7 @@ impl Model for Tally {
     ghost use Rattle.std.specs.Prelude.{ℕ};
     ghost use Rattle.std.specs.Coded.{coded_ℕ, coded_list};
     ghost use Rattle.std.specs.FinMap as map;
-    ghost use Rattle.doc_index.specs.Maps.{TextMap};
+    ghost use Rattle.doc_index_tables.specs.Maps.{TextMap};
 
     ghost Value = { TextMap ℕ };
 

@@ -7,8 +7,8 @@ use Rattle.std.specs.Ordering.{nat_cmp}
 use Rattle.std.proofs.lemmas.Cmp.{nat_list_cmp_total}
 use Rattle.std.proofs.lemmas.Map.Lookups.{exact_bytes}
 use Rattle.std.proofs.lemmas.Map.Text.{is_eq-slice_cmp}
-use Rattle.doc_index.specs.Maps.{TextMap}
-use Rattle.doc_index.proofs.TableSteps.{equal_from}
+use Rattle.doc_index_tables.specs.Maps.{TextMap}
+use Rattle.doc_index_tables.proofs.TableSteps.{equal_from}
 use Rattle.doc_links_pages.specs.KnownSteps.{count_at}
 
 none_less : (n : ℕ) → n ≡ n + 0

@@ -20,7 +20,7 @@ use Rattle.doc_resolve.specs.WrittenPaths.{path_written}
 use Rattle.doc_resolve.specs.declared.link_kind.LinkKind.{LinkKind}
 use Rattle.doc_resolve.specs.declared.link_kind.LinkKind.TheVariants.{External, Page, Nowhere}
 use Rattle.doc_links_pages.specs.Links.{backlinks, broken, contents}
-use Rattle.doc_index.specs.Maps.{pair_cmp}
+use Rattle.doc_index_tables.specs.Maps.{pair_cmp}
 use Rattle.doc_links_pages.specs.PageLinks.{IsOnce, page_links}
 use Rattle.doc_links_pages.specs.declared.answers.Broken.{Broken}
 use Rattle.doc_links_pages.specs.declared.answers.Entry.{Entry}

@@ -4,7 +4,7 @@ use Rattle.std.specs.BTreeSet.{BTreeSet, contains}
 use Rattle.std.specs.Cmp.Lexicographic.{slice_cmp}
 use Rattle.std.specs.FinMap as map
 use Rattle.std.specs.Ordering.{nat_cmp}
-use Rattle.doc_index.specs.Maps.{TextMap}
+use Rattle.doc_index_tables.specs.Maps.{TextMap}
 use Rattle.doc_page_parts.specs.declared.rendered.Heading.{Heading}
 use Rattle.doc_resolve.specs.declared.link_kind.LinkKind.{LinkKind}
 use Rattle.doc_links_pages.specs.Links.{has_anchor}

@@ -1,7 +1,7 @@
 -- What is known of pages for the sake of links, and how it is held.
 use Rattle.std.specs.Prelude.{◌≡◌, ℕ, List, IsTrue, map as mapped}
 use Rattle.std.specs.FinMap as map
-use Rattle.doc_index.specs.Maps.{PairMap}
+use Rattle.doc_index_tables.specs.Maps.{PairMap}
 use Rattle.doc_page_parts.specs.declared.rendered.Heading.{Heading}
 use Rattle.doc_page_parts.specs.declared.rendered.Piece.{Piece}
 use Rattle.doc_resolve.specs.Links.{kinds}

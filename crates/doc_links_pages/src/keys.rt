@@ -2,7 +2,7 @@
 
 ghost use Rattle.std.specs.Prelude.{◌≡◌, ◌+◌, ℕ, List as Seq, IfOk, OnOk, if◌then◌else◌};
 ghost use Rattle.std.specs.FinMap as map;
-ghost use Rattle.doc_index.specs.Maps.{text_map};
+ghost use Rattle.doc_index_tables.specs.Maps.{text_map};
 ghost use Rattle.doc_links_pages.specs.KnownSteps.{HasKeys, count_at};
 ghost use Rattle.doc_links_pages.specs.Names.{writes};
 

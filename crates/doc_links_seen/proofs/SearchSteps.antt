@@ -12,7 +12,7 @@ use Rattle.std.proofs.lemmas.Bool.{cases_lt}
 use Rattle.std.proofs.lemmas.Cmp.{nat_list_cmp_total}
 use Rattle.std.proofs.lemmas.Map.Lookups.{exact_bytes}
 use Rattle.std.proofs.lemmas.Map.Text.{is_eq-slice_cmp}
-use Rattle.doc_index.proofs.TableSteps.{equal_from}
+use Rattle.doc_index_tables.proofs.TableSteps.{equal_from}
 use Rattle.doc_links_seen.specs.SeenSteps.{IsInOrder}
 use Rattle.doc_links_pages.specs.Links.{page_at}
 use Rattle.doc_links_pages.specs.declared.page_links.PageLinks.{PageLinks}

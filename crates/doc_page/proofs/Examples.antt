@@ -4,7 +4,7 @@ use Rattle.std.specs.Prelude.{Ok, Err, Some, None, replicate}
 use Rattle.std.specs.Str.{chars}
 use Rattle.doc_page_parts.specs.Escaping.{escaped}
 use Rattle.doc_page_parts.specs.Lines.{lines, is_blank, without_ending, stripped}
-use Rattle.doc_page_parts.specs.Pages.{opening_tag, filled, title_of, body_of}
+use Rattle.doc_page_parts.specs.Pages.{opening_tag}
 use Rattle.doc_page_parts.specs.Paths.{is_path, path_of}
 use Rattle.doc_page.specs.Plain.{paragraphs, plain_html, plain_page}
 use Rattle.doc_page_parts.specs.declared.linker.Shown.TheVariants.{Href, Missing}
@@ -163,16 +163,3 @@ tag_with_empty_title = refl
 
 pub missing_tag : opening_tag (Some (codes "t")) Missing ≡ codes "<a class=\"missing\">"
 missing_tag = refl
-
--- a page's title, and its body
-pub first_title : title_of (codes "a.md") (record { level = 1; anchor = codes "section"; text = [] } ∷
-    record { level = 2; anchor = codes "b"; text = codes "B" } ∷ []) ≡ codes "B"
-first_title = refl
-
-pub title_from_path : title_of (codes "a.md") (record { level = 1; anchor = codes "section"; text = [] } ∷ []) ≡ codes "a.md"
-title_from_path = refl
-
-pub body : body_of (codes "a&b.md") (λ dest. Missing) (plain_page (codes "Hello\n"))
-    ≡ codes "<!DOCTYPE html>\n<title>a&amp;b.md</title>\n<p>Hello</p>\n"
-unfolding lines without_ending stripped paragraphs plain_html escaped filled
-body = refl

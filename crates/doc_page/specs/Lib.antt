@@ -1,10 +1,3 @@
 pub mod Laws
 pub mod ParagraphSteps
 pub mod Plain
-pub use Rattle.doc_page_parts.specs.Escaping
-pub use Rattle.doc_page_parts.specs.Lines
-pub use Rattle.doc_page_parts.specs.Pages
-pub use Rattle.doc_page_parts.specs.Paths
-pub use Rattle.doc_page_parts.specs.Refusals
-pub use Rattle.doc_page_parts.specs.Sights
-pub use Rattle.doc_page_parts.specs.Tokens

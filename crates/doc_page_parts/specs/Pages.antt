@@ -1,8 +1,7 @@
--- Pages: what a renderer gives, how a reader's page is filled from it, and the body that is sent.
-use Rattle.std.specs.Prelude.{ℕ, List, [], ◌∷◌, ◌++◌, Bool, true, false, codes, Option, Some, None, if◌then◌else◌}
+-- Pages: what a renderer gives, and how a reader's page is filled from it.
+use Rattle.std.specs.Prelude.{ℕ, List, [], ◌∷◌, ◌++◌, Bool, true, false, codes, Option, Some, None}
 use Rattle.std.specs.List.{flat_map}
 use Rattle.doc_page_parts.specs.Escaping.{escaped}
-use Rattle.doc_page_parts.specs.declared.rendered.Heading.{Heading}
 use Rattle.doc_page_parts.specs.declared.rendered.Rendered.{Rendered}
 use Rattle.doc_page_parts.specs.declared.rendered.Piece.{Piece}
 use Rattle.doc_page_parts.specs.declared.rendered.Piece.TheVariants.{Html, Link}
@@ -34,14 +33,3 @@ filled_piece shown (Link spot) = opening_tag spot.title (shown spot.dest)
 -- the pieces of a page, joined; this project's choice
 unfoldable pub filled : (List ℕ → Shown) → Rendered → List ℕ
 filled shown page = flat_map (filled_piece shown) page.pieces
-
--- the text of the first heading whose text is not empty, or else the path; this project's choice
-abbrev pub title_of : List ℕ → List Heading → List ℕ
-title_of path [] = path
-title_of path (heading ∷ rest) = if is_empty heading.text then title_of path rest else heading.text
-
--- the body of the reply that shows the page at this path; this project's choice
-abbrev pub body_of : List ℕ → (List ℕ → Shown) → Rendered → List ℕ
-body_of path shown page =
-    codes "<!DOCTYPE html>\n<title>" ++ escaped (title_of path page.headings) ++ codes "</title>\n"
-    ++ filled shown page

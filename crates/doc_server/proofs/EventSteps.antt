@@ -2,7 +2,7 @@
 use Rattle.std.proofs.Common.{◌≡◌, ℕ, List, [], ap, ◌∙◌}
 use Rattle.std.specs.Prelude.{Result, Ok}
 use Rattle.doc_hub.specs.declared.event.Event.{Event}
-use Rattle.doc_server_input.specs.declared.fault.Fault.{Fault}
+use Rattle.doc_server_streams.specs.declared.fault.Fault.{Fault}
 use Rattle.doc_server.specs.Scripts.{events_from, lines}
 
 -- no line is left

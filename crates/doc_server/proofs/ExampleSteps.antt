@@ -11,12 +11,12 @@ use Rattle.std.proofs.KnownBytes.{Appends-nil, Appends-trans, Appends-kept}
 use Rattle.doc_server.specs.Examples.{Example, Place, Between, tab_or, meant, lines, onto, example_before, place_after, examples_from}
 use Rattle.doc_server.specs.Examples.{examples_of, passes, one_more, example_line, lines_from, count_from, no_examples, count_of}
 use Rattle.doc_server.specs.ExampleSteps.{line_before, count_after, HasRoom, IsAt}
-use Rattle.doc_server_input.specs.OutputSteps.{StopsAt}
-use Rattle.doc_server_input.proofs.Prefixes.{front_is_prefix, prefix_behind, stops_behind}
+use Rattle.doc_server_streams.specs.OutputSteps.{StopsAt}
+use Rattle.doc_server_streams.proofs.Prefixes.{front_is_prefix, prefix_behind, stops_behind}
 use Rattle.doc_server_streams.specs.Streams.{AppendsPrefix}
 use Rattle.doc_server.specs.declared.count.Count.{Count}
-use Rattle.doc_server_input.specs.declared.fault.Fault.{Fault}
-use Rattle.doc_server_input.specs.declared.fault.Fault.TheVariants as faults
+use Rattle.doc_server_streams.specs.declared.fault.Fault.{Fault}
+use Rattle.doc_server_streams.specs.declared.fault.Fault.TheVariants as faults
 
 -- a step of an iterator takes the first of the items that it yields
 pub next_item : {S A B : Type 0} (steps : S → Option A → S → Type 0) (v : A → B) (s t : S) (x : A) (items : List B)

@@ -3,15 +3,15 @@ use Rattle.std.proofs.Common.{◌≡◌, ℕ, List, ◌∷◌, refl, ap, subst, 
 use Rattle.std.specs.Prelude.{Option, Some, None, IfSome, Result, Ok, Err}
 use Rattle.std.specs.Io.KnownBytes.{Appends}
 use Rattle.doc_hub.specs.Connections.{backlog_limit}
-use Rattle.doc_hub.specs.Replies.{Renders}
+use Rattle.doc_hub_answers.specs.Replies.{Renders}
 use Rattle.doc_hub.specs.Worlds.{World, connected, last_id}
 use Rattle.doc_hub.specs.Runs.{Happens, Happened, first}
 use Rattle.doc_hub.specs.declared.event.Event.TheVariants as events
 use Rattle.doc_hub.specs.declared.outcome.Outcome.TheVariants as outcomes
 use Rattle.doc_hub.specs.declared.event.ConnId.{ConnId}
 use Rattle.doc_hub.specs.declared.refusal.ConnectError.{ConnectError}
-use Rattle.doc_server_input.specs.declared.fault.Fault.{Fault}
-use Rattle.doc_server_input.specs.declared.fault.Fault.TheVariants as faults
+use Rattle.doc_server_streams.specs.declared.fault.Fault.{Fault}
+use Rattle.doc_server_streams.specs.declared.fault.Fault.TheVariants as faults
 use Rattle.doc_server.specs.DemoSite.{demo_world}
 use Rattle.doc_server.specs.Demo.{AreReplies, RunSends, StopsDemo}
 use Rattle.doc_server.specs.DemoSteps.{StepsSend, StopsReplies}

@@ -10,8 +10,8 @@ use Rattle.std.proofs.lemmas.Result.{IfOk-weaker}
 use Rattle.toml.proofs.OnLiterals.{toml_on_literals}
 use Rattle.doc_page_parts.specs.Paths.{is_path}
 use Rattle.doc_page_parts.specs.Tokens.{is_token}
-use Rattle.doc_store.specs.Groups.{groups_of_names}
-use Rattle.doc_store.specs.Pages.{Page}
+use Rattle.doc_store_readers.specs.Groups.{groups_of_names}
+use Rattle.doc_store_readers.specs.Pages.{Page}
 use Rattle.doc_store.specs.declared.store.EditError.{EditError}
 use Rattle.doc_store.specs.declared.store.EditError.TheVariants.{TooLong, StoreFull}
 use Rattle.doc_store.specs.declared.store.Put.{Put}
@@ -23,9 +23,9 @@ use Rattle.doc_server_config.specs.declared.config.ConfigError.{ConfigError}
 use Rattle.doc_server_config.specs.declared.config.ConfigError.TheVariants as config_errors
 use Rattle.doc_server_config.specs.declared.config.SiteConfig.{SiteConfig}
 use Rattle.doc_server_config.specs.declared.page_row.PageRow.{PageRow}
-use Rattle.doc_server_input.proofs.Results.{then_err}
-use Rattle.doc_server_input.specs.declared.fault.Fault.{Fault}
-use Rattle.doc_server_input.specs.declared.fault.Fault.TheVariants as faults
+use Rattle.doc_server_streams.proofs.Results.{then_err}
+use Rattle.doc_server_streams.specs.declared.fault.Fault.{Fault}
+use Rattle.doc_server_streams.specs.declared.fault.Fault.TheVariants as faults
 use Rattle.doc_server.specs.DemoSite.{demo_config, demo_page, demo_world, site_of_none, site_of_one, site_of_two, page_put, with_page}
 use Rattle.doc_server.specs.Sites as sites
 

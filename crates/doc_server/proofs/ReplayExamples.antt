@@ -8,7 +8,7 @@ use Rattle.doc_hub.specs.declared.outcome.Outcome.TheVariants as outcomes
 use Rattle.doc_hub.specs.declared.refusal.Refusal.TheVariants as refusals
 use Rattle.doc_server_script.specs.Escapes.{unescaped, escaped}
 use Rattle.doc_server_script.specs.Lines.{event_of}
-use Rattle.doc_server_input.specs.declared.fault.Fault.TheVariants as faults
+use Rattle.doc_server_streams.specs.declared.fault.Fault.TheVariants as faults
 use Rattle.doc_server.specs.Replays.{outcome_lines}
 use Rattle.doc_server.specs.Scripts.{lines, events_of}
 

@@ -4,7 +4,7 @@ use Rattle.std.specs.Prelude.{Option, IfSome, IsUtf8, Ok}
 use Rattle.std.specs.Io.KnownBytes.{Appends}
 use Rattle.std.proofs.KnownBytes.{Appends-nil, Appends-trans}
 use Rattle.std.proofs.lemmas.List.{append_assoc}
-use Rattle.doc_hub.specs.Replies.{Renders}
+use Rattle.doc_hub_answers.specs.Replies.{Renders}
 use Rattle.doc_hub.specs.Runs.{RunsAll}
 use Rattle.doc_hub.specs.Worlds.{World}
 use Rattle.doc_hub.specs.declared.event.Event.{Event}
@@ -12,10 +12,10 @@ use Rattle.doc_hub.specs.declared.outcome.Outcome.{Outcome}
 use Rattle.doc_server_config.specs.declared.config.SiteConfig.{SiteConfig}
 use Rattle.doc_server_script.specs.Outcomes.{outcome_line}
 use Rattle.doc_server_streams.specs.Streams.{AppendsPrefix}
-use Rattle.doc_server_input.specs.OutputSteps.{StopsAt}
-use Rattle.doc_server_input.specs.declared.fault.Fault.{Fault}
-use Rattle.doc_server_input.specs.declared.fault.Fault.TheVariants as faults
-use Rattle.doc_server_input.proofs.Prefixes.{front_is_prefix, prefix_behind}
+use Rattle.doc_server_streams.specs.OutputSteps.{StopsAt}
+use Rattle.doc_server_streams.specs.declared.fault.Fault.{Fault}
+use Rattle.doc_server_streams.specs.declared.fault.Fault.TheVariants as faults
+use Rattle.doc_server_streams.proofs.Prefixes.{front_is_prefix, prefix_behind}
 use Rattle.doc_server.specs.Replays.{outcome_lines, RunTells, Replays}
 use Rattle.doc_server.specs.Scripts.{events_of}
 use Rattle.doc_server.specs.Sites.{site_world}

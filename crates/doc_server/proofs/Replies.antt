@@ -6,7 +6,7 @@ use Rattle.std.specs.Io.KnownBytes.{Appends, Keeps}
 use Rattle.std.proofs.KnownBytes.{Appends-nil, Appends-trans, Appends-kept, Keeps-refl}
 use Rattle.std.proofs.Math.Seq.{take-append-add, take-length}
 use Rattle.std.proofs.lemmas.List.Elements.{All-nil, All-push}
-use Rattle.doc_hub.specs.Replies.{Renders}
+use Rattle.doc_hub_answers.specs.Replies.{Renders}
 use Rattle.doc_hub.specs.Worlds.{World}
 use Rattle.doc_hub.specs.Runs.{Happens, Leaves, Happened, nothing, bytes_of, sent_by, sent_on}
 use Rattle.doc_hub.specs.declared.event.Event.TheVariants as events
@@ -17,8 +17,8 @@ use Rattle.doc_hub.specs.declared.event.Step.TheVariants as steps
 use Rattle.doc_server.specs.Demo.{Sends, Ends, IsStep, AreReplies}
 use Rattle.doc_server.specs.DemoSteps.{SendsNext, StopsNext, StepsSend, SendsToEnd, StopsReplies}
 use Rattle.doc_server_streams.specs.Streams.{AppendsPrefix}
-use Rattle.doc_server_input.specs.declared.fault.Fault.{Fault}
-use Rattle.doc_server_input.specs.declared.fault.Fault.TheVariants as faults
+use Rattle.doc_server_streams.specs.declared.fault.Fault.{Fault}
+use Rattle.doc_server_streams.specs.declared.fault.Fault.TheVariants as faults
 use Rattle.doc_server.proofs.RunSteps.{one_more, sent_more}
 use Rattle.doc_server.proofs.Unread.{unread_len, Left, reply_takes}
 

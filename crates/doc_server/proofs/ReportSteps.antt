@@ -4,14 +4,14 @@ use Rattle.std.specs.Prelude.{Option, Some, Result, Ok, Err, IfOk, IfErr, OnOk}
 use Rattle.std.specs.Option.{ok_or}
 use Rattle.std.specs.Io.KnownBytes.{Appends, Keeps}
 use Rattle.std.proofs.KnownBytes.{Appends-kept}
-use Rattle.doc_hub.specs.Replies.{Renders}
+use Rattle.doc_hub_answers.specs.Replies.{Renders}
 use Rattle.doc_hub.specs.Worlds.{World, report_in}
 use Rattle.doc_server_config.specs.declared.config.SiteConfig.{SiteConfig}
 use Rattle.doc_server_streams.specs.Streams.{AppendsPrefix}
-use Rattle.doc_server_input.proofs.Prefixes.{front_is_prefix}
-use Rattle.doc_server_input.specs.declared.fault.Fault.{Fault}
-use Rattle.doc_server_input.specs.declared.fault.Fault.TheVariants as faults
-use Rattle.doc_server_input.specs.Faults.{failed_writes_after}
+use Rattle.doc_server_streams.proofs.Prefixes.{front_is_prefix}
+use Rattle.doc_server_streams.specs.declared.fault.Fault.{Fault}
+use Rattle.doc_server_streams.specs.declared.fault.Fault.TheVariants as faults
+use Rattle.doc_server_streams.specs.Faults.{failed_writes_after}
 use Rattle.doc_server.specs.Checks.{report_of, report_status, Checks, StopsCheck}
 use Rattle.doc_server.specs.Sites.{site_world}
 

@@ -9,8 +9,8 @@ use Rattle.doc_store.specs.declared.store.Put.{Put}
 use Rattle.doc_hub.specs.Worlds.{World, is_capacity, new_world}
 use Rattle.doc_server_config.specs.declared.config.SiteConfig.{SiteConfig}
 use Rattle.doc_server_config.specs.declared.page_row.PageRow.{PageRow}
-use Rattle.doc_server_input.specs.declared.fault.Fault.{Fault}
-use Rattle.doc_server_input.specs.declared.fault.Fault.TheVariants as faults
+use Rattle.doc_server_streams.specs.declared.fault.Fault.{Fault}
+use Rattle.doc_server_streams.specs.declared.fault.Fault.TheVariants as faults
 use Rattle.doc_server.specs.Sites.{accepted, site_world, with_pages}
 
 -- a put that is refused

@@ -6,7 +6,7 @@ use Rattle.std.specs.Option.{ok_or}
 use Rattle.std.specs.Io.KnownBytes.{Appends, Keeps}
 use Rattle.std.proofs.KnownBytes.{Appends-kept, Keeps-refl}
 use Rattle.std.proofs.lemmas.Bool.{true≢false}
-use Rattle.doc_hub.specs.Replies.{Renders}
+use Rattle.doc_hub_answers.specs.Replies.{Renders}
 use Rattle.doc_hub.specs.Runs.{RunsAll}
 use Rattle.doc_hub.specs.Worlds.{World, is_capacity, new_world}
 use Rattle.doc_hub.specs.declared.event.Event.{Event}
@@ -14,12 +14,12 @@ use Rattle.doc_hub.specs.declared.outcome.Outcome.{Outcome}
 use Rattle.doc_server_config.specs.declared.config.SiteConfig.{SiteConfig}
 use Rattle.doc_server_script.specs.Lines.{event_of}
 use Rattle.doc_server_streams.specs.Streams.{AppendsPrefix}
-use Rattle.doc_server_input.specs.Faults.{failed_writes_after, ReadsFailed}
-use Rattle.doc_server_input.specs.InputSteps.{IsNamed}
-use Rattle.doc_server_input.specs.OutputSteps.{StopsAt}
-use Rattle.doc_server_input.specs.declared.fault.Fault.{Fault}
-use Rattle.doc_server_input.specs.declared.fault.Fault.TheVariants as faults
-use Rattle.doc_server_input.proofs.Prefixes.{front_is_prefix}
+use Rattle.doc_server_streams.specs.Faults.{failed_writes_after, ReadsFailed}
+use Rattle.doc_server_streams.specs.InputSteps.{IsNamed}
+use Rattle.doc_server_streams.specs.OutputSteps.{StopsAt}
+use Rattle.doc_server_streams.specs.declared.fault.Fault.{Fault}
+use Rattle.doc_server_streams.specs.declared.fault.Fault.TheVariants as faults
+use Rattle.doc_server_streams.proofs.Prefixes.{front_is_prefix}
 use Rattle.doc_server.specs.Replays.{outcome_lines, Replays, RunTells, StopsReplay}
 use Rattle.doc_server.specs.ReplaySteps.{StopsScript}
 use Rattle.doc_server.specs.Scripts.{events_from, events_of, lines}

@@ -2,7 +2,7 @@
 use Rattle.std.specs.Prelude.{◌≡◌, ◌<◌, ⊤, ◌⊎◌, ℕ, List, [], ◌∷◌, ◌++◌, length, codes, string_bytes, All, Option, IfSome}
 use Rattle.std.specs.Io.KnownBytes.{Appends, Keeps}
 use Rattle.doc_hub.specs.Connections.{backlog_limit}
-use Rattle.doc_hub.specs.Replies.{Renders}
+use Rattle.doc_hub_answers.specs.Replies.{Renders}
 use Rattle.doc_hub.specs.Worlds.{World}
 use Rattle.doc_hub.specs.Runs.{Happened, Runs, sent_on}
 use Rattle.doc_hub.specs.declared.event.Event.{Event}
@@ -12,8 +12,8 @@ use Rattle.doc_hub.specs.declared.outcome.Outcome.{Outcome}
 use Rattle.doc_hub.specs.declared.outcome.Outcome.TheVariants as outcomes
 use Rattle.doc_server.specs.DemoSite.{demo_world}
 use Rattle.doc_server_streams.specs.Streams.{AppendsPrefix}
-use Rattle.doc_server_input.specs.declared.fault.Fault.{Fault}
-use Rattle.doc_server_input.specs.declared.fault.Fault.TheVariants as faults
+use Rattle.doc_server_streams.specs.declared.fault.Fault.{Fault}
+use Rattle.doc_server_streams.specs.declared.fault.Fault.TheVariants as faults
 
 -- a step sent a reply
 abbrev pub Sends : Outcome → Type 0

@@ -1,7 +1,7 @@
 -- The demonstration site, all of which is this project's choice.
 use Rattle.std.specs.Prelude.{ℕ, List, [], ◌∷◌, true, false, codes, None, Result}
 use Rattle.std.specs.FinMap as map
-use Rattle.doc_store.specs.Readers.{ReaderTable}
+use Rattle.doc_store_readers.specs.Readers.{ReaderTable}
 use Rattle.doc_store.specs.declared.store.EditError.{EditError}
 use Rattle.doc_store.specs.declared.store.Put.{Put}
 use Rattle.doc_hub.specs.Worlds.{World, new_world, world_put}

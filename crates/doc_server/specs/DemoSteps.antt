@@ -2,7 +2,7 @@
 use Rattle.std.specs.Prelude.{◌≡◌, ⊤, ℕ, List, Bool, MatchBool, Option, Some, Result, Err}
 use Rattle.std.specs.FinMap as map
 use Rattle.std.specs.Io.KnownBytes.{Appends, Keeps}
-use Rattle.doc_hub.specs.Replies.{Renders}
+use Rattle.doc_hub_answers.specs.Replies.{Renders}
 use Rattle.doc_hub.specs.Worlds.{World}
 use Rattle.doc_hub.specs.Runs.{Leaves, Happened, Runs, sent_by, sent_on}
 use Rattle.doc_hub.specs.declared.event.Event.TheVariants as events
@@ -10,8 +10,8 @@ use Rattle.doc_hub.specs.declared.outcome.Outcome.{Outcome}
 use Rattle.doc_hub.specs.declared.connection.Connection.{Connection}
 use Rattle.doc_server.specs.Demo.{Sends, Ends, AreReplies, StepsToEnd}
 use Rattle.doc_server_streams.specs.Streams.{AppendsPrefix}
-use Rattle.doc_server_input.specs.declared.fault.Fault.{Fault}
-use Rattle.doc_server_input.specs.declared.fault.Fault.TheVariants as faults
+use Rattle.doc_server_streams.specs.declared.fault.Fault.{Fault}
+use Rattle.doc_server_streams.specs.declared.fault.Fault.TheVariants as faults
 
 -- the connection was made
 abbrev pub IsMade : World → ℕ → Type 0

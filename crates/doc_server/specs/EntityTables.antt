@@ -3,8 +3,8 @@ use Rattle.std.specs.Prelude.{ℕ, List, Result, Ok, Err}
 use Rattle.doc_rules.specs.Entities.{Table}
 use Rattle.doc_lines.specs.Tables.{entities_of}
 use Rattle.doc_lines.specs.declared.entities.TableError.{TableError}
-use Rattle.doc_server_input.specs.declared.fault.Fault.{Fault}
-use Rattle.doc_server_input.specs.declared.fault.Fault.TheVariants as faults
+use Rattle.doc_server_streams.specs.declared.fault.Fault.{Fault}
+use Rattle.doc_server_streams.specs.declared.fault.Fault.TheVariants as faults
 
 -- a table, or one fault for all that may be wrong with it
 abbrev pub table_or_fault : Result Table TableError → Result Table Fault

@@ -5,11 +5,11 @@ use Rattle.std.specs.Prelude.{decimal, bytes_eq, Option, Some, None, ifâ—Œthenâ—
 use Rattle.std.specs.List.{slice_split}
 use Rattle.std.specs.Io.KnownBytes.{Keeps}
 use Rattle.doc_server_streams.specs.Streams.{AppendsPrefix}
-use Rattle.doc_server_input.specs.Inputs.{OfText}
+use Rattle.doc_server_streams.specs.Inputs.{OfText}
 use Rattle.doc_server.specs.Rendering.{rendered}
 use Rattle.doc_server.specs.declared.count.Count.{Count}
-use Rattle.doc_server_input.specs.declared.fault.Fault.{Fault}
-use Rattle.doc_server_input.specs.declared.fault.Fault.TheVariants as faults
+use Rattle.doc_server_streams.specs.declared.fault.Fault.{Fault}
+use Rattle.doc_server_streams.specs.declared.fault.Fault.TheVariants as faults
 
 -- an example: a text, and the HTML that it should be
 pub record Example : Type 0 where

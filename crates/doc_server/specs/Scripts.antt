@@ -2,8 +2,8 @@
 use Rattle.std.specs.Prelude.{ℕ, ◌+◌, ◌==◌, List, [], ◌∷◌, ◌++◌, Some, None, Result, Ok, Err, if◌then◌else◌}
 use Rattle.doc_hub.specs.declared.event.Event.{Event}
 use Rattle.doc_server_script.specs.Lines.{event_of}
-use Rattle.doc_server_input.specs.declared.fault.Fault.{Fault}
-use Rattle.doc_server_input.specs.declared.fault.Fault.TheVariants as faults
+use Rattle.doc_server_streams.specs.declared.fault.Fault.{Fault}
+use Rattle.doc_server_streams.specs.declared.fault.Fault.TheVariants as faults
 
 -- a byte in front of the first of some lines
 abbrev pub onto_first : ℕ → List (List ℕ) → List (List ℕ)

@@ -8,8 +8,8 @@ use Rattle.doc_server_config.specs.declared.config.SiteConfig.{SiteConfig}
 use Rattle.doc_server_config.specs.declared.page_row.PageRow.{PageRow}
 use Rattle.doc_server_config.specs.declared.page_row.Source.{Source}
 use Rattle.doc_server_config.specs.declared.page_row.Source.TheVariants as sources
-use Rattle.doc_server_input.specs.declared.fault.Fault.{Fault}
-use Rattle.doc_server_input.specs.declared.fault.Fault.TheVariants as faults
+use Rattle.doc_server_streams.specs.declared.fault.Fault.{Fault}
+use Rattle.doc_server_streams.specs.declared.fault.Fault.TheVariants as faults
 
 -- the text of a page: its own, or the first of the texts of files, where there is one
 abbrev pub text_of : Source → List (List ℕ) → Option (List ℕ)

@@ -2,7 +2,7 @@
 
 ghost use Rattle.std.specs.Prelude.{◌≡◌, true, IfOk, IfErr, OnOk};
 ghost use Rattle.std.specs.Io.KnownBytes.{Appends};
-ghost use Rattle.doc_server_input.specs.Faults.{failed_writes_after};
+ghost use Rattle.doc_server_streams.specs.Faults.{failed_writes_after};
 ghost use Rattle.doc_server_streams.specs.Streams.{AppendsPrefix};
 ghost use Rattle.doc_server.specs.Checks.{report_status, Checks, StopsCheck};
 
@@ -11,9 +11,9 @@ use doc_page::renderer::Renderer;
 use doc_page_parts::heap::Heap;
 use doc_page_parts::text::Text;
 use doc_server_config::config::SiteConfig;
-use doc_server_input::fault::Fault;
-use doc_server_input::output::{flush, send};
+use doc_server_streams::fault::Fault;
 use doc_server_streams::output::Output;
+use doc_server_streams::whole_output::{flush, send};
 
 /// Writes the report of a token's reader in a configured site: a line for each link that is broken for that reader. The answer is the
 /// status to end with. `texts` are those of the files that the configuration's pages name, in the order of these pages. Nothing is

@@ -7,8 +7,8 @@ ghost use Rattle.doc_hub.specs.Worlds.{connected, world_pushed};
 ghost use Rattle.doc_server.specs.Demo.{Demonstrates, StopsDemo};
 ghost use Rattle.doc_server.specs.DemoSite.{demo_world};
 ghost use Rattle.doc_server.specs.DemoSteps.{IsMade, SendsNext, SendsToEnd, StopsCall, StopsNext, StopsReplies};
-ghost use Rattle.doc_server_input.specs.Faults.{failed_writes_after, ReadsFailed};
-ghost use Rattle.doc_server_input.specs.InputSteps.{IsRead};
+ghost use Rattle.doc_server_streams.specs.Faults.{failed_writes_after, ReadsFailed};
+ghost use Rattle.doc_server_streams.specs.InputSteps.{IsRead};
 
 use crate::demo_site::demo_hub;
 use doc_hub::event::{ConnId, Step};
@@ -16,11 +16,11 @@ use doc_hub::hub::Hub;
 use doc_hub::refusal::{ConnectError, PushError, StepError};
 use doc_page::renderer::Renderer;
 use doc_page_parts::heap::Heap;
-use doc_server_input::fault::Fault;
-use doc_server_input::input::read_whole;
-use doc_server_input::output::{flush, send};
+use doc_server_streams::fault::Fault;
 use doc_server_streams::input::Input;
 use doc_server_streams::output::Output;
+use doc_server_streams::whole_input::read_whole;
+use doc_server_streams::whole_output::{flush, send};
 
 /// How many bytes the input may have: as many as a connection may have unread.
 const LIMIT: usize = 4_194_304;

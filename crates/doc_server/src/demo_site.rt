@@ -8,7 +8,7 @@ use doc_hub::hub::Hub;
 use doc_page::renderer::Renderer;
 use doc_page_parts::heap::Heap;
 use doc_server_config::config::{ConfigError, SiteConfig};
-use doc_server_input::fault::Fault;
+use doc_server_streams::fault::Fault;
 
 /// Its configuration: an owner, a reader of the group `staff` and one of the group `ops`; a page of `staff`, one of `staff` with
 /// links, and one of `ops`. The cache keeps 4 documents.

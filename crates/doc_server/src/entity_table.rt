@@ -5,7 +5,7 @@ ghost use Rattle.doc_server.specs.EntityTables.{table_of};
 
 use doc_lines::entities::{Entities, TableError};
 use doc_page_parts::heap::Heap;
-use doc_server_input::fault::Fault;
+use doc_server_streams::fault::Fault;
 
 /// The built-in character references and those of a table (`Entities::from_table`). `BadTable` says that a row of it is bad, or gives a
 /// name other characters.

@@ -5,19 +5,19 @@ ghost use Rattle.std.specs.Io.KnownBytes.{Appends};
 ghost use Rattle.doc_server.specs.Examples.{count_line, count_of, example_before, example_line, examples_of, lines_from};
 ghost use Rattle.doc_server.specs.Examples.{no_examples, one_more, passes, place_after, report, status_of, StopsExamples};
 ghost use Rattle.doc_server.specs.ExampleSteps.{count_after, line_before, place_of, HasRoom};
-ghost use Rattle.doc_server_input.specs.OutputSteps.{StopsAt};
-ghost use Rattle.doc_server_input.specs.Faults.{failed_writes_after, IsNoText, ReadsFailed};
-ghost use Rattle.doc_server_input.specs.Inputs.{OfText};
+ghost use Rattle.doc_server_streams.specs.OutputSteps.{StopsAt};
+ghost use Rattle.doc_server_streams.specs.Faults.{failed_writes_after, IsNoText, ReadsFailed};
+ghost use Rattle.doc_server_streams.specs.Inputs.{OfText};
 
 use crate::count::Count;
 use crate::example_reader::ExampleReader;
 use crate::rendering::html_of;
 use doc_page_parts::heap::Heap;
-use doc_server_input::fault::Fault;
-use doc_server_input::input::read_text;
-use doc_server_input::output::{flush, send};
+use doc_server_streams::fault::Fault;
 use doc_server_streams::input::Input;
 use doc_server_streams::output::Output;
+use doc_server_streams::whole_input::read_text;
+use doc_server_streams::whole_output::{flush, send};
 
 /// Shows each example of the file's text, writes which differ from what they should be, and then how many passed and failed. The
 /// answer is the status to end with. A fault calls the file by this name.

@@ -18,6 +18,5 @@ pub mod script;
 pub mod site;
 
 pub use doc_server_config::{config, page_row};
-pub use doc_server_input::{fault, input, output};
 pub use doc_server_rounds::{link, round, serving};
-pub use doc_server_streams::{memory_stream, stream, tcp_link};
+pub use doc_server_streams::{fault, memory_stream, stream, tcp_link, whole_input, whole_output};

@@ -1,18 +1,18 @@
 //! The command `render`: standard input as HTML.
 
 ghost use Rattle.std.specs.Prelude.{◌≡◌, true, string_bytes, IfOk, IfErr, OnOk};
-ghost use Rattle.doc_server_input.specs.Faults.{failed_writes_after, IsNoText, ReadsFailed};
+ghost use Rattle.doc_server_streams.specs.Faults.{failed_writes_after, IsNoText, ReadsFailed};
 ghost use Rattle.doc_server.specs.Rendering.{rendered, Renders, StopsRendering};
 
 use doc_html::render_plain;
 use doc_lines::entities::Entities;
 use doc_page_parts::failure::Memory;
 use doc_page_parts::heap::{Heap, String};
-use doc_server_input::fault::Fault;
-use doc_server_input::input::read_text;
-use doc_server_input::output::{flush, send};
+use doc_server_streams::fault::Fault;
 use doc_server_streams::input::Input;
 use doc_server_streams::output::Output;
+use doc_server_streams::whole_input::read_text;
+use doc_server_streams::whole_output::{flush, send};
 
 /// Writes the HTML of the whole input, which is called `-`. Nothing is written before all of it is made.
 pub fn render<I: Input, O: Output>(heap: Heap, input: &mut I, output: &mut O) -> Result<(), Fault>

@@ -3,8 +3,8 @@
 ghost use Rattle.std.specs.Prelude.{◌≡◌, ◌∷◌, [], ◌++◌, true, string_bytes, IfOk, IfErr, OnOk};
 ghost use Rattle.std.specs.Io.KnownBytes.{Appends};
 ghost use Rattle.doc_server_script.specs.Outcomes.{outcome_line};
-ghost use Rattle.doc_server_input.specs.Faults.{failed_writes_after, IsNoText, ReadsFailed};
-ghost use Rattle.doc_server_input.specs.OutputSteps.{StopsAt};
+ghost use Rattle.doc_server_streams.specs.Faults.{failed_writes_after, IsNoText, ReadsFailed};
+ghost use Rattle.doc_server_streams.specs.OutputSteps.{StopsAt};
 ghost use Rattle.doc_server.specs.Replays.{outcome_lines, Replays, RunTells, StopsReplay};
 ghost use Rattle.doc_server.specs.ReplaySteps.{StopsScript};
 
@@ -17,12 +17,12 @@ use doc_page_parts::failure::Memory;
 use doc_page_parts::heap::{Heap, String};
 use doc_page_parts::text::Text;
 use doc_server_config::config::SiteConfig;
-use doc_server_input::fault::Fault;
-use doc_server_input::input::read_text;
-use doc_server_input::output::{flush, send};
 use doc_server_script::outcome::push_outcome;
+use doc_server_streams::fault::Fault;
 use doc_server_streams::input::Input;
 use doc_server_streams::output::Output;
+use doc_server_streams::whole_input::read_text;
+use doc_server_streams::whole_output::{flush, send};
 
 /// Makes the events of a script, which is the whole input, happen on a configured site, and writes a line for what came of each. The
 /// answer is the status to end with. `texts` are those of the files that the configuration's pages name, in the order of these pages.

@@ -9,8 +9,8 @@ use doc_hub::event::Event;
 use doc_page_parts::failure::Memory;
 use doc_page_parts::heap::{Heap, Vec};
 use doc_page_parts::list::List;
-use doc_server_input::fault::Fault;
 use doc_server_script::line::event_of;
+use doc_server_streams::fault::Fault;
 
 /// The events of a script, one a line. A line ends at a line feed alone, and the last one may end without. `BadScriptLine` has the
 /// number of the first line that is no event, counted from 1; an empty line is none.

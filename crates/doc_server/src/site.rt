@@ -11,7 +11,7 @@ use doc_page_parts::heap::Heap;
 use doc_page_parts::text::Text;
 use doc_server_config::config::SiteConfig;
 use doc_server_config::page_row::{PageRow, Source};
-use doc_server_input::fault::Fault;
+use doc_server_streams::fault::Fault;
 use doc_store::readers::Readers;
 use doc_store::store::EditError;
 

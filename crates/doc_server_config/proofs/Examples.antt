@@ -7,7 +7,7 @@ use Rattle.toml.proofs.OnLiterals.{toml_on_literals}
 use Rattle.doc_page_parts.specs.Paths.{is_path}
 use Rattle.doc_page_parts.specs.Tokens.{is_token}
 use Rattle.doc_store_readers.specs.declared.readers.ReadersError.TheVariants as readers
-use Rattle.doc_store.specs.Groups.{groups_of_names}
+use Rattle.doc_store_readers.specs.Groups.{groups_of_names}
 use Rattle.doc_server_config.specs.declared.config.ConfigError.TheVariants.{BadToml, BadReaders, BadSetting, BadPage}
 use Rattle.doc_server_config.specs.declared.page_row.Source.TheVariants.{Text, File}
 use Rattle.doc_server_config.specs.Configurations.{config_of}

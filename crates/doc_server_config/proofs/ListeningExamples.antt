@@ -5,7 +5,7 @@ use Rattle.std.specs.Str.{chars}
 use Rattle.toml.proofs.OnLiterals.{toml_on_literals}
 use Rattle.doc_page_parts.specs.declared.path.PathError.TheVariants.{BadPath}
 use Rattle.doc_page_parts.specs.Paths.{is_path}
-use Rattle.doc_store.specs.Groups.{groups_of_names}
+use Rattle.doc_store_readers.specs.Groups.{groups_of_names}
 use Rattle.doc_server_config.specs.declared.folder.FolderFault.TheVariants.{OtherKey, BadFile, BadPrefix, BadGroups}
 use Rattle.doc_server_config.specs.declared.listening.ListeningError.TheVariants.{BadToml, BadListen, BadConnections, BadIdleSeconds}
 use Rattle.doc_server_config.specs.declared.listening.ListeningError.TheVariants.{BadFolders, BadFolder}

@@ -1,7 +1,7 @@
 -- The steps of reading a configuration.
 use Rattle.std.specs.Prelude.{codes, Result}
 use Rattle.toml.specs.Data.{Members, get_member}
-use Rattle.doc_store.specs.Readers.{ReaderTable, tables_at}
+use Rattle.doc_store_readers.specs.Readers.{ReaderTable, tables_at}
 use Rattle.doc_server_config.specs.declared.config.ConfigError.{ConfigError}
 use Rattle.doc_server_config.specs.declared.config.SiteConfig.{SiteConfig}
 use Rattle.doc_server_config.specs.Configurations.{with_settings}

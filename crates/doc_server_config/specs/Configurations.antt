@@ -3,7 +3,7 @@ use Rattle.std.specs.Prelude.{ℕ, List, [], codes, Option, Some, None, Result, 
 use Rattle.toml.specs.Data.{Items, Members, get_member}
 use Rattle.toml.specs.Parse.{parse_document}
 use Rattle.doc_store_readers.specs.declared.readers.ReadersError.{ReadersError}
-use Rattle.doc_store.specs.Readers.{ReaderTable, readers_of_document, tables_at}
+use Rattle.doc_store_readers.specs.Readers.{ReaderTable, readers_of_document, tables_at}
 use Rattle.doc_server_config.specs.declared.config.ConfigError.{ConfigError}
 use Rattle.doc_server_config.specs.declared.config.ConfigError.TheVariants.{BadToml, BadReaders, BadSetting}
 use Rattle.doc_server_config.specs.declared.config.SiteConfig.{SiteConfig}

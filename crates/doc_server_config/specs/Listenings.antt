@@ -2,7 +2,7 @@
 use Rattle.std.specs.Prelude.{ℕ, List, [], codes, Option, Some, None, Result, Ok, Err}
 use Rattle.toml.specs.Data.{Items, Members, get_member}
 use Rattle.toml.specs.Parse.{parse_document}
-use Rattle.doc_store.specs.Readers.{tables_at}
+use Rattle.doc_store_readers.specs.Readers.{tables_at}
 use Rattle.doc_server_config.specs.declared.bounds.Bounds.{Bounds}
 use Rattle.doc_server_config.specs.declared.folder.Folder.{Folder}
 use Rattle.doc_server_config.specs.declared.listening.Listening.{Listening}

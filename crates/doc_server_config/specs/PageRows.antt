@@ -3,7 +3,7 @@ use Rattle.std.specs.Prelude.{ℕ, ◌+◌, List, [], ◌∷◌, ◌++◌, codes
 use Rattle.std.specs.Result.{result_ok}
 use Rattle.toml.specs.Data.{Data, Items, no_items, item, get, as_str}
 use Rattle.doc_page_parts.specs.Paths.{path_of}
-use Rattle.doc_store.specs.Readers.{groups_at}
+use Rattle.doc_store_readers.specs.Readers.{groups_at}
 use Rattle.doc_server_config.specs.declared.config.ConfigError.{ConfigError}
 use Rattle.doc_server_config.specs.declared.config.ConfigError.TheVariants.{BadPage}
 use Rattle.doc_server_config.specs.declared.page_row.PageRow.{PageRow}

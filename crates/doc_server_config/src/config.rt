@@ -3,7 +3,7 @@
 ghost use Rattle.std.specs.Prelude.{◌≡◌, ◌≢◌, Ok, Err, IfOk, IfErr, Some, None};
 ghost use Rattle.toml.specs.Parse.{parse_document};
 ghost use Rattle.toml.specs.View.{table_view};
-ghost use Rattle.doc_store.specs.Readers.{ReaderTable};
+ghost use Rattle.doc_store_readers.specs.Readers.{ReaderTable};
 ghost use Rattle.doc_server_config.specs.Configurations.{config_of, config_of_document, config_with};
 ghost use Rattle.doc_server_config.specs.ConfigurationSteps.{config_beside};
 

@@ -3,7 +3,7 @@
 ghost use Rattle.std.specs.Prelude.{◌≡◌, option_map};
 ghost use Rattle.toml.specs.Data.{get_member};
 ghost use Rattle.toml.specs.View.{table_view, view};
-ghost use Rattle.doc_store.specs.Groups.{texts_of};
+ghost use Rattle.doc_store_readers.specs.Groups.{texts_of};
 ghost use Rattle.doc_server_config.specs.Keys.{has_only, is_one_of};
 
 use toml::{Table, Value};

@@ -4,7 +4,7 @@ use Rattle.std.proofs.lemmas.Grind.{flat_map-append}
 use Rattle.std.specs.Prelude.{Option, Some, None, Result, option_map, option_to_list}
 use Rattle.doc_store.specs.Store.{Edit as SiteEdit}
 use Rattle.doc_hub.specs.Events.{stepping}
-use Rattle.doc_hub.specs.Replies.{Renders}
+use Rattle.doc_hub_answers.specs.Replies.{Renders}
 use Rattle.doc_hub.specs.Runs.{Happened, Runs, nothing, first}
 use Rattle.doc_hub.specs.Worlds.{World}
 use Rattle.doc_hub.specs.declared.event.ConnId.{ConnId}

@@ -1,6 +1,6 @@
 -- How many bytes a call of a stream moved: a failed one none.
 use Rattle.std.specs.Prelude.{ℕ, Result, Ok, Err}
-use Rattle.doc_server_streams.specs.declared.fault.StreamFault.{StreamFault}
+use Rattle.doc_server_streams.specs.declared.stream_fault.StreamFault.{StreamFault}
 use Rattle.doc_server_listen.specs.declared.channel.Came.{Came}
 use Rattle.doc_server_listen.specs.declared.channel.Came.TheVariants as cames
 

@@ -1,6 +1,6 @@
 -- Clients that are done, and clients that are closed before their time.
 use Rattle.std.specs.Prelude.{◌≡◌, ◌⊎◌, List, [], true, false, None}
-use Rattle.doc_hub.specs.Replies.{Renders}
+use Rattle.doc_hub_answers.specs.Replies.{Renders}
 use Rattle.doc_hub.specs.Runs.{Happened, Runs, sent_on}
 use Rattle.doc_hub.specs.StepLaws.{connection}
 use Rattle.doc_hub.specs.Worlds.{World}

@@ -4,7 +4,7 @@ use Rattle.std.specs.FinMap as map
 use Rattle.std.specs.List.{flat_map}
 use Rattle.doc_store.specs.Store.{Edit as SiteEdit, set_page, remove_page}
 use Rattle.doc_hub.specs.EditLaws.{Makes}
-use Rattle.doc_hub.specs.Replies.{Renders}
+use Rattle.doc_hub_answers.specs.Replies.{Renders}
 use Rattle.doc_hub.specs.Runs.{Happened}
 use Rattle.doc_hub.specs.StepEdits.{StepTells}
 use Rattle.doc_hub.specs.Worlds.{World}

@@ -1,6 +1,6 @@
 -- What a turn does to the hub and to its clients.
 use Rattle.std.specs.Prelude.{◌≡◌, ⊤, ℕ, List, [], ◌∷◌, Option, Some, map, slice_get}
-use Rattle.doc_hub.specs.Replies.{Renders}
+use Rattle.doc_hub_answers.specs.Replies.{Renders}
 use Rattle.doc_hub.specs.Runs.{Happened, Runs}
 use Rattle.doc_hub.specs.Worlds.{World}
 use Rattle.doc_server_rounds.specs.Rounds.{IsAlone, AreOfAny}

@@ -4,7 +4,7 @@ ghost use Rattle.std.specs.Prelude.{◌≡◌, ◌≤◌, ℕ, List, Option, Boo
 ghost use Rattle.std.specs.Io.KnownBytes.{Consumes, Appends, IsAtEnd};
 ghost use Rattle.doc_server_listen.specs.Channels.{came_len, took_len};
 
-use doc_server_streams::fault::StreamFault;
+use doc_server_streams::stream_fault::StreamFault;
 
 /// What a read gave.
 #[derive(Clone, Copy)]

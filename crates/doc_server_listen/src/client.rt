@@ -3,7 +3,7 @@
 ghost use Rattle.std.specs.Prelude.{◌≡◌, ◌≤◌, ◌<◌, ◌+◌, [], true, false, length, IfErr, IfOk, IfSome, Ok, Err};
 ghost use Rattle.doc_hub.specs.Runs.{Happens};
 ghost use Rattle.doc_hub.specs.declared.event.Event.TheVariants as events;
-ghost use Rattle.doc_hub.specs.Replies.{Renders};
+ghost use Rattle.doc_hub_answers.specs.Replies.{Renders};
 ghost use Rattle.doc_hub.specs.Worlds.{World, disconnected};
 ghost use Rattle.doc_server_listen.specs.Closing.{Cuts, IsDone};
 ghost use Rattle.doc_server_listen.specs.Edits.{AreQuiet, Records};

@@ -6,7 +6,7 @@ ghost use Rattle.doc_server_listen.specs.MemoryChannels.{unread_in, written_to, 
 use crate::channel::{Came, Channel};
 use doc_page_parts::bytes::Bytes;
 use doc_page_parts::heap::{Heap, Vec};
-use doc_server_streams::fault::StreamFault;
+use doc_server_streams::stream_fault::StreamFault;
 
 /// Bytes that are read, and those that were handed over. A call moves one piece at most, every second call nothing where it is told
 /// to pause, and after so many calls one fails.

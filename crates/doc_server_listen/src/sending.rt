@@ -7,7 +7,7 @@ ghost use Rattle.doc_server_listen.specs.Served.{HandsOver};
 use crate::channel::Channel;
 use doc_page_parts::bytes::Bytes;
 use doc_page_parts::heap::Heap;
-use doc_server_streams::fault::StreamFault;
+use doc_server_streams::stream_fault::StreamFault;
 use std::collections::VecDeque;
 
 /// Hands replies over until all are, or the stream takes no more. Of the first one `sent` bytes were handed over.

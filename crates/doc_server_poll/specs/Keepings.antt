@@ -1,6 +1,6 @@
 -- What becomes of the edits of a turn.
 use Rattle.std.specs.Prelude.{⊤, ℕ, List, Bool, Option, Result, OnErr}
-use Rattle.doc_hub.specs.Replies.{Renders}
+use Rattle.doc_hub_answers.specs.Replies.{Renders}
 use Rattle.doc_hub.specs.Runs.{Happened}
 use Rattle.doc_hub.specs.Worlds.{World}
 use Rattle.doc_server_journal.specs.Journals.{IsOpen}

@@ -1,6 +1,6 @@
 -- What contracts see of a server, and what it does to a hub.
 use Rattle.std.specs.Prelude.{⊤, ℕ, List, All}
-use Rattle.doc_hub.specs.Replies.{Renders}
+use Rattle.doc_hub_answers.specs.Replies.{Renders}
 use Rattle.doc_hub.specs.Runs.{Happened, Runs}
 use Rattle.doc_hub.specs.Worlds.{World}
 use Rattle.doc_hub.specs.declared.event.Event.{Event}

@@ -9,7 +9,7 @@ use crate::wire::Wire;
 use doc_hub::event::ConnId;
 use doc_page_parts::heap::Heap;
 use doc_server_listen::channel::{Came, Channel};
-use doc_server_streams::fault::StreamFault;
+use doc_server_streams::stream_fault::StreamFault;
 use std::rc::Rc;
 use std::time::Instant;
 

@@ -4,7 +4,7 @@ ghost use Rattle.std.specs.Prelude.{◌≤◌, ◌≡◌, length};
 ghost use Rattle.doc_server_listen.specs.Channels.{came_len, took_len};
 
 use doc_server_listen::channel::Came;
-use doc_server_streams::fault::StreamFault;
+use doc_server_streams::stream_fault::StreamFault;
 use mio::net::TcpStream;
 use std::cell::Cell;
 use std::io::{ErrorKind, Read, Write};

@@ -3,7 +3,7 @@ use Rattle.std.proofs.Common.{◌≡◌, ℕ, List, Bool, true, false, refl, ap,
 use Rattle.std.specs.Prelude.{Option, Some, None, option_map, Result, Ok, Err, if◌then◌else◌}
 use Rattle.std.specs.FinMap as map
 use Rattle.doc_page_parts.specs.Refusals.{IsAnswer}
-use Rattle.doc_store.specs.Pages.{Page}
+use Rattle.doc_store_readers.specs.Pages.{Page}
 use Rattle.doc_store.specs.Store.{StoreState, set_page, remove_page, move_page, put_into, put_by, fits_in, without_page}
 use Rattle.doc_store.specs.Store.{effect_of, moved_in, moved_by, may_move}
 use Rattle.doc_store.specs.declared.moving.MoveError.{MoveError}

@@ -10,7 +10,7 @@ use Rattle.std.proofs.Common.{inl, inr}
 use Rattle.std.proofs.lemmas.Str.{IsUtf8-from_is_utf8}
 use Rattle.doc_server.specs.Scripts.{events_of}
 use Rattle.std.proofs.lemmas.Bool.{cases_Bool, true≢false}
-use Rattle.doc_server_input.specs.declared.fault.Fault.{Fault}
+use Rattle.doc_server_streams.specs.declared.fault.Fault.{Fault}
 use Rattle.doc_store.specs.Store.{Edit, StoreState}
 use Rattle.doc_hub.specs.declared.event.Event.{Event}
 use Rattle.doc_server_restore.specs.declared.fault.RestoreFault.{RestoreFault}

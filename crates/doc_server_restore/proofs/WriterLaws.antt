@@ -2,7 +2,7 @@
 use Rattle.std.proofs.Common.{◌≡◌, ℕ, Bool, true, false, List, [], ◌∷◌, ◌++◌, length, cond, not, refl, ap, sym, ◌∙◌, subst, string_bytes}
 use Rattle.std.proofs.Common.{◌==◌, arith, drop, get_or, is_some, take}
 use Rattle.std.specs.Borrow.{Bor}
-use Rattle.doc_store.specs.Groups.{texts_of}
+use Rattle.doc_store_readers.specs.Groups.{texts_of}
 use Rattle.std.specs.Prelude.{◌≤◌, ◌<◌, ◌+◌, ◌-◌, Option, map as mapped, OnOk, Result, Ok, Err}
 use Rattle.std.specs.Cmp.Lexicographic.{slice_cmp}
 use Rattle.std.specs.FinMap as map
@@ -12,9 +12,9 @@ use Rattle.std.specs.List.{filter, flat_map}
 use Rattle.std.proofs.lemmas.Bool.{eqb-true}
 use Rattle.std.proofs.lemmas.List.{append_assoc, append-nil, drop_more, length-append, map-append, take_rest}
 use Rattle.std.proofs.lemmas.Grind.{flat_map-append}
-use Rattle.doc_store.specs.Maps.{TextMap}
-use Rattle.doc_store.specs.Pages.{Page}
-use Rattle.doc_store.specs.Sites.{Site}
+use Rattle.doc_store_readers.specs.Maps.{TextMap}
+use Rattle.doc_store_readers.specs.Pages.{Page}
+use Rattle.doc_store_readers.specs.Sites.{Site}
 use Rattle.doc_store.specs.Store.{Edit, set_page, remove_page, move_page}
 use Rattle.doc_server_journal.specs.Journals.{IsOpen}
 use Rattle.doc_server_journal_records.specs.Records.{text_limit}

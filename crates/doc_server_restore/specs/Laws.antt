@@ -1,7 +1,7 @@
 -- Laws of a restoration; the proofs are in proofs/.
 use Rattle.std.specs.Prelude.{◌≡◌, ℕ, List, [], ◌∷◌, ⊤, Some, Ok}
-use Rattle.doc_store.specs.Groups.{IsGroups}
-use Rattle.doc_store.specs.Sites.{Site, IsSite}
+use Rattle.doc_store_readers.specs.Groups.{IsGroups}
+use Rattle.doc_store_readers.specs.Sites.{Site, IsSite}
 use Rattle.doc_store.specs.Store.{Edit, set_page, remove_page, move_page, StoreState}
 use Rattle.doc_server_script.specs.Laws.{IsText, IsPathText}
 use Rattle.doc_server_script.specs.Compactions.{compacted}

@@ -4,7 +4,7 @@ ghost use Rattle.std.specs.Prelude.{◌≡◌, ◌++◌, ◌∷◌, [], ◌||◌
 ghost use Rattle.std.specs.FinMap as map;
 ghost use Rattle.std.specs.List.{flat_map};
 ghost use Rattle.doc_server_journal.specs.Journals.{IsOpen};
-ghost use Rattle.doc_store.specs.Groups.{texts_of};
+ghost use Rattle.doc_store_readers.specs.Groups.{texts_of};
 ghost use Rattle.doc_store.specs.Names.{aliases_of};
 ghost use Rattle.doc_store.specs.Store.{Edit, remove_page};
 ghost use Rattle.doc_server_script.specs.Compactions.{compacted, made, other_pages, same_at, same_pages, same_texts};

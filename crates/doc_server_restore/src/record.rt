@@ -12,7 +12,7 @@ use doc_page_parts::failure::Memory;
 use doc_page_parts::heap::Heap;
 use doc_page_parts::list::List;
 use doc_server::script::events_of;
-use doc_server_input::fault::Fault;
+use doc_server_streams::fault::Fault;
 use std::str;
 
 /// The edits of a record's text, as events. `None` says that it isn't UTF-8, or that a line of it is no edit.

@@ -14,10 +14,10 @@ use Rattle.doc_page_parts.proofs.Bools.{and_first, and_second, clash}
 use Rattle.doc_store_readers.proofs.FilterSteps.{keys_in_order, some_in_order}
 use Rattle.doc_store_readers.proofs.KeySteps.{same_key, same_from, same_itself, bytes_eq_is}
 use Rattle.doc_store.proofs.NamesLaw.{alias_leads, by_bytes}
-use Rattle.doc_store.specs.Maps.{TextMap}
+use Rattle.doc_store_readers.specs.Maps.{TextMap}
 use Rattle.doc_store.specs.Names.{aliases_of}
-use Rattle.doc_store.specs.Pages.{Page}
-use Rattle.doc_store.specs.Sites.{Site, IsSite}
+use Rattle.doc_store_readers.specs.Pages.{Page}
+use Rattle.doc_store_readers.specs.Sites.{Site, IsSite}
 use Rattle.doc_store.specs.Store.{Edit, effect_of, is_goal}
 use Rattle.doc_server_script.specs.Compactions.{compacted, effects, made, other_pages, same_at, same_pages, same_texts}
 use Rattle.doc_server_script.specs.CompactionLaws.{GivesTheSite}

@@ -4,7 +4,7 @@ use Rattle.std.specs.Fmt.{digits}
 use Rattle.std.specs.Str.{chars, is_utf8}
 use Rattle.std.proofs.Math.Utf8.{encode}
 use Rattle.doc_page_parts.specs.Paths.{is_path}
-use Rattle.doc_store.specs.Groups.{groups_of_names}
+use Rattle.doc_store_readers.specs.Groups.{groups_of_names}
 use Rattle.doc_hub.specs.declared.event.Event.TheVariants as events
 use Rattle.doc_hub.specs.declared.event.Step.TheVariants as steps
 use Rattle.doc_hub.specs.declared.outcome.Outcome.TheVariants as outcomes

@@ -13,7 +13,7 @@ use Rattle.std.proofs.lemmas.Cmp.{nat_list_cmp_total}
 use Rattle.std.proofs.lemmas.List.{append-nil, append_assoc, length-append}
 use Rattle.std.proofs.lemmas.List.Splits.{slice_split-cons_yes, slice_split-cons_no}
 use Rattle.doc_page_parts.proofs.Bools.{and_first, and_second}
-use Rattle.doc_store.specs.Groups.{IsGroups, is_group, is_group_byte, has_good_length, different_names, groups_of, groups_of_names, parts_of, with_name, with_names}
+use Rattle.doc_store_readers.specs.Groups.{IsGroups, is_group, is_group_byte, has_good_length, different_names, groups_of, groups_of_names, parts_of, with_name, with_names}
 use Rattle.doc_store_readers.proofs.GroupSteps.{of_text}
 use Rattle.doc_store_readers.proofs.SortedSteps.{IsBelow}
 use Rattle.doc_server_script.specs.Edits.{behind_commas, groups_text}

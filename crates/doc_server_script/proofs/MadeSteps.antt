@@ -8,9 +8,9 @@ use Rattle.std.proofs.lemmas.Map.Lookups.{exact_bytes}
 use Rattle.doc_page_parts.proofs.Bools.{clash}
 use Rattle.doc_store_readers.proofs.KeySteps.{same_key, same_from, same_itself, bytes_eq_is, not_none, some_is, get_set, get_taken}
 use Rattle.doc_store.proofs.StoreSteps.{get-aliases_after, get-without_goal}
-use Rattle.doc_store.specs.Maps.{TextMap}
-use Rattle.doc_store.specs.Pages.{Page}
-use Rattle.doc_store.specs.Sites.{Site, IsSite}
+use Rattle.doc_store_readers.specs.Maps.{TextMap}
+use Rattle.doc_store_readers.specs.Pages.{Page}
+use Rattle.doc_store_readers.specs.Sites.{Site, IsSite}
 use Rattle.doc_store.specs.Store.{set_page, remove_page, move_page, effect_of, is_goal, without_goal, goal_after, aliases_after}
 use Rattle.doc_store.specs.Store.{with_key, with_key_at}
 use Rattle.doc_server_script.specs.Compactions.{effects, made_along, moves}

@@ -13,17 +13,16 @@ use Rattle.doc_store.specs.declared.moving.MoveError.TheVariants as move_errors
 use Rattle.doc_store.specs.declared.store.EditError.{EditError}
 use Rattle.doc_store.specs.declared.store.EditError.TheVariants.{TooLong, StoreFull}
 use Rattle.doc_store.proofs.StoreSteps.{get-without_goal, taken_out}
-use Rattle.doc_store.specs.Maps.{TextMap}
+use Rattle.doc_store_readers.specs.Maps.{TextMap}
 use Rattle.doc_store.specs.Names.{aliases_of}
-use Rattle.doc_store.specs.Pages.{Page}
-use Rattle.doc_store.specs.Sites.{Site, IsSite}
+use Rattle.doc_store_readers.specs.Pages.{Page}
+use Rattle.doc_store_readers.specs.Sites.{Site, IsSite}
 use Rattle.doc_store.specs.Store.{Edit, set_page, remove_page, move_page, effect_of, StoreState, fits, move_fits}
 use Rattle.doc_store.specs.Store.{put_by, moved_by, with_page, with_move, without_goal, aliases_after, is_goal, page_limit, alias_limit, text_limit, put_limit}
 use Rattle.doc_server_script.specs.Compactions.{compacted, effects, made, made_along, moves, other_pages}
 use Rattle.doc_server_script.specs.CompactionLaws.{ReplayGivesTheSite}
 use Rattle.doc_server_script.specs.Replays.{edited, replayed, unless_refused}
-use Rattle.doc_server_script.proofs.CompactionLaw.{alias_is_in, aliases_once, gives_the_site, goal_outside}
-use Rattle.doc_server_script.proofs.CompactionLaw.{left_is, one_made, others_stand}
+use Rattle.doc_server_script.proofs.CompactionLaw.{alias_is_in, aliases_once, gives_the_site, goal_outside, left_is, one_made, others_stand}
 use Rattle.doc_server_script.proofs.MadeSteps.{IsAt, IsFree, Once, all_free, apart_from, first_is_in, is_in, key_turned, later_is_in}
 use Rattle.doc_server_script.proofs.MadeSteps.{move_at, once_with_last, page_made, path_is_no_name, put_at}
 use Rattle.doc_server_script.proofs.Without.{AreEntries, Entries, alias_without, page_without, paths, removals, site_without, without}

@@ -4,9 +4,9 @@ use Rattle.std.specs.Prelude.{⊤, map as mapped, Option, Some, None}
 use Rattle.std.specs.FinMap as map
 use Rattle.doc_store_readers.proofs.KeySteps.{same_key, bytes_eq_is, not_none, some_is, get_taken}
 use Rattle.doc_store.proofs.StoreSteps.{get-without_goal}
-use Rattle.doc_store.specs.Maps.{TextMap}
-use Rattle.doc_store.specs.Pages.{Page}
-use Rattle.doc_store.specs.Sites.{Site, IsSite}
+use Rattle.doc_store_readers.specs.Maps.{TextMap}
+use Rattle.doc_store_readers.specs.Pages.{Page}
+use Rattle.doc_store_readers.specs.Sites.{Site, IsSite}
 use Rattle.doc_store.specs.Store.{Edit, remove_page, effect_of, is_goal}
 use Rattle.doc_server_script.specs.Compactions.{effects}
 use Rattle.doc_server_script.proofs.MadeSteps.{is_in}

@@ -1,6 +1,6 @@
 -- Laws of compaction; the proofs are in proofs/.
 use Rattle.std.specs.Prelude.{◌≡◌, Some, option_map}
-use Rattle.doc_store.specs.Sites.{Site, IsSite}
+use Rattle.doc_store_readers.specs.Sites.{Site, IsSite}
 use Rattle.doc_store.specs.Store.{StoreState}
 use Rattle.doc_server_script.specs.Compactions.{compacted, effects}
 use Rattle.doc_server_script.specs.Replays.{HasRoom, replayed}

@@ -3,10 +3,10 @@ use Rattle.std.specs.Prelude.{ℕ, List, [], ◌∷◌, ◌++◌, Bool, true, fa
 use Rattle.std.specs.Cmp.Lexicographic.{pointwise}
 use Rattle.std.specs.FinMap as map
 use Rattle.std.specs.List.{filter, flat_map}
-use Rattle.doc_store.specs.Maps.{TextMap}
+use Rattle.doc_store_readers.specs.Maps.{TextMap}
 use Rattle.doc_store.specs.Names.{aliases_of}
-use Rattle.doc_store.specs.Pages.{Page}
-use Rattle.doc_store.specs.Sites.{Site}
+use Rattle.doc_store_readers.specs.Pages.{Page}
+use Rattle.doc_store_readers.specs.Sites.{Site}
 use Rattle.doc_store.specs.Store.{Edit, set_page, remove_page, move_page, effect_of}
 
 -- the site after some edits

@@ -2,7 +2,7 @@
 use Rattle.std.specs.Prelude.{◌≡◌, ℕ, List, true, IsUtf8, Some}
 use Rattle.std.specs.List.{list_all}
 use Rattle.doc_page_parts.specs.Paths.{is_path}
-use Rattle.doc_store.specs.Groups.{IsGroups}
+use Rattle.doc_store_readers.specs.Groups.{IsGroups}
 use Rattle.doc_hub.specs.declared.event.Event.TheVariants as events
 use Rattle.doc_server_script.specs.Edits.{put_line, remove_line, move_line}
 use Rattle.doc_server_script.specs.Escapes.{is_byte, is_printable}

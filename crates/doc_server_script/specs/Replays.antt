@@ -1,8 +1,8 @@
 -- Stores after edits that may be refused.
 use Rattle.std.specs.Prelude.{◌≡◌, ◌+◌, ◌≤◌, ℕ, List, [], ◌∷◌, length, Option, Some, None, Result, Ok, Err, if◌then◌else◌}
 use Rattle.std.specs.FinMap as map
-use Rattle.doc_store.specs.Pages.{Page}
-use Rattle.doc_store.specs.Sites.{Site}
+use Rattle.doc_store_readers.specs.Pages.{Page}
+use Rattle.doc_store_readers.specs.Sites.{Site}
 use Rattle.doc_store.specs.Store.{Edit, set_page, remove_page, move_page, StoreState, put_into, without_page, moved_in}
 use Rattle.doc_store.specs.Store.{page_limit, alias_limit, text_limit, put_limit}
 use Rattle.doc_server_script.specs.Compactions.{compacted}

@@ -2,7 +2,7 @@
 
 ghost use Rattle.std.specs.Prelude.{◌≡◌, ◌++◌, string_bytes, OnOk, OnErr};
 ghost use Rattle.std.specs.Io.{StartsWith};
-ghost use Rattle.doc_store.specs.Groups.{texts_of};
+ghost use Rattle.doc_store_readers.specs.Groups.{texts_of};
 ghost use Rattle.doc_store.specs.Store.{set_page, remove_page, move_page};
 ghost use Rattle.doc_server_script.specs.Compactions.{made_along, moves};
 ghost use Rattle.doc_server_script.specs.PageLines.{line_of, lines_of};

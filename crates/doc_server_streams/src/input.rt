@@ -5,7 +5,7 @@ ghost use Rattle.std.specs.Io.{ReadsAtMost};
 ghost use Rattle.std.specs.Io.KnownBytes.{ReadConsumes};
 ghost use Rattle.doc_server_streams.specs.Streams.{failures_after};
 
-use crate::fault::StreamFault;
+use crate::stream_fault::StreamFault;
 
 /// What can be read.
 pub trait Input {

@@ -4,8 +4,8 @@ ghost use Rattle.std.specs.Prelude.{◌≡◌, ◌==◌, [], Some};
 ghost use Rattle.doc_server_streams.specs.Streams.{one_more};
 ghost use Rattle.doc_server_streams.specs.MemoryStreams.{unread_in, written_to, failures_of, is_stalled};
 
-use crate::fault::StreamFault;
 use crate::stream::Stream;
+use crate::stream_fault::StreamFault;
 use doc_page_parts::bytes::Bytes;
 use doc_page_parts::heap::{Heap, Vec};
 

@@ -5,7 +5,7 @@ ghost use Rattle.std.specs.Io.{WritesAtMost};
 ghost use Rattle.std.specs.Io.KnownBytes.{Keeps, WriteAppends};
 ghost use Rattle.doc_server_streams.specs.Streams.{failures_after};
 
-use crate::fault::StreamFault;
+use crate::stream_fault::StreamFault;
 
 /// What can be written.
 pub trait Output {

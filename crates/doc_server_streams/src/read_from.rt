@@ -5,8 +5,8 @@ ghost use Rattle.std.specs.Io.{ReadsAtMost};
 ghost use Rattle.std.specs.Io.KnownBytes.{ReadConsumes};
 ghost use Rattle.doc_server_streams.specs.Streams.{reader_of, failed_reads};
 
-use crate::fault::StreamFault;
 use crate::input::Input;
+use crate::stream_fault::StreamFault;
 use std::io::{ErrorKind, Read};
 
 /// How often an interrupted read is tried, so that a read ends.

@@ -4,8 +4,8 @@ ghost use Rattle.std.specs.Prelude.{◌≡◌, OnOk, OnErr};
 ghost use Rattle.std.specs.Io.KnownBytes.{Appends};
 ghost use Rattle.doc_server_streams.specs.Streams.{failures_after, AppendsPrefix};
 
-use crate::fault::StreamFault;
 use crate::output::Output;
+use crate::stream_fault::StreamFault;
 
 /// Writes until all is written or a write fails.
 pub fn write_all<O: Output>(output: &mut O, bytes: &[u8]) -> Result<(), StreamFault>

@@ -6,7 +6,7 @@ ghost use Rattle.std.specs.Io.KnownBytes.{WriteAppends};
 ghost use Rattle.doc_server_streams.specs.Streams.{failures_after};
 ghost use Rattle.doc_server_streams.specs.Moves.{ReadTakes, IsDry};
 
-use crate::fault::StreamFault;
+use crate::stream_fault::StreamFault;
 
 /// A stream, used until the first call of it that fails.
 pub trait Stream {

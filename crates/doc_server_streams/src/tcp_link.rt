@@ -4,8 +4,8 @@ ghost use Rattle.std.specs.Prelude.{◌≡◌};
 ghost use Rattle.std.specs.Io.{ReadsAtMost, WritesAtMost};
 ghost use Rattle.doc_server_streams.specs.TcpLinks.{tcp_failures};
 
-use crate::fault::StreamFault;
 use crate::stream::Stream;
+use crate::stream_fault::StreamFault;
 use std::io::{ErrorKind, Read, Write};
 use std::net::TcpStream;
 

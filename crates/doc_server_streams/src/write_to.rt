@@ -5,8 +5,8 @@ ghost use Rattle.std.specs.Io.{WritesAtMost};
 ghost use Rattle.std.specs.Io.KnownBytes.{Keeps, WriteAppends};
 ghost use Rattle.doc_server_streams.specs.Streams.{writer_of, failed_writes};
 
-use crate::fault::StreamFault;
 use crate::output::Output;
+use crate::stream_fault::StreamFault;
 use std::io::{ErrorKind, Write};
 
 /// How often an interrupted call is tried, so that it ends.

@@ -5,15 +5,15 @@ use Rattle.std.specs.FinMap as map
 use Rattle.doc_cache.specs.Caches.{Cached, cache_of, cached}
 use Rattle.doc_cache.specs.declared.failure.CacheError.TheVariants as cache_errors
 use Rattle.doc_page_parts.specs.Refusals.{IsAnswer}
-use Rattle.doc_shelf_edits.proofs.Documents.{caches_have_documents}
-use Rattle.doc_shelf_edits.proofs.KeptEdits.{edits_of_kept}
-use Rattle.doc_shelf_edits.specs.Shelves.{HasDocuments, IsBeingPut, IsEdited}
+use Rattle.doc_shelf_pages.proofs.Documents.{caches_have_documents}
+use Rattle.doc_shelf_pages.proofs.KeptEdits.{edits_of_kept}
+use Rattle.doc_shelf_pages.specs.Shelves.{HasDocuments, IsBeingPut, IsEdited}
 use Rattle.doc_shelf_documents.specs.Documents.{IsServed}
 use Rattle.doc_shelf_documents.specs.Shelves.{IsShelf}
-use Rattle.doc_shelf_edits.specs.Laws.{Stands}
-use Rattle.doc_store.specs.Pages.{Page}
+use Rattle.doc_shelf_pages.specs.EditLaws.{Stands}
+use Rattle.doc_store_readers.specs.Pages.{Page}
 use Rattle.doc_shelf_pages.specs.KeptPages.{IsFree, Kept, none_kept, with_page as kept_with_page}
-use Rattle.doc_shelf_views.specs.Views.{Renders}
+use Rattle.doc_shelf_pages.specs.Views.{Renders}
 use Rattle.doc_store.proofs.StoreSteps.{empty_is_store}
 use Rattle.doc_store.specs.Store.{StoreState, empty_store, fits_in, put_by, put_into, with_page}
 use Rattle.doc_store.specs.declared.store.Put.{Put}

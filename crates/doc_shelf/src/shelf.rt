@@ -2,14 +2,14 @@
 
 ghost use Rattle.std.specs.Prelude.{◌≡◌, ◌+◌, IfOk, Ok, OnErr, OnOk, Some, option_map};
 ghost use Rattle.std.specs.FinMap as map;
-ghost use Rattle.doc_http.specs.ReplyForms.{reply_of};
-ghost use Rattle.doc_http.specs.Replies.{reply_bytes};
+ghost use Rattle.doc_http_replies.specs.ReplyForms.{reply_of};
+ghost use Rattle.doc_http_replies.specs.Replies.{reply_bytes};
 ghost use Rattle.doc_page_parts.specs.Refusals.{Gives, IsAnswer};
 ghost use Rattle.doc_shelf.specs.Shelves.{rendered_for, shelf_made};
 ghost use Rattle.doc_shelf_documents.specs.Documents.{page_shown};
-ghost use Rattle.doc_shelf_views.specs.Laws.{seen_in};
-ghost use Rattle.doc_shelf_views.specs.Views.{backlinks_body, contents_body, report_body, search_body};
-ghost use Rattle.doc_store.specs.Sites.{page_at};
+ghost use Rattle.doc_shelf_pages.specs.ViewLaws.{seen_in};
+ghost use Rattle.doc_shelf_pages.specs.Views.{backlinks_body, contents_body, report_body, search_body};
+ghost use Rattle.doc_store_readers.specs.Sites.{page_at};
 ghost use Rattle.doc_store.specs.Store.{fits_in, moved_in, put_into, with_page, without_page};
 
 use doc_cache::cache::PageCache;
@@ -22,13 +22,13 @@ use doc_page_parts::heap::Heap;
 use doc_page_parts::path::Path;
 use doc_page_parts::text::Text;
 use doc_shelf_documents::{Writing, reply_with_page};
-use doc_shelf_edits::edits::{
+use doc_shelf_pages::KeptPages;
+use doc_shelf_pages::edits::{
     NewPage, begin_put, end_put, end_put_saying, move_page, next_stamp, put_over, remove,
     stamp_of_move, stamp_of_put,
 };
-use doc_shelf_edits::lists::{backlinks, contents, report, search};
-use doc_shelf_edits::visible::visible_page;
-use doc_shelf_pages::KeptPages;
+use doc_shelf_pages::lists::{backlinks, contents, report, search};
+use doc_shelf_pages::visible::visible_page;
 use doc_store::groups::Groups;
 use doc_store::moving::MoveError;
 use doc_store::reader::Reader;

@@ -5,9 +5,10 @@ use Rattle.std.specs.FinMap as map
 use Rattle.std.proofs.lemmas.Bool.{both_ways}
 use Rattle.doc_cache.specs.Caches.{Cached, kept as kept_in_cache, looked, text_under}
 use Rattle.doc_cache.specs.declared.key.Key.{Key}
-use Rattle.doc_index.specs.Maps.{PairMap}
+use Rattle.doc_index_tables.specs.Maps.{PairMap}
 use Rattle.doc_links_pages.specs.declared.page_links.PageLinks.{PageLinks}
-use Rattle.doc_page_parts.specs.Pages.{body_of, filled}
+use Rattle.doc_page_parts.specs.Pages.{filled}
+use Rattle.doc_shelf_pages.specs.Templates.{body_of}
 use Rattle.doc_page_parts.specs.declared.linker.Shown.{Shown}
 use Rattle.doc_page_parts.specs.declared.rendered.Rendered.{Rendered}
 use Rattle.doc_resolve.proofs.DecisionLaws.{decisions_are_goals}
@@ -15,13 +16,13 @@ use Rattle.doc_resolve.specs.Decisions.{decisions, goals_of}
 use Rattle.doc_resolve.specs.Hrefs.{shown}
 use Rattle.doc_resolve.specs.declared.link_kind.LinkKind.{LinkKind}
 use Rattle.doc_shelf_documents.specs.Documents.{IsServed, document_reply}
-use Rattle.doc_shelf_edits.proofs.Documents.{caches_have_documents, documents_are_found}
-use Rattle.doc_shelf_edits.proofs.KeptEdits.{what_is_kept_is_held}
-use Rattle.doc_shelf_edits.specs.Laws.{IsKeyOf, document_of}
-use Rattle.doc_shelf_edits.specs.Shelves.{HasDocuments, IsDocument}
+use Rattle.doc_shelf_pages.proofs.Documents.{caches_have_documents, documents_are_found}
+use Rattle.doc_shelf_pages.proofs.KeptEdits.{what_is_kept_is_held}
+use Rattle.doc_shelf_pages.specs.EditLaws.{IsKeyOf, document_of}
+use Rattle.doc_shelf_pages.specs.Shelves.{HasDocuments, IsDocument}
 use Rattle.doc_shelf_pages.specs.KeptPages.{Kept, without_texts}
-use Rattle.doc_shelf_views.specs.Views.{Renders, links_in}
-use Rattle.doc_store.specs.Pages.{Page}
+use Rattle.doc_shelf_pages.specs.Views.{Renders, links_in}
+use Rattle.doc_store_readers.specs.Pages.{Page}
 use Rattle.doc_store.specs.Store.{StoreState}
 
 some_is : {X : Type 0} (x y : X) → Some x ≡ Some y → x ≡ y

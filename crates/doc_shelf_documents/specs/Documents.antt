@@ -1,14 +1,14 @@
 -- The reply that shows a page.
 use Rattle.std.specs.Prelude.{ℕ, Bool, true, List, Option, option_map}
 use Rattle.doc_cache.specs.Caches.{Cached}
-use Rattle.doc_http.specs.ReplyForms.{content_reply}
-use Rattle.doc_http.specs.Replies.{reply_bytes}
+use Rattle.doc_http_replies.specs.ReplyForms.{content_reply}
+use Rattle.doc_http_replies.specs.Replies.{reply_bytes}
 use Rattle.doc_shelf_documents.specs.Shelves.{IsShelf}
-use Rattle.doc_shelf_edits.specs.Laws.{Stands, document_of}
+use Rattle.doc_shelf_pages.specs.EditLaws.{Stands, document_of}
 use Rattle.doc_shelf_pages.specs.KeptPages.{Kept}
-use Rattle.doc_shelf_views.specs.Views.{Renders}
-use Rattle.doc_store.specs.Pages.{Page}
-use Rattle.doc_store.specs.Sites.{View, goal_in, page_at}
+use Rattle.doc_shelf_pages.specs.Views.{Renders}
+use Rattle.doc_store_readers.specs.Pages.{Page}
+use Rattle.doc_store_readers.specs.Sites.{View, goal_in, page_at}
 use Rattle.doc_store.specs.Store.{StoreState}
 
 -- a reply with a document, or its head alone

@@ -1,7 +1,7 @@
 //! The document of a page as one reader sees it.
 
 ghost use Rattle.std.specs.Prelude.{◌≡◌, ◌++◌, string_bytes, IfOk};
-ghost use Rattle.doc_page_parts.specs.Pages.{body_of, title_of};
+ghost use Rattle.doc_shelf_pages.specs.Templates.{body_of, title_of};
 
 use doc_page_parts::escaping::push_escaped;
 use doc_page_parts::failure::Memory;

@@ -3,10 +3,10 @@
 ghost use Rattle.std.specs.Prelude.{◌≡◌, IfOk, Some, option_map};
 ghost use Rattle.doc_cache.specs.Caches.{looked, text_under};
 ghost use Rattle.doc_shelf_documents.specs.Documents.{IsServed, document_reply};
-ghost use Rattle.doc_shelf_edits.specs.Laws.{IsKeyOf, document_of};
-ghost use Rattle.doc_shelf_edits.specs.Shelves.{HasDocuments};
-ghost use Rattle.doc_shelf_views.specs.Views.{Renders};
-ghost use Rattle.doc_store.specs.Pages.{Page};
+ghost use Rattle.doc_shelf_pages.specs.EditLaws.{IsKeyOf, document_of};
+ghost use Rattle.doc_shelf_pages.specs.Shelves.{HasDocuments};
+ghost use Rattle.doc_shelf_pages.specs.Views.{Renders};
+ghost use Rattle.doc_store_readers.specs.Pages.{Page};
 ghost use Rattle.doc_store.specs.Store.{StoreState};
 
 use crate::body::body;

@@ -3,10 +3,10 @@ use Rattle.std.proofs.Common.{◌≡◌, ℕ, List, [], is_some, refl, ap, ap₂
 use Rattle.std.specs.Prelude.{Option, Some, None, option_map, Result, OnOk}
 use Rattle.std.specs.FinMap as map
 use Rattle.doc_index.specs.Held.{Known, held, known_as}
-use Rattle.doc_index.specs.Maps.{PairMap, TextMap}
+use Rattle.doc_index_tables.specs.Maps.{PairMap, TextMap}
 use Rattle.doc_index.specs.declared.held.Held.{Held}
-use Rattle.doc_index.proofs.HeldSteps.{pairs_exact, pairs_total}
-use Rattle.doc_index.proofs.TableSteps.{on_ok}
+use Rattle.doc_index_tables.proofs.PairSteps.{pairs_exact, pairs_total}
+use Rattle.doc_index_tables.proofs.TableSteps.{on_ok}
 use Rattle.doc_page_parts.specs.declared.rendered.Rendered.{Rendered}
 use Rattle.doc_links.specs.IndexSteps.{with_values}
 use Rattle.doc_links.proofs.MapSteps.{empty_with, get_with, insert_with, remove_with}

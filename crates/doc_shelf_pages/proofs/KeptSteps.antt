@@ -3,8 +3,8 @@ use Rattle.std.proofs.Common.{◌≡◌, ℕ, List, Bool, true, false, cond, ref
 use Rattle.std.specs.Prelude.{Some, None, Result, Ok, Err, OnOk, OnErr}
 use Rattle.std.specs.FinMap as map
 use Rattle.std.specs.Result.{is_err}
-use Rattle.doc_index.specs.Maps.{PairMap, TextMap}
-use Rattle.doc_index.proofs.HeldSteps.{pair_is, pairs_exact, pairs_total, same_pair}
+use Rattle.doc_index_tables.specs.Maps.{PairMap, TextMap}
+use Rattle.doc_index_tables.proofs.PairSteps.{pair_is, pairs_exact, pairs_total, same_pair}
 use Rattle.doc_page_parts.specs.declared.rendered.Rendered.{Rendered}
 use Rattle.doc_links_pages.specs.declared.page_links.PageLinks.{PageLinks}
 use Rattle.doc_shelf_pages.specs.KeptPages.{Kept}

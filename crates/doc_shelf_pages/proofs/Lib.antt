@@ -1,2 +1,17 @@
 pub mod HeldSteps
 pub mod KeptSteps
+pub mod CutAnswers
+mod Examples
+pub mod HeldLaws
+pub mod KnownLaws
+pub mod MapSteps
+mod OnLists
+mod SearchExamples
+pub mod ViewAnswers
+pub mod Documents
+pub mod EditSteps
+pub mod KeptEdits
+mod ListSteps
+mod PairEdits
+mod ViewSteps
+mod TemplateExamples

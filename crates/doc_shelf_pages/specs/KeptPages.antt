@@ -2,12 +2,12 @@
 use Rattle.std.specs.Prelude.{◌≡◌, ℕ, List, [], Option, Some, None, refl}
 use Rattle.std.specs.Coded.{Coded, code_by, coded×, coded_list, coded_ℕ}
 use Rattle.std.specs.FinMap as map
-use Rattle.doc_index.specs.Maps.{PairMap, TextMap}
+use Rattle.doc_index_tables.specs.Maps.{PairMap, TextMap}
 use Rattle.doc_page_parts.specs.declared.rendered.Rendered.{Rendered}
-use Rattle.doc_links.specs.PageLinks.{page_links}
+use Rattle.doc_links_pages.specs.PageLinks.{page_links}
 use Rattle.doc_links_pages.specs.declared.page_links.PageLinks.{PageLinks}
-use Rattle.doc_words.specs.Held.{counts_or_none}
-use Rattle.doc_words.specs.Words.{word_counts}
+use Rattle.doc_words_search.specs.Held.{counts_or_none}
+use Rattle.doc_words_search.specs.Words.{word_counts}
 
 -- what each page links to and its headings; the counts of its words; and its rendering, without the texts
 pub record Kept : Type 0 where

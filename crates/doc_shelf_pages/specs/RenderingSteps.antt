@@ -2,7 +2,7 @@
 use Rattle.std.specs.Prelude.{ℕ, List, Option, Some, None}
 use Rattle.std.specs.FinMap as map
 use Rattle.doc_index.specs.Held.{Known, held}
-use Rattle.doc_index.specs.Maps.{PairMap}
+use Rattle.doc_index_tables.specs.Maps.{PairMap}
 use Rattle.doc_index.specs.declared.held.Held.{Held}
 use Rattle.doc_page_parts.specs.declared.rendered.Rendered.{Rendered}
 use Rattle.doc_links.specs.IndexSteps.{with_values}

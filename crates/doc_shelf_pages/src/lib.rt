@@ -1,11 +1,21 @@
-//! Pages as they are kept for answers: what each links to, its words, and its rendering.
+//! The pages of a store with what is kept of them for answers, the edits that keep both in step, and the lists made of that.
 //!
-//! A page is kept under its path and a stamp in three maps, which change together: a call changes all of them, or, where memory
-//! is refused, none. To let a page go takes no memory.
+//! A page is kept under its path and a stamp in three maps, for its links, its words and its rendering, which change together: a call
+//! changes all of them, or, where memory is refused, none. To let a page go takes no memory.
+//!
+//! `specs/Views` says what each list is of a reader's view, and `specs/Held` what indexes hold of the pages of a store; `view_laws` carry
+//! one to the other: what is held, asked by what a reader sees, answers what the definitions say of the reader's view. `specs/Shelves` says
+//! what is kept of the pages of a store, and which documents may stand in a cache; `edit_laws` say that edits of the store, with what goes
+//! with them, keep both so. `edits` makes these edits, `lists` the lists, and `visible` finds the page that a reader may see.
 #![tactic(auto)]
 
 mod copying;
+pub mod edit_laws;
+pub mod edits;
 mod kept_pages;
+pub mod lists;
 mod renderings;
+pub mod view_laws;
+pub mod visible;
 
 pub use kept_pages::KeptPages;

@@ -23,7 +23,7 @@ pub struct Renderings {
 impl Model for Renderings {
     ghost use Rattle.std.specs.Coded.{coded_ℕ, coded_list, coded×};
     ghost use Rattle.std.specs.FinMap as map;
-    ghost use Rattle.doc_index.specs.Maps.{PairMap};
+    ghost use Rattle.doc_index_tables.specs.Maps.{PairMap};
     ghost use Rattle.doc_page_parts.specs.contracts.rendered.Rendered as one;
     ghost use Rattle.doc_page_parts.specs.declared.rendered.Rendered.{Rendered};
     ghost use Rattle.doc_shelf_pages.specs.RenderingSteps.{renderings_in};

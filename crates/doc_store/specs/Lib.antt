@@ -3,8 +3,3 @@ pub mod Laws
 pub mod MoveSteps
 pub mod Names
 pub mod Store
-pub use Rattle.doc_store_readers.specs.Groups
-pub use Rattle.doc_store_readers.specs.Maps
-pub use Rattle.doc_store_readers.specs.Pages
-pub use Rattle.doc_store_readers.specs.Readers
-pub use Rattle.doc_store_readers.specs.Sites

@@ -38,7 +38,7 @@ impl Model for WordIndex {
     ghost use Rattle.std.specs.Prelude.{ℕ};
     ghost use Rattle.std.specs.Coded.{coded×, coded_list, coded_ℕ};
     ghost use Rattle.std.specs.FinMap as map;
-    ghost use Rattle.doc_index.specs.Maps.{PairMap, TextMap};
+    ghost use Rattle.doc_index_tables.specs.Maps.{PairMap, TextMap};
     ghost use Rattle.doc_words_search.specs.Held.{words_held};
 
     ghost Value = { PairMap (TextMap ℕ) };

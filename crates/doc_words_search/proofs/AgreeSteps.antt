@@ -5,7 +5,7 @@ use Rattle.std.specs.FinMap as map
 use Rattle.std.specs.List.{filter}
 use Rattle.std.proofs.lemmas.Bool.{both_ways}
 use Rattle.std.proofs.lemmas.List.Sums.{length-filter, sum_by-cons}
-use Rattle.doc_index.specs.Maps.{TextMap}
+use Rattle.doc_index_tables.specs.Maps.{TextMap}
 use Rattle.doc_page_parts.specs.Sights.{leads_to_itself, seen}
 use Rattle.doc_words_search.specs.Searches.{holds_all, search}
 use Rattle.doc_words_search.specs.SearchSteps.{Agree, AgreeEach, AgreeFor, has_word, hits_by, rarity_in, score_by, search_by, weight_by}

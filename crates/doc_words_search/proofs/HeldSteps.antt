@@ -7,8 +7,8 @@ use Rattle.std.specs.FinMap.Entries.{by_order}
 use Rattle.std.specs.Ordering.{eq_by_cmp}
 use Rattle.doc_index.specs.declared.held.Held.{Held}
 use Rattle.doc_index.specs.Held.{Known, counts_of, entries_of, held, slot_at}
-use Rattle.doc_index.specs.Maps.{TextMap, pair_cmp}
-use Rattle.doc_index.proofs.HeldSteps.{pairs_exact, pairs_total}
+use Rattle.doc_index_tables.specs.Maps.{TextMap, pair_cmp}
+use Rattle.doc_index_tables.proofs.PairSteps.{pairs_exact, pairs_total}
 use Rattle.doc_words_search.specs.Held.{counts_or_none, words_held}
 use Rattle.doc_words_search.specs.Searches.{pages_of}
 use Rattle.doc_words_search.specs.SearchSteps.{onto_page, pages_at}

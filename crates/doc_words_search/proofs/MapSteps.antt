@@ -12,7 +12,7 @@ use Rattle.std.specs.Ordering.{nat_cmp}
 use Rattle.std.proofs.lemmas.Cmp.{nat_list_cmp_total}
 use Rattle.std.proofs.lemmas.Map.Lookups.{exact_bytes}
 use Rattle.doc_page_parts.proofs.Maps.{entries_in_order}
-use Rattle.doc_index.specs.Maps.{by_bytes, text_map}
+use Rattle.doc_index_tables.specs.Maps.{by_bytes, text_map}
 
 module _ {A X : Type 0} where
   before_bytes : (k : String A) (es : List (String A × X)) → AllByRecursion (λ y. string_cmp k y ≡ Less) (keys_of es)

@@ -12,9 +12,10 @@ use Rattle.std.proofs.lemmas.List.{take_more}
 use Rattle.std.proofs.lemmas.List.Sums.{sum_by_push, sum_by-cons}
 use Rattle.doc_index.specs.declared.held.Held.{Held}
 use Rattle.doc_index.specs.Held.{AreApart, count_in, entries_of, slot_at}
-use Rattle.doc_index.specs.Maps.{TextMap, pair_cmp}
-use Rattle.doc_index.proofs.CountSteps.{number_is}
-use Rattle.doc_index.proofs.HeldSteps.{not_some, pair_is, pairs_total, same_pair}
+use Rattle.doc_index_tables.specs.Maps.{TextMap, pair_cmp}
+use Rattle.doc_index_tables.proofs.CountSteps.{number_is}
+use Rattle.doc_index.proofs.HeldSteps.{not_some}
+use Rattle.doc_index_tables.proofs.PairSteps.{pair_is, pairs_total, same_pair}
 use Rattle.doc_words_search.specs.Held.{words_held}
 use Rattle.doc_words_search.specs.Searches.{pages_of}
 use Rattle.doc_words_search.specs.SearchSteps.{Agree, AgreeEach, AreMarked, MarksWord, MarksWords, StayMarked, has_word, marked_at, onto_page, pages_at, sum_marked}

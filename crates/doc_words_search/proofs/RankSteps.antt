@@ -12,7 +12,7 @@ use Rattle.std.proofs.Math.Seq.{take-append_seam}
 use Rattle.std.proofs.lemmas.List.{length-map, map-append, take_all}
 use Rattle.std.proofs.lemmas.List.Sorted.{sum_by-IsPermutation}
 use Rattle.std.proofs.lemmas.List.Sums.{sum_by-append, sum_by-cons}
-use Rattle.doc_index.proofs.TableSteps.{equal_from}
+use Rattle.doc_index_tables.proofs.TableSteps.{equal_from}
 use Rattle.doc_words_search.specs.declared.hit.Hit.{Hit}
 use Rattle.doc_words_search.specs.Searches.{placed, rank_cmp, ranked}
 

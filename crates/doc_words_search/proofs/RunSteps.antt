@@ -7,7 +7,7 @@ use Rattle.std.specs.Char.{encode_utf8, IsScalar}
 use Rattle.std.specs.List.{filter, onto_first, slice_split}
 use Rattle.std.specs.Str.{IsUtf8}
 use Rattle.std.proofs.lemmas.Str.{chars-append, encodes-chars, IsUtf8-encode, chars_past_char, chars-nil}
-use Rattle.doc_index.specs.Maps.{TextMap}
+use Rattle.doc_index_tables.specs.Maps.{TextMap}
 use Rattle.doc_page_parts.specs.Pages.{is_empty}
 use Rattle.doc_words_search.specs.Words.{folded, is_word_char, words_of}
 use Rattle.doc_words_search.specs.WordSteps.{counted, one_more, word_if, words_after}

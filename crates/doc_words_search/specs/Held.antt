@@ -3,7 +3,7 @@ use Rattle.std.specs.Prelude.{ℕ, List, Option, unwrap_or, map as mapped}
 use Rattle.std.specs.FinMap as map
 use Rattle.doc_index.specs.declared.held.Held.{Held}
 use Rattle.doc_index.specs.Held.{entries_of}
-use Rattle.doc_index.specs.Maps.{PairMap, TextMap}
+use Rattle.doc_index_tables.specs.Maps.{PairMap, TextMap}
 
 -- the counts of the words of each page that has a slot, by its path and its stamp
 abbrev pub words_held : {T : Type 0} → List (Option (Held T)) → PairMap (TextMap ℕ)

@@ -5,8 +5,8 @@ use Rattle.std.specs.FinMap as map
 use Rattle.std.specs.List.{filter, list_all}
 use Rattle.doc_index.specs.declared.held.Held.{Held}
 use Rattle.doc_index.specs.Held.{count_in, slot_at}
-use Rattle.doc_index.specs.Maps.{TextMap}
-use Rattle.doc_index.specs.TableSteps.{number_in}
+use Rattle.doc_index_tables.specs.Maps.{TextMap}
+use Rattle.doc_index_tables.specs.TableSteps.{number_in}
 use Rattle.doc_page_parts.specs.Sights.{leads_to_itself}
 use Rattle.doc_words_search.specs.Searches.{holders, holds_all, ranked}
 use Rattle.doc_words_search.specs.Words.{capped}

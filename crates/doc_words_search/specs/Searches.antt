@@ -6,7 +6,7 @@ use Rattle.std.specs.FinMap as map
 use Rattle.std.specs.List.{filter, list_all}
 use Rattle.std.specs.Ordering.{is_lt, nat_cmp, ordering_then}
 use Rattle.std.specs.declared.cmp.Ordering.{Ordering}
-use Rattle.doc_index.specs.Maps.{PairMap, TextMap}
+use Rattle.doc_index_tables.specs.Maps.{PairMap, TextMap}
 use Rattle.doc_words_search.specs.declared.hit.Hit.{Hit}
 use Rattle.doc_words_search.specs.Words.{capped}
 

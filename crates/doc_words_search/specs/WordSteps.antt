@@ -1,7 +1,7 @@
 -- Counts of words, and words of a text, as they are found one after another.
 use Rattle.std.specs.Prelude.{ℕ, ◌+◌, List, [], ◌∷◌, ◌++◌, if◌then◌else◌, unwrap_or}
 use Rattle.std.specs.FinMap as map
-use Rattle.doc_index.specs.Maps.{TextMap}
+use Rattle.doc_index_tables.specs.Maps.{TextMap}
 use Rattle.doc_words_search.specs.Words.{capped, folded, is_word_char}
 
 -- one more of a word

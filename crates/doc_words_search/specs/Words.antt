@@ -7,7 +7,7 @@ use Rattle.caseless.specs.Caseless.{default_case_fold}
 use Rattle.unicode.specs.GeneralCategory.{general_category}
 use Rattle.unicode.specs.GeneralCategoryGroup.{in_group}
 use Rattle.unicode.specs.declared.properties.GeneralCategoryGroup.TheVariants.{Letter, Mark, Number}
-use Rattle.doc_index.specs.Maps.{TextMap}
+use Rattle.doc_index_tables.specs.Maps.{TextMap}
 use Rattle.doc_page_parts.specs.Pages.{is_empty}
 use Rattle.doc_page_parts.specs.declared.rendered.Rendered.{Rendered}
 use Rattle.doc_words_search.specs.declared.query.QueryError.{QueryError}

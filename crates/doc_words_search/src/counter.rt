@@ -3,7 +3,7 @@
 ghost use Rattle.std.specs.Prelude.{◌≡◌, ◌∷◌, [], ℕ, List as Seq, chars, string_bytes, string_cmp, None, IfOk, OnOk, map as mapped};
 ghost use Rattle.std.specs.BTreeMap.{IsOrdered};
 ghost use Rattle.std.specs.FinMap as map;
-ghost use Rattle.doc_index.specs.Maps.{by_bytes, text_map};
+ghost use Rattle.doc_index_tables.specs.Maps.{by_bytes, text_map};
 ghost use Rattle.doc_words_search.specs.Words.{words_of};
 ghost use Rattle.doc_words_search.specs.WordSteps.{counted, one_more, word_if, words_after};
 
@@ -25,7 +25,7 @@ impl Model for Counter {
     ghost use Rattle.std.specs.Prelude.{ℕ};
     ghost use Rattle.std.specs.Coded.{coded_ℕ, coded_list};
     ghost use Rattle.std.specs.FinMap as map;
-    ghost use Rattle.doc_index.specs.Maps.{TextMap, text_map};
+    ghost use Rattle.doc_index_tables.specs.Maps.{TextMap, text_map};
 
     ghost Value = { TextMap ℕ };
 

@@ -2,7 +2,7 @@
 
 ghost use Rattle.std.specs.Prelude.{◌≡◌, ◌<◌, ℕ, IsTrue, IfOk, OnOk, is_some, length, option_copied, true};
 ghost use Rattle.std.specs.FinMap as map;
-ghost use Rattle.doc_index.specs.TableSteps.{number_in};
+ghost use Rattle.doc_index_tables.specs.TableSteps.{number_in};
 ghost use Rattle.doc_words_search.specs.Held.{words_held};
 ghost use Rattle.doc_words_search.specs.Searches.{pages_of};
 ghost use Rattle.doc_words_search.specs.SearchSteps.{AgreeEach, AgreeFor, AreMarked, StayMarked, marked_at, pages_at};

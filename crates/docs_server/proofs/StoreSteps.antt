@@ -9,8 +9,8 @@ use Rattle.doc_store.specs.Store.{StoreState, empty_store, put_into}
 use Rattle.doc_server_script.specs.Replays.{unless_refused}
 use Rattle.doc_server_config.specs.declared.config.SiteConfig.{SiteConfig}
 use Rattle.doc_server_config.specs.declared.page_row.PageRow.{PageRow}
-use Rattle.doc_server_input.specs.declared.fault.Fault.{Fault}
-use Rattle.doc_server_input.specs.declared.fault.Fault.TheVariants as faults
+use Rattle.doc_server_streams.specs.declared.fault.Fault.{Fault}
+use Rattle.doc_server_streams.specs.declared.fault.Fault.TheVariants as faults
 use Rattle.doc_server_restore.specs.Restores.{unstamped}
 use Rattle.doc_server.specs.Sites.{accepted, site_world, text_of, texts_behind, with_page, with_pages}
 use Rattle.docs_server.specs.Compacting.{store_in, stored_page, stored_pages}

@@ -3,7 +3,7 @@ use Rattle.std.specs.Prelude.{ℕ, List, [], ◌∷◌, Option, Some, None, Resu
 use Rattle.doc_hub.specs.Worlds.{World, store_of}
 use Rattle.doc_store.specs.Store.{StoreState, set_page}
 use Rattle.doc_server_config.specs.declared.page_row.PageRow.{PageRow}
-use Rattle.doc_server_input.specs.declared.fault.Fault.{Fault}
+use Rattle.doc_server_streams.specs.declared.fault.Fault.{Fault}
 use Rattle.doc_server_restore.specs.Restores.{made}
 use Rattle.doc_server.specs.Sites.{text_of, texts_behind}
 

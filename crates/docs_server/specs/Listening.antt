@@ -2,8 +2,8 @@
 use Rattle.doc_server_config.specs.declared.page_row.PageRow.{PageRow}
 use Rattle.doc_server_config.specs.declared.page_row.Source.TheVariants as sources
 use Rattle.doc_server_config.specs.declared.folder_pages.FolderPage.{FolderPage}
-use Rattle.doc_server_input.specs.declared.fault.Fault.{Fault}
-use Rattle.doc_server_input.specs.declared.fault.Fault.TheVariants as faults
+use Rattle.doc_server_streams.specs.declared.fault.Fault.{Fault}
+use Rattle.doc_server_streams.specs.declared.fault.Fault.TheVariants as faults
 use Rattle.doc_server_poll.specs.declared.fault.PollFault.{PollFault}
 use Rattle.doc_server_poll.specs.declared.fault.PollFault.TheVariants as poll_faults
 

@@ -1,6 +1,6 @@
 -- What stops the command `serve`.
-use Rattle.doc_server_input.specs.declared.fault.Fault.{Fault}
-use Rattle.doc_server_input.specs.declared.fault.Fault.TheVariants as faults
+use Rattle.doc_server_streams.specs.declared.fault.Fault.{Fault}
+use Rattle.doc_server_streams.specs.declared.fault.Fault.TheVariants as faults
 use Rattle.doc_server_rounds.specs.declared.fault.ServeFault.{ServeFault}
 use Rattle.doc_server_rounds.specs.declared.fault.ServeFault.TheVariants as serve_faults
 

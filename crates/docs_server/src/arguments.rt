@@ -8,7 +8,7 @@ ghost use Rattle.docs_server.specs.Arguments.{are_digits, count_of};
 use crate::listen_options::options_of;
 use doc_page_parts::failure::Memory;
 use doc_page_parts::heap::{Heap, String, Vec};
-use doc_server_input::fault::Fault;
+use doc_server_streams::fault::Fault;
 use std::env;
 use std::io::ErrorKind;
 use std::net::SocketAddr;

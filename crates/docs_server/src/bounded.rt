@@ -14,7 +14,7 @@ use doc_server_config::folder::Folder;
 use doc_server_config::folder_pages::{FolderPage, read_folder};
 use doc_server_config::listening::{Listening, ListeningError};
 use doc_server_config::page_row::{PageRow, Source};
-use doc_server_input::fault::Fault;
+use doc_server_streams::fault::Fault;
 use std::rt::Files;
 
 /// A configured site with the bounds of a server that runs.

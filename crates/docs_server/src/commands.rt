@@ -9,7 +9,7 @@ use doc_page::renderer::Renderer;
 use doc_server::demo::demo;
 use doc_server::examples::examples;
 use doc_server::rendering::render;
-use doc_server_input::fault::Fault;
+use doc_server_streams::fault::Fault;
 use doc_server_streams::read_from::ReadFrom;
 use doc_server_streams::write_to::WriteTo;
 use std::io;

@@ -8,9 +8,9 @@ use doc_page_parts::text::Text;
 use doc_server::entity_table::entities_of;
 use doc_server_config::config::{ConfigError, SiteConfig};
 use doc_server_config::page_row::{PageRow, Source};
-use doc_server_input::fault::Fault;
-use doc_server_input::input::{cannot_read, read_text};
+use doc_server_streams::fault::Fault;
 use doc_server_streams::read_from::ReadFrom;
+use doc_server_streams::whole_input::{cannot_read, read_text};
 use std::fs::File;
 use std::rt::Files;
 

@@ -2,7 +2,7 @@
 
 use crate::files::open_file;
 use doc_page_parts::heap::Heap;
-use doc_server_input::fault::Fault;
+use doc_server_streams::fault::Fault;
 use doc_server_streams::read_from::ReadFrom;
 use std::rt::Files;
 

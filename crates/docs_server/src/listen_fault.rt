@@ -2,12 +2,12 @@
 
 use doc_page_parts::failure::Memory;
 use doc_server_config::listening::ListeningError;
-use doc_server_input::fault::Fault;
 use doc_server_journal::fault::OpenFault;
 use doc_server_journal::file_fault::FileFault;
 use doc_server_poll::fault::PollFault;
 use doc_server_restore::compact_fault::CompactFault;
 use doc_server_restore::fault::RestoreFault;
+use doc_server_streams::fault::Fault;
 use std::alloc::AllocError;
 use std::error::Error;
 use std::fmt;

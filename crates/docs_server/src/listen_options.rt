@@ -1,7 +1,7 @@
 //! The options of `listen`: `--journal FILE` and `--log`, each at most once, in any order.
 
 use doc_page_parts::heap::String;
-use doc_server_input::fault::Fault;
+use doc_server_streams::fault::Fault;
 
 /// What the options say.
 #[derive(Clone, Copy, Debug, PartialEq, Eq)]

@@ -26,7 +26,7 @@ use crate::listening::run_listen;
 use crate::serving::run_serve;
 use crate::sites::{run_check, run_replay};
 use crate::status::status_of;
-use doc_server_input::fault::Fault;
+use doc_server_streams::fault::Fault;
 use std::fs::File;
 use std::marker::Brand;
 use std::net::{Net, TcpListener, TcpStream};

@@ -11,8 +11,8 @@ use doc_page_parts::heap::Heap;
 use doc_page_parts::text::Text;
 use doc_server_config::config::SiteConfig;
 use doc_server_config::page_row::{PageRow, Source};
-use doc_server_input::fault::Fault;
 use doc_server_restore::edits::Edits;
+use doc_server_streams::fault::Fault;
 use doc_store::store::Store;
 
 /// The store of the hub that a configuration makes, or what stops the program in its place.

@@ -8,7 +8,7 @@ use doc_html::CommonMark;
 use doc_page::renderer::Renderer;
 use doc_server::check::check;
 use doc_server::replay::replay;
-use doc_server_input::fault::Fault;
+use doc_server_streams::fault::Fault;
 use doc_server_streams::read_from::ReadFrom;
 use doc_server_streams::write_to::WriteTo;
 use std::io;

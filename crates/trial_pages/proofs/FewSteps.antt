@@ -5,8 +5,8 @@ use Rattle.std.specs.FinMap as map
 use Rattle.std.specs.List.{filter}
 use Rattle.std.specs.Ordering.{is_lt}
 use Rattle.std.proofs.lemmas.List.{length-map, length-take}
-use Rattle.doc_index.specs.Maps.{TextMap}
-use Rattle.doc_words.specs.Searches.{hits, holds_all, placed, rank_cmp, ranked, search}
+use Rattle.doc_index_tables.specs.Maps.{TextMap}
+use Rattle.doc_words_search.specs.Searches.{hits, holds_all, placed, rank_cmp, ranked, search}
 use Rattle.doc_words_search.specs.declared.hit.Hit.{Hit}
 
 length_placed : (hit : Hit) (found : List Hit) → length (placed hit found) ≡ suc (length found)

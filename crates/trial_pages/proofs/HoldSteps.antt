@@ -2,7 +2,7 @@
 use Rattle.std.proofs.Common.{◌≡◌, ℕ, List}
 use Rattle.std.specs.Prelude.{Result, Ok, Err, OnOk, OnErr}
 use Rattle.std.specs.FinMap as map
-use Rattle.doc_index.specs.Maps.{PairMap}
+use Rattle.doc_index_tables.specs.Maps.{PairMap}
 use Rattle.doc_links.specs.StampSteps.{HasStamp}
 use Rattle.doc_links.proofs.StampSteps.{inserted}
 

@@ -5,19 +5,19 @@ use Rattle.std.specs.FinMap as map
 use Rattle.std.specs.List.{list_any}
 use Rattle.std.specs.Ordering.{eq_by_cmp}
 use Rattle.std.proofs.lemmas.Bool.{both_ways}
-use Rattle.doc_index.specs.Maps.{PairMap, pair_cmp}
-use Rattle.doc_index.proofs.HeldSteps.{pair_is}
+use Rattle.doc_index_tables.specs.Maps.{PairMap, pair_cmp}
+use Rattle.doc_index_tables.proofs.PairSteps.{pair_is}
 use Rattle.doc_page_parts.specs.Sights.{leads_to_itself, seen}
-use Rattle.doc_links.specs.Links.{page_at}
-use Rattle.doc_links.specs.Names.{AreNames as WrittenNames}
-use Rattle.doc_links.specs.PageLinks.{pages_of}
+use Rattle.doc_links_pages.specs.Links.{page_at}
+use Rattle.doc_links_pages.specs.Names.{AreNames as WrittenNames}
+use Rattle.doc_links_pages.specs.PageLinks.{pages_of}
 use Rattle.doc_links_pages.specs.declared.page_links.PageLinks.{PageLinks}
 use Rattle.doc_resolve.specs.declared.link_kind.LinkKind.{LinkKind}
 use Rattle.doc_store_readers.proofs.KeySteps.{bytes_eq_is, same_itself}
 use Rattle.doc_store.proofs.NamesLaw.{names_lead}
 use Rattle.doc_store.proofs.SightSteps.{itself_is}
 use Rattle.doc_store.specs.Names.{AreNames, names_of}
-use Rattle.doc_store.specs.Sites.{Site, IsSite, View, goal_in, view_of}
+use Rattle.doc_store_readers.specs.Sites.{Site, IsSite, View, goal_in, view_of}
 use Rattle.doc_store.specs.Store.{IsStore, StoreState, is_goal}
 use Rattle.doc_store_readers.specs.declared.reader.Reader.{Reader}
 

@@ -1,23 +1,23 @@
 //! What an open leaf becomes when it closes.
 ghost use Rattle.std.specs.Prelude.{◌≡◌, IfOk, OnOk};
 ghost use Rattle.doc_rules.specs.Blocks.{Blocks};
-ghost use Rattle.doc_blocks_pass.specs.Leaves.{with_open, open_references};
-ghost use Rattle.doc_refs.specs.Targets.{targets_of, joined};
+ghost use Rattle.doc_blocks_leaves.specs.Leaves.{with_open, open_references};
+ghost use Rattle.doc_refs_parts.specs.Targets.{targets_of, joined};
 ghost use Rattle.doc_blocks_leaves.specs.OpenLeaves.{leaf_shown};
 ghost use Rattle.doc_blocks_leaves.specs.Views.{with_block};
 
 use crate::gathered::Gathered;
 use crate::leaf::kind::Kind;
 use crate::paragraph::paragraph_text;
-use doc_blocks_tags::tag::LeafBlock;
-use doc_blocks_tags::texts::Texts;
+use doc_blocks_starts::tag::LeafBlock;
+use doc_blocks_starts::texts::Texts;
 use doc_lines::entities::Entities;
 use doc_page_parts::failure::Memory;
 use doc_page_parts::heap::Heap;
 use doc_refs::RefMap;
 
 /// The block that an open leaf of these lines is, if it is one, with its texts in `texts`. The definitions that leave it join `refs`.
-#[tactic(auto, unfolding(doc_blocks_pass::specs::Leaves::with_open, doc_blocks_pass::specs::Leaves::open_references))]
+#[tactic(auto, unfolding(crate::specs::Leaves::with_open, crate::specs::Leaves::open_references))]
 pub fn closed<'t>(
     heap: Heap,
     texts: &'t Texts,

@@ -2,7 +2,7 @@
 ghost use Rattle.std.specs.Prelude.{◌≡◌, chars, IfOk};
 ghost use Rattle.doc_rules.specs.Characters.{Text};
 ghost use Rattle.doc_lines.specs.Cursors.{left_of};
-ghost use Rattle.doc_blocks_pass.specs.Leaves.{OpenCode, OpenFence, OpenHtml, taken};
+ghost use Rattle.doc_blocks_leaves.specs.Leaves.{OpenCode, OpenFence, OpenHtml, taken};
 ghost use Rattle.doc_blocks_starts.specs.Fences.{fence_shown};
 ghost use Rattle.doc_blocks_starts.specs.HtmlKinds.{kind_of};
 ghost use Rattle.doc_blocks_leaves.specs.OpenLeaves.{taken_shown};
@@ -34,7 +34,7 @@ pub enum LineTaken {
 }
 
 /// Indented code takes lines that are indented as code, and blank ones.
-#[tactic(auto, unfolding(doc_blocks_pass::specs::Leaves::taken))]
+#[tactic(auto, unfolding(crate::specs::Leaves::taken))]
 pub fn take_code(lines: &mut Gathered, line: &Cursor) -> Result<LineTaken, Memory>
     ensures taken { IfOk result (λ answer. taken_shown answer
         (OpenCode lines.new.all lines.new.kept)
@@ -51,7 +51,7 @@ pub fn take_code(lines: &mut Gathered, line: &Cursor) -> Result<LineTaken, Memor
 }
 
 /// A fence takes all lines up to the one that closes it.
-#[tactic(auto, unfolding(doc_blocks_pass::specs::Leaves::taken))]
+#[tactic(auto, unfolding(crate::specs::Leaves::taken))]
 pub fn take_fenced(fence: Fence, lines: &mut Gathered, line: &Cursor) -> Result<LineTaken, Memory>
     ensures taken { IfOk result (λ answer. (info : Text) →
         taken_shown answer (OpenFence (fence_shown fence) info lines.new.all)
@@ -66,7 +66,7 @@ pub fn take_fenced(fence: Fence, lines: &mut Gathered, line: &Cursor) -> Result<
 }
 
 /// An HTML block takes all lines up to the blank one, or with the one, that ends it.
-#[tactic(auto, unfolding(doc_blocks_pass::specs::Leaves::taken))]
+#[tactic(auto, unfolding(crate::specs::Leaves::taken))]
 pub fn take_html(kind: HtmlKind, lines: &mut Gathered, line: &Cursor) -> Result<LineTaken, Memory>
     ensures taken { IfOk result (λ answer.
         taken_shown answer (OpenHtml (kind_of kind) lines.new.all lines.new.kept)

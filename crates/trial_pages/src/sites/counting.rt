@@ -1,7 +1,7 @@
 //! A sight that counts how often it is asked.
 
 ghost use Rattle.std.specs.Prelude.{◌≡◌};
-ghost use Rattle.doc_store.specs.Sites.{goal_in};
+ghost use Rattle.doc_store_readers.specs.Sites.{goal_in};
 
 use doc_page_parts::path::Path;
 use doc_page_parts::sight::Sight;

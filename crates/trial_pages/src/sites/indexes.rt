@@ -1,6 +1,6 @@
 //! The two indexes of a site, in which each page is held under one stamp.
 
-ghost use Rattle.doc_links.specs.PageLinks.{IsOnce};
+ghost use Rattle.doc_links_pages.specs.PageLinks.{IsOnce};
 
 use doc_links::LinkIndex;
 use doc_page_parts::failure::Memory;

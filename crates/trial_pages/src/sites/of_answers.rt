@@ -1,6 +1,6 @@
 //! What the indexes answer a reader.
 
-ghost use Rattle.doc_links.specs.PageLinks.{IsOnce};
+ghost use Rattle.doc_links_pages.specs.PageLinks.{IsOnce};
 
 use crate::sites::counting::Counting;
 use crate::sites::of_postings::search_among;

@@ -2,9 +2,9 @@
 
 ghost use Rattle.std.specs.Prelude.{◌≡◌, IfOk, length};
 ghost use Rattle.doc_page_parts.specs.Sights.{seen};
-ghost use Rattle.doc_links.specs.PageLinks.{IsOnce};
-ghost use Rattle.doc_store.specs.Sites.{goal_in};
-ghost use Rattle.doc_words.specs.Searches.{pages_of};
+ghost use Rattle.doc_links_pages.specs.PageLinks.{IsOnce};
+ghost use Rattle.doc_store_readers.specs.Sites.{goal_in};
+ghost use Rattle.doc_words_search.specs.Searches.{pages_of};
 
 use crate::sites::counting::Counting;
 use crate::sites::indexes::STAMP;

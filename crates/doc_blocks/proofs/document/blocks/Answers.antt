@@ -1,8 +1,8 @@
 use Rattle.std.proofs.Common.{◌∙◌, ap, List}
-use Rattle.doc_blocks_tags.specs.Tags.{Tag, tags_shown}
-use Rattle.doc_blocks_tags.specs.OpenTags.{Open, read}
-use Rattle.doc_blocks_tags.specs.declared.tag.Tag as code
-use Rattle.doc_blocks_tags.proofs.TagLaws.{read_tags}
+use Rattle.doc_blocks_starts.specs.Tags.{Tag, tags_shown}
+use Rattle.doc_blocks_starts.specs.OpenTags.{Open, read}
+use Rattle.doc_blocks_starts.specs.declared.tag.Tag as code
+use Rattle.doc_blocks_starts.proofs.TagLaws.{read_tags}
 use Rattle.doc_blocks.proofs.document.blocks.Goals as goal
 
 pub returns-clause-blocks : goal.returns-clause-blocks

@@ -1,8 +1,8 @@
 use Rattle.std.proofs.Common.{◌∙◌, refl, ap}
 use Rattle.doc_rules.specs.Blocks.{Blocks}
-use Rattle.doc_refs.specs.Targets.{Targets}
-use Rattle.doc_blocks_pass.specs.Paths.{finished}
-use Rattle.doc_blocks_tags.specs.Tags.{tags_of}
+use Rattle.doc_refs_parts.specs.Targets.{Targets}
+use Rattle.doc_blocks_leaves.specs.Paths.{finished}
+use Rattle.doc_blocks_starts.specs.Tags.{tags_of}
 use Rattle.doc_blocks.specs.BuilderSteps.{state_of}
 use Rattle.doc_blocks.proofs.LeafLaws as leaves
 use Rattle.doc_blocks.proofs.tagged.finish.Goals as goal

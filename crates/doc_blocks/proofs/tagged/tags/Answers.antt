@@ -4,7 +4,7 @@ use Rattle.doc_refs_parts.proofs.SpaceLaws.{is_none, is_some}
 use Rattle.doc_rules.specs.Characters.{Text}
 use Rattle.doc_rules.specs.Columns.{cells_of}
 use Rattle.doc_rules.specs.Lines.{lines_of, secure_char}
-use Rattle.doc_blocks_tags.specs.Tags.{tags_of}
+use Rattle.doc_blocks_starts.specs.Tags.{tags_of}
 use Rattle.doc_blocks.specs.StateSteps.{State, shown, after_line, document_left}
 use Rattle.doc_blocks.specs.BuilderSteps.{state_of}
 use Rattle.doc_blocks.proofs.LeafLaws.{one_line, document_is}

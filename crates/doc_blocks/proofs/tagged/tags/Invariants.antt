@@ -2,8 +2,8 @@ use Rattle.std.proofs.Common.{◌≡◌, [], chars, length}
 use denote.Text.{Utf8}
 use denote.Shadow.{shadow}
 use Rattle.doc_rules.specs.Lines.{lines_of}
-use Rattle.doc_refs.specs.Targets.{targets_of}
-use Rattle.doc_blocks_pass.specs.Paths.{empty_path}
+use Rattle.doc_refs_parts.specs.Targets.{targets_of}
+use Rattle.doc_blocks_leaves.specs.Paths.{empty_path}
 use Rattle.doc_blocks.specs.StateSteps.{shown, document_left}
 use Rattle.doc_blocks.specs.BuilderSteps.{state_of}
 use Rattle.doc_blocks.specs.LevelSteps.{IsSound}

@@ -1,7 +1,7 @@
 use Rattle.std.proofs.Common.{◌∙◌, ap, sym}
 use Rattle.doc_rules.specs.Forests.{node}
-use Rattle.doc_blocks_tags.specs.Tags.{container_shown}
-use Rattle.doc_blocks_tags.specs.declared.tag.ContainerBlock.{ContainerBlock}
+use Rattle.doc_blocks_starts.specs.Tags.{container_shown}
+use Rattle.doc_blocks_starts.specs.declared.tag.ContainerBlock.{ContainerBlock}
 use Rattle.doc_blocks.specs.Views.{blocks_shown}
 use Rattle.doc_blocks.proofs.Forests.{behind_quote, behind_list, behind_item}
 use Rattle.doc_blocks.proofs.tree.container_of.Goals as goal

@@ -1,8 +1,8 @@
 use Rattle.std.proofs.Common.{◌∙◌, ap, sym, chars, List, ℕ}
 use Rattle.doc_rules.specs.Forests.{◌▹◌}
 use Rattle.doc_rules.specs.Blocks.{Paragraph, Heading, IndentedCode, FencedCode, HtmlBlock}
-use Rattle.doc_blocks_tags.specs.Tags.{leaf_shown}
-use Rattle.doc_blocks_tags.specs.declared.tag.LeafBlock.{LeafBlock}
+use Rattle.doc_blocks_starts.specs.Tags.{leaf_shown}
+use Rattle.doc_blocks_starts.specs.declared.tag.LeafBlock.{LeafBlock}
 use Rattle.doc_blocks.proofs.Forests.{behind_para, behind_heading, behind_code, behind_fence, behind_html, behind_break}
 use Rattle.doc_blocks.proofs.tree.leaf_of.Goals as goal
 

@@ -1,6 +1,6 @@
 use Rattle.std.proofs.Common.{◌<◌, sym, subst, take, length, arith}
-use Rattle.doc_blocks_tags.specs.Tags.{tags_shown}
-use Rattle.doc_blocks_tags.specs.OpenTags.{Open, read}
+use Rattle.doc_blocks_starts.specs.Tags.{tags_shown}
+use Rattle.doc_blocks_starts.specs.OpenTags.{Open, read}
 use Rattle.doc_blocks.specs.TreeSteps.{Shows}
 use Rattle.doc_blocks.proofs.TreeLaws.{read_more}
 use Rattle.doc_blocks.proofs.tree.tree_of.Goals as goal

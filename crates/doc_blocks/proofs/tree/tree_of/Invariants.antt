@@ -1,6 +1,6 @@
 use Rattle.std.proofs.Common.{take}
-use Rattle.doc_blocks_tags.specs.Tags.{tags_shown}
-use Rattle.doc_blocks_tags.specs.OpenTags.{read}
+use Rattle.doc_blocks_starts.specs.Tags.{tags_shown}
+use Rattle.doc_blocks_starts.specs.OpenTags.{read}
 use Rattle.doc_blocks.specs.TreeSteps.{Shows}
 use Rattle.doc_blocks.proofs.tree.tree_of.Given as goal
 

@@ -1,6 +1,6 @@
 use Rattle.std.proofs.Common.{◌≡◌, List, take}
 use Rattle.doc_rules.specs.Definitions.{Definition}
-use Rattle.doc_refs.specs.Targets.{targets_of}
+use Rattle.doc_refs_parts.specs.Targets.{targets_of}
 use Rattle.doc_html.specs.ProgressSteps.{Progress}
 use Rattle.doc_html.proofs.TagSteps.{IsTold}
 use Rattle.doc_html.proofs.blocks.push_all.Given as goal

@@ -1,5 +1,5 @@
 use Rattle.std.proofs.Common.{◌≡◌, ◌∙◌, ap, []}
-use Rattle.doc_blocks_tags.specs.Tags.{tags_of, tags_shown}
+use Rattle.doc_blocks_starts.specs.Tags.{tags_of, tags_shown}
 use Rattle.doc_blocks.specs.Views.{blocks_shown}
 use Rattle.doc_html.proofs.ByteLaws.{html_by_bytes}
 use Rattle.doc_html.proofs.document.to_html.Goals as goal

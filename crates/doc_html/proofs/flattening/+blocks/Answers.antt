@@ -1,7 +1,7 @@
 use Rattle.std.proofs.Common.{◌≡◌, ◌∙◌, ap, sym, chars, arith, take}
 use Rattle.doc_rules.specs.Forests.{◌▹◌, node}
 use Rattle.doc_rules.specs.Blocks.{Paragraph, Heading, IndentedCode, FencedCode, HtmlBlock, ThematicBreak, BlockQuote, ListBlock, ListItem}
-use Rattle.doc_blocks_tags.specs.Tags.{leaf_shown, container_shown}
+use Rattle.doc_blocks_starts.specs.Tags.{leaf_shown, container_shown}
 use Rattle.doc_blocks.specs.Views.{behind, blocks_shown, forest}
 use Rattle.doc_blocks.proofs.Forests.{behind_para, behind_heading, behind_code, behind_fence, behind_html, behind_break}
 use Rattle.doc_blocks.proofs.Forests.{behind_quote, behind_list, behind_item}

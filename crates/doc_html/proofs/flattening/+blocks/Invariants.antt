@@ -1,7 +1,7 @@
 use Rattle.std.proofs.Common.{◌≡◌, List, take}
 use Rattle.doc_rules.specs.Blocks.{Blocks}
-use Rattle.doc_blocks_tags.specs.Tags.{tags_shown}
-use Rattle.doc_blocks_tags.specs.OpenTags.{Entry, open_tags}
+use Rattle.doc_blocks_starts.specs.Tags.{tags_shown}
+use Rattle.doc_blocks_starts.specs.OpenTags.{Entry, open_tags}
 use Rattle.doc_blocks.specs.Views.{forest}
 use Rattle.doc_html.proofs.flattening.+blocks.Given as goal
 

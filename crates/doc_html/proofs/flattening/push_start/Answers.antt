@@ -1,5 +1,5 @@
-use Rattle.doc_blocks_tags.specs.Tags.{tag_shown}
-use Rattle.doc_blocks_tags.proofs.TagLaws.{open_start}
+use Rattle.doc_blocks_starts.specs.Tags.{tag_shown}
+use Rattle.doc_blocks_starts.proofs.TagLaws.{open_start}
 use Rattle.doc_html.proofs.FlatteningSteps.{tag_pushed}
 use Rattle.doc_html.proofs.flattening.push_start.Goals as goal
 

@@ -1,7 +1,7 @@
 use Rattle.std.proofs.Common.{[], ap}
 use Rattle.doc_rules.specs.Forests.{none}
-use Rattle.doc_blocks_tags.specs.Tags.{tags_of, tags_shown}
-use Rattle.doc_blocks_tags.specs.OpenTags.{open_tags}
+use Rattle.doc_blocks_starts.specs.Tags.{tags_of, tags_shown}
+use Rattle.doc_blocks_starts.specs.OpenTags.{open_tags}
 use Rattle.doc_html.proofs.flattening.tags_of.Goals as goal
 
 pub returns : goal.returns

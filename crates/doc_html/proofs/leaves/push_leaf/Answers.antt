@@ -1,5 +1,5 @@
 use Rattle.std.proofs.Common.{OnOk, subst, sym}
-use Rattle.doc_blocks_tags.specs.Tags.{leaf_shown}
+use Rattle.doc_blocks_starts.specs.Tags.{leaf_shown}
 use Rattle.doc_html.specs.ProgressSteps.{Goes}
 use Rattle.doc_html.specs.TellingSteps.{leaf_told}
 use Rattle.doc_html.proofs.leaves.push_leaf.Goals as goal

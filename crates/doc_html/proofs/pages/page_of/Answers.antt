@@ -1,6 +1,6 @@
 use Rattle.std.proofs.Common.{◌∙◌, ap, chars}
 use Rattle.doc_rules.specs.Blocks.{document_of}
-use Rattle.doc_blocks_tags.specs.Tags.{tags_shown}
+use Rattle.doc_blocks_starts.specs.Tags.{tags_shown}
 use Rattle.doc_html.proofs.PageLaws.{text_page}
 use Rattle.doc_html.proofs.pages.page_of.Goals as goal
 

@@ -2,7 +2,7 @@ use Rattle.std.proofs.Common.{◌∙◌, ap, chars}
 use Rattle.std.specs.Prelude.{[], encode_utf8_all}
 use Rattle.doc_rules.specs.Blocks.{document_of}
 use Rattle.doc_rules.specs.Html.{plain_linker}
-use Rattle.doc_blocks_tags.specs.Tags.{tags_shown}
+use Rattle.doc_blocks_starts.specs.Tags.{tags_shown}
 use Rattle.doc_html.specs.PlainLinks.{plain_shown}
 use Rattle.doc_html.proofs.ByteLaws.{html_by_bytes}
 use Rattle.doc_html.proofs.PlainLinkSteps.{plain_alike, plain_told}

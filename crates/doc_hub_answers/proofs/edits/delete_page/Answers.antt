@@ -1,9 +1,9 @@
 use Rattle.std.proofs.Common.{Some, true, false, ap, sym, refl, ◌∙◌}
 use Rattle.std.specs.FinMap as map
 use Rattle.doc_store.specs.Store.{StoreState}
-use Rattle.doc_store.specs.Sites.{view_of}
+use Rattle.doc_store_readers.specs.Sites.{view_of}
 use Rattle.doc_hub_answers.specs.Replies.{delete_at, refused}
-use Rattle.doc_hub_answers.specs.declared.response.Edit.TheVariants as edits
+use Rattle.doc_hub_answers.specs.declared.edit.Edit.TheVariants as edits
 use Rattle.doc_hub_answers.proofs.AnswerSteps.{sent_alone, sent_edited}
 use Rattle.doc_hub_answers.proofs.PutSteps.{deleted}
 use Rattle.doc_hub_answers.proofs.edits.delete_page.Goals as goal

@@ -1,7 +1,7 @@
 use Rattle.std.proofs.Common.{Some, sym, refl, ◌∙◌, subst, codes}
 use Rattle.std.specs.Str.{IsUtf8}
-use Rattle.doc_store.specs.Groups.{groups_of}
-use Rattle.doc_store.specs.Sites.{view_of}
+use Rattle.doc_store_readers.specs.Groups.{groups_of}
+use Rattle.doc_store_readers.specs.Sites.{view_of}
 use Rattle.doc_http_targets.specs.Queries.{parameter}
 use Rattle.doc_http_targets.specs.WrittenPaths.{path_written}
 use Rattle.doc_hub_answers.specs.AnswerSteps.{Answered, AnsweredSo, sent_in}

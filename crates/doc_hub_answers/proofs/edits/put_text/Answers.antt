@@ -1,11 +1,11 @@
 use Rattle.std.proofs.Common.{ap, sym, refl, ◌∙◌}
 use Rattle.std.specs.FinMap as map
 use Rattle.std.specs.Prelude.{None, if◌then◌else◌}
-use Rattle.doc_http.specs.ReplyForms.{code_of}
-use Rattle.doc_http.specs.Replies.{reply_bytes}
+use Rattle.doc_http_replies.specs.ReplyForms.{code_of}
+use Rattle.doc_http_replies.specs.Replies.{reply_bytes}
 use Rattle.doc_store.specs.Store.{StoreState, fits_in}
 use Rattle.doc_hub_answers.specs.Replies.{refused, status_reply}
-use Rattle.doc_hub_answers.specs.declared.response.Edit.TheVariants as edits
+use Rattle.doc_hub_answers.specs.declared.edit.Edit.TheVariants as edits
 use Rattle.doc_hub_answers.proofs.AnswerSteps.{sent_alone, sent_edited}
 use Rattle.doc_hub_answers.proofs.PutSteps.{put_fits, put_fits_if, put_full_if, put_is_full}
 use Rattle.doc_hub_answers.proofs.edits.put_text.Goals as goal

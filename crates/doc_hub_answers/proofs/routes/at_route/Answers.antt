@@ -1,6 +1,6 @@
 use Rattle.std.proofs.Common.{Some, sym, ◌∙◌}
 use Rattle.doc_http_targets.specs.Targets.{route_shown}
-use Rattle.doc_store.specs.Sites.{view_of}
+use Rattle.doc_store_readers.specs.Sites.{view_of}
 use Rattle.doc_hub_answers.specs.Edits.{puts_left}
 use Rattle.doc_hub_answers.proofs.AnswerSteps.{edited_so, read_so}
 use Rattle.doc_hub_answers.proofs.routes.at_route.Goals as goal

@@ -1,6 +1,6 @@
 use Rattle.std.proofs.Common.{◌≤◌, length}
-use Rattle.doc_inlines_pass.specs.Openers.{MissedFrom}
-use Rattle.doc_inlines_pass.specs.NumberSteps.{run_numbered}
+use Rattle.doc_inlines_emphasis.specs.Openers.{MissedFrom}
+use Rattle.doc_inlines_emphasis.specs.NumberSteps.{run_numbered}
 use Rattle.doc_inlines_emphasis.specs.RunSteps.{run_shown, all_placed}
 use Rattle.doc_inlines_emphasis.proofs.openers.nearest.Given as goal
 

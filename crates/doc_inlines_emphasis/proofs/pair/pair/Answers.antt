@@ -2,8 +2,8 @@ use Rattle.std.proofs.Common.{◌≡◌, ◌+◌, ◌<◌, ◌≤◌, false, len
 use Rattle.doc_inlines_emphasis.specs.declared.run.Run.{Run}
 use Rattle.doc_inlines_emphasis.specs.RunSteps.{placed_shown, all_placed}
 use Rattle.doc_rules.specs.Inlines as rules
-use Rattle.doc_inlines_pass.specs.Marks.{Placed}
-use Rattle.doc_inlines_pass.specs.NumberSteps.{numbered, paired_runs}
+use Rattle.doc_inlines_emphasis.specs.Marks.{Placed}
+use Rattle.doc_inlines_emphasis.specs.NumberSteps.{numbered, paired_runs}
 use Rattle.doc_inlines_emphasis.proofs.NumberLaws.{numbered_is, run_is}
 use Rattle.doc_inlines_emphasis.proofs.PairLaws.{MayPair, may_pair, place_is, opens_at, opens_is, IsPairMade, pair_goes, pair_stacked}
 use Rattle.doc_inlines_emphasis.proofs.PairLaws.{stands_on}

@@ -1,6 +1,6 @@
 use Rattle.std.proofs.Common.{◌≡◌, length, true}
-use Rattle.doc_inlines_pass.specs.NumberSteps.{run_numbered}
-use Rattle.doc_inlines_pass.specs.PassSteps.{Stacked}
+use Rattle.doc_inlines_emphasis.specs.NumberSteps.{run_numbered}
+use Rattle.doc_inlines_emphasis.specs.PassSteps.{Stacked}
 use Rattle.doc_inlines_emphasis.specs.RunSteps.{all_placed}
 use Rattle.doc_inlines_emphasis.specs.Steps.{StandAt, GoesOn}
 use Rattle.doc_inlines_emphasis.proofs.pass.close.Given as goal

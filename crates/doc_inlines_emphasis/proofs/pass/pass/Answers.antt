@@ -1,6 +1,6 @@
 use Rattle.std.proofs.Common.{◌≡◌, suc, ◌+◌, length, refl, sym, ◌∙◌, subst, arith}
-use Rattle.doc_inlines_pass.specs.PassSteps.{Stacked}
-use Rattle.doc_inlines_pass.proofs.NumberLoops.{stacked_next}
+use Rattle.doc_inlines_emphasis.specs.PassSteps.{Stacked}
+use Rattle.doc_inlines_emphasis.proofs.NumberLoops.{stacked_next}
 use Rattle.doc_inlines_emphasis.specs.RunSteps.{all_placed}
 use Rattle.doc_inlines_emphasis.specs.Steps.{WalksOn}
 use Rattle.doc_inlines_emphasis.proofs.PassLaws.{walks_start, stacked_start, walks_stand, walks_past, wrapped_all}

@@ -1,5 +1,5 @@
 use Rattle.std.proofs.Common.{◌≡◌, length}
-use Rattle.doc_inlines_pass.specs.PassSteps.{Stacked}
+use Rattle.doc_inlines_emphasis.specs.PassSteps.{Stacked}
 use Rattle.doc_inlines_emphasis.specs.RunSteps.{all_placed}
 use Rattle.doc_inlines_emphasis.specs.Steps.{WalksOn}
 use Rattle.doc_inlines_emphasis.proofs.pass.pass.Given as goal

@@ -1,5 +1,5 @@
 use Rattle.std.proofs.Common.{subst, sym}
-use Rattle.doc_index.proofs.TableSteps.{on_ok}
+use Rattle.doc_index_tables.proofs.TableSteps.{on_ok}
 use Rattle.doc_links.specs.IndexSteps.{IsTally}
 use Rattle.doc_links.proofs.TallySteps.{none_written, row_written}
 use Rattle.doc_links.proofs.tally.add_named.Goals as goal

@@ -1,7 +1,7 @@
 use Rattle.std.proofs.Common.{ap, ap₂, string_bytes, ◌+◌, ◌∙◌}
 use Rattle.std.specs.FinMap as map
-use Rattle.doc_index.specs.Maps.{text_map}
-use Rattle.doc_index.proofs.TableSteps.{inserted_text}
+use Rattle.doc_index_tables.specs.Maps.{text_map}
+use Rattle.doc_index_tables.proofs.TableSteps.{inserted_text}
 use Rattle.doc_links_pages.proofs.keys.add_one.Goals as goal
 
 pub returns : goal.returns

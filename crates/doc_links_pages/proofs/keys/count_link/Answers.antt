@@ -1,7 +1,7 @@
 use Rattle.std.proofs.Common.{ap, cond, sym, ◌+◌, ◌∙◌}
 use Rattle.std.specs.Prelude.{bytes_eq}
-use Rattle.doc_index.specs.Maps.{text_map}
-use Rattle.doc_index.proofs.TableSteps.{on_ok}
+use Rattle.doc_index_tables.specs.Maps.{text_map}
+use Rattle.doc_index_tables.proofs.TableSteps.{on_ok}
 use Rattle.doc_links_pages.specs.KnownSteps.{count_at}
 use Rattle.doc_links_pages.specs.Names.{writes}
 use Rattle.doc_links_pages.proofs.CountSteps.{one_counted}

@@ -1,5 +1,5 @@
 use Rattle.std.proofs.Common.{ap, unwrap_or, ◌∙◌}
-use Rattle.doc_index.proofs.TableSteps.{looked_up_text}
+use Rattle.doc_index_tables.proofs.TableSteps.{looked_up_text}
 use Rattle.doc_links_pages.proofs.keys.count_of.Goals as goal
 
 pub returns-in_default : goal.returns-in_default

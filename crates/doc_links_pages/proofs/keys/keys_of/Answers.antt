@@ -1,6 +1,6 @@
 use Rattle.std.proofs.Common.{ap, ◌∙◌}
 use Rattle.std.specs.FinMap as map
-use Rattle.doc_index.specs.Maps.{by_bytes}
+use Rattle.doc_index_tables.specs.Maps.{by_bytes}
 use Rattle.doc_links_pages.specs.KnownSteps.{count_at}
 use Rattle.doc_links_pages.proofs.CountSteps.{none_counted}
 use Rattle.doc_links_pages.proofs.keys.keys_of.Goals as goal

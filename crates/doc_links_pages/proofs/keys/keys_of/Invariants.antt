@@ -1,5 +1,5 @@
 use Rattle.std.proofs.Common.{take}
-use Rattle.doc_index.specs.Maps.{text_map}
+use Rattle.doc_index_tables.specs.Maps.{text_map}
 use Rattle.doc_links_pages.specs.KnownSteps.{HasKeys}
 use Rattle.doc_links_pages.proofs.keys.keys_of.Given as goal
 

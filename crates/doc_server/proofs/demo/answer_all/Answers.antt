@@ -5,9 +5,9 @@ use Rattle.doc_hub.specs.Worlds.{world_pushed}
 use Rattle.doc_server.specs.Demo.{StepsToEnd, StopsDemo}
 use Rattle.doc_server.specs.DemoSteps.{StopsReplies}
 use Rattle.doc_server.proofs.Opening.{opened, stopped}
-use Rattle.doc_server_input.specs.InputSteps.{IsRead}
+use Rattle.doc_server_streams.specs.InputSteps.{IsRead}
 use Rattle.doc_server.proofs.ReadCounts.{call_reads, replies_read}
-use Rattle.doc_server_input.proofs.Results.{then_ok, then_err}
+use Rattle.doc_server_streams.proofs.Results.{then_ok, then_err}
 use Rattle.doc_server.proofs.Stops.{stop_connect, stop_push, made_after_push}
 use Rattle.doc_server.proofs.demo.answer_all.Goals as goal
 

@@ -5,7 +5,7 @@ use Rattle.doc_server.specs.Demo.{StepsToEnd, StopsDemo}
 use Rattle.std.proofs.lemmas.Result.{err_from_is_err_and}
 use Rattle.doc_server.proofs.Opening.{of_all, stops_of_all}
 use Rattle.doc_server.proofs.ReadCounts.{never_given_up, read_before}
-use Rattle.doc_server_input.proofs.Results.{then_ok, then_err}
+use Rattle.doc_server_streams.proofs.Results.{then_ok, then_err}
 use Rattle.doc_server.proofs.UnreadSteps.{unread_stops, unread_writes}
 use Rattle.doc_server.proofs.demo.demo.Goals as goal
 

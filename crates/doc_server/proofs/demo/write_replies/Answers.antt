@@ -1,9 +1,9 @@
 use Rattle.std.proofs.Common.{◌≡◌, refl, ◌∙◌}
 use Rattle.std.proofs.lemmas.Result.{err_from_is_err_and}
 use Rattle.doc_server.specs.DemoSteps.{StopsReplies}
-use Rattle.doc_server_input.specs.declared.fault.Fault.TheVariants as faults
+use Rattle.doc_server_streams.specs.declared.fault.Fault.TheVariants as faults
 use Rattle.doc_server.proofs.Replies.{none_yet, reply_more, reply_leaves, reply_none, replies_stopped, flush_stopped}
-use Rattle.doc_server_input.proofs.Results.{ok_always, then_err}
+use Rattle.doc_server_streams.proofs.Results.{ok_always, then_err}
 use Rattle.doc_server.proofs.demo.write_replies.Goals as goal
 
 pub replies-init : goal.replies-init

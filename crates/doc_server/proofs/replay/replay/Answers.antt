@@ -3,7 +3,7 @@ use Rattle.std.proofs.lemmas.Result.{err_from_is_err_and}
 use Rattle.std.proofs.lemmas.Str.{IsUtf8-string_bytes}
 use Rattle.std.specs.Prelude.{string_bytes}
 use Rattle.std.specs.Io.KnownBytes.{Appends}
-use Rattle.doc_server_input.specs.Faults.{IsNoText}
+use Rattle.doc_server_streams.specs.Faults.{IsNoText}
 use Rattle.doc_server.proofs.ReplaySteps.{replayed}
 use Rattle.doc_server.proofs.StopSteps.{site_stops, site_reads, site_writes, unread_stops, unread_writes, replay_stops, stop_reads}
 use Rattle.doc_server.proofs.replay.replay.Goals as goal

@@ -1,6 +1,6 @@
 use Rattle.std.proofs.Common.{map, string_bytes, ap, sym, ◌∙◌}
 use Rattle.std.specs.List.{list_all}
-use Rattle.doc_store.specs.Groups.{texts_of}
+use Rattle.doc_store_readers.specs.Groups.{texts_of}
 use Rattle.doc_server_config.proofs.KeySteps.{keys_in_view}
 use Rattle.doc_server_config.specs.Keys.{is_one_of}
 use Rattle.doc_server_config.proofs.table.has_only.Goals as goal

@@ -1,6 +1,6 @@
 use Rattle.std.proofs.Common.{◌≡◌, map, string_bytes}
 use Rattle.std.specs.List.{list_all}
-use Rattle.doc_store.specs.Groups.{texts_of}
+use Rattle.doc_store_readers.specs.Groups.{texts_of}
 use Rattle.toml.specs.View.{table_view}
 use Rattle.doc_server_config.specs.Keys.{has_only, is_one_of}
 use Rattle.doc_server_config.proofs.table.has_only.Given as goal

@@ -1,5 +1,5 @@
 use Rattle.std.proofs.Common.{◌≡◌, drop}
-use Rattle.doc_store.specs.Groups.{texts_of}
+use Rattle.doc_store_readers.specs.Groups.{texts_of}
 use Rattle.doc_server_config.specs.Keys.{is_one_of}
 use Rattle.doc_server_config.proofs.table.is_one_of.Given as goal
 

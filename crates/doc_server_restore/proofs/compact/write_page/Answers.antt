@@ -1,6 +1,6 @@
 use Rattle.std.proofs.Common.{ap, sym, subst, ◌∙◌, [], cond}
 use Rattle.std.specs.Prelude.{OnOk}
-use Rattle.doc_store.specs.Groups.{texts_of}
+use Rattle.doc_store_readers.specs.Groups.{texts_of}
 use Rattle.doc_server_script.specs.Compactions.{made, made_along}
 use Rattle.doc_server_restore.specs.WriterSteps.{Wrote}
 use Rattle.doc_server_restore.proofs.compact.write_page.Goals as goal

@@ -1,5 +1,5 @@
 use Rattle.std.specs.List.{flat_map}
-use Rattle.doc_store.specs.Pages.{without_stamps}
+use Rattle.doc_store_readers.specs.Pages.{without_stamps}
 use Rattle.doc_server_script.specs.Compactions.{made, other_pages}
 use Rattle.doc_server_restore.specs.WriterSteps.{IsWriter, WroteUpTo}
 use Rattle.doc_server_restore.proofs.WriterLaws.{Stand, made_left}

@@ -1,5 +1,5 @@
 use Rattle.std.proofs.Common.{ap, subst, sym, ◌∙◌}
-use Rattle.doc_store.specs.Pages.{without_stamps}
+use Rattle.doc_store_readers.specs.Pages.{without_stamps}
 use Rattle.doc_server_restore.proofs.WriterLaws.{Stand, all_stand, first_stands, others_stand, begins, goes_on, still_writer}
 use Rattle.doc_server_restore.proofs.WriterLaws.{removals_left, removals_more}
 use Rattle.doc_server_restore.proofs.compact.write_removals.Goals as goal

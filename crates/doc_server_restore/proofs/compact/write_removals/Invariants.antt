@@ -1,4 +1,4 @@
-use Rattle.doc_store.specs.Pages.{without_stamps}
+use Rattle.doc_store_readers.specs.Pages.{without_stamps}
 use Rattle.doc_server_script.specs.Compactions.{other_pages}
 use Rattle.doc_server_restore.specs.WriterSteps.{IsWriter, WroteUpTo, removals}
 use Rattle.doc_server_restore.proofs.WriterLaws.{Stand, removals_left}

@@ -1,6 +1,6 @@
 use Rattle.std.proofs.Common.{◌≡◌, ◌++◌, drop, string_bytes}
 use Rattle.std.specs.Io.{StartsWith}
-use Rattle.doc_store.specs.Groups.{texts_of}
+use Rattle.doc_store_readers.specs.Groups.{texts_of}
 use Rattle.doc_server_script.specs.Compactions.{moves}
 use Rattle.doc_server_script.specs.PageLines.{lines_of}
 use Rattle.doc_server_script.proofs.page_lines.push_moves.Given as goal

@@ -1,5 +1,5 @@
 use Rattle.std.proofs.Common.{◌≡◌, drop}
-use Rattle.doc_page_parts.specs.Pages.{title_of}
+use Rattle.doc_shelf_pages.specs.Templates.{title_of}
 use Rattle.doc_shelf_documents.proofs.body.title.Given as goal
 
 abbrev pub invariant-loop-heading : goal.invariant-loop-heading

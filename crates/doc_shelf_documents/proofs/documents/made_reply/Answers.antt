@@ -1,6 +1,6 @@
 use Rattle.std.proofs.Common.{ap, ◌∙◌}
 use Rattle.std.specs.Prelude.{Some}
-use Rattle.doc_page_parts.specs.Pages.{body_of}
+use Rattle.doc_shelf_pages.specs.Templates.{body_of}
 use Rattle.doc_resolve.specs.Hrefs.{shown}
 use Rattle.doc_shelf_documents.specs.Documents.{document_reply}
 use Rattle.doc_shelf_documents.proofs.DocumentSteps.{document_is, kept_has}

@@ -1,6 +1,6 @@
 use Rattle.std.proofs.Common.{◌≡◌, ◌++◌, string_bytes}
 use Rattle.std.specs.Prelude.{map as mapped}
-use Rattle.doc_index.specs.Maps.{by_bytes}
+use Rattle.doc_index_tables.specs.Maps.{by_bytes}
 use Rattle.doc_words_search.proofs.counter.keys_in.Given as goal
 
 -- what is left of the keys is still to come

@@ -1,5 +1,5 @@
 use Rattle.std.proofs.Common.{◌≡◌, ◌++◌}
-use Rattle.doc_index.specs.Maps.{by_bytes}
+use Rattle.doc_index_tables.specs.Maps.{by_bytes}
 use Rattle.doc_words_search.proofs.counter.words_in.Given as goal
 
 -- what is left of the entries is still to come

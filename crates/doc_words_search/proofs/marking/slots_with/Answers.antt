@@ -1,7 +1,7 @@
 use Rattle.std.proofs.Common.{arith, ap, false, length, subst, sum_by, sym, ◌∙◌}
 use Rattle.std.specs.Prelude.{option_copied}
 use Rattle.std.proofs.lemmas.List.{length-replicate, take_all}
-use Rattle.doc_index.specs.TableSteps.{number_in}
+use Rattle.doc_index_tables.specs.TableSteps.{number_in}
 use Rattle.doc_words_search.specs.SearchSteps.{MarksWords, sum_marked}
 use Rattle.doc_words_search.proofs.MarkSteps.{agree_each, at_first, marks_word, words_next}
 use Rattle.doc_words_search.proofs.marking.slots_with.Goals as goal

@@ -7,7 +7,7 @@ use Rattle.doc_blocks.specs.BuilderSteps.{state_of}
 use Rattle.doc_blocks.specs.LevelSteps.{stack_of}
 use Rattle.doc_blocks.proofs.LevelLemmas.{length_stack}
 use Rattle.doc_blocks.proofs.LeafLaws as leaves
-use Rattle.doc_blocks_pass.specs.OpenBlocks.{start_step}
+use Rattle.doc_blocks_leaves.specs.OpenBlocks.{start_step}
 use Rattle.doc_blocks.proofs.builder.Builder.add.Goals as goal
 
 pub returns-then-depth-clause-line : goal.returns-then-depth-clause-line

@@ -1,12 +1,10 @@
 use Rattle.std.proofs.Common.{◌≡◌, ◌∙◌, ℕ, ◌+◌, ◌-◌, Bool, suc}
 use Rattle.std.proofs.Common.{ap, subst, arith}
 use Rattle.doc_lines.specs.Cursors.{left_of}
-use Rattle.doc_blocks.specs.StateSteps.{below, met, reached}
-use Rattle.doc_blocks.specs.StateSteps.{StepsTo}
-use Rattle.doc_blocks.specs.BuilderSteps.{state_of}
-use Rattle.doc_blocks_pass.specs.OpenBlocks.{start_step}
+use Rattle.doc_blocks.specs.StateSteps.{below, met, reached, StepsTo}
+use Rattle.doc_blocks.specs.BuilderSteps.{state_of, IsBegun}
+use Rattle.doc_blocks_leaves.specs.OpenBlocks.{start_step}
 use Rattle.doc_blocks_starts.specs.Lines.{inside_of}
-use Rattle.doc_blocks.specs.BuilderSteps.{IsBegun}
 use Rattle.doc_blocks.proofs.builder.Builder.begin.Goals as goal
 
 pub returns-then-not-branch-clause-reached : goal.returns-then-not-branch-clause-reached

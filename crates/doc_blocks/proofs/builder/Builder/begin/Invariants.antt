@@ -1,5 +1,5 @@
 use Rattle.std.proofs.Common.{◌≡◌, ◌-◌}
-use Rattle.doc_blocks_pass.specs.OpenBlocks.{start_step}
+use Rattle.doc_blocks_leaves.specs.OpenBlocks.{start_step}
 use Rattle.doc_lines.specs.Cursors.{left_of}
 use Rattle.doc_blocks.specs.StateSteps.{below, met, reached}
 use Rattle.doc_blocks.specs.BuilderSteps.{state_of, IsReady}

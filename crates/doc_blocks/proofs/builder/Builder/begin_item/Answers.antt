@@ -1,6 +1,6 @@
 use Rattle.std.proofs.Common.{◌∙◌, refl}
 use Rattle.std.proofs.Common.{ap}
-use Rattle.doc_blocks_pass.specs.Paths.{OpenItem}
+use Rattle.doc_blocks_leaves.specs.Paths.{OpenItem}
 use Rattle.doc_blocks_starts.specs.Items.{kind_of}
 use Rattle.doc_blocks.specs.StackSteps.{Stack, item_begun, container_opened}
 use Rattle.doc_blocks.specs.StateSteps.{State}

@@ -5,7 +5,7 @@ use Rattle.doc_blocks_leaves.specs.Starts.{start_shown, leaf_lines}
 use Rattle.doc_blocks.specs.StateSteps.{below, shown, reached}
 use Rattle.doc_blocks.specs.BuilderSteps.{state_of}
 use Rattle.doc_blocks.proofs.LeafLaws as leaves
-use Rattle.doc_blocks_pass.specs.OpenBlocks.{leaf_begun}
+use Rattle.doc_blocks_leaves.specs.OpenBlocks.{leaf_begun}
 use Rattle.doc_blocks_leaves.specs.declared.start.LeafStart.{LeafStart}
 use Rattle.doc_blocks.proofs.builder.Builder.begin_leaf.Goals as goal
 

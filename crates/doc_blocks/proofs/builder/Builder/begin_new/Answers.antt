@@ -1,6 +1,6 @@
 use Rattle.std.proofs.Common.{◌∙◌}
 use Rattle.std.proofs.Common.{ap}
-use Rattle.doc_blocks_pass.specs.Paths.{finished}
+use Rattle.doc_blocks_leaves.specs.Paths.{finished}
 use Rattle.doc_lines.specs.Cursors.{left_of}
 use Rattle.doc_blocks_leaves.specs.Starts.{leaf_lines}
 use Rattle.doc_blocks.specs.StackSteps.{with_inner_blocks}

@@ -1,6 +1,6 @@
 use Rattle.std.proofs.Common.{◌∙◌, refl}
 use Rattle.std.proofs.Common.{ap}
-use Rattle.doc_blocks_pass.specs.Paths.{OpenQuote}
+use Rattle.doc_blocks_leaves.specs.Paths.{OpenQuote}
 use Rattle.doc_blocks.specs.StackSteps.{Stack, block_begun, container_opened}
 use Rattle.doc_blocks.specs.StateSteps.{State}
 use Rattle.doc_blocks.specs.LevelSteps.{stack_of}

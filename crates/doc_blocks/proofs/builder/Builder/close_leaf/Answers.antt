@@ -1,7 +1,7 @@
 use Rattle.std.proofs.Common.{◌∙◌}
 use Rattle.std.proofs.Common.{ap, sym}
-use Rattle.doc_blocks_pass.specs.Leaves.{NoLeaf}
-use Rattle.doc_blocks_pass.specs.Paths.{Level, finished}
+use Rattle.doc_blocks_leaves.specs.Leaves.{NoLeaf}
+use Rattle.doc_blocks_leaves.specs.Paths.{Level, finished}
 use Rattle.doc_blocks.specs.StackSteps.{with_inner_blocks}
 use Rattle.doc_blocks.specs.BuilderSteps.{state_of}
 use Rattle.doc_blocks.specs.LevelSteps.{stack_of}

@@ -2,10 +2,9 @@ use Rattle.std.proofs.Common.{◌∙◌}
 use Rattle.std.proofs.Common.{ap, sym}
 use Rattle.doc_rules.specs.Trees.{Situation, leaf_begins}
 use Rattle.doc_lines.specs.Cursors.{left_of}
-use Rattle.doc_blocks_leaves.specs.Starts.{start_shown}
+use Rattle.doc_blocks_leaves.specs.Starts.{start_shown, start_of}
 use Rattle.doc_blocks.specs.BuilderSteps.{state_of}
 use Rattle.doc_blocks.proofs.StateLaws as states
-use Rattle.doc_blocks_leaves.specs.Starts.{start_of}
 use Rattle.doc_blocks.proofs.builder.Builder.put_leaf.Goals as goal
 
 pub returns-in_ok-begin_leaf-in-Some-clause-reached : goal.returns-in_ok-begin_leaf-in-Some-clause-reached

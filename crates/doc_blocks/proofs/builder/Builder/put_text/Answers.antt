@@ -2,8 +2,8 @@ use Rattle.std.proofs.Common.{◌∙◌, true, [], refl}
 use Rattle.std.proofs.Common.{ap, sym}
 use Rattle.std.proofs.Common.{not}
 use Rattle.doc_rules.specs.Trees.{line_text}
-use Rattle.doc_blocks_pass.specs.Leaves.{OpenLeaf, OpenCode, OpenParagraph, code_with}
-use Rattle.doc_blocks_pass.specs.Paths.{Here}
+use Rattle.doc_blocks_leaves.specs.Leaves.{OpenLeaf, OpenCode, OpenParagraph, code_with}
+use Rattle.doc_blocks_leaves.specs.Paths.{Here}
 use Rattle.doc_lines.specs.Cursors.{left_of}
 use Rattle.doc_blocks.specs.StackSteps.{block_begun}
 use Rattle.doc_blocks.specs.StateSteps.{State, shown}

@@ -1,10 +1,9 @@
 use Rattle.std.proofs.Common.{◌∙◌, true}
 use Rattle.std.proofs.Common.{ap, sym}
 use Rattle.doc_blocks_starts.specs.Items.{item_shown}
-use Rattle.doc_blocks.specs.StateSteps.{met}
+use Rattle.doc_blocks.specs.StateSteps.{met, item_met}
 use Rattle.doc_blocks.specs.BuilderSteps.{state_of}
 use Rattle.doc_blocks.proofs.BuilderLaws as laws
-use Rattle.doc_blocks.specs.StateSteps.{item_met}
 use Rattle.doc_blocks.proofs.builder.Builder.take_item.Goals as goal
 
 pub returns-then-not-is_in_paragraph : goal.returns-then-not-is_in_paragraph

@@ -1,6 +1,6 @@
 use Rattle.std.proofs.Common.{◌∙◌, drop}
 use Rattle.std.proofs.Common.{ap, sym}
-use Rattle.doc_blocks_pass.specs.Paths.{finished}
+use Rattle.doc_blocks_leaves.specs.Paths.{finished}
 use Rattle.doc_blocks.specs.StackSteps.{with_inner_blocks}
 use Rattle.doc_blocks.specs.StateSteps.{met, shown}
 use Rattle.doc_blocks.specs.BuilderSteps.{state_of}

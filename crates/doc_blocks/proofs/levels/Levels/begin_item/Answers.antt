@@ -1,7 +1,7 @@
 use Rattle.std.proofs.Common.{◌∙◌, ap, arith, true, refl, List, [], ◌∷◌, ◌++◌}
 use Rattle.doc_rules.specs.Forests.{none}
-use Rattle.doc_blocks_tags.specs.Tags.{Tag, Start, tags_of, tags_shown}
-use Rattle.doc_blocks_tags.specs.OpenTags.{open_tags}
+use Rattle.doc_blocks_starts.specs.Tags.{Tag, Start, tags_of, tags_shown}
+use Rattle.doc_blocks_starts.specs.OpenTags.{open_tags}
 use Rattle.doc_blocks.specs.StackSteps.{block_begun}
 use Rattle.doc_blocks.specs.LevelSteps.{stack_of, list_of, AreSound, frames_of}
 use Rattle.doc_blocks.specs.declared.levels.Levels.{Levels}

@@ -1,7 +1,7 @@
 use Rattle.std.proofs.Common.{sym, subst, arith, Option}
 use Rattle.doc_rules.specs.Forests.{node}
-use Rattle.doc_blocks_tags.specs.Tags.{tags_shown}
-use Rattle.doc_blocks_tags.specs.OpenTags.{read}
+use Rattle.doc_blocks_starts.specs.Tags.{tags_shown}
+use Rattle.doc_blocks_starts.specs.OpenTags.{read}
 use Rattle.doc_blocks.specs.LevelSteps.{list_of, LevelFits, AreSound, frames_of}
 use Rattle.doc_blocks.specs.declared.levels.OpenList.{OpenList}
 use Rattle.doc_blocks.proofs.LevelLemmas.{stack_bare, stack_listed, first_fits, list_ends, starts_within}

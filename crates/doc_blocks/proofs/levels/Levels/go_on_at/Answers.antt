@@ -1,7 +1,7 @@
 use Rattle.std.proofs.Common.{◌<◌, ◌∙◌, List, ap, arith, length, refl}
-use Rattle.doc_blocks_pass.specs.Paths.{gone_on}
-use Rattle.doc_blocks_tags.specs.Tags.{tags_shown}
-use Rattle.doc_blocks_tags.specs.OpenTags.{read}
+use Rattle.doc_blocks_leaves.specs.Paths.{gone_on}
+use Rattle.doc_blocks_starts.specs.Tags.{tags_shown}
+use Rattle.doc_blocks_starts.specs.OpenTags.{read}
 use Rattle.doc_blocks.specs.Containers.{container_shown}
 use Rattle.doc_blocks.specs.StackSteps.{Outer}
 use Rattle.doc_blocks.specs.LevelSteps.{stack_of, round}

@@ -1,7 +1,7 @@
 use Rattle.std.proofs.Common.{◌∙◌, sym}
 use Rattle.doc_blocks_starts.specs.Items.{kind_of}
-use Rattle.doc_blocks_tags.specs.Tags.{tags_shown}
-use Rattle.doc_blocks_tags.specs.OpenTags.{read}
+use Rattle.doc_blocks_starts.specs.Tags.{tags_shown}
+use Rattle.doc_blocks_starts.specs.OpenTags.{read}
 use Rattle.doc_blocks.proofs.LevelLemmas.{stack_going_on}
 use Rattle.doc_blocks.proofs.levels.Levels.goes_on_with.Goals as goal
 

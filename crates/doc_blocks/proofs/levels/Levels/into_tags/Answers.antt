@@ -1,7 +1,7 @@
 use Rattle.std.proofs.Common.{◌≡◌, ◌∙◌, ap, sym, arith, length, List}
 use Rattle.std.proofs.Common.{Vec, Global}
-use Rattle.doc_blocks_tags.specs.Tags.{tags_of, tags_shown}
-use Rattle.doc_blocks_tags.specs.OpenTags.{Entry, open_tags}
+use Rattle.doc_blocks_starts.specs.Tags.{tags_of, tags_shown}
+use Rattle.doc_blocks_starts.specs.OpenTags.{Entry, open_tags}
 use Rattle.doc_blocks.specs.StackSteps.{Stack}
 use Rattle.doc_blocks.specs.LevelSteps.{AreSound, frames_of}
 use Rattle.doc_blocks.specs.declared.levels.Open.{Open}

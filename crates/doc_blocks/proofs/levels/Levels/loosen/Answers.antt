@@ -1,5 +1,5 @@
-use Rattle.doc_blocks_tags.specs.Tags.{tags_shown}
-use Rattle.doc_blocks_tags.specs.OpenTags.{read}
+use Rattle.doc_blocks_starts.specs.Tags.{tags_shown}
+use Rattle.doc_blocks_starts.specs.OpenTags.{read}
 use Rattle.doc_blocks.proofs.LevelLemmas.{stack_loose, not_loose}
 use Rattle.doc_blocks.proofs.levels.Levels.loosen.Goals as goal
 

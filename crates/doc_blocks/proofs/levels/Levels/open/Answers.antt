@@ -1,7 +1,7 @@
 use Rattle.std.proofs.Common.{◌∙◌, ap, List, [], ◌∷◌, ◌++◌}
 use Rattle.doc_rules.specs.Forests.{none}
-use Rattle.doc_blocks_tags.specs.Tags.{Tag, Start, tags_of, tags_shown}
-use Rattle.doc_blocks_tags.specs.OpenTags.{open_tags}
+use Rattle.doc_blocks_starts.specs.Tags.{Tag, Start, tags_of, tags_shown}
+use Rattle.doc_blocks_starts.specs.OpenTags.{open_tags}
 use Rattle.doc_blocks.specs.Containers.{block_of}
 use Rattle.doc_blocks.proofs.LevelLemmas.{start_pushed, stack_opened, sound_opened}
 use Rattle.doc_blocks.proofs.levels.Levels.open.Goals as goal

@@ -1,9 +1,9 @@
 use Rattle.std.proofs.Common.{◌∙◌, ap, sym, List, [], ◌∷◌, ◌++◌, Option}
 use Rattle.doc_rules.specs.Forests.{◌▹◌}
-use Rattle.doc_blocks_pass.specs.Paths as paths
-use Rattle.doc_blocks_tags.specs.Tags.{Tag, OneLeaf, leaf_shown, tags_shown}
-use Rattle.doc_blocks_tags.specs.declared.tag.LeafBlock.{LeafBlock}
-use Rattle.doc_blocks_tags.proofs.TagLaws.{open_leaf}
+use Rattle.doc_blocks_leaves.specs.Paths as paths
+use Rattle.doc_blocks_starts.specs.Tags.{Tag, OneLeaf, leaf_shown, tags_shown}
+use Rattle.doc_blocks_starts.specs.declared.tag.LeafBlock.{LeafBlock}
+use Rattle.doc_blocks_starts.proofs.TagLaws.{open_leaf}
 use Rattle.doc_blocks_leaves.specs.Views.{with_block}
 use Rattle.doc_blocks.specs.StackSteps.{with_inner_blocks}
 use Rattle.doc_blocks.specs.LevelSteps.{stack_of}

@@ -1,5 +1,5 @@
 use Rattle.std.proofs.Common.{◌∙◌, ap, refl}
-use Rattle.doc_blocks_tags.specs.Tags.{leaf_shown, container_shown, tag_shown}
+use Rattle.doc_blocks_starts.specs.Tags.{leaf_shown, container_shown, tag_shown}
 use Rattle.doc_blocks.proofs.TreeLaws.{Children, shows_leaf, shows_start}
 use Rattle.doc_blocks.proofs.tree.Tree.add.Goals as goal
 

@@ -1,5 +1,5 @@
 use Rattle.std.proofs.Common.{◌∙◌, [], ◌∷◌, ◌++◌, ap, refl, arith}
-use Rattle.doc_blocks_tags.specs.Tags.{container_shown}
+use Rattle.doc_blocks_starts.specs.Tags.{container_shown}
 use Rattle.doc_blocks.proofs.TreeLaws.{Children, shows_no_end, shows_end}
 use Rattle.doc_blocks.proofs.tree.Tree.end.Goals as goal
 

@@ -1,5 +1,5 @@
 use Rattle.std.proofs.Common.{refl, chars}
-use Rattle.doc_blocks_pass.specs.Leaves.{open_of}
+use Rattle.doc_blocks_leaves.specs.Leaves.{open_of}
 use Rattle.doc_blocks_starts.specs.Fences.{fence_shown}
 use Rattle.doc_blocks_leaves.specs.OpenLeaves.{leaf_shown}
 use Rattle.doc_blocks_leaves.specs.Starts.{leaf_lines}

@@ -1,7 +1,7 @@
 use Rattle.std.proofs.Common.{◌≡◌, ◌++◌, refl, ap, ◌∙◌}
 use Rattle.doc_rules.specs.Columns.{text_of}
 use Rattle.doc_lines.specs.Cursors.{left_of}
-use Rattle.doc_blocks_pass.specs.Leaves.{open_of}
+use Rattle.doc_blocks_leaves.specs.Leaves.{open_of}
 use Rattle.doc_blocks_starts.specs.HtmlKinds.{kind_of}
 use Rattle.doc_blocks_leaves.specs.OpenLeaves.{leaf_shown, with_begun}
 use Rattle.doc_blocks_leaves.specs.Views.{with_block}

@@ -1,7 +1,7 @@
 use Rattle.std.proofs.Common.{Bor, subst, refl, chars, ◌∙◌}
 use Rattle.std.specs.Prelude.{Option}
 use Rattle.doc_rules.specs.Characters.{Text}
-use Rattle.doc_blocks_pass.specs.Leaves.{with_open, open_references}
+use Rattle.doc_blocks_leaves.specs.Leaves.{with_open, open_references}
 use Rattle.doc_blocks_leaves.specs.OpenLeaves.{leaf_shown}
 use Rattle.doc_blocks_leaves.specs.Views.{with_block}
 use Rattle.doc_blocks_leaves.proofs.LeafSteps.{code_closed, fence_closed, html_closed, Leaves, paragraph_closed, definitions_closed}

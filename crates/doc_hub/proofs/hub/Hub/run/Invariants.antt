@@ -1,7 +1,7 @@
 use Rattle.std.proofs.Common.{◌≡◌, ◌≤◌, false, length, take, vec_len, vec_capacity}
 use Rattle.std.specs.List.{list_any}
 use Rattle.doc_hub.specs.Counts.{moves_in, ran_out}
-use Rattle.doc_hub_replies.specs.Counts.{RendersPuts}
+use Rattle.doc_hub_answers.specs.Counts.{RendersPuts}
 use Rattle.doc_hub.specs.Runs.{RunsAll}
 use Rattle.doc_hub.proofs.hub.Hub.run.Given as goal
 

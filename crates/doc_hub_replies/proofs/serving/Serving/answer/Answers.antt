@@ -1,5 +1,5 @@
 use Rattle.std.proofs.Common.{Some, ap, ◌∙◌}
-use Rattle.doc_store.specs.Sites.{view_of}
+use Rattle.doc_store_readers.specs.Sites.{view_of}
 use Rattle.doc_http_targets.specs.Targets.{route_of, route_shown}
 use Rattle.doc_hub_answers.specs.AnswerSteps.{entry_of}
 use Rattle.doc_hub_answers.specs.Edits.{puts_left}

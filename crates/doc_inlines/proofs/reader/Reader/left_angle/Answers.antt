@@ -1,7 +1,7 @@
 use Rattle.std.proofs.Common.{ap, chars, Some, None}
 use Rattle.doc_rules.proofs.ParserLaws.{is_rest_again}
-use Rattle.doc_inlines_enclosed.specs.FoundSteps.{enclosing_of}
-use Rattle.doc_inlines_enclosed.specs.Reads.{enclosed_read}
+use Rattle.doc_inlines_marks.specs.FoundSteps.{enclosing_of}
+use Rattle.doc_inlines_marks.specs.Reads.{enclosed_read}
 use Rattle.doc_inlines.specs.ReaderSteps.{state_made}
 use Rattle.doc_inlines.proofs.ItemLaws.{goes_on}
 use Rattle.doc_inlines.proofs.EnclosedLaws.{learned_ends, angle_found, angle_reads, enclosed_end, moved_on}

@@ -1,6 +1,6 @@
 use Rattle.std.proofs.Common.{◌≡◌, List, length, chars}
 use Rattle.doc_rules.specs.Definitions.{Definition}
-use Rattle.doc_refs.specs.Targets.{targets_of}
+use Rattle.doc_refs_parts.specs.Targets.{targets_of}
 use Rattle.doc_inlines.specs.ReaderSteps.{IsReader, outcome}
 use Rattle.doc_inlines.proofs.reader.Reader.read_items.Given as goal
 

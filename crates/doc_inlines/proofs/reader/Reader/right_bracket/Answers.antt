@@ -2,7 +2,7 @@ use Rattle.std.proofs.Common.{ap, sym, subst, chars, ◌∙◌, IfSome}
 use Rattle.doc_rules.specs.Rests.{IsRest}
 use Rattle.doc_rules.proofs.ParserLaws.{is_rest_again}
 use Rattle.doc_inlines_marks.specs.Targets.{named}
-use Rattle.doc_inlines_tails.specs.TailSteps.{tail_shown}
+use Rattle.doc_inlines_marks.specs.TailSteps.{tail_shown}
 use Rattle.doc_inlines.proofs.BracketItemLaws.{none_is, one_is, behind_first, stray_goes_on, unlinked_goes_on, linked_goes_on}
 use Rattle.doc_inlines.proofs.reader.Reader.right_bracket.Goals as goal
 

@@ -1,5 +1,5 @@
 use Rattle.std.proofs.Common.{[], ◌∷◌, length, sym, subst}
-use Rattle.doc_inlines_pass.specs.Marks.{ArePlaced}
+use Rattle.doc_inlines_emphasis.specs.Marks.{ArePlaced}
 use Rattle.doc_inlines_emphasis.specs.RunSteps.{all_placed}
 use Rattle.doc_inlines_emphasis.specs.Views.{marks_shown, StandsApart}
 use Rattle.doc_inlines_emphasis.proofs.MarkLaws.{placed_more, place_more}

@@ -1,7 +1,7 @@
 use Rattle.std.proofs.Common.{arith, false, length, Some, None, ap, sym, ◌∙◌, subst}
 use Rattle.doc_rules.specs.Inlines as rules
-use Rattle.doc_inlines_pass.specs.Openers.{AreBounds, Ascend, StandBefore}
-use Rattle.doc_inlines_pass.specs.NumberSteps.{run_numbered}
+use Rattle.doc_inlines_emphasis.specs.Openers.{AreBounds, Ascend, StandBefore}
+use Rattle.doc_inlines_emphasis.specs.NumberSteps.{run_numbered}
 use Rattle.doc_inlines_emphasis.specs.RunSteps.{all_placed}
 use Rattle.doc_inlines_emphasis.specs.declared.run.Run.{Run}
 use Rattle.doc_inlines_emphasis.proofs.NumberLaws.{run_is, nearest_told, stand_within, search_failed}

@@ -1,7 +1,7 @@
 use Rattle.std.proofs.Common.{ℕ, List, ap, subst, ◌∙◌}
 use Rattle.std.specs.FinMap as map
 use Rattle.doc_index.specs.Held.{known_as}
-use Rattle.doc_index.specs.Maps.{text_map}
+use Rattle.doc_index_tables.specs.Maps.{text_map}
 use Rattle.doc_links_pages.specs.KnownSteps.{HasKeys}
 use Rattle.doc_links.proofs.HeldSteps.{added, free}
 use Rattle.doc_links.proofs.KeySteps.{keyed_after}

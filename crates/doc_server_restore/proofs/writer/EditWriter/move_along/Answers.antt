@@ -1,6 +1,6 @@
 use Rattle.std.proofs.Common.{arith, ap, refl}
 use Rattle.std.proofs.lemmas.List.{drop_all}
-use Rattle.doc_store.specs.Groups.{texts_of}
+use Rattle.doc_store_readers.specs.Groups.{texts_of}
 use Rattle.doc_server_script.specs.Compactions.{moves}
 use Rattle.doc_server_restore.proofs.WriterLaws.{begins, goes_on, has_all, next_move, still_writer}
 use Rattle.doc_server_restore.proofs.writer.EditWriter.move_along.Goals as goal

@@ -1,5 +1,5 @@
 use Rattle.std.proofs.Common.{drop}
-use Rattle.doc_store.specs.Groups.{texts_of}
+use Rattle.doc_store_readers.specs.Groups.{texts_of}
 use Rattle.doc_server_script.specs.Compactions.{moves}
 use Rattle.doc_server_restore.specs.WriterSteps.{IsWriter, WroteUpTo}
 use Rattle.doc_server_restore.proofs.writer.EditWriter.move_along.Given as goal

@@ -1,8 +1,8 @@
 use Rattle.std.proofs.Common.{ap, sym, ◌∙◌}
 use Rattle.std.specs.Prelude.{Some, option_map}
-use Rattle.doc_shelf_views.specs.Laws.{seen_in}
-use Rattle.doc_shelf_views.specs.Views.{backlinks_body}
-use Rattle.doc_store.specs.Sites.{page_at}
+use Rattle.doc_shelf_pages.specs.ViewLaws.{seen_in}
+use Rattle.doc_shelf_pages.specs.Views.{backlinks_body}
+use Rattle.doc_store_readers.specs.Sites.{page_at}
 use Rattle.doc_shelf.proofs.shelf.Shelf.backlinks.Goals as goal
 
 pub backlinks-requires-clause-page : goal.backlinks-requires-clause-page

@@ -1,9 +1,9 @@
 use Rattle.std.proofs.Common.{◌≡◌, ap, subst, ◌∙◌}
 use Rattle.std.specs.Prelude.{IfOk, Some, option_map}
 use Rattle.doc_shelf_documents.specs.Documents.{document_reply, page_shown}
-use Rattle.doc_shelf_edits.specs.Laws.{document_of}
-use Rattle.doc_shelf_views.specs.Laws.{seen_in}
-use Rattle.doc_store.specs.Sites.{goal_in}
+use Rattle.doc_shelf_pages.specs.EditLaws.{document_of}
+use Rattle.doc_shelf_pages.specs.ViewLaws.{seen_in}
+use Rattle.doc_store_readers.specs.Sites.{goal_in}
 use Rattle.doc_shelf.proofs.ShelfSteps.{is_served, looked_at}
 use Rattle.doc_shelf.proofs.shelf.Shelf.page.Goals as goal
 

@@ -1,5 +1,5 @@
 use Rattle.std.proofs.Common.{◌+◌, ap, ◌∙◌}
-use Rattle.doc_shelf_edits.proofs.EditSteps.{no_stamp}
+use Rattle.doc_shelf_pages.proofs.EditSteps.{no_stamp}
 use Rattle.doc_store.specs.Store.{fits_in}
 use Rattle.doc_shelf.proofs.ShelfSteps.{edited_by, is_being_put, is_free}
 use Rattle.doc_shelf.proofs.shelf.Shelf.put_saying.Goals as goal

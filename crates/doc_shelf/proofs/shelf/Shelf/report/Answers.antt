@@ -1,7 +1,7 @@
 use Rattle.std.proofs.Common.{◌≡◌, subst}
 use Rattle.std.specs.Prelude.{IfOk}
-use Rattle.doc_shelf_views.specs.Laws.{seen_in}
-use Rattle.doc_shelf_views.specs.Views.{report_body}
+use Rattle.doc_shelf_pages.specs.ViewLaws.{seen_in}
+use Rattle.doc_shelf_pages.specs.Views.{report_body}
 use Rattle.doc_shelf.proofs.shelf.Shelf.report.Goals as goal
 
 pub returns : goal.returns

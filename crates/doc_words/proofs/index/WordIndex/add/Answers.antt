@@ -1,6 +1,6 @@
 use Rattle.std.proofs.Common.{ap, ap₂, ◌∙◌}
 use Rattle.std.specs.FinMap as map
-use Rattle.doc_index.proofs.TableSteps.{on_ok}
+use Rattle.doc_index_tables.proofs.TableSteps.{on_ok}
 use Rattle.doc_words_search.proofs.HeldSteps.{none_held, words_inserted}
 use Rattle.doc_words.proofs.index.WordIndex.add.Goals as goal
 

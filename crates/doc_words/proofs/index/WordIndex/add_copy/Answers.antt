@@ -1,6 +1,6 @@
 use Rattle.std.proofs.Common.{ap, ◌∙◌}
 use Rattle.std.specs.FinMap as map
-use Rattle.doc_index.proofs.TableSteps.{on_ok}
+use Rattle.doc_index_tables.proofs.TableSteps.{on_ok}
 use Rattle.doc_words_search.specs.Held.{counts_or_none}
 use Rattle.doc_words_search.proofs.HeldSteps.{counts_held, none_held, words_inserted}
 use Rattle.doc_words.proofs.index.WordIndex.add_copy.Goals as goal

@@ -2,10 +2,10 @@ use Rattle.std.proofs.Common.{ap, sym, refl, string_bytes, unwrap_or, ℕ, List,
 use Rattle.std.specs.Prelude.{Some, None}
 use Rattle.std.specs.FinMap as map
 use Rattle.std.proofs.lemmas.Result.{on_ok_weaker}
-use Rattle.doc_index.specs.Maps.{TextMap, text_map}
+use Rattle.doc_index_tables.specs.Maps.{TextMap, text_map}
 use Rattle.doc_words_search.specs.Words.{capped}
 use Rattle.doc_words_search.specs.WordSteps.{one_more}
-use Rattle.doc_index.proofs.TableSteps.{inserted_text, looked_up_text}
+use Rattle.doc_index_tables.proofs.TableSteps.{inserted_text, looked_up_text}
 use Rattle.doc_words_search.proofs.counter.Counter.add.Goals as goal
 
 pub add_first-requires : goal.add_first-requires

@@ -1,6 +1,6 @@
 use Rattle.std.proofs.Common.{ap, string_bytes, ◌∙◌}
 use Rattle.std.specs.FinMap as map
-use Rattle.doc_index.proofs.TableSteps.{inserted_text}
+use Rattle.doc_index_tables.proofs.TableSteps.{inserted_text}
 use Rattle.doc_words_search.proofs.counter.Counter.add_first.Goals as goal
 
 pub returns : goal.returns

@@ -1,7 +1,7 @@
 use Rattle.std.proofs.Common.{length, ap, arith, ◌∙◌}
 use Rattle.doc_page_parts.specs.Sights.{seen}
-use Rattle.doc_store.specs.Sites.{goal_in}
-use Rattle.doc_words.specs.Searches.{pages_of}
+use Rattle.doc_store_readers.specs.Sites.{goal_in}
+use Rattle.doc_words_search.specs.Searches.{pages_of}
 use Rattle.trial_pages.proofs.FewSteps.{each_is_found}
 use Rattle.trial_pages.proofs.sites.of_postings.count_seen.Goals as goal
 

@@ -1,6 +1,6 @@
 use Rattle.std.proofs.Common.{ap, sym, ◌∙◌}
-use Rattle.doc_store.specs.Groups.{texts_of}
-use Rattle.doc_store.specs.Sites.{goal_in}
+use Rattle.doc_store_readers.specs.Groups.{texts_of}
+use Rattle.doc_store_readers.specs.Sites.{goal_in}
 use Rattle.trial_pages.proofs.NameSteps.{is_held, names_named, target_is_seen}
 use Rattle.trial_pages.proofs.sites.of_postings.sources.Goals as goal
 

@@ -1,5 +1,0 @@
-pub mod Leaves
-pub mod Paths
-pub mod Closing
-pub mod OpenBlocks
-pub mod Laws

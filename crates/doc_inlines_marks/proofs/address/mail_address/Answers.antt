@@ -1,0 +1,10 @@
+use Rattle.doc_rules.specs.Autolinks.{mail}
+use Rattle.doc_lines.proofs.Rests.{mail_rest}
+use Rattle.doc_inlines_marks.proofs.Addresses.{closed}
+use Rattle.doc_inlines_marks.proofs.address.mail_address.Goals as goal
+
+pub front-requires : goal.front-requires
+front-requires c = mail_rest _ _ c.in_ok-behind.ensures
+
+pub returns : goal.returns
+returns c = closed mail _ _ _ _ c.in_ok-behind.ensures c.front.ensures.joins c.in_ok-after.ensures

@@ -1,5 +1,0 @@
-pub mod EndSteps
-mod Examples
-pub mod LabelSteps
-pub mod ReferenceSteps
-pub mod TitleSteps

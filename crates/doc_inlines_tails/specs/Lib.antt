@@ -1,2 +1,0 @@
-pub mod LabelSteps
-pub mod TailSteps

@@ -1,4 +1,0 @@
-pub mod Faults
-pub mod InputSteps
-pub mod Inputs
-pub mod OutputSteps

@@ -1,8 +1,0 @@
-use Rattle.std.proofs.Common.{refl}
-use Rattle.doc_shelf_edits.proofs.EditSteps.{refused_after}
-use Rattle.doc_shelf_edits.proofs.edits.end_put_saying.Goals as goal
-
-pub returns-then-is_err-clause-kept : goal.returns-then-is_err-clause-kept
-returns-then-is_err-clause-kept c render is put =
-    refused_after render c.args.store.now c.args.store.now is c.args.kept.now c.drop_page.new.self c.args.path.now c.args.page.text.now
-    c.args.page.stamp put refl c.requires.next c.drop_page.ensures.rest

@@ -1,5 +1,0 @@
-use Rattle.doc_shelf_edits.proofs.Documents.{caches_have_documents}
-use Rattle.doc_shelf_edits.proofs.laws.caches_have_documents.Goals as goal
-
-pub returns : goal.returns
-returns c = caches_have_documents

@@ -1,5 +1,0 @@
-use Rattle.doc_shelf_edits.proofs.KeptEdits.{what_is_kept_is_held}
-use Rattle.doc_shelf_edits.proofs.laws.what_is_kept_is_held.Goals as goal
-
-pub returns : goal.returns
-returns c = what_is_kept_is_held

@@ -1,0 +1,93 @@
+//! The lists that readers are answered, from what is kept of the pages.
+
+ghost use Rattle.std.specs.Prelude.{◌≡◌, IfOk, Some};
+ghost use Rattle.doc_shelf_pages.specs.Shelves.{IsKept};
+ghost use Rattle.doc_shelf_pages.specs.ViewLaws.{seen_in};
+ghost use Rattle.doc_shelf_pages.specs.Views.{Renders, backlinks_body, contents_body, report_body, search_body};
+ghost use Rattle.doc_store_readers.specs.Pages.{Page};
+ghost use Rattle.doc_store_readers.specs.Sites.{page_at};
+ghost use Rattle.doc_store.specs.Store.{IsStore};
+
+use crate::KeptPages;
+use doc_listings::{push_backlinks, push_contents, push_hits, push_report};
+use doc_page_parts::failure::Memory;
+use doc_page_parts::heap::{Heap, String};
+use doc_page_parts::path::Path;
+use doc_page_parts::text::Text;
+use doc_store::reader::Reader;
+use doc_store::store::Store;
+use doc_words::word::Word;
+
+/// The pages that a reader sees, with their headings: a page of HTML.
+pub fn contents(
+    heap: Heap,
+    store: &Store,
+    kept: &KeptPages,
+    reader: &Reader,
+) -> Result<Text, Memory>
+    ensures { (render : Renders) → IsStore store.now → IsKept render store.now kept.now
+        → IfOk result (λ text. text ≡ contents_body render (seen_in store.now reader.now)) }
+{
+    let pages = kept.links().contents(&store.sight(reader))?;
+    let mut out = String::new(heap);
+    push_contents(heap, &mut out, pages.get())?;
+    Ok(Text::new(out))
+}
+
+/// The pages that a reader sees with links to a page that they see: a line for each.
+pub fn backlinks(
+    heap: Heap,
+    store: &Store,
+    kept: &KeptPages,
+    path: &Path,
+    reader: &Reader,
+) -> Result<Text, Memory>
+    requires kept { (render : Renders) × IsStore store.now × IsKept render store.now kept.now }
+    requires page { (page : Page) × (page_at (seen_in store.now reader.now).pages path.now
+        ≡ Some page) }
+    ensures { (render : Renders) → IsKept render store.now kept.now
+        → IfOk result (λ text. text
+        ≡ backlinks_body render (seen_in store.now reader.now) path.now) }
+{
+    let names = store.names_of(path)?;
+    let sight = store.sight(reader);
+    let sources = kept.links().backlinks_under(path, &names, &sight)?;
+    let mut out = String::new(heap);
+    push_backlinks(heap, &mut out, sources.get())?;
+    Ok(Text::new(out))
+}
+
+/// What a search for these words finds among the pages that a reader sees: a line for each.
+pub fn search(
+    heap: Heap,
+    store: &Store,
+    kept: &KeptPages,
+    words: &[Word],
+    reader: &Reader,
+) -> Result<Text, Memory>
+    requires kept { (render : Renders) × IsStore store.now × IsKept render store.now kept.now }
+    ensures { (render : Renders) → IsKept render store.now kept.now
+        → IfOk result (λ text. text
+        ≡ search_body render (seen_in store.now reader.now) words.now) }
+{
+    let count = store.count_seen(reader);
+    let sight = store.sight(reader);
+    let hits = kept
+        .words()
+        .search_among(heap, words, &sight, count as u64)?;
+    let mut out = String::new(heap);
+    push_hits(heap, &mut out, hits.get())?;
+    Ok(Text::new(out))
+}
+
+/// The broken links of the pages that a reader sees: a line for each.
+pub fn report(heap: Heap, store: &Store, kept: &KeptPages, reader: &Reader) -> Result<Text, Memory>
+    requires kept { (render : Renders) × IsStore store.now × IsKept render store.now kept.now }
+    ensures { (render : Renders) → IsKept render store.now kept.now
+        → IfOk result (λ text. text ≡ report_body render (seen_in store.now reader.now)) }
+{
+    let links = kept.links().broken(&store.sight(reader))?;
+    let mut out = String::new(heap);
+    push_report(heap, &mut out, links.get())?;
+    Ok(Text::new(out))
+}

@@ -1,5 +1,0 @@
-use Rattle.doc_shelf_views.proofs.KnownLaws.{names_of_targets}
-use Rattle.doc_shelf_views.proofs.laws.names_are_what_links_write.Goals as goal
-
-pub returns : goal.returns
-returns c = names_of_targets

@@ -1,3 +1,0 @@
-pub mod Held
-pub mod Laws
-pub mod Views
