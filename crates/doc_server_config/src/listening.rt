@@ -11,44 +11,33 @@ use doc_page_parts::heap::Heap;
 use doc_page_parts::list::List;
 use doc_store::readers::ReadersError;
 use doc_store_readers::tables::{document_of, tables_at};
-use std::error::Error;
-use std::fmt;
+use thiserror::Error;
 use toml::Table;
 
 /// Why a text says nothing that `listen` could go by. Folders are counted from 1.
-#[derive(Clone, Copy, Debug)]
+#[derive(Clone, Copy, Debug, Error)]
 pub enum ListeningError {
     /// The text is no TOML document.
+    #[error("no TOML")]
     BadToml,
     /// `listen` is no table, or has a key other than `connections` and `idle_seconds`.
+    #[error("`listen` is bad")]
     BadListen,
     /// `connections` is no integer from 1 to 65,535.
+    #[error("`connections` is bad")]
     BadConnections,
     /// `idle_seconds` is no integer from 1 to 86,400.
+    #[error("`idle_seconds` is bad")]
     BadIdleSeconds,
     /// `folder` is no array of tables.
+    #[error("`folder` is bad")]
     BadFolders,
     /// The first folder that is none, and its first fault.
+    #[error("folder {0}: {1}")]
     BadFolder(usize, FolderFault),
+    #[error("{}", Memory)]
     Memory,
 }
-
-impl fmt::Display for ListeningError {
-    fn fmt<W: fmt::Write>(&self, f: &mut fmt::Formatter<W>) -> fmt::Result {
-        let text = match self {
-            ListeningError::BadToml => "no TOML",
-            ListeningError::BadListen => "`listen` is bad",
-            ListeningError::BadConnections => "`connections` is bad",
-            ListeningError::BadIdleSeconds => "`idle_seconds` is bad",
-            ListeningError::BadFolders => "`folder` is bad",
-            ListeningError::BadFolder(n, fault) => return write!(f, "folder {n}: {fault}"),
-            ListeningError::Memory => return write!(f, "{Memory}"),
-        };
-        f.write_str(text)
-    }
-}
-
-impl Error for ListeningError {}
 
 impl From<Memory> for ListeningError {
     ghost use Rattle.std.specs.Prelude.{◌≡◌};
