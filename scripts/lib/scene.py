@@ -1,7 +1,123 @@
-"""A server under `listen` and a client of it, for the scripts listen_*.sh, which run with this folder on PYTHONPATH. Loopback alone."""
-import os, select, signal, socket, subprocess, tempfile, time
+"""What the scripts share that drive a program: a scratch folder, a limit of time, the server under `listen`, a client of its HTTP bytes,
+and the tally of cases. Loopback alone.
+
+    scene = Scene(seconds=120, needs=["strace"])    how long it may take, and which programs of Debian it needs
+    scene.run(main)                                 makes the cases, which call `scene.check`, and ends the script
+"""
+import os, re, resource, select, shutil, signal, socket, subprocess, sys, tempfile, time
 
 HOST = "127.0.0.1"
+TOP = os.path.dirname(os.path.dirname(os.path.dirname(os.path.abspath(__file__))))
+# a configuration's one reader, who sees and writes all
+OWNER = '[[reader]]\ntoken = "tok"\nowner = true\n'
+STARTED = []
+# the outside models, which some scripts import
+sys.path.append(TOP + "/scripts/oracles")
+
+
+# ---- a run of a script
+
+class Scene:
+    """One run of a script, whose words are PROGRAM and then numbers. While it runs the current folder is the scratch folder, or the
+    repository's top. It is stopped with status 124 after so many seconds, and so many more for each of its first number."""
+
+    def __init__(self, seconds, seconds_each=0, numbers=(), needs=(), at_top=False):
+        self.limit, self.needs, self.at_top = (seconds, seconds_each), needs, at_top
+        self.numbers, self.program, self.scratch = numbers, None, None
+        self.tally = Tally()
+        self.check = self.tally.check
+
+    def run(self, cases):
+        """Makes the cases, prints the tally, and ends the script: with status 1 where a case was wrong."""
+        self.program, self.numbers = words_given(self.numbers)
+        needs(*self.needs)
+        signal.signal(signal.SIGTERM, lambda *_: sys.exit(143))
+        signal.signal(signal.SIGALRM, lambda *_: sys.exit(124))
+        signal.alarm(self.limit[0] + self.limit[1] * self.numbers[0] if self.numbers else self.limit[0])
+        self.scratch = tempfile.mkdtemp()
+        try:
+            os.chdir(TOP if self.at_top else self.scratch)
+            cases()
+            status = self.tally.end()
+        finally:
+            self.leave()
+        sys.exit(status)
+
+    def leave(self):
+        """Ends what still runs, by all means, and removes the scratch folder."""
+        signal.signal(signal.SIGALRM, signal.SIG_DFL)
+        signal.alarm(10)
+        for process in STARTED:
+            if process.poll() is None:
+                process.kill()
+                process.wait()
+        os.chdir("/")
+        shutil.rmtree(self.scratch, ignore_errors=True)
+
+    def listen(self, config, **given):
+        return Server(self.program, config, **given)
+
+    def ends(self, server, name):
+        """A case: the server ends in order, and has printed nothing on standard error."""
+        status = server.end()
+        return self.check(f"{name}: the end", status == 0 and not server.said(), f"{status} {server.said()}")
+
+
+def words_given(numbers):
+    """The program that a script's first word names, and the numbers behind it; those that are left out are as given."""
+    words = sys.argv[1:]
+    if not 1 <= len(words) <= 1 + len(numbers):
+        sys.exit("usage: " + re.search(r"(?m)^ +(python3 .*)$", sys.modules["__main__"].__doc__)[1])
+    return os.path.realpath(words[0]), [*map(int, words[1:]), *numbers[len(words) - 1:]]
+
+
+def needs(*commands):
+    """Programs of Debian, each COMMAND or COMMAND=PACKAGE: one that lacks is installed, or ends the script with status 1."""
+    os.environ["PATH"] += ":/usr/sbin"
+    if commands and subprocess.run([TOP + "/scripts/gate/needs.sh", *commands]).returncode:
+        sys.exit(1)
+
+
+def allow_files(count):
+    """So many files may be open at once, or the script ends."""
+    try:
+        resource.setrlimit(resource.RLIMIT_NOFILE, (count, count))
+    except (OSError, ValueError):
+        sys.exit(f"fewer than {count:,} files may be open")
+
+
+class Tally:
+    """How many cases were as expected. A script's last line, and its status."""
+
+    def __init__(self):
+        self.right, self.wrong = 0, 0
+
+    def check(self, name, holds, detail=""):
+        if holds:
+            self.right += 1
+        else:
+            self.wrong += 1
+            if self.wrong <= 20:
+                print(f"wrong: {name}" + (f": {detail}" if detail != "" else ""), flush=True)
+        return holds
+
+    def end(self):
+        print(f"{self.right} of {self.right + self.wrong} as expected", flush=True)
+        return 1 if self.wrong else 0
+
+
+# ---- files, ports, processes
+
+def put(name, content):
+    """Writes a file, and the folders above it where they aren't there."""
+    os.makedirs(os.path.dirname(name) or ".", exist_ok=True)
+    with open(name, "wb") as out:
+        out.write(content if isinstance(content, bytes) else content.encode())
+
+
+def got(name):
+    with open(name, "rb") as file:
+        return file.read()
 
 
 def free_port():
@@ -9,6 +125,46 @@ def free_port():
         probe.bind((HOST, 0))
         return probe.getsockname()[1]
 
+
+def listens(port):
+    try:
+        socket.create_connection((HOST, port), timeout=1).close()
+        return True
+    except OSError:
+        return False
+
+
+def until(holds, seconds, pause=0.02):
+    """Whether something comes to hold within so many seconds."""
+    end = time.monotonic() + seconds
+    while not holds():
+        if time.monotonic() > end:
+            return False
+        time.sleep(pause)
+    return True
+
+
+def start(words, **given):
+    """A process, which is killed where the script ends before it does. Its standard input is empty where nothing else is said."""
+    STARTED.append(subprocess.Popen(words, **{"stdin": subprocess.DEVNULL, **given}))
+    return STARTED[-1]
+
+
+def stop(process):
+    """Ends a process by SIGTERM."""
+    process.send_signal(signal.SIGTERM)
+    process.wait(timeout=10)
+
+
+def used(pid):
+    """The processor time of a process so far, in its own code and in the kernel, in microseconds."""
+    with open(f"/proc/{pid}/stat") as stat:
+        fields = stat.read().rpartition(")")[2].split()
+    tick = 1_000_000 / os.sysconf("SC_CLK_TCK")
+    return int(fields[11]) * tick, int(fields[12]) * tick
+
+
+# ---- the server
 
 class Refused(Exception):
     """The program ended in place of listening: its status, and what it printed on standard error."""
@@ -26,7 +182,7 @@ class Server:
         words = [*before, program, "listen", config, f"{HOST}:{self.port}"]
         words += ["--journal", journal] if journal else []
         self.error = tempfile.TemporaryFile()
-        self.process = subprocess.Popen([*words, *options], stdin=subprocess.PIPE, stdout=subprocess.PIPE, stderr=self.error)
+        self.process = start([*words, *options], stdin=subprocess.PIPE, stdout=subprocess.PIPE, stderr=self.error)
         self.pid = self.process.pid
         line = self.process.stdout.readline() if select.select([self.process.stdout], [], [], wait)[0] else b""
         if line != f"listening {HOST}:{self.port}\n".encode():
@@ -76,16 +232,10 @@ class Server:
             return next(int(line.split()[1]) for line in lines if line.startswith("VmRSS:"))
 
     def used(self):
-        """Its processor time so far, in its own code and in the kernel, in microseconds."""
         return used(self.pid)
 
 
-def used(pid):
-    with open(f"/proc/{pid}/stat") as stat:
-        fields = stat.read().rpartition(")")[2].split()
-    tick = 1_000_000 / os.sysconf("SC_CLK_TCK")
-    return int(fields[11]) * tick, int(fields[12]) * tick
-
+# ---- a client
 
 def request(token, target, method="GET", body=b"", fields=""):
     """The bytes of a request."""
@@ -136,33 +286,3 @@ class Client:
 def page_of(path, line):
     """The body of a page whose text is one line without marks."""
     return f"<!DOCTYPE html>\n<title>{path}</title>\n<p>{line}</p>\n".encode()
-
-
-class Tally:
-    """How many things were as expected. A script's last line, and its status."""
-
-    def __init__(self):
-        self.right, self.wrong = 0, 0
-
-    def check(self, name, holds, detail=""):
-        if holds:
-            self.right += 1
-        else:
-            self.wrong += 1
-            if self.wrong <= 20:
-                print(f"wrong: {name}" + (f": {detail}" if detail != "" else ""), flush=True)
-        return holds
-
-    def end(self):
-        print(f"{self.right} of {self.right + self.wrong} as expected", flush=True)
-        return 1 if self.wrong else 0
-
-
-def until(holds, seconds, pause=0.02):
-    """Whether something comes to hold within so many seconds."""
-    end = time.monotonic() + seconds
-    while not holds():
-        if time.monotonic() > end:
-            return False
-        time.sleep(pause)
-    return True

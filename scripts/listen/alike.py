@@ -1,25 +1,21 @@
-#!/usr/bin/env bash
-# Sends the same bytes to `serve` and to `listen` over the handbook in site/, and compares what comes back, byte for byte up to the end of
-# each connection: whole requests of each route by each reader, pipelines, edits with what is read behind them, and requests that are none
-# (each fault of docs/HTTP.md). To `listen` they are sent at once, and again in pieces of a few bytes, and no connection of it is reset,
-# as that of `serve` may be where bytes behind a last reply weren't read. scripts/site/serve_site.sh compares the replies of `serve` with ones
-# written by hand.
-#
-#     scripts/listen/alike.sh PROGRAM [SEED]
-#
-# Builds nothing. Needs python3. Half a minute.
-set -eu
-program=$(realpath "${1:?the program}")
-cd "$(dirname "$0")/../.."
-PYTHONPATH=scripts/lib PYTHONDONTWRITEBYTECODE=1 timeout -k 10 200 python3 - "$program" "${2:-1}" <<'PYTHON'
-import random, socket, subprocess, sys, threading, time, tomllib
-from scene import HOST, Server, Tally, free_port, request
+"""Sends the same bytes to `serve` and to `listen` over the handbook in site/, and compares what comes back, byte for byte up to the end of
+each connection: whole requests of each route by each reader, pipelines, edits with what is read behind them, and requests that are none
+(each fault of docs/HTTP.md). To `listen` they are sent at once, and again in pieces of a few bytes, and no connection of it is reset,
+as that of `serve` may be where bytes behind a last reply weren't read. scripts/site/serve_site.sh compares the replies of `serve` with ones
+written by hand.
 
-program, seed = sys.argv[1], int(sys.argv[2])
-tally = Tally()
-chance = random.Random(seed)
+    python3 scripts/listen/alike.py PROGRAM [SEED]
+
+Builds nothing. Needs python3. Half a minute.
+"""
+import os, random, socket, subprocess, sys, threading, time, tomllib
+sys.path.insert(1, os.path.dirname(__file__) + "/../lib")
+from scene import HOST, TOP, Scene, free_port, request, start
+
+scene = Scene(seconds=200, numbers=(1,), at_top=True)
+chance = random.Random()
 CONFIG, FAILED = "site/config.toml", "\nfailed: "
-with open(CONFIG, "rb") as file:
+with open(f"{TOP}/{CONFIG}", "rb") as file:
     PATHS = [page["path"] for page in tomllib.load(file)["page"]] + ["never.md", "ops/", "a/../b.md", "%ff.md", "x%2Fy.md", "guide"]
 TARGETS = ["/page/" + path for path in PATHS] + ["/backlinks/" + path for path in PATHS]
 TARGETS += ["/contents", "/broken", "/search?q=incident", "/search?q=", "/search", "/", "/contents/", "/page/", "*", "http://docs/contents"]
@@ -52,29 +48,30 @@ def edits():
     return sent
 
 
+def sent(peer, part, piece):
+    """Sends bytes in pieces, and ends what is sent."""
+    try:
+        at = 0
+        while at < len(part):
+            size = piece()
+            peer.sendall(part[at:at + size])
+            at += size
+        peer.shutdown(socket.SHUT_WR)
+    except OSError:
+        pass
+
+
 def exchange(port, parts, piece):
     """What comes back on one connection for each part, and how it failed. All are opened first, and each is ended behind its part."""
     found = [b""] * len(parts)
     peers = [socket.create_connection((HOST, port), timeout=30) for _ in parts]
-
-    def send(peer, part):
-        try:
-            at = 0
-            while at < len(part):
-                size = piece()
-                peer.sendall(part[at:at + size])
-                at += size
-            peer.shutdown(socket.SHUT_WR)
-        except OSError:
-            pass
-
-    senders = [threading.Thread(target=send, args=it) for it in zip(peers, parts)]
+    senders = [threading.Thread(target=sent, args=(*it, piece)) for it in zip(peers, parts)]
     for sender in senders:
         sender.start()
     for at, peer in enumerate(peers):
         try:
-            while got := peer.recv(262_144):
-                found[at] += got
+            while more := peer.recv(262_144):
+                found[at] += more
         except OSError as fault:
             found[at] += f"{FAILED}{fault}".encode()
     for sender in senders:
@@ -86,37 +83,38 @@ def exchange(port, parts, piece):
 
 def served(parts):
     """By `serve`, which takes all its connections first."""
-    address = f"{HOST}:{free_port()}"
-    words = [program, "serve", CONFIG, address, str(len(parts)), "1000000"]
-    server = subprocess.Popen(words, stdin=subprocess.DEVNULL, stdout=subprocess.PIPE)
+    port = free_port()
+    server = start([scene.program, "serve", CONFIG, f"{HOST}:{port}", str(len(parts)), "1000000"], stdout=subprocess.PIPE)
     server.stdout.readline()
-    found = exchange(int(address.rpartition(":")[2]), parts, lambda: 1 << 30)
-    tally.check("serve ends", server.wait(timeout=20) == 0)
+    found = exchange(port, parts, lambda: 1 << 30)
+    scene.check("serve ends", server.wait(timeout=20) == 0)
     return [reply.partition(FAILED.encode())[0] for reply in found]
 
 
 def listened(parts, piece):
-    server = Server(program, CONFIG)
+    server = scene.listen(CONFIG)
     found = exchange(server.port, parts, piece)
-    status = server.end()
-    tally.check("listen ends", status == 0 and not server.said(), f"{status} {server.said()}")
+    scene.ends(server, "listen")
     return found
 
 
 def alike(name, parts):
     wanted = served(parts)
-    tally.check(f"{name}: serve answers", sum(map(len, wanted)) > 100)
+    scene.check(f"{name}: serve answers", sum(map(len, wanted)) > 100)
     for way, piece in (("at once", lambda: 1 << 30), ("in pieces", lambda: chance.choice((1, 2, 7, 300, 5_000)))):
         for part, right, found in zip(parts, wanted, listened(parts, piece)):
-            tally.check(f"{name} {way}: {part[:60]!r}", right == found, f"{len(found)} bytes, serve {len(right)}: {found[:100]!r}")
+            scene.check(f"{name} {way}: {part[:60]!r}", right == found, f"{len(found)} bytes, serve {len(right)}: {found[:100]!r}")
 
 
-began = time.monotonic()
-alike("a request", [request(token, target, method) for token in TOKENS for target in TARGETS for method in ("GET", "HEAD")][::2])
-alike("no request", ODD)
-alike("a pipeline", [b"".join(request(token, target) for target in TARGETS * 3) for token in TOKENS])
-alike("edits", [edits()])
-alike("a large PUT", [request("tok-owner", "/page/large.md", "PUT", b"word " * 209_715) + request("tok-owner", "/page/large.md")])
-print(f"took {time.monotonic() - began:.0f} s")
-sys.exit(tally.end())
-PYTHON
+def main():
+    chance.seed(scene.numbers[0])
+    began = time.monotonic()
+    alike("a request", [request(token, target, method) for token in TOKENS for target in TARGETS for method in ("GET", "HEAD")][::2])
+    alike("no request", ODD)
+    alike("a pipeline", [b"".join(request(token, target) for target in TARGETS * 3) for token in TOKENS])
+    alike("edits", [edits()])
+    alike("a large PUT", [request("tok-owner", "/page/large.md", "PUT", b"word " * 209_715) + request("tok-owner", "/page/large.md")])
+    print(f"took {time.monotonic() - began:.0f} s")
+
+
+scene.run(main)

@@ -1,39 +1,32 @@
-#!/usr/bin/env bash
-# The log of `listen`: each request's line, field by field, beside what its client was answered: pages, edits, queries, pipelines in one
-# write, requests cut anywhere, bad ones, long ones, slow readers, with a journal and without. A token stands nowhere in it. A log that
-# can't be written stops nobody.
-#
-#     scripts/listen/log.sh PROGRAM
-#
-# Builds nothing. Needs python3. Some seconds.
-set -eu
-program=$(realpath "${1:?the program}")
-cd "$(dirname "$0")/../.."
-scratch=$(mktemp -d)
-trap 'rm -rf "$scratch"' EXIT
-PYTHONPATH=scripts/lib PYTHONDONTWRITEBYTECODE=1 timeout -k 10 300 python3 - "$program" "$scratch" <<'PYTHON'
-import os, random, re, socket, subprocess, sys, time, urllib.parse
-from scene import HOST, Server, Tally, free_port, until
+"""The log of `listen`: each request's line, field by field, beside what its client was answered: pages, edits, queries, pipelines in one
+write, requests cut anywhere, bad ones, long ones, slow readers, with a journal and without. A token stands nowhere in it. A log that
+can't be written stops nobody.
 
-program, scratch = sys.argv[1:]
-os.chdir(scratch)
-tally = Tally()
+    python3 scripts/listen/log.py PROGRAM
+
+Builds nothing. Needs python3. Some seconds.
+"""
+import os, random, re, socket, subprocess, sys, time, urllib.parse
+sys.path.insert(1, os.path.dirname(__file__) + "/../lib")
+from scene import HOST, Scene, free_port, put, start, until
+
+scene = Scene(seconds=300)
 OWNER, PLAIN, WRONG = "tok-Owner-7c1f", "tok-plain-55aa", "tok-wrong-0b9d"
 SECRETS = [OWNER, PLAIN, WRONG, "searched-for", "Bearer", "bearer"]
 LINE = re.compile(r"(\d+) ([A-Z]{1,16}|-) (/[!-~]*|-) (\d{3}) (\d+) (\d+)\n")
-with open("site.toml", "w") as out:
-    out.write(f'[[reader]]\ntoken = "{OWNER}"\nowner = true\n[[reader]]\ntoken = "{PLAIN}"\n'
-              '[[page]]\npath = "a.md"\ntext = "Hello"\n[[page]]\npath = "big.md"\nfile = "big.md"\n')
-with open("big.md", "w") as out:
-    out.write("word " * 40_000)
 
 
 class Peer:
     """A connection, which notes what it asks and what it is answered."""
 
-    def __init__(self, port):
-        self.socket = socket.create_connection((HOST, port), timeout=20)
-        self.socket.setsockopt(socket.IPPROTO_TCP, socket.TCP_NODELAY, 1)
+    def __init__(self, port, buffer=None):
+        self.socket = socket.socket()
+        if buffer:
+            self.socket.setsockopt(socket.SOL_SOCKET, socket.SO_RCVBUF, buffer)
+        self.socket.settimeout(20)
+        self.socket.connect((HOST, port))
+        if not buffer:
+            self.socket.setsockopt(socket.IPPROTO_TCP, socket.TCP_NODELAY, 1)
         self.left, self.asked, self.seen = b"", [], []
 
     def send(self, *requests, cuts=(), pause=0.003):
@@ -41,9 +34,9 @@ class Peer:
         data = b"".join(it[0] for it in requests)
         self.asked += [it[1:] for it in requests]
         places = [0, *sorted(set(cuts)), len(data)]
-        for start, end in zip(places, places[1:]):
-            if start < end:
-                self.socket.sendall(data[start:end])
+        for begin, end in zip(places, places[1:]):
+            if begin < end:
+                self.socket.sendall(data[begin:end])
                 if end < len(data):
                     time.sleep(pause)
         return self
@@ -92,12 +85,12 @@ def chunked(target, body, size):
 class Logged:
     """A server with a log, and what its peers were answered."""
 
-    def __init__(self, options=(), journal=None):
-        self.server = Server(program, "site.toml", journal=journal, options=["--log", *options])
+    def __init__(self, options=()):
+        self.server = scene.listen("site.toml", options=["--log", *options])
         self.peers = []
 
-    def peer(self):
-        self.peers.append(Peer(self.server.port))
+    def peer(self, buffer=None):
+        self.peers.append(Peer(self.server.port, buffer))
         return self.peers[-1]
 
     def ends(self, name):
@@ -106,13 +99,22 @@ class Logged:
         until(lambda: self.server.said().count("\n") >= wanted, 5)
         time.sleep(0.05)
         status, text = self.server.end(), self.server.said()
-        tally.check(f"{name}: it ends", status == 0, status)
+        scene.check(f"{name}: it ends", status == 0, status)
         lines = text.splitlines(keepends=True)
         fields = [LINE.fullmatch(it) for it in lines]
-        tally.check(f"{name}: a line has six fields", all(fields), [it for it, found in zip(lines, fields) if not found][:3])
-        tally.check(f"{name}: a line each", len(lines) == wanted, f"{len(lines)} of {wanted}")
+        scene.check(f"{name}: a line has six fields", all(fields), [it for it, found in zip(lines, fields) if not found][:3])
+        scene.check(f"{name}: a line each", len(lines) == wanted, f"{len(lines)} of {wanted}")
+        fields = [it for it in fields if it]
+        self.compare(name, fields)
+        decoded = urllib.parse.unquote(text)
+        for it in SECRETS:
+            scene.check(f"{name}: {it} stands nowhere", it not in text and it not in decoded)
+        return [int(it[6]) for it in fields]
+
+    def compare(self, name, fields):
+        """The lines of each connection, in their order, tell what its peer asked and was answered."""
         found = {}
-        for it in filter(None, fields):
+        for it in fields:
             found.setdefault(int(it[1]), []).append((it[2], it[3], int(it[4]), int(it[5])))
         given = [[(*line, *reply) for line, reply in zip(it.asked, it.seen)] for it in self.peers]
         given = [it for it in given if it]
@@ -120,30 +122,56 @@ class Logged:
         said = [found[it] for it in sorted(found)]
         for number, (it, that) in enumerate(zip(given, said)):
             wrong = [pair for pair in zip(it, that) if pair[0] != pair[1]]
-            tally.check(f"{name}: connection {number}", it == that, wrong[:2] or (len(it), len(that)))
-        tally.check(f"{name}: connections", len(given) == len(said), (len(given), len(said)))
-        decoded = urllib.parse.unquote(text)
-        for it in SECRETS:
-            tally.check(f"{name}: {it} stands nowhere", it not in text and it not in decoded)
-        return [int(it[6]) for it in filter(None, fields)]
+            scene.check(f"{name}: connection {number}", it == that, wrong[:2] or (len(it), len(that)))
+        scene.check(f"{name}: connections", len(given) == len(said), (len(given), len(said)))
+
+
+# ---- what is asked
+
+ONE_BY_ONE = (
+    request("GET", "/page/a.md"), request("HEAD", "/page/a.md"), request("GET", "/page/a.md", PLAIN),
+    request("GET", "/page/a.md", WRONG), request("GET", "/page/a.md", None), request("GET", "/page/none.md"),
+    request("PUT", "/page/n.md", body=b"New"), request("PUT", "/page/n.md?groups=searched-for", body=b"Newer " * 9_000),
+    request("GET", "/page/n.md"), request("PUT", "/page/n.md", PLAIN, b"No"), request("DELETE", "/page/n.md"),
+    request("GET", "/search?q=searched-for"), request("GET", "/search?q=searched-for?" + OWNER), request("POST", "/page/a.md"),
+    request("GET", "/"), request("GET", "/?" + OWNER), request("GET", "/page/big.md"), request("HEAD", "/page/big.md"),
+    request("get", "/page/a.md", logged=("-", "/page/a.md")), request("X" * 17, "/page/a.md", logged=("-", "/page/a.md")),
+    request("GET", "http://docs/page/a.md", logged=("GET", "-")), request("OPTIONS", "*", logged=("OPTIONS", "-")),
+    request("GET", "/page/" + "p" * 994), request("GET", "/page/" + "p" * 995, logged=("GET", "/page/" + "p" * 994 + "...")),
+    request("GET", "/page/é\u0085", logged=("GET", "/page/%C3%A9%C2%85")), request("GET", "/page/%0A%1B[2J"),
+    request("GET", "/page/" + "%" * 9_000 + "?" + OWNER, logged=("GET", "/page/" + "%" * 994 + "...")),
+    request("GET", "/page/a.md", fields="Cookie: " + OWNER + "\r\n"),
+    request("GET", "/page/a.md", fields="Connection: close\r\n"),
+)
+SECRET = f"Authorization: Bearer {OWNER}\r\n"
+BAD = (
+    (b"\r\n\r\nnonsense\r\n\r\n", "-", "-"), (SECRET.encode() + b"\r\n", "-", "-"),
+    (f"{OWNER} /a HTTP/1.1\r\n\r\n".encode(), "-", "/a"),
+    (f"GET /page/a.md?{OWNER} HTTP/1.1\r\n{SECRET}\r\n".encode(), "GET", "/page/a.md"),
+    (f"GET {OWNER} HTTP/1.1\r\n{SECRET}{SECRET}\r\n".encode(), "GET", "-"), (f"AUTH {OWNER}\r\n\r\n".encode(), "-", "-"),
+    (f"GET /{OWNER} HTTP/1.1 x\r\n\r\n".encode(), "-", "-"),
+    (f"GET /page/a.md HTTP/2.0\r\nHost: a\r\n{SECRET}\r\n".encode(), "-", "-"),
+    (f"GET /page/a.md HTTP/1.1\r\nHost: a\r\nHost: b\r\n{SECRET}\r\n".encode(), "GET", "/page/a.md"),
+    (f"GET /page/a.md HTTP/1.1\nHost: a\n{SECRET}\r\n\r\n".encode(), "GET", "/page/a.md"),
+    (b"\x16\x03\x01" + bytes(range(256)) * 80, "-", "-"), (b"GET /" + b"l" * 20_000, "-", "-"),
+    (f"GET /page/a.md HTTP/1.1\r\nHost: a\r\nX: {OWNER * 2_000}\r\n\r\n".encode(), "GET", "/page/a.md"),
+    (f"PUT /page/a.md HTTP/1.1\r\nHost: a\r\n{SECRET}Content-Length: 1048577\r\n\r\n".encode(), "PUT", "/page/a.md"),
+    (f"PUT /page/a.md HTTP/1.1\r\nHost: a\r\n{SECRET}Transfer-Encoding: gzip\r\n\r\n".encode(), "PUT", "/page/a.md"),
+    (f"PUT /page/a.md HTTP/1.1\r\nHost: a\r\n{SECRET}Transfer-Encoding: chunked\r\n\r\n{OWNER}\r\n".encode(), "PUT", "/page/a.md"),
+)
+OPTIONS = (
+    (["--log"], True), (["--journal", "j", "--log"], True), (["--log", "--journal", "j"], True), (["--journal", "--log"], True),
+    (["--journal", "--log", "--log"], True), (["--log", "--log"], False), (["--log", "x"], False), (["--journal"], False),
+    (["--log", "--journal"], False), (["--journal", "j", "--journal", "k"], False), (["--log", "--log", "--log"], False),
+    (["--journal", "j", "--log", "--log"], False), (["--journal", "j", "x"], False), (["log"], False), (["--Log"], False),
+    (["--log="], False), ([""], False),
+)
 
 
 def one_by_one(log):
     """Each kind of request, the next one behind the last reply."""
     peer = log.peer()
-    for it in (request("GET", "/page/a.md"), request("HEAD", "/page/a.md"), request("GET", "/page/a.md", PLAIN),
-               request("GET", "/page/a.md", WRONG), request("GET", "/page/a.md", None), request("GET", "/page/none.md"),
-               request("PUT", "/page/n.md", body=b"New"), request("PUT", "/page/n.md?groups=searched-for", body=b"Newer " * 9_000),
-               request("GET", "/page/n.md"), request("PUT", "/page/n.md", PLAIN, b"No"), request("DELETE", "/page/n.md"),
-               request("GET", "/search?q=searched-for"), request("GET", "/search?q=searched-for?" + OWNER), request("POST", "/page/a.md"),
-               request("GET", "/"), request("GET", "/?" + OWNER), request("GET", "/page/big.md"), request("HEAD", "/page/big.md"),
-               request("get", "/page/a.md", logged=("-", "/page/a.md")), request("X" * 17, "/page/a.md", logged=("-", "/page/a.md")),
-               request("GET", "http://docs/page/a.md", logged=("GET", "-")), request("OPTIONS", "*", logged=("OPTIONS", "-")),
-               request("GET", "/page/" + "p" * 994), request("GET", "/page/" + "p" * 995, logged=("GET", "/page/" + "p" * 994 + "...")),
-               request("GET", "/page/é\u0085", logged=("GET", "/page/%C3%A9%C2%85")), request("GET", "/page/%0A%1B[2J"),
-               request("GET", "/page/" + "%" * 9_000 + "?" + OWNER, logged=("GET", "/page/" + "%" * 994 + "...")),
-               request("GET", "/page/a.md", fields="Cookie: " + OWNER + "\r\n"),
-               request("GET", "/page/a.md", fields="Connection: close\r\n")):
+    for it in ONE_BY_ONE:
         peer.send(it).replies()
     peer.close()
     log.peer().send(request("GET", "/page/a.md", version="1.0")).replies().close()
@@ -151,21 +179,7 @@ def one_by_one(log):
 
 def bad(log):
     """What is no request: the reply is the last one. Of its first line nothing is logged that may be something else."""
-    secret = f"Authorization: Bearer {OWNER}\r\n"
-    for data, method, target in (
-            (b"\r\n\r\nnonsense\r\n\r\n", "-", "-"), (secret.encode() + b"\r\n", "-", "-"),
-            (f"{OWNER} /a HTTP/1.1\r\n\r\n".encode(), "-", "/a"),
-            (f"GET /page/a.md?{OWNER} HTTP/1.1\r\n{secret}\r\n".encode(), "GET", "/page/a.md"),
-            (f"GET {OWNER} HTTP/1.1\r\n{secret}{secret}\r\n".encode(), "GET", "-"), (f"AUTH {OWNER}\r\n\r\n".encode(), "-", "-"),
-            (f"GET /{OWNER} HTTP/1.1 x\r\n\r\n".encode(), "-", "-"),
-            (f"GET /page/a.md HTTP/2.0\r\nHost: a\r\n{secret}\r\n".encode(), "-", "-"),
-            (f"GET /page/a.md HTTP/1.1\r\nHost: a\r\nHost: b\r\n{secret}\r\n".encode(), "GET", "/page/a.md"),
-            (f"GET /page/a.md HTTP/1.1\nHost: a\n{secret}\r\n\r\n".encode(), "GET", "/page/a.md"),
-            (b"\x16\x03\x01" + bytes(range(256)) * 80, "-", "-"), (b"GET /" + b"l" * 20_000, "-", "-"),
-            (f"GET /page/a.md HTTP/1.1\r\nHost: a\r\nX: {OWNER * 2_000}\r\n\r\n".encode(), "GET", "/page/a.md"),
-            (f"PUT /page/a.md HTTP/1.1\r\nHost: a\r\n{secret}Content-Length: 1048577\r\n\r\n".encode(), "PUT", "/page/a.md"),
-            (f"PUT /page/a.md HTTP/1.1\r\nHost: a\r\n{secret}Transfer-Encoding: gzip\r\n\r\n".encode(), "PUT", "/page/a.md"),
-            (f"PUT /page/a.md HTTP/1.1\r\nHost: a\r\n{secret}Transfer-Encoding: chunked\r\n\r\n{OWNER}\r\n".encode(), "PUT", "/page/a.md")):
+    for data, method, target in BAD:
         log.peer().send((data, method, target)).replies().close()
     good = request("GET", "/page/a.md")
     log.peer().send(good, good, (b"BAD " + good[0], "-", "-")).replies().close()
@@ -202,77 +216,77 @@ def cut(log, tries=60):
 def slow(log):
     """A peer that takes its replies bit by bit, and one that goes before it took them."""
     big = request("GET", "/page/big.md")
-    peer = Peer.__new__(Peer)
-    peer.socket = socket.socket()
-    peer.socket.setsockopt(socket.SOL_SOCKET, socket.SO_RCVBUF, 4_096)
-    peer.socket.settimeout(20)
-    peer.socket.connect((HOST, log.server.port))
-    peer.left, peer.asked, peer.seen = b"", [], []
-    log.peers.append(peer)
+    peer = log.peer(buffer=4_096)
     peer.send(*[big, request("GET", "/page/a.md")] * 20).replies(pause=0.0005, piece=65_536).close()
     # the rest isn't handed over, and has no line: what came through has
-    gone = Peer(log.server.port)
-    log.peers.append(gone)
+    gone = log.peer()
     gone.send(request("GET", "/page/a.md")).replies()
     gone.close()
 
 
-for name, options in (("kept", []), ("journal", ["--journal", "journal"])):
-    for part in (one_by_one, bad, pipelines, cut, slow):
-        log = Logged(options)
-        part(log)
-        log.ends(f"{name}, {part.__name__}")
-
-# ---- many at once, and the time of each
-log = Logged()
-peers = [log.peer() for _ in range(200)]
-for it in peers:
-    it.send(request("GET", "/page/a.md")).replies()
-begun = time.monotonic()
-for _ in range(20):
+def many():
+    """Many peers at once, and the time of each reply."""
+    log = Logged()
+    peers = [log.peer() for _ in range(200)]
     for it in peers:
-        it.send(request("GET", "/page/a.md"))
-    for it in peers:
-        it.replies()
-took = (time.monotonic() - begun) * 1_000_000
-micros = log.ends("200 peers")
-tally.check("200 peers: microseconds", max(micros) < took + 100_000 and sum(micros) > 0, (max(micros), took))
-
-# ---- a log that can't be written, and one that isn't wanted
-for name, stderr in (("a full device", open("/dev/full", "wb")), ("a closed pipe", None)):
-    back, front = os.pipe()
-    os.close(back)
-    port = free_port()
-    it = subprocess.Popen([program, "listen", "site.toml", f"{HOST}:{port}", "--log"], stdin=subprocess.PIPE, stdout=subprocess.DEVNULL,
-                          stderr=stderr or front)
-    os.close(front)
+        it.send(request("GET", "/page/a.md")).replies()
+    begun = time.monotonic()
+    for _ in range(20):
+        for it in peers:
+            it.send(request("GET", "/page/a.md"))
+        for it in peers:
+            it.replies()
+    took = (time.monotonic() - begun) * 1_000_000
+    micros = log.ends("200 peers")
+    scene.check("200 peers: microseconds", max(micros) < took + 100_000 and sum(micros) > 0, (max(micros), took))
 
 
-    def answers():
-        try:
-            return Peer(port).send(*[request("GET", "/page/a.md")] * 300).replies().seen[-1][0] == 200
-        except OSError:
-            return False
+def answers(port):
+    try:
+        return Peer(port).send(*[request("GET", "/page/a.md")] * 300).replies().seen[-1][0] == 200
+    except OSError:
+        return False
 
 
-    tally.check(f"{name}: it answers", until(answers, 10) and answers())
-    it.stdin.close()
-    tally.check(f"{name}: it ends", it.wait(timeout=10) == 0)
-server = Server(program, "site.toml")
-Peer(server.port).send(request("GET", "/page/a.md")).replies().close()
-tally.check("no log: it ends", server.end() == 0)
-tally.check("no log: nothing is written", server.said() == "", server.said()[:100])
+def unwritten():
+    """A log that can't be written, and one that isn't wanted."""
+    for name, stderr in (("a full device", open("/dev/full", "wb")), ("a closed pipe", None)):
+        back, front = os.pipe()
+        os.close(back)
+        port = free_port()
+        it = start([scene.program, "listen", "site.toml", f"{HOST}:{port}", "--log"], stdin=subprocess.PIPE, stdout=subprocess.DEVNULL,
+                   stderr=stderr or front)
+        os.close(front)
+        scene.check(f"{name}: it answers", until(lambda: answers(port), 10) and answers(port))
+        it.stdin.close()
+        scene.check(f"{name}: it ends", it.wait(timeout=10) == 0)
+    server = scene.listen("site.toml")
+    Peer(server.port).send(request("GET", "/page/a.md")).replies().close()
+    scene.check("no log: it ends", server.end() == 0)
+    scene.check("no log: nothing is written", server.said() == "", server.said()[:100])
 
-# ---- options
-for words, good in ((["--log"], True), (["--journal", "j", "--log"], True), (["--log", "--journal", "j"], True),
-                    (["--journal", "--log"], True), (["--journal", "--log", "--log"], True), (["--log", "--log"], False),
-                    (["--log", "x"], False), (["--journal"], False),
-                    (["--log", "--journal"], False), (["--journal", "j", "--journal", "k"], False), (["--log", "--log", "--log"], False),
-                    (["--journal", "j", "--log", "--log"], False), (["--journal", "j", "x"], False), (["log"], False), (["--Log"], False),
-                    (["--log="], False), ([""], False)):
-    done = subprocess.run([program, "listen", "site.toml", f"{HOST}:{free_port()}", *words], stdin=subprocess.DEVNULL if not good else None,
-                          input=b"" if good else None, stdout=subprocess.DEVNULL, stderr=subprocess.PIPE, timeout=20)
-    wanted = (0, b"") if good else (2, b"docs_server: usage\n")
-    tally.check(" ".join(["listen", *words]), (done.returncode, done.stderr) == wanted, (done.returncode, done.stderr))
-sys.exit(tally.end())
-PYTHON
+
+def options():
+    for words, good in OPTIONS:
+        given = {"input": b""} if good else {"stdin": subprocess.DEVNULL}
+        done = subprocess.run([scene.program, "listen", "site.toml", f"{HOST}:{free_port()}", *words], stdout=subprocess.DEVNULL,
+                              stderr=subprocess.PIPE, timeout=20, **given)
+        wanted = (0, b"") if good else (2, b"docs_server: usage\n")
+        scene.check(" ".join(["listen", *words]), (done.returncode, done.stderr) == wanted, (done.returncode, done.stderr))
+
+
+def main():
+    put("site.toml", f'[[reader]]\ntoken = "{OWNER}"\nowner = true\n[[reader]]\ntoken = "{PLAIN}"\n'
+        '[[page]]\npath = "a.md"\ntext = "Hello"\n[[page]]\npath = "big.md"\nfile = "big.md"\n')
+    put("big.md", "word " * 40_000)
+    for name, chosen in (("kept", []), ("journal", ["--journal", "journal"])):
+        for part in (one_by_one, bad, pipelines, cut, slow):
+            log = Logged(chosen)
+            part(log)
+            log.ends(f"{name}, {part.__name__}")
+    many()
+    unwritten()
+    options()
+
+
+scene.run(main)

@@ -1,33 +1,25 @@
-#!/usr/bin/env bash
-# Starts two servers from copies of one journal behind haproxy, which gives each of them every other request, and compares replies byte
-# for byte: to each of four readers (the owner, two groups, an unknown token) 10,000 replies, each request once to either server. So what
-# is said in docs/RUNNING.md of more than one machine is seen.
-#
-# The journal is that of a third server, which takes 300 edits of the handbook in site/ by its owner first: PUTs and DELETEs, of a fixed
-# seed. Requests are GET and HEAD of pages (seen, hidden, absent, of bad paths), the contents, backlinks, searches, reports of broken
-# links, other methods, and what readers may not do.
-#
-#     scripts/listen/replicas.sh PROGRAM [REPLIES]
-#
-# Builds nothing. Needs python3, and haproxy, which it has installed where it lacks. Half a minute.
-set -eu
-program=$(realpath "${1:?the program}")
-cd "$(dirname "$0")/../.."
-scripts/gate/needs.sh haproxy python3
-scratch=$(mktemp -d)
-trap 'rm -rf "$scratch"' EXIT
-PATH=$PATH:/usr/sbin PYTHONPATH=scripts/lib PYTHONDONTWRITEBYTECODE=1 timeout -k 10 400 python3 - "$program" "$scratch" "${2:-10000}" \
-    <<'PYTHON'
-import collections, os, random, shutil, signal, subprocess, sys, tomllib
-from scene import HOST, Client, Server, Tally, free_port, until
+"""Starts two servers from copies of one journal behind haproxy, which gives each of them every other request, and compares replies byte
+for byte: to each of four readers (the owner, two groups, an unknown token) 10,000 replies, each request once to either server. So what
+is said in docs/RUNNING.md of more than one machine is seen.
 
-program, scratch, replies = sys.argv[1], sys.argv[2], int(sys.argv[3])
-tally = Tally()
+The journal is that of a third server, which takes 300 edits of the handbook in site/ by its owner first: PUTs and DELETEs, of a fixed
+seed. Requests are GET and HEAD of pages (seen, hidden, absent, of bad paths), the contents, backlinks, searches, reports of broken
+links, other methods, and what readers may not do.
+
+    python3 scripts/listen/replicas.py PROGRAM [REPLIES]
+
+Builds nothing. Needs python3, and haproxy, which it has installed where it lacks. Half a minute.
+"""
+import collections, os, random, shutil, sys, tomllib
+sys.path.insert(1, os.path.dirname(__file__) + "/../lib")
+from scene import HOST, TOP, Client, Scene, free_port, got, listens, put, start, stop, until
+
+scene = Scene(seconds=400, numbers=(10_000,), needs=["haproxy"], at_top=True)
 chance = random.Random(1)
 CONFIG = "site/config.toml"
 READERS = ("tok-owner", "tok-ann", "tok-bob", "tok-x")
 WORDS = "incident rollback alert deployment certificate customer phone budget review the".split()
-with open(CONFIG, "rb") as file:
+with open(f"{TOP}/{CONFIG}", "rb") as file:
     PATHS = [page["path"] for page in tomllib.load(file)["page"]] + [f"new/{number}.md" for number in range(40)]
 
 
@@ -43,7 +35,7 @@ def some_text():
 
 def edited(journal):
     """A journal of 300 edits."""
-    server = Server(program, CONFIG, journal=journal)
+    server = scene.listen(CONFIG, journal=journal)
     owner = Client(server.port, "tok-owner")
     for number in range(300):
         path = chance.choice(PATHS)
@@ -52,10 +44,9 @@ def edited(journal):
         else:
             groups = chance.choice(("staff", "ops", "staff,ops", ""))
             code = owner.ask(f"/page/{path}?groups={groups}", "PUT", some_text())[0]
-        tally.check(f"edit {number} of {path}", code in (201, 204, 404), code)
+        scene.check(f"edit {number} of {path}", code in (201, 204, 404), code)
     owner.close()
-    status = server.end()
-    tally.check("the first server's end", status == 0 and not server.said(), f"{status} {server.said()}")
+    scene.ends(server, "the first server")
 
 
 def some_request(reader):
@@ -71,12 +62,11 @@ def some_request(reader):
 
 def behind(port, servers):
     """haproxy's configuration: each request goes to the next server, and the reply tells to which one it went."""
-    name = f"{scratch}/haproxy.cfg"
-    with open(name, "w") as out:
-        out.write("defaults\n  mode http\n  timeout connect 5s\n  timeout client 30s\n  timeout server 30s\n  http-reuse always\n"
-                  f"frontend docs\n  bind {HOST}:{port}\n  default_backend replicas\n"
-                  "backend replicas\n  balance roundrobin\n  http-response add-header x-replica %s\n"
-                  + "".join(f"  server {name} {HOST}:{server.port}\n" for name, server in servers.items()))
+    name = f"{scene.scratch}/haproxy.cfg"
+    put(name, "defaults\n  mode http\n  timeout connect 5s\n  timeout client 30s\n  timeout server 30s\n  http-reuse always\n"
+        f"frontend docs\n  bind {HOST}:{port}\n  default_backend replicas\n"
+        "backend replicas\n  balance roundrobin\n  http-response add-header x-replica %s\n"
+        + "".join(f"  server {name} {HOST}:{server.port}\n" for name, server in servers.items()))
     return name
 
 
@@ -88,45 +78,40 @@ def split(reply):
     return told[0][11:] if told else b"", (code, [line for line in lines if line not in told], body)
 
 
-edited(f"{scratch}/journal")
-servers = {}
-for name in ("one", "two"):
-    shutil.copyfile(f"{scratch}/journal", f"{scratch}/{name}")
-    servers[name] = Server(program, CONFIG, journal=f"{scratch}/{name}")
-port = free_port()
-haproxy = subprocess.Popen(["haproxy", "-f", behind(port, servers), "-db"], stdin=subprocess.DEVNULL)
+def compared(port, reader, count):
+    """So many replies to a reader, by pairs."""
+    client = Client(port, reader)
+    codes, went = collections.Counter(), collections.Counter()
+    for _ in range(count // 2):
+        method, target = some_request(reader)
+        pair = [split(client.ask(target, method, b"x" if method == "PUT" else b"")) for _ in range(2)]
+        went.update(name for name, _ in pair)
+        codes[pair[0][1][0]] += 1
+        scene.check(f"{reader} {method} {target}", pair[0][1] == pair[1][1] and pair[0][0] != pair[1][0], pair)
+    scene.check(f"{reader}: both servers replied", went == {b"one": count // 2, b"two": count // 2}, went)
+    told = ", ".join(f"{2 * number} of {code}" for code, number in sorted(codes.items()))
+    print(f"{reader}: {sum(went.values())} replies, {told}", flush=True)
+    client.close()
 
 
-def listens():
+def main():
+    first = f"{scene.scratch}/journal"
+    edited(first)
+    servers = {}
+    for name in ("one", "two"):
+        shutil.copyfile(first, f"{scene.scratch}/{name}")
+        servers[name] = scene.listen(CONFIG, journal=f"{scene.scratch}/{name}")
+    port = free_port()
+    haproxy = start(["haproxy", "-f", behind(port, servers), "-db"])
     try:
-        Client(port).close()
-        return True
-    except OSError:
-        return False
+        until(lambda: listens(port), 10)
+        for reader in READERS:
+            compared(port, reader, scene.numbers[0])
+    finally:
+        stop(haproxy)
+    for name, server in servers.items():
+        scene.ends(server, name)
+        scene.check(f"the journal of {name} is as it was", got(f"{scene.scratch}/{name}") == got(first))
 
 
-try:
-    until(listens, 10)
-    for reader in READERS:
-        client = Client(port, reader)
-        codes, went = collections.Counter(), collections.Counter()
-        for number in range(replies // 2):
-            method, target = some_request(reader)
-            pair = [split(client.ask(target, method, b"x" if method == "PUT" else b"")) for _ in range(2)]
-            went.update(name for name, _ in pair)
-            codes[pair[0][1][0]] += 1
-            tally.check(f"{reader} {method} {target}", pair[0][1] == pair[1][1] and pair[0][0] != pair[1][0], pair)
-        tally.check(f"{reader}: both servers replied", went == {b"one": replies // 2, b"two": replies // 2}, went)
-        told = ", ".join(f"{2 * count} of {code}" for code, count in sorted(codes.items()))
-        print(f"{reader}: {sum(went.values())} replies, {told}", flush=True)
-        client.close()
-finally:
-    haproxy.send_signal(signal.SIGTERM)
-    haproxy.wait(timeout=10)
-for name, server in servers.items():
-    status = server.end()
-    tally.check(f"the end of {name}", status == 0 and not server.said(), f"{status} {server.said()}")
-    with open(f"{scratch}/{name}", "rb") as journal, open(f"{scratch}/journal", "rb") as first:
-        tally.check(f"the journal of {name} is as it was", journal.read() == first.read())
-sys.exit(tally.end())
-PYTHON
+scene.run(main)
