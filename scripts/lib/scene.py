@@ -1,8 +1,8 @@
 """What the scripts share that drive a program: a scratch folder, a limit of time, the server under `listen`, a client of its HTTP bytes,
-and the tally of cases. Loopback alone.
+and the tally of the cases. Loopback alone.
 
     scene = Scene(seconds=120, needs=["strace"])    how long it may take, and which programs of Debian it needs
-    scene.run(main)                                 makes the cases, which call `scene.check`, and ends the script
+    scene.run(main)                                 makes the cases, which call `scene.check`, tells how many were right, and ends the script
 """
 import os, re, resource, select, shutil, signal, socket, subprocess, sys, tempfile, time
 
@@ -19,16 +19,16 @@ sys.path.append(TOP + "/scripts/oracles")
 
 class Scene:
     """One run of a script, whose words are PROGRAM and then numbers. While it runs the current folder is the scratch folder, or the
-    repository's top. It is stopped with status 124 after so many seconds, and so many more for each of its first number."""
+    repository's top. It is stopped with status 124 after so many seconds, and so many more for each of its first number. Its last line
+    is `told`, where that isn't None."""
 
-    def __init__(self, seconds, seconds_each=0, numbers=(), needs=(), at_top=False):
-        self.limit, self.needs, self.at_top = (seconds, seconds_each), needs, at_top
+    def __init__(self, seconds, seconds_each=0, numbers=(), needs=(), at_top=False, told="{right} of {all} as expected"):
+        self.limit, self.needs, self.at_top, self.told = (seconds, seconds_each), needs, at_top, told
         self.numbers, self.program, self.scratch = numbers, None, None
-        self.tally = Tally()
-        self.check = self.tally.check
+        self.right, self.wrong = 0, 0
 
     def run(self, cases):
-        """Makes the cases, prints the tally, and ends the script: with status 1 where a case was wrong."""
+        """Makes the cases, tells how many were right, and ends the script: with status 1 where one was wrong."""
         self.program, self.numbers = words_given(self.numbers)
         needs(*self.needs)
         signal.signal(signal.SIGTERM, lambda *_: sys.exit(143))
@@ -38,10 +38,21 @@ class Scene:
         try:
             os.chdir(TOP if self.at_top else self.scratch)
             cases()
-            status = self.tally.end()
+            if self.told:
+                print(self.told.format(right=self.right, wrong=self.wrong, all=self.right + self.wrong), flush=True)
         finally:
             self.leave()
-        sys.exit(status)
+        sys.exit(1 if self.wrong else 0)
+
+    def check(self, name, holds, detail=""):
+        """A case, and whether it is as expected. The first ones that aren't are told."""
+        if holds:
+            self.right += 1
+        else:
+            self.wrong += 1
+            if self.wrong <= 20:
+                print(f"wrong: {name}" + (f": {detail}" if detail != "" else ""), flush=True)
+        return holds
 
     def leave(self):
         """Ends what still runs, by all means, and removes the scratch folder."""
@@ -84,26 +95,6 @@ def allow_files(count):
         resource.setrlimit(resource.RLIMIT_NOFILE, (count, count))
     except (OSError, ValueError):
         sys.exit(f"fewer than {count:,} files may be open")
-
-
-class Tally:
-    """How many cases were as expected. A script's last line, and its status."""
-
-    def __init__(self):
-        self.right, self.wrong = 0, 0
-
-    def check(self, name, holds, detail=""):
-        if holds:
-            self.right += 1
-        else:
-            self.wrong += 1
-            if self.wrong <= 20:
-                print(f"wrong: {name}" + (f": {detail}" if detail != "" else ""), flush=True)
-        return holds
-
-    def end(self):
-        print(f"{self.right} of {self.right + self.wrong} as expected", flush=True)
-        return 1 if self.wrong else 0
 
 
 # ---- files, ports, processes

@@ -1,27 +1,19 @@
-#!/usr/bin/env bash
-# Gives random configurations to `check`, good ones and broken ones, and compares whether each is taken with what another reader of
-# TOML (tomllib of Python's standard library, TOML 1.0) and the rules of docs/RUNNING.md and docs/SITE.md make of it. What TOML 1.1
-# takes beyond 1.0, as the reader here does, is counted apart and listed.
-#
-#     scripts/site/random_toml.sh PROGRAM [COUNT [SEED]]
-#
-# Builds nothing: PROGRAM is crates/docs_server/out/docs_server, or any other build. 500 texts take some seconds.
-set -eu
-program=$(realpath "${1:?the program}")
-scratch=$(mktemp -d)
-trap 'rm -r "$scratch"' EXIT
-python3 - "$program" "$scratch" "${2:-500}" "${3:-1}" <<'PYTHON'
+"""Gives random configurations to `check`, good ones and broken ones, and compares whether each is taken with what another reader of
+TOML (tomllib of Python's standard library, TOML 1.0) and the rules of docs/RUNNING.md and docs/SITE.md make of it. What TOML 1.1
+takes beyond 1.0, as the reader here does, is counted apart and listed.
+
+    python3 scripts/site/random_toml.py PROGRAM [COUNT [SEED]]
+
+Builds nothing: PROGRAM is crates/docs_server/out/docs_server, or any other build. 500 texts take some seconds.
+"""
 import os, random, re, subprocess, sys, tomllib
+sys.path.insert(1, os.path.dirname(__file__) + "/../lib")
+from scene import Scene, put
 
-program, scratch, count, seed = sys.argv[1], sys.argv[2], int(sys.argv[3]), int(sys.argv[4])
-os.chdir(scratch)
-random.seed(seed)
-with open("page.md", "w") as out:
-    out.write("A page\n")
-with open("table", "w") as out:
-    out.write("zwp 200B\n")
-
+scene = Scene(seconds=600, seconds_each=1, numbers=(500, 1), told="{right} passed, {wrong} failed")
 pick = random.choice
+# how many entries of the present text are odd ones
+share = 0
 
 
 def one_of(good, odd):
@@ -162,27 +154,40 @@ def wanted(whole):
 BEYOND = [(r"\\x[0-9A-Fa-f]{2}", "an escape of two digits"), (r"\\e", "the escape of ESC"),
           (r"\{[^{}]*\n[^{}]*\}", "an inline table on several lines"),
           (r",\s*\}", "a comma behind the last key of an inline table"), (r"\b\d\d:\d\d\b(?!:)", "a time without seconds")]
-told, beyond, wrong = {}, {}, 0
-for number_of_text in range(count):
+# how often a text is wanted to end so, and how often it has what TOML 1.1 alone takes
+TOLD, BEYOND_1_0 = {}, {}
+
+
+def count(counts, name):
+    counts[name] = counts.get(name, 0) + 1
+
+
+def tried(number):
+    """Another text, and what `check` says of it."""
+    global share
     share = pick([0, 0, 0.02, 0.05, 0.1])
     whole = configuration()
-    with open("site.toml", "wb") as out:
-        out.write(whole.encode())
-    ran = subprocess.run([program, "check", "site.toml", "nobody"], capture_output=True, timeout=20)
+    put("site.toml", whole)
+    ran = subprocess.run([scene.program, "check", "site.toml", "nobody"], capture_output=True, timeout=20)
     found = ran.stderr.decode(errors="replace").removeprefix("docs_server: ").removesuffix("\n")
     want = wanted(whole)
-    told[want.split(" ")[0]] = told.get(want.split(" ")[0], 0) + 1
-    if (found, ran.returncode, ran.stdout) == (want, 2, b""):
-        continue
-    reasons = [why for form, why in BEYOND if re.search(form, whole)]
-    if want == "config" and found != "config" and reasons:
-        for why in reasons:
-            beyond[why] = beyond.get(why, 0) + 1
-        continue
-    wrong += 1
-    print(f"text {number_of_text}: wanted {want!r}, found {found!r}, status {ran.returncode}\n{whole}")
-print(f"{count} texts:", ", ".join(f"{n} {it}" for it, n in sorted(told.items())))
-print("taken as TOML 1.1 alone has it:", ", ".join(f"{it} {n}" for it, n in sorted(beyond.items())) or "none")
-print(f"{count - wrong} passed, {wrong} failed")
-sys.exit(1 if wrong else 0)
-PYTHON
+    count(TOLD, want.split(" ")[0])
+    is_right = (found, ran.returncode, ran.stdout) == (want, 2, b"")
+    reasons = [why for form, why in BEYOND if re.search(form, whole)] if not is_right and want == "config" and found != "config" else []
+    for why in reasons:
+        count(BEYOND_1_0, why)
+    scene.check(f"text {number}", is_right or reasons, f"wanted {want!r}, found {found!r}, status {ran.returncode}\n{whole}")
+
+
+def main():
+    texts, seed = scene.numbers
+    random.seed(seed)
+    put("page.md", "A page\n")
+    put("table", "zwp 200B\n")
+    for number in range(texts):
+        tried(number)
+    print(f"{texts} texts:", ", ".join(f"{times} {it}" for it, times in sorted(TOLD.items())))
+    print("taken as TOML 1.1 alone has it:", ", ".join(f"{it} {times}" for it, times in sorted(BEYOND_1_0.items())) or "none")
+
+
+scene.run(main)
