@@ -1,42 +1,29 @@
-#!/usr/bin/env bash
-# Measures how the time of a layer of CommonMark grows with the text: `Lines` and `unescape` over 1, 2, 4 and 8 MiB,
-# `take_definitions` over 10,000 to 80,000 definitions, `blocks` over 1, 2, 4 and 8 MiB of six texts, and `inlines` over
-# as much of the paragraphs of a handbook and over hostile texts of one paragraph at four sizes. Prints the
-# least processor time of five runs of each, and its ratio to the one before (2 is linear). BENCH is the
-# program `bench`, which is built in a copy of the repository (scripts/gate/lay_out.sh). With MD2HTML set to the program `md2html` of md4c, each of
-# these texts is given to it too, and with SPEC set to a file, copies of that file are a seventh text for `blocks`. With
-# names of tasks for arguments (lines, unescape, definitions, blocks, inlines) only these are run.
-set -eu
-cd "$(dirname "$0")/../.."
-program=${BENCH:?the program bench: scripts/gate/lay_out.sh}
-scripts/bench/measured.sh
-python3 - "$program" "$@" <<'PYTHON'
-import os, subprocess, sys, tempfile
-program = sys.argv[1]
+"""Measures how the time of a layer of CommonMark grows with the text: `Lines` and `unescape` over 1, 2, 4 and 8 MiB, `take_definitions`
+over 10,000 to 80,000 definitions, `blocks` over 1, 2, 4 and 8 MiB of six texts, and `inlines` over as much of the paragraphs of a
+handbook and over hostile texts of one paragraph at four sizes. Prints the least processor time of five runs of each, and its ratio to the
+one before (2 is linear). BENCH is the program `bench`, which is built in a copy of the repository (scripts/gate/lay_out.sh). With MD2HTML
+set to the program `md2html` of md4c, each of these texts is given to it too, and with SPEC set to a file, copies of that file are a
+seventh text for `blocks`. With names of tasks for arguments (lines, unescape, definitions, blocks, inlines) only these are run.
+
+    BENCH=PROGRAM python3 scripts/bench/commonmark_bench.py [TASK ..]
+"""
+import os, sys, tempfile
+sys.path.insert(1, os.path.dirname(__file__) + "/../lib")
+from timing import bench, least, measured
+
 MIB = 1 << 20
-TASKS = set(sys.argv[2:]) or {"lines", "unescape", "definitions", "blocks", "inlines"}
-peer, spec = os.environ.get("MD2HTML"), os.environ.get("SPEC")
+PEER, SPEC = os.environ.get("MD2HTML"), os.environ.get("SPEC")
+UNITS = {"lines": (1, "MiB"), "unescape": (1, "MiB"), "definitions": (10_000, "definitions")}
+SENTENCE = {0: "*{0}*", 1: "**{0}**", 2: "`{0}()`", 3: "[{0}](../{0}.md)", 4: "[{0}][ref]", 5: "&amp;{0}"}
+WORDS = """access address agent answer archive batch branch budget cache change channel client cluster config contract cost
+customer deploy design device domain error event export field file flow gateway group guide handbook host import index
+invoice key label ledger level limit list machine member memory message module network node notice office order owner
+page partner password path payment phase plan policy price process profile queue quota reader record release report
+request review role route sample schedule script search section server session signal source stage status store stream
+switch system table target team ticket token topic update user value vendor version volume warning window zone""".split()
 
 
-def least(command, path=os.devnull):
-    """The least processor time of five runs, in milliseconds."""
-    times = []
-    for _ in range(5):
-        with open(path, "rb") as text:
-            child = subprocess.Popen(command, stdin=text, stdout=subprocess.DEVNULL)
-            _, status, used = os.wait4(child.pid, 0)
-            child.returncode = status
-        if status:
-            sys.exit(f"{command}: status {status}")
-        times.append((used.ru_utime + used.ru_stime) * 1000)
-    return min(times)
-
-
-def row(name, size, took, before, other=None):
-    ratio = "" if before is None else f"  {took / before:.2f} times the one before"
-    beside = "" if other is None else f"  md2html {other:7.1f} ms, {took / other:.2f} of it"
-    print(f"{name:40} {size}: {took:7.1f} ms{ratio}{beside}", flush=True)
-
+# ---- texts
 
 class Draw:
     """The same numbers on each machine."""
@@ -49,20 +36,11 @@ class Draw:
         return (self.state >> 33) % n
 
 
-WORDS = """access address agent answer archive batch branch budget cache change channel client cluster config contract cost
-customer deploy design device domain error event export field file flow gateway group guide handbook host import index
-invoice key label ledger level limit list machine member memory message module network node notice office order owner
-page partner password path payment phase plan policy price process profile queue quota reader record release report
-request review role route sample schedule script search section server session signal source stage status store stream
-switch system table target team ticket token topic update user value vendor version volume warning window zone""".split()
-
-
 def sentence(draw):
     words = []
     for _ in range(6 + draw.below(14)):
         word = WORDS[draw.below(len(WORDS))]
-        kind = draw.below(40)
-        words.append({0: f"*{word}*", 1: f"**{word}**", 2: f"`{word}()`", 3: f"[{word}](../{word}.md)", 4: f"[{word}][ref]", 5: f"&amp;{word}"}.get(kind, word))
+        words.append(SENTENCE.get(draw.below(40), "{0}").format(word))
     return " ".join(words).capitalize() + "."
 
 
@@ -86,38 +64,27 @@ def part(draw):
     return f"- {sentence(draw)}\n  - {sentence(draw)}\n    - {sentence(draw)}\n- {sentence(draw)}\n"
 
 
-def handbook(size):
+def filled(size, part):
+    """Parts up to so many bytes, behind a definition."""
     draw, parts, length = Draw(), ["[ref]: https://example.com/ 'reference'\n\n"], 0
     while length < size:
-        text = "#" * (1 + draw.below(3)) + " " + WORDS[draw.below(90)] + "\n\n" + "\n".join(part(draw) for _ in range(3)) + "\n"
+        text = part(draw)
         parts.append(text)
         length += len(text)
     return "".join(parts)
+
+
+def handbook(size):
+    return filled(size, lambda draw: "#" * (1 + draw.below(3)) + " " + WORDS[draw.below(90)] + "\n\n"
+                  + "\n".join(part(draw) for _ in range(3)) + "\n")
+
+
+def paragraphs(size):
+    return filled(size, lambda draw: paragraph(draw) + "\n")
 
 
 def repeated(text):
     return lambda size: text * (size // len(text))
-
-
-TEXTS = {
-    "a handbook": handbook,
-    "nested lists": repeated("".join("  " * depth + "- " + "item\n" for depth in range(20))),
-    "quotes with lazy lines": repeated("> quoted words and more\nlazy words\n\n"),
-    "one long fence": lambda size: "```\n" + repeated("some code in a fence\n")(size),
-    "a paragraph of short lines": repeated("word\n"),
-    "indented code": lambda size: repeated("    some code\n\n")(size),
-}
-if spec:
-    TEXTS["copies of SPEC"] = repeated(open(spec, encoding="utf-8").read())
-
-
-def paragraphs(size):
-    draw, parts, length = Draw(), ["[ref]: https://example.com/ 'reference'\n\n"], 0
-    while length < size:
-        text = paragraph(draw) + "\n"
-        parts.append(text)
-        length += len(text)
-    return "".join(parts)
 
 
 def runs_of_rising_length(between):
@@ -137,6 +104,17 @@ def around(before, middle, behind):
     return lambda size: before * (size // len(before + behind)) + middle + behind * (size // len(before + behind))
 
 
+TEXTS = {
+    "a handbook": handbook,
+    "nested lists": repeated("".join("  " * depth + "- " + "item\n" for depth in range(20))),
+    "quotes with lazy lines": repeated("> quoted words and more\nlazy words\n\n"),
+    "one long fence": lambda size: "```\n" + repeated("some code in a fence\n")(size),
+    "a paragraph of short lines": repeated("word\n"),
+    "indented code": lambda size: repeated("    some code\n\n")(size),
+}
+if SPEC:
+    with open(SPEC, encoding="utf-8") as file:
+        TEXTS["copies of SPEC"] = repeated(file.read())
 # texts of one paragraph in which much is begun and little found; each of about as many bytes as it is told
 ONE_PARAGRAPH = {
     "opening brackets": repeated("["),
@@ -173,32 +151,56 @@ ONE_PARAGRAPH = {
     "spaces": lambda size: "a" + " " * size + "b",
 }
 
-UNITS = {"lines": (1, "MiB"), "unescape": (1, "MiB"), "definitions": (10_000, "definitions")}
-for task, (factor, unit) in UNITS.items():
+
+# ---- what is measured
+
+def row(name, size, took, before, other=None):
+    ratio = "" if before is None else f"  {took / before:.2f} times the one before"
+    beside = "" if other is None else f"  md2html {other:7.1f} ms, {took / other:.2f} of it"
+    print(f"{name:40} {size}: {took:7.1f} ms{ratio}{beside}", flush=True)
+
+
+def milliseconds(command, path=os.devnull):
+    return least(command, path) / 1000
+
+
+def series(task, name, make, sizes, unit, factor):
+    """A text at each of its sizes."""
     before = None
-    for size in (1, 2, 4, 8) if task in TASKS else ():
-        took = least([program, task, str(size)])
+    with tempfile.NamedTemporaryFile("w", encoding="utf-8") as text:
+        for size in sizes:
+            text.seek(0)
+            text.truncate()
+            text.write(make(size * factor))
+            text.flush()
+            took = milliseconds([bench(), task], text.name)
+            row(f"{task}: {name}", f"{size:{len(str(sizes[-1]))}} {unit}", took, before, milliseconds([PEER], text.name) if PEER else None)
+            before = took
+
+
+def made(task):
+    """A task that makes its text by itself."""
+    before, (factor, unit) = None, UNITS[task]
+    for size in (1, 2, 4, 8):
+        took = milliseconds([bench(), task, str(size)])
         row(task, f"{size * factor:6} {unit}", took, before)
         before = took
 
-with tempfile.TemporaryDirectory() as scratch:
-    path = os.path.join(scratch, "text.md")
-    for name, make in TEXTS.items():
-        before = None
-        for size in (1, 2, 4, 8) if "blocks" in TASKS else ():
-            with open(path, "w", encoding="utf-8") as out:
-                out.write(make(size * MIB))
-            took = least([program, "blocks"], path)
-            row("blocks: " + name, f"{size} MiB", took, before, least([peer], path) if peer else None)
-            before = took
-    for name, make, sizes in [("a handbook's paragraphs", paragraphs, (1024, 2048, 4096, 8192))] + [
-        (name, make, (128, 256, 512, 1024)) for name, make in ONE_PARAGRAPH.items()
-    ]:
-        before = None
-        for size in sizes if "inlines" in TASKS else ():
-            with open(path, "w", encoding="utf-8") as out:
-                out.write(make(size * 1024))
-            took = least([program, "inlines"], path)
-            row("inlines: " + name, f"{size:4} KiB", took, before, least([peer], path) if peer else None)
-            before = took
-PYTHON
+
+def main():
+    tasks = set(sys.argv[1:]) or {*UNITS, "blocks", "inlines"}
+    bench()
+    measured()
+    for task in UNITS:
+        if task in tasks:
+            made(task)
+    if "blocks" in tasks:
+        for name, make in TEXTS.items():
+            series("blocks", name, make, (1, 2, 4, 8), "MiB", MIB)
+    if "inlines" in tasks:
+        series("inlines", "a handbook's paragraphs", paragraphs, (1024, 2048, 4096, 8192), "KiB", 1024)
+        for name, make in ONE_PARAGRAPH.items():
+            series("inlines", name, make, (128, 256, 512, 1024), "KiB", 1024)
+
+
+main()

@@ -1,4 +1,4 @@
-"""Hostile peers of a server, each for as long as it is let, for scripts/bench/listen_peers.sh."""
+"""Hostile peers of a server, each for as long as it is let, for scripts/bench/listen_peers.py."""
 import os, socket, struct, time
 from scene import HOST, request
 
@@ -61,10 +61,12 @@ def pipeline(peer, count, length, late=0.0):
     connection where `length` is 0, which the peer asks for behind its last request."""
     child = os.fork()
     if not child:
-        peer.sendall(GET * count)
-        if not length:
-            peer.shutdown(socket.SHUT_WR)
-        os._exit(0)
+        try:
+            peer.sendall(GET * count)
+            if not length:
+                peer.shutdown(socket.SHUT_WR)
+        finally:
+            os._exit(0)
     time.sleep(late)
     parts, left = [], count * length
     while (left or not length) and (got := peer.recv(1_048_576)):

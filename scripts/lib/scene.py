@@ -2,7 +2,7 @@
 and the tally of the cases. Loopback alone.
 
     scene = Scene(seconds=120, needs=["strace"])    how long it may take, and which programs of Debian it needs
-    scene.run(main)                                 makes the cases, which call `scene.check`, tells how many were right, and ends the script
+    scene.run(main)                                 makes the cases, which call `scene.check`, tells their tally, and ends the script
 """
 import os, re, resource, select, shutil, signal, socket, subprocess, sys, tempfile, time
 
