@@ -1,99 +1,90 @@
-#!/usr/bin/env bash
-# Serves the handbook in site/ over loopback, and compares whole replies with those that docs/HTTP.md and docs/SITE.md ask for, written
-# here by hand. One process of curl for each reader, with all its requests over one kept connection.
-#
-#     scripts/site/serve_site.sh PROGRAM [PORT]
-#
-# Builds nothing: PROGRAM is crates/docs_server/out/docs_server, or any other build. Needs curl. Takes a few seconds, and listens at
-# 127.0.0.1:PORT, 8350 if left out.
-set -eu
-program=$(realpath "${1:?the program}")
-port=${2:-8350}
-cd "$(dirname "$0")/../.."
-address=127.0.0.1:$port
-scratch=$(mktemp -d)
-trap 'rm -r "$scratch"' EXIT
-wrong=0
+"""Serves the handbook in site/ over loopback, and compares whole replies with those that docs/HTTP.md and docs/SITE.md ask for, written
+here by hand. One process of curl for each reader, with all its requests over one kept connection.
 
-# ---- the program
+    python3 scripts/site/serve_site.py PROGRAM [PORT]
 
-# begin COUNT TURNS: serves so many connections in so many passes, and waits for the line that tells the address
-begin() {
-    : > "$scratch/told"
-    "$program" serve site/config.toml "$address" "$1" "$2" > "$scratch/told" 2> "$scratch/fault" &
-    server=$!
-    until [ -s "$scratch/told" ]; do
-        kill -0 "$server" 2> /dev/null || { echo "it didn't begin: $(cat "$scratch/fault")" >&2; exit 1; }
-        sleep 0.05
-    done
-}
+Builds nothing: PROGRAM is crates/docs_server/out/docs_server, or any other build. Needs curl. Takes a few seconds, and listens at
+127.0.0.1:PORT, 8350 if left out.
+"""
+import difflib, os, subprocess, sys
+sys.path.insert(1, os.path.dirname(__file__) + "/../lib")
+from scene import HOST, Scene, got, start
 
-# finish: the program ends by itself, with status 0, and has printed nothing else
-finish() {
-    local status=0
-    wait "$server" || status=$?
-    [ "$status" = 0 ] || { echo "it ended with status $status: $(cat "$scratch/fault")"; wrong=1; }
-    [ "$(cat "$scratch/told")" = "listening $address" ] || { echo "it told $(cat "$scratch/told")"; wrong=1; }
-    [ ! -s "$scratch/fault" ] || { echo "it printed $(cat "$scratch/fault")"; wrong=1; }
-}
+scene = Scene(seconds=120, numbers=(8350,), at_top=True, told=None)
+CONFIG = "site/config.toml"
+SHOWN, MISSING = '<a href="/page/ops/index.md">', '<a class="missing">'
 
-# asks WHO [REQUEST..]: the replies to one reader's requests, on one connection; a request is TARGET, or METHOD TARGET, or METHOD TARGET
-# BODY
-asks() {
-    local who=$1 words=()
-    shift
-    for request; do
-        local method target body
-        read -r method target body <<< "$request"
-        [ -n "$target" ] || { target=$method; method=GET; }
-        [ ${#words[@]} = 0 ] || words+=(--next)
-        words+=(--silent --show-error --max-time 20 --path-as-is -H "Authorization: Bearer $who" "http://$address$target")
-        case $method in
-            GET) words+=(--include) ;;
-            HEAD) words+=(--head) ;;
-            PUT) words+=(--include --request PUT --data-binary "$(printf '%b.' "$body" | sed '$ s/\.$//')") ;;
-            *) words+=(--include --request "$method") ;;
-        esac
-    done
-    curl "${words[@]}" > "$scratch/$who.replies"
-}
 
-# compare WHO: the replies to a reader are those that were asked for
-compare() {
-    if cmp -s "$scratch/$1.replies" "$scratch/$1.wanted"; then
-        echo "$1: $(grep -ac '^HTTP/1.1 ' "$scratch/$1.wanted") replies as they should be"
-    else
-        echo "$1: other replies:"
-        diff --text "$scratch/$1.wanted" "$scratch/$1.replies" || true
-        wrong=1
-    fi
-}
+# ---- the program, and its readers
+
+class Serving:
+    """`serve` for so many connections in so many passes, once it has told its address."""
+
+    def __init__(self, count, turns):
+        self.address, self.fault = f"{HOST}:{scene.numbers[0]}", scene.scratch + "/fault"
+        with open(self.fault, "wb") as fault:
+            words = [scene.program, "serve", CONFIG, self.address, str(count), str(turns)]
+            self.process = start(words, stdout=subprocess.PIPE, stderr=fault)
+        self.told = self.process.stdout.readline()
+        if not self.told:
+            sys.exit(f"it didn't begin: {got(self.fault).decode()}")
+
+    def finish(self):
+        """It ends by itself, with status 0, and has printed nothing else."""
+        self.told += self.process.stdout.read()
+        status = self.process.wait()
+        scene.check("it ends", status == 0, f"status {status}: {got(self.fault)}")
+        scene.check("it tells its address alone", self.told == f"listening {self.address}\n".encode(), self.told)
+        scene.check("it prints no fault", got(self.fault) == b"", got(self.fault))
+
+    def asks(self, who, *requests):
+        """curl, which asks for one reader on one connection; a request is TARGET, or METHOD TARGET, or METHOD TARGET BODY."""
+        words = []
+        for request in requests:
+            method, target, *body = request.split(" ", 2) if " " in request else ("GET", request)
+            words += ["--next"] if words else []
+            words += ["--silent", "--show-error", "--max-time", "20", "--path-as-is", "-H", f"Authorization: Bearer {who}"]
+            words += {"GET": ["--include"], "HEAD": ["--head"], "PUT": ["--include", "--request", "PUT", "--data-binary", *body]}.get(
+                method, ["--include", "--request", method])
+            words.append(f"http://{self.address}{target}")
+        return start(["curl", *words], stdout=subprocess.PIPE)
+
+
+def compare(who, curl, wanted):
+    """The replies to a reader are those that were asked for."""
+    found, wanted = curl.communicate()[0], b"".join(wanted)
+    if scene.check(who, found == wanted, "other replies"):
+        print(f"{who}: {wanted.count(b'HTTP/1.1 ')} replies as they should be", flush=True)
+    else:
+        lines = [it.decode(errors="replace").splitlines() for it in (wanted, found)]
+        print("\n".join(difflib.unified_diff(*lines, "wanted", "found", lineterm="")), flush=True)
+
 
 # ---- what is asked for
 
-# reply STATUS TYPE [FIELD]: a reply whose body is standard input
-reply() {
-    cat > "$scratch/body"
-    printf 'HTTP/1.1 %s\r\nContent-Type: text/%s; charset=utf-8\r\nContent-Length: %s\r\n' "$1" "$2" "$(wc -c < "$scratch/body")"
-    [ $# = 2 ] || printf '%s\r\n' "$3"
-    printf '\r\n'
-    cat "$scratch/body"
-}
+def reply(status, kind, body, field=""):
+    head = f"HTTP/1.1 {status}\r\nContent-Type: text/{kind}; charset=utf-8\r\nContent-Length: {len(body)}\r\n"
+    return (head + (field and field + "\r\n") + "\r\n").encode() + body
 
-# plain STATUS [FIELD]: a reply whose body is its status
-plain() {
-    printf '%s\n' "$1" | reply "$1" plain "${@:2}"
-}
 
-# head_of REPLY: its head alone
-head_of() {
-    sed '/^\r$/q'
-}
+def html(text):
+    return reply("200 OK", "html", text.encode())
 
-# glossary RUNBOOKS: the page of the glossary, with the tag that begins the link to the runbooks
-glossary() {
-    cat << PAGE
-<!DOCTYPE html>
+
+def text(content):
+    return reply("200 OK", "plain", content.encode())
+
+
+def plain(status, field=""):
+    """A reply whose body is its status."""
+    return reply(status, "plain", f"{status}\n".encode(), field)
+
+
+def head_of(whole):
+    return whole[:whole.index(b"\r\n\r\n") + 4]
+
+
+GLOSSARY = """<!DOCTYPE html>
 <title>Glossary</title>
 <h1 id="glossary">Glossary</h1>
 <p>Words that we use in a sense of our own. Where a page explains one at length, it is linked.</p>
@@ -115,107 +106,74 @@ a <a href="/page/incident-reviews.md">review</a>.</p>
 <p>Of a page: who answers for it. Of this handbook: who may write every page of it.</p>
 <h2 id="runbook">Runbook</h2>
 <p>A page that says what to do when a certain alert rings, in steps that a tired person can
-follow. They are $1kept together</a>.</p>
+follow. They are {runbooks}kept together</a>.</p>
 <h2 id="toil">Toil</h2>
 <p>Work that a machine could do, that comes back, and that leaves nothing better than before.
 We count it, because what is counted gets less.</p>
-PAGE
-}
+"""
+NO_CONTENT = b"HTTP/1.1 204 No Content\r\n\r\n"
+NOT_FOUND, FORBIDDEN = plain("404 Not Found"), plain("403 Forbidden")
+UNAUTHORIZED = plain("401 Unauthorized", 'WWW-Authenticate: Bearer realm="docs"')
+# two links are broken for the owner, who sees all pages
+REPORT = "glossary.md\t2\tanchor\tdeploying.md#rollbacks\nholidays.md\t1\tpage\tcalendar.md\n"
 
-# report: two links are broken for the owner, who sees all pages
-report() {
-    printf 'glossary.md\t2\tanchor\tdeploying.md#rollbacks\nholidays.md\t1\tpage\tcalendar.md\n'
-}
 
-shown='<a href="/page/ops/index.md">'
-missing='<a class="missing">'
+def glossary(runbooks):
+    """The page of the glossary, with the tag that begins the link to the runbooks."""
+    return html(GLOSSARY.format(runbooks=runbooks))
 
-# ---- the readers: what one may not see is to that reader what isn't there
 
-begin 4 20
-asks tok-ann /page/glossary.md /page/ops/index.md /page/nothing.md "HEAD /page/glossary.md" /page/glossary.md \
-    "PUT /page/glossary.md new" "DELETE /page/ops/index.md" "PATCH /page/glossary.md" /backlinks/ops/ "/search?q=Phishing" &
-ann=$!
-asks tok-bob /page/glossary.md /page/holidays.md /page/ops/../holidays.md "/page/glossary.md?x=1" /backlinks/ops/ "/search?q=Phishing" &
-bob=$!
-asks tok-owner /page/glossary.md /page/nothing.md "HEAD /page/nothing.md" /nothing /broken &
-owner=$!
-asks tok-x /page/glossary.md /page/nothing.md &
-wait "$ann" "$bob" "$owner" $!
-finish
+# ---- the cases
 
-{
-    glossary "$missing" | reply "200 OK" html
-    plain "404 Not Found"
-    plain "404 Not Found"
-    glossary "$missing" | reply "200 OK" html | head_of
-    glossary "$missing" | reply "200 OK" html
-    plain "403 Forbidden"
-    plain "403 Forbidden"
-    plain "405 Method Not Allowed" "Allow: GET, HEAD, PUT, DELETE"
-    plain "404 Not Found"
-    # one of the ten pages that she sees has the word, once
-    printf '10\tsecurity.md\n' | reply "200 OK" plain
-} > "$scratch/tok-ann.wanted"
-{
-    glossary "$shown" | reply "200 OK" html
-    plain "404 Not Found"
-    plain "404 Not Found"
-    glossary "$shown" | reply "200 OK" html
-    printf '%s.md\t1\n' glossary index on-call ops/certificates ops/database | reply "200 OK" plain
-    # one of nine pages
-    printf '9\tsecurity.md\n' | reply "200 OK" plain
-} > "$scratch/tok-bob.wanted"
-{
-    glossary "$shown" | reply "200 OK" html
-    plain "404 Not Found"
-    plain "404 Not Found" | head_of
-    plain "404 Not Found"
-    report | reply "200 OK" plain
-} > "$scratch/tok-owner.wanted"
-{
-    plain "401 Unauthorized" 'WWW-Authenticate: Bearer realm="docs"'
-    plain "401 Unauthorized" 'WWW-Authenticate: Bearer realm="docs"'
-} > "$scratch/tok-x.wanted"
-for who in tok-ann tok-bob tok-owner tok-x; do
-    compare "$who"
-done
+def readers():
+    """What one may not see is to that reader what isn't there."""
+    serving = Serving(4, 20)
+    ann = serving.asks(
+        "tok-ann", "/page/glossary.md", "/page/ops/index.md", "/page/nothing.md", "HEAD /page/glossary.md", "/page/glossary.md",
+        "PUT /page/glossary.md new", "DELETE /page/ops/index.md", "PATCH /page/glossary.md", "/backlinks/ops/", "/search?q=Phishing")
+    bob = serving.asks("tok-bob", "/page/glossary.md", "/page/holidays.md", "/page/ops/../holidays.md", "/page/glossary.md?x=1",
+                       "/backlinks/ops/", "/search?q=Phishing")
+    owner = serving.asks("tok-owner", "/page/glossary.md", "/page/nothing.md", "HEAD /page/nothing.md", "/nothing", "/broken")
+    nobody = serving.asks("tok-x", "/page/glossary.md", "/page/nothing.md")
+    pages = "".join(f"{path}.md\t1\n" for path in ("glossary", "index", "on-call", "ops/certificates", "ops/database"))
+    # one of the ten pages that Ann sees has the word, once; and one of Bob's nine
+    compare("tok-ann", ann, [
+        glossary(MISSING), NOT_FOUND, NOT_FOUND, head_of(glossary(MISSING)), glossary(MISSING), FORBIDDEN, FORBIDDEN,
+        plain("405 Method Not Allowed", "Allow: GET, HEAD, PUT, DELETE"), NOT_FOUND, text("10\tsecurity.md\n")])
+    compare("tok-bob", bob, [glossary(SHOWN), NOT_FOUND, NOT_FOUND, glossary(SHOWN), text(pages), text("9\tsecurity.md\n")])
+    compare("tok-owner", owner, [glossary(SHOWN), NOT_FOUND, head_of(NOT_FOUND), NOT_FOUND, text(REPORT)])
+    compare("tok-x", nobody, [UNAUTHORIZED, UNAUTHORIZED])
+    serving.finish()
 
-# ---- the owner's edits, which the next run knows nothing of
 
-begin 1 30
-asks tok-owner /page/notes.md "PUT /page/notes.md?groups=staff # Notes\n\nSee [runbooks](ops/), [nothing](no.md).\n" /page/notes.md \
-    "PUT /page/notes.md A <b>.\n" /page/notes.md "PUT /page/notes.md?groups=A x" "DELETE /page/notes.md" /page/notes.md \
-    "DELETE /page/notes.md" "DELETE /page/ops/index.md" /page/glossary.md
-finish
-{
-    plain "404 Not Found"
-    plain "201 Created"
-    printf '<!DOCTYPE html>\n<title>Notes</title>\n<h1 id="notes">Notes</h1>\n<p>See %sruns</a>.</p>\n' "$shown" |
-        sed "s|runs</a>|runbooks</a>, ${missing}nothing</a>|" | reply "200 OK" html
-    printf 'HTTP/1.1 204 No Content\r\n\r\n'
-    printf '<!DOCTYPE html>\n<title>notes.md</title>\n<p>A <b>.</p>\n' | reply "200 OK" html
-    plain "400 Bad Request"
-    printf 'HTTP/1.1 204 No Content\r\n\r\n'
-    plain "404 Not Found"
-    plain "404 Not Found"
-    printf 'HTTP/1.1 204 No Content\r\n\r\n'
-    glossary "$missing" | reply "200 OK" html
-} > "$scratch/tok-owner.wanted"
-compare tok-owner
+def edits():
+    """The owner's edits, which the next run knows nothing of."""
+    serving = Serving(1, 30)
+    owner = serving.asks(
+        "tok-owner", "/page/notes.md", "PUT /page/notes.md?groups=staff # Notes\n\nSee [runbooks](ops/), [nothing](no.md).\n",
+        "/page/notes.md", "PUT /page/notes.md A <b>.\n", "/page/notes.md", "PUT /page/notes.md?groups=A x", "DELETE /page/notes.md",
+        "/page/notes.md", "DELETE /page/notes.md", "DELETE /page/ops/index.md", "/page/glossary.md")
+    notes = f'<!DOCTYPE html>\n<title>Notes</title>\n<h1 id="notes">Notes</h1>\n<p>See {SHOWN}runbooks</a>, {MISSING}nothing</a>.</p>\n'
+    compare("tok-owner", owner, [
+        NOT_FOUND, plain("201 Created"), html(notes), NO_CONTENT, html("<!DOCTYPE html>\n<title>notes.md</title>\n<p>A <b>.</p>\n"),
+        plain("400 Bad Request"), NO_CONTENT, NOT_FOUND, NOT_FOUND, NO_CONTENT, glossary(MISSING)])
+    serving.finish()
+    serving = Serving(1, 10)
+    compare("tok-owner", serving.asks("tok-owner", "/page/notes.md", "/page/glossary.md"), [NOT_FOUND, glossary(SHOWN)])
+    serving.finish()
 
-begin 1 10
-asks tok-owner /page/notes.md /page/glossary.md
-finish
-{
-    plain "404 Not Found"
-    glossary "$shown" | reply "200 OK" html
-} > "$scratch/tok-owner.wanted"
-compare tok-owner
 
-# ---- the report of the command
+def report():
+    """The report of the command."""
+    done = subprocess.run([scene.program, "check", CONFIG, "tok-owner"], stdin=subprocess.DEVNULL, stdout=subprocess.PIPE)
+    scene.check("the report's status", done.returncode != 0, done.returncode)
+    scene.check("the report", done.stdout == REPORT.encode(), done.stdout)
 
-"$program" check site/config.toml tok-owner > "$scratch/report" && { echo "the report's status is 0"; wrong=1; }
-report | cmp - "$scratch/report" || wrong=1
 
-exit "$wrong"
+def main():
+    readers()
+    edits()
+    report()
+
+
+scene.run(main)
