@@ -1,9 +1,9 @@
-"""Loads `listen` with 64 connections of wrk over 127.0.0.1, kept alive, and nginx with files of the same bytes in the same run, each
-server on one core and wrk on another: as it is set up by default, and tuned for such files (`open_file_cache`, `sendfile off`). A page of
-4 kB without links, and one with 20 links, both of them kept in the server's cache. Prints requests a second, the server's processor time
-a request (its own code, the kernel's; from /proc/PID/stat), and the time within which 99 in 100 were answered: of RUNS runs, one after
-another of each of the six, that with the least processor time, and the least time of 99 in 100. Then resident memory, with 3 and with
-10,000 pages of 4 kB, and with 1,000 idle connections.
+"""Loads `listen` with 64 connections of wrk over 127.0.0.1, kept alive, and in the same run nginx with files of the same bytes: as it is
+set up by default, and tuned for such files (`open_file_cache`, `sendfile off`). Each server is on one core and wrk on another. They are
+asked for a page of 4 kB without links and one with 20 links, both of them kept in the server's cache. Prints requests a second, the
+server's processor time a request (its own code, the kernel's; from /proc/PID/stat), and the time within which 99 in 100 were answered: of
+RUNS runs, one after another of each of the six, that with the least processor time, and the least time of 99 in 100. Then resident
+memory, with 3 and with 10,000 pages of 4 kB, and with 1,000 idle connections.
 
 The goals: at most 1.2 times nginx's processor time without links, 1.8 times with them, and 99 in 100 no later than nginx, as it is set up
 by default. The last line says how many of them are met.

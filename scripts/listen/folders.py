@@ -1,6 +1,6 @@
 """A site whose pages are files of a folder (`[[folder]]`, which `listen` and `compact` alone read): which files are pages and who sees
-them, that an edit in the journal wins over the file at the next start and a file without an edit is read anew, and which files and bounds are
-refused, by name.
+them, that an edit in the journal wins over the file at the next start and a file without an edit is read anew, and which files and bounds
+are refused, by name.
 
     python3 scripts/listen/folders.py PROGRAM
 
