@@ -1,7 +1,7 @@
 """Sends the same bytes to `serve` and to `listen` over the handbook in site/, and compares what comes back, byte for byte up to the end of
 each connection: whole requests of each route by each reader, pipelines, edits with what is read behind them, and requests that are none
 (each fault of docs/HTTP.md). To `listen` they are sent at once, and again in pieces of a few bytes, and no connection of it is reset,
-as that of `serve` may be where bytes behind a last reply weren't read. scripts/site/serve_site.sh compares the replies of `serve` with ones
+as that of `serve` may be where bytes behind a last reply weren't read. scripts/site/serve_site.py compares the replies of `serve` with ones
 written by hand.
 
     python3 scripts/listen/alike.py PROGRAM [SEED]
