@@ -31,7 +31,9 @@ class Scene:
         """Makes the cases, tells how many were right, and ends the script: with status 1 where one was wrong."""
         self.program, self.numbers = words_given(self.numbers)
         needs(*self.needs)
-        signal.signal(signal.SIGTERM, lambda *_: sys.exit(143))
+        # so they aren't ignored by what is started either, as they are by what nohup runs
+        for number in (signal.SIGHUP, signal.SIGINT, signal.SIGTERM):
+            signal.signal(number, lambda number, _: sys.exit(128 + number))
         signal.signal(signal.SIGALRM, lambda *_: sys.exit(124))
         signal.alarm(self.limit[0] + self.limit[1] * self.numbers[0] if self.numbers else self.limit[0])
         self.scratch = tempfile.mkdtemp()
