@@ -19,7 +19,7 @@ from beside import CONNECTIONS, PLAIN, TUNED, Nginx, cheapest, loaded, microseco
 from scene import Client, Scene, allow_files, put
 from timing import measured
 
-scene = Scene(seconds=600, numbers=(3, 3), needs=["nginx=nginx-light", "wrk", "taskset=util-linux"])
+scene = Scene(seconds=600, seconds_each=60, numbers=(3, 3), needs=["nginx=nginx-light", "wrk", "taskset=util-linux"])
 TEXT = "Each page has sixty-four lines, and each of them has this text.\n" * 64
 LINKED = ("Each page has some lines and [links to other pages](a.md) of it.\n" + TEXT[:130]) * 20
 WORDY = "\n".join(f"[A link](guide/{line:05}.md) " + " ".join(f"word{line * 13 + word}" for word in range(24)) for line in range(20))
