@@ -76,7 +76,8 @@ unfolding weight
 less_fits n r h true e = let f : n < r.left = ltb-true n r.left e in omega arith
 less_fits n r h false e = omega arith
 
-strong_counts : (m : Bool) → 1 ≤ (if m then 2 else 1)
+-- one or two delimiters are one at least
+pub strong_counts : (m : Bool) → 1 ≤ (if m then 2 else 1)
 strong_counts true = omega arith
 strong_counts false = omega arith
 
