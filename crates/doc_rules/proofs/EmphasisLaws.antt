@@ -14,9 +14,6 @@ weight_append [] ys = omega arith
 weight_append (Delimiters r ∷ xs) ys = let e : weight (xs ++ ys) ≡ weight xs + weight ys = weight_append xs ys in omega arith
 weight_append (x ∷ xs) ys = weight_append xs ys
 
-last_weighs : (x : Inline) (n : ℕ) → n + weight (x ∷ []) ≡ weight (x ∷ []) + n
-last_weighs x n = omega arith
-
 weight_cons : (x : Inline) (xs : List Inline) → weight (x ∷ xs) ≡ weight (x ∷ []) + weight xs
 weight_cons x xs = weight_append (x ∷ []) xs
 

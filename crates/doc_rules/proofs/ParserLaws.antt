@@ -3,10 +3,9 @@ use Rattle.std.proofs.Common.{◌≡◌, ℕ, zero, suc, ◌+◌, ◌-◌, ◌<�
 use Rattle.std.proofs.Common.{◌∙◌, subst, Option, Some, None, arith, append_assoc, length-append, eqb-true}
 use Rattle.std.proofs.Math.Seq.{take-append_seam}
 use Rattle.std.specs.Prelude.{codes}
-use Rattle.std.specs.Char.{to_ascii_lowercase}
 use Rattle.doc_rules.specs.Characters.{Text, is_space_or_tab, strip_front}
 use Rattle.doc_rules.specs.Rests.{IsRest}
-use Rattle.doc_rules.specs.Parsers.{Parser, one, is, word, word_in_any_case, ◌then◌, ◌or◌, maybe, many, at_most, repeated, through, before}
+use Rattle.doc_rules.specs.Parsers.{Parser, one, is, word, ◌then◌, ◌or◌, maybe, many, at_most, repeated, through, before}
 use Rattle.doc_rules.specs.Parsers.{passing, some, line_ending, spacing, some_spacing}
 
 -- a parser leaves the end of each text that it is given
@@ -89,17 +88,6 @@ word_leaves (c ∷ more) (d ∷ text) rest e = at (λ f. word_leaves more text r
   where
     at : (word more text ≡ Some rest → IsRest rest text) → (b : Bool) → (elim b [ true ↦ word more text | false ↦ None ]) ≡ Some rest
         → IsRest rest (d ∷ text)
-    at go true f = is_rest_behind d rest text (go f)
-    at go false f = absurd cc
-
-pub word_in_any_case_leaves : (w : Text) → Leaves (word_in_any_case w)
-unfolding word_in_any_case
-word_in_any_case_leaves [] text rest e = nothing_leaves text rest e
-word_in_any_case_leaves (c ∷ more) [] rest e = absurd cc
-word_in_any_case_leaves (c ∷ more) (d ∷ text) rest e = at (λ f. word_in_any_case_leaves more text rest f) (c == to_ascii_lowercase d) e
-  where
-    at : (word_in_any_case more text ≡ Some rest → IsRest rest text) → (b : Bool)
-        → (elim b [ true ↦ word_in_any_case more text | false ↦ None ]) ≡ Some rest → IsRest rest (d ∷ text)
     at go true f = is_rest_behind d rest text (go f)
     at go false f = absurd cc
 
@@ -267,9 +255,6 @@ repeated_step read (c ∷ text) h = at (read (c ∷ text)) refl
 
 pub some_leaves : (test : ℕ → Bool) → Leaves (some test)
 some_leaves test = then_leaves (one test) (many test) (one_leaves test) (many_leaves test)
-
-pub some_takes : (test : ℕ → Bool) → Takes (some test)
-some_takes test = first_takes (one test) (many test) (one_takes test) (many_leaves test)
 
 pub line_ending_leaves : Leaves line_ending
 line_ending_leaves =

@@ -250,11 +250,6 @@ quotes_deep n room table s line tree (Some rest) h = node_before n tree (add_blo
 quotes_deep n room table s line tree None h = add_leaf_or_item_deep n s line tree (λ first. add_blocks room table NoParagraph first none)
     (leaf_begins table s line) h
 
-add_blocks_once_deep : (n room : ℕ) (table : Table) (s : Situation) (line : Line) (tree : Tree)
-    → IsWithin n (add_blocks (suc room) table s line tree) → IsWithin n tree
-unfolding add_blocks
-add_blocks_once_deep n room table s line tree h = quotes_deep n room table s line tree (quote_start line) h
-
 add_leaf_deep : (n : ℕ) (s : Situation) (line : Line) (tree : Tree) (start : Option LeafStart)
     → IsWithin n (elim start [ Some b ↦ with_start tree b | None ↦ add_text s line tree ]) → IsWithin n tree
 add_leaf_deep n s line tree (Some b) h = with_start_deep n tree b h
