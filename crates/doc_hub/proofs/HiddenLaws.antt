@@ -7,7 +7,7 @@ use Rattle.std.proofs.lemmas.Map.Lookups.{exact_bytes}
 use Rattle.doc_store_readers.proofs.KeySteps.{bytes_eq_is, get_taken, same_from, same_key}
 use Rattle.doc_store_readers.proofs.ViewLaw.{get-visible_aliases, get-visible_pages}
 use Rattle.doc_store_readers.specs.declared.reader.Reader.{Reader}
-use Rattle.doc_store_readers.specs.Sites.{Site, View, may_see_at, page_of_alias, visible_to}
+use Rattle.doc_store_readers.specs.Sites.{Site, View, may_see_at, visible_to}
 use Rattle.doc_store.proofs.StoreSteps.{get-without_goal}
 use Rattle.doc_store.specs.Store.{is_goal}
 use Rattle.doc_shelf_pages.specs.Templates.{body_of}

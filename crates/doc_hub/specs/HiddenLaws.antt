@@ -1,5 +1,5 @@
 -- A page that a reader doesn't see is to them as one that doesn't exist, and a link to it as a link to none.
-use Rattle.std.specs.Prelude.{◌≡◌, ℕ, List, Bool, false, Option, Ok}
+use Rattle.std.specs.Prelude.{◌≡◌, ℕ, List, false, Option, Ok}
 use Rattle.std.specs.FinMap as map
 use Rattle.doc_page_parts.specs.declared.rendered.Rendered.{Rendered}
 use Rattle.doc_store_readers.specs.declared.reader.Reader.{Reader}
