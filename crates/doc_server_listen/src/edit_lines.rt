@@ -126,6 +126,7 @@ impl EditLines {
 }
 
 /// One step of a connection, and the line of its edit right behind it.
+#[tactic(auto, using(crate::proofs::StepLimits::told_within))]
 pub(crate) fn step_and_keep<R: Renderer + Drop>(
     hub: &mut Hub<R>,
     id: ConnId,
