@@ -9,17 +9,14 @@ use Rattle.doc_store_readers.specs.Pages.{Page}
 use Rattle.doc_store.specs.Store.{StoreState, fits_in, may_move, moved_by, put_by, with_page}
 use Rattle.doc_store.specs.declared.moving.MoveError.{MoveError}
 use Rattle.doc_store.specs.declared.moving.MoveError.TheVariants as move_errors
-use Rattle.doc_store_readers.specs.declared.readers.ReaderError.{ReaderError}
-use Rattle.doc_store_readers.specs.declared.readers.ReaderError.TheVariants as reader_errors
-use Rattle.doc_store_readers.specs.declared.readers.Set.{Set}
 use Rattle.doc_store.specs.declared.store.EditError.{EditError}
 use Rattle.doc_store.specs.declared.store.EditError.TheVariants as edit_errors
 use Rattle.doc_store.specs.declared.store.Put.{Put}
 use Rattle.doc_store.proofs.StoreSteps.{taken_out}
 use Rattle.doc_hub.specs.Counts.{Counted, CountsFor, CountsOn, CountsSite, moves_by, moves_in, ran_out}
 use Rattle.doc_hub_answers.specs.Counts.{RendersPuts}
-use Rattle.doc_hub.specs.Events.{Said, SaidOn, SaidReader, SaidSite, connecting, moving, outcome_of, outcome_of_reader, outcome_of_site, outcome_on}
-use Rattle.doc_hub.specs.Events.{pushing, putting, setting}
+use Rattle.doc_hub.specs.Events.{Said, SaidOn, SaidSite, connecting, moving, outcome_of, outcome_of_site, outcome_on}
+use Rattle.doc_hub.specs.Events.{pushing, putting}
 use Rattle.doc_hub_answers.specs.Replies.{Renders}
 use Rattle.doc_hub.specs.Runs.{Happens, HappensOn, HappensSite}
 use Rattle.doc_hub.specs.Worlds.{World, connected, last_id, store_of, with_store, world_pushed}
@@ -29,15 +26,13 @@ use Rattle.doc_store.specs.declared.site_edit.SiteEdit.TheVariants as site_edits
 use Rattle.doc_hub.specs.declared.event.ConnectionEvent.{ConnectionEvent}
 use Rattle.doc_hub.specs.declared.event.ConnectionEvent.TheVariants as calls
 use Rattle.doc_hub.specs.declared.event.Event.{Event}
-use Rattle.doc_hub.specs.declared.event.ReaderEdit.{ReaderEdit}
-use Rattle.doc_hub.specs.declared.event.ReaderEdit.TheVariants as reader_edits
 use Rattle.doc_hub.specs.declared.event.Event.TheVariants as events
 use Rattle.doc_hub.specs.declared.outcome.Outcome.{Outcome}
 use Rattle.doc_hub.specs.declared.refusal.ConnectError.{ConnectError}
 use Rattle.doc_hub.specs.declared.refusal.ConnectError.TheVariants as connect_errors
 use Rattle.doc_hub.specs.declared.refusal.PushError.{PushError}
 use Rattle.doc_hub.specs.declared.refusal.PushError.TheVariants as push_errors
-use Rattle.doc_hub.proofs.KindSteps.{leaves_all_but_readers}
+use Rattle.doc_hub.proofs.KindSteps.{no_moves_beside, stand_beside}
 use Rattle.doc_hub.proofs.PutCounts.{connected_if}
 
 -- ---- numbers
@@ -123,15 +118,7 @@ pushing_moves : (said : Result (Unit {0}) PushError) → moves_by (pushing said)
 pushing_moves (Ok done) = refl
 pushing_moves (Err e) = refl
 
-setting_moves : (said : Result Set ReaderError) → moves_by (setting said) ≡ 0
-setting_moves (Ok done) = refl
-setting_moves (Err e) = refl
-
 -- ---- each event
-
-reader_moves : (edit : ReaderEdit) (said : SaidReader edit) → moves_by (outcome_of_reader edit said) ≡ 0
-reader_moves (reader_edits.Set token reader) said = setting_moves said
-reader_moves (reader_edits.Remove token) said = refl
 
 module _ (render : Renders) (rendered rendered' : ℕ) (w v : World) where
   on_counts : (id : ℕ) (call : ConnectionEvent) (said : SaidOn call) → HappensOn render w id call v said
@@ -161,9 +148,9 @@ module _ (render : Renders) (rendered rendered' : ℕ) (w v : World) where
       (gives_same connect_errors.Memory (connected w) w v said (connect_same w (nat_lt w.given last_id)) h) (connecting_moves said)
   event_counts (events.On id call) said h counts ran = on_counts id.0 call said h counts ran
   event_counts (events.Site edit) said h counts ran = site_counts edit said h counts ran
-  event_counts (events.Reader edit) said h same ran =
-      idle rendered rendered' w.puts v.puts (moves_by (outcome_of_reader edit said)) same
-      (ap (λ (x : World). x.puts) (leaves_all_but_readers w v edit said h)) (reader_moves edit said)
+  event_counts event said h same ran =
+      idle rendered rendered' w.puts v.puts (moves_by (outcome_of event said)) same (stand_beside render w v event said tt h).puts
+      (no_moves_beside event said tt)
 
   -- the same as a run tells it
   pub counted_so : (event : Event) (outcome : Outcome) (said : Said event) → Happens render w event v said

@@ -7,9 +7,6 @@ use Rattle.std.proofs.Math.Facts.{eqb_yes}
 use Rattle.std.proofs.lemmas.Bool.Decides.{nat_tests}
 use Rattle.std.proofs.lemmas.Cmp.{nat_cmp_total}
 use Rattle.doc_page_parts.specs.Refusals.{Gives}
-use Rattle.doc_store.specs.declared.moving.MoveError.TheVariants as move_errors
-use Rattle.doc_store_readers.specs.declared.readers.ReaderError.TheVariants as reader_errors
-use Rattle.doc_store.specs.declared.store.EditError.TheVariants as edit_errors
 use Rattle.doc_http.specs.declared.request.Next.{Next as Front}
 use Rattle.doc_http.specs.declared.request.Next.TheVariants as nexts
 use Rattle.doc_hub.specs.Connections.{new_connection, pushed_at, pushed_onto, with_pushed, finished}
@@ -35,7 +32,7 @@ use Rattle.doc_hub.specs.declared.refusal.PushError.TheVariants as push_errors
 use Rattle.doc_hub.specs.declared.refusal.StepError.{StepError}
 use Rattle.doc_hub.specs.declared.refusal.StepError.TheVariants as step_errors
 use Rattle.doc_hub.proofs.ConnectionSteps.{some_none}
-use Rattle.doc_hub.proofs.KindSteps.{leaves_all_but_readers, leaves_all_but_site}
+use Rattle.doc_hub.proofs.KindSteps.{connections_stand}
 
 module _ (id : ℕ) where
   -- the number was given, and has no connection
@@ -137,8 +134,9 @@ module _ (id : ℕ) where
     event_gone w v events.Connect said gone h = by_gives connect_errors.Memory (connected w) w v said gone
         (one_more w (nat_lt w.given last_id) gone) h
     event_gone w v (events.On n call) said gone h = on_gone w v n.0 call said gone h
-    event_gone w v (events.Site edit) said gone h = subst Gone (sym (leaves_all_but_site w v edit said h)) gone
-    event_gone w v (events.Reader edit) said gone h = subst Gone (sym (leaves_all_but_readers w v edit said h)) gone
+    event_gone w v event said gone h =
+        let (given, same) = connections_stand render w v event said tt h in
+        (subst (λ n. id ≤ n) (sym given) gone.0, ap (λ cs. map.get cs id) same ∙ gone.1)
 
     run_gone : (w v : World) (run : List Happened) → Gone w → Runs render w run v → Gone v
     run_gone w v run gone (nothing x) = gone

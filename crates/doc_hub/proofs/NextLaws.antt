@@ -130,5 +130,4 @@ next_of render w events.Connect v o enough (said, h, is) =
     (exactly connect_errors.Memory (connected w).0 w v (connected w).1 said h (λ m. enough (is ∙ ap connecting m))
     (connect_keeps w _ _ (nat_lt w.given last_id))) is
 next_of render w (events.On id call) v o enough (said, h, is) = next_on render w id.0 call v o enough said h is
-next_of render w (events.Site edit) v o enough leaves = tt
-next_of render w (events.Reader edit) v o enough leaves = tt
+next_of render w event v o enough leaves = tt

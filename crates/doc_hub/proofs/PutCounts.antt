@@ -7,7 +7,6 @@ use Rattle.doc_store_readers.specs.Pages.{Page}
 use Rattle.doc_store.specs.Store.{StoreState, fits_in, may_move, moved_by, put_by}
 use Rattle.doc_store.specs.declared.moving.MoveError.{MoveError}
 use Rattle.doc_store.specs.declared.moving.MoveError.TheVariants as move_errors
-use Rattle.doc_store_readers.specs.declared.readers.ReaderError.TheVariants as reader_errors
 use Rattle.doc_store.specs.declared.store.EditError.{EditError}
 use Rattle.doc_store.specs.declared.store.EditError.TheVariants as edit_errors
 use Rattle.doc_store.proofs.StoreSteps.{taken_out}
@@ -21,7 +20,7 @@ use Rattle.doc_hub_answers.specs.Replies.{Renders}
 use Rattle.doc_hub.specs.Runs.{Happens, HappensOn, HappensSite, Leaves, nothing, first}
 use Rattle.doc_hub.specs.Worlds.{World, Answers, Stays, StepsAt, answer_in, connected, last_id, stepped_by, store_of, world_moved}
 use Rattle.doc_hub.specs.Worlds.{world_pushed, world_put}
-use Rattle.doc_hub.proofs.KindSteps.{leaves_all_but_readers}
+use Rattle.doc_hub.proofs.KindSteps.{stand_beside}
 use Rattle.doc_hub.specs.declared.connection.Connection.{Connection}
 use Rattle.doc_hub.specs.declared.event.ConnId.{ConnId}
 use Rattle.doc_store.specs.declared.site_edit.SiteEdit.{SiteEdit}
@@ -138,7 +137,7 @@ module _ (render : Renders) where
       by_gives connect_errors.Memory (connected w) w v said (connect_counts w (nat_lt w.given last_id)) h
   event_counts w v (events.On n call) said h = on_counts w v n.0 call said h
   event_counts w v (events.Site edit) said h = site_counts w v edit said h
-  event_counts w v (events.Reader edit) said h = subst (Counts w) (sym (leaves_all_but_readers w v edit said h)) (none_more w.puts)
+  event_counts w v event said h = subst (OneMore w.puts) (sym (stand_beside render w v event said tt h).puts) (none_more w.puts)
 
 pub counted : (render : Renders) (w v : World) (event : Event) (outcome : Outcome) → Leaves render w event v outcome → v.puts ≤ w.puts + 1
 counted render w v event outcome (said, h, told) = event_counts render w v event said h

@@ -13,7 +13,6 @@ use Rattle.doc_store_readers.specs.Readers.{ReaderTable}
 use Rattle.doc_store.specs.Store.{StoreState, fits_in, may_move, moved_by, put_by}
 use Rattle.doc_store.specs.declared.moving.MoveError.{MoveError}
 use Rattle.doc_store.specs.declared.moving.MoveError.TheVariants as move_errors
-use Rattle.doc_store_readers.specs.declared.readers.ReaderError.TheVariants as reader_errors
 use Rattle.doc_store.specs.declared.store.EditError.{EditError}
 use Rattle.doc_store.specs.declared.store.EditError.TheVariants as edit_errors
 use Rattle.doc_store.proofs.StoreSteps.{taken_out}
@@ -30,7 +29,7 @@ use Rattle.doc_hub.specs.Runs.{Happens, HappensOn, HappensSite, Happened, Runs, 
 use Rattle.doc_hub.specs.StepLaws.{open_with, site_seen}
 use Rattle.doc_hub.specs.Worlds.{World, Answers, Stays, StepsAt, answer_in, connected, disconnected, last_id, new_world, reader_of}
 use Rattle.doc_hub.specs.Worlds.{stepped_by, store_of, world_moved, world_pushed, world_put}
-use Rattle.doc_hub.proofs.KindSteps.{leaves_all_but_readers}
+use Rattle.doc_hub.proofs.KindSteps.{stand_beside}
 use Rattle.doc_hub.specs.declared.connection.Connection.{Connection}
 use Rattle.doc_hub.specs.declared.event.ConnId.{ConnId}
 use Rattle.doc_store.specs.declared.site_edit.SiteEdit.{SiteEdit}
@@ -225,8 +224,12 @@ module _ (render : Renders) where
       by_gives connect_errors.Memory (connected w) w v said can (connect_can w (nat_lt w.given last_id) can) h
   event_can w v (events.On n call) said can h = on_can w v n.0 call said can h
   event_can w v (events.Site edit) said can h = site_can w v edit said can h
-  event_can w v (events.Reader edit) said can h =
-      subst CanBe (sym (leaves_all_but_readers w v edit said h)) (record { stored = can.stored; short = can.short })
+  event_can w v event said can h =
+      let beside = stand_beside render w v event said tt h in
+      record {
+        stored = subst (λ site. Stored site v.puts) (sym beside.site) (subst (λ puts. Stored w.site puts) (sym beside.puts) can.stored);
+        short = subst IsShort (sym beside.connections) can.short;
+      }
 
   all_can : (w v : World) (run : List Happened) → CanBe w → Runs render w run v → All (λ h. CanBe h.world) run
   all_can w v run can (nothing x) = All-nil (λ (h : Happened). CanBe h.world)

@@ -7,9 +7,6 @@ use Rattle.std.proofs.lemmas.Cmp.{nat_cmp_total}
 use Rattle.std.proofs.Math.Facts.{eqb_yes}
 use Rattle.std.proofs.lemmas.List.Elements.{All-head, All-tail}
 use Rattle.doc_page_parts.specs.Refusals.{Gives}
-use Rattle.doc_store.specs.declared.moving.MoveError.TheVariants as move_errors
-use Rattle.doc_store_readers.specs.declared.readers.ReaderError.TheVariants as reader_errors
-use Rattle.doc_store.specs.declared.store.EditError.TheVariants as edit_errors
 use Rattle.doc_http.specs.Requests.{IsNext}
 use Rattle.doc_http.specs.declared.request.Next.{Next as Front}
 use Rattle.doc_http.specs.declared.request.Next.TheVariants as nexts
@@ -41,7 +38,7 @@ use Rattle.doc_hub.specs.RunLaws.{AgreeAt, AgreeOnCall, Matched, RunsAlike}
 use Rattle.doc_hub.specs.StepLaws.{AgreeOn, connection}
 use Rattle.doc_hub.proofs.StepLaws.{answers_alike}
 use Rattle.doc_hub.proofs.NextLaws.{Is, shown, Next, NextOn, NextStep, next_of}
-use Rattle.doc_hub.proofs.KindSteps.{leaves_all_but_readers, leaves_all_but_site}
+use Rattle.doc_hub.proofs.KindSteps.{connections_stand}
 
 -- one connection changes
 put_at : (w : World) (id : ℕ) (k : Connection) (c : ℕ) (b : Bool) → (c == id) ≡ b
@@ -139,8 +136,7 @@ module _ (render : Renders) (c : ℕ) where
       kept_given connect_errors.Memory w v (connected_if w t) said h (λ is. connect_elsewhere w t
       (ap (λ r. is_on_by c events.Connect (connecting r)) is ∙ off))
   elsewhere w (events.On id call) v said off h = on_elsewhere w id.0 call v said off h
-  elsewhere w (events.Site edit) v said off h = ap (connection c) (leaves_all_but_site w v edit said h)
-  elsewhere w (events.Reader edit) v said off h = ap (connection c) (leaves_all_but_readers w v edit said h)
+  elsewhere w event v said off h = ap (λ cs. map.get cs c) (connections_stand render w v event said tt h).1
 
   leaves_elsewhere : (w : World) (e : Event) (v : World) (o : Outcome) → is_on_by c e o ≡ false → Leaves render w e v o → Kept w v
   leaves_elsewhere w e v o off (said, h, told) = elsewhere w e v said (ap (is_on_by c e) (sym told) ∙ off) h
@@ -301,8 +297,7 @@ module _ (render : Renders) (c : ℕ) where
       → connection c w ≡ connection c v → AgreeAt c w v e → Next render w e w' o → Next render v e v' p → Same w' v' o p
   same_event w v w' v' events.Connect o p on on' alike agree h g = same_made w v w' v' o p (made w w' o on h) (made v v' p on' g)
   same_event w v w' v' (events.On id call) o p on on' alike agree h g = same_on w v w' v' id call o p on alike agree h g
-  same_event w v w' v' (events.Site edit) o p on on' alike agree h g = absurd (subst T (sym on) tt)
-  same_event w v w' v' (events.Reader edit) o p on on' alike agree h g = absurd (subst T (sym on) tt)
+  same_event w v w' v' event o p on on' alike agree h g = absurd (subst T (sym on) tt)
 
   same_sent : (hs gs : List Happened) (k j : Option Connection) → k ≡ j → Chain k hs → Chain j gs → Matched c hs gs
       → flat_map (λ h. sent_by h.outcome) hs ≡ flat_map (λ h. sent_by h.outcome) gs

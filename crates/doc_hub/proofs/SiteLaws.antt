@@ -8,7 +8,6 @@ use Rattle.doc_store.specs.Store.{StoreState, set_page, remove_page, move_page, 
 use Rattle.doc_store.specs.Store.{may_move, moved_by}
 use Rattle.doc_store.specs.declared.moving.MoveError.{MoveError}
 use Rattle.doc_store.specs.declared.moving.MoveError.TheVariants as move_errors
-use Rattle.doc_store_readers.specs.declared.readers.ReaderError.TheVariants as reader_errors
 use Rattle.doc_store.specs.declared.store.EditError.{EditError}
 use Rattle.doc_store.specs.declared.store.EditError.TheVariants as edit_errors
 use Rattle.doc_store.specs.declared.store.Put.{Put}
@@ -41,7 +40,7 @@ use Rattle.doc_hub.specs.declared.refusal.StepError.TheVariants as step_errors
 use Rattle.doc_hub_answers.specs.declared.edit.Edit.{Edit}
 use Rattle.doc_hub_answers.specs.declared.edit.Edit.TheVariants as edits
 use Rattle.doc_hub_answers.proofs.AnswerEdits.{answer_can_be_made}
-use Rattle.doc_hub.proofs.KindSteps.{leaves_all_but_readers}
+use Rattle.doc_hub.proofs.KindSteps.{stand_beside}
 
 err_ok : {X E : Type 0} (e : E) (x : X) → ◌≡◌ {A = Result X E} (Err e) (Ok x) → ⊥
 err_ok e x is = cc
@@ -198,7 +197,7 @@ module _ (render : Renders) where
       (None, refl, kept connect_errors.Memory (connected w) w v said (connect_keeps w _ _ (nat_lt w.given last_id) refl) h)
   event_edits w v (events.On id call) said h = on_edits w v id call said h
   event_edits w v (events.Site edit) said h = site_edits_of w v edit said h
-  event_edits w v (events.Reader edit) said h = (None, refl, ap (λ (x : World). x.site) (leaves_all_but_readers w v edit said h))
+  event_edits w v event said h = (None, refl, (stand_beside render w v event said tt h).site)
 
   leaves_edits : (w v : World) (event : Event) (outcome : Outcome) → Leaves render w event v outcome → Edits render w v event outcome
   leaves_edits w v event outcome (said, h, told) = subst (λ o. Edits render w v event o) (sym told) (event_edits w v event said h)

@@ -44,7 +44,7 @@ abbrev pub IsMakingEvent : Event → Type 0
 IsMakingEvent events.Connect = ⊤
 IsMakingEvent (events.On id call) = IsMakingOn call
 IsMakingEvent (events.Site edit) = IsMakingEdit edit
-IsMakingEvent (events.Reader edit) = ⊥
+IsMakingEvent other = ⊥
 
 abbrev pub IsMaking : Happened → Type 0
 IsMaking h = IsMakingEvent h.event

@@ -324,8 +324,8 @@ impl<R: Renderer + Drop> Hub<R> {
         Ok(List::new(outcomes))
     }
 
-    /// The call of an event.
-    fn happen(&mut self, event: &Event) -> Outcome
+    /// Makes an event happen: its call, and what comes of it.
+    pub fn happen(&mut self, event: &Event) -> Outcome
         ensures world { Leaves (R.page self.old.0) self.old.1 event.now self.new.1 result }
         ensures same { R.page self.new.0 ≡ R.page self.old.0 }
         ensures counted { Counted (R.count self.old.0) self.old.1

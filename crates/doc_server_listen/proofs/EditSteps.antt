@@ -84,9 +84,7 @@ quiet_one : (render : Renders) (w v : World) (event : Event) (outcome : Outcome)
 quiet_one render w v (events.On id (calls.Push bytes)) outcome q = refl
 quiet_one render w v (events.On id calls.Disconnect) outcome q = refl
 quiet_one render w v (events.On id calls.Step) outcome q = absurd q
-quiet_one render w v events.Connect outcome q = absurd q
-quiet_one render w v (events.Site edit) outcome q = absurd q
-quiet_one render w v (events.Reader edit) outcome q = absurd q
+quiet_one render w v event outcome q = absurd q
 
 abbrev nones : List Happened → List (Option SiteEdit)
 nones [] = []

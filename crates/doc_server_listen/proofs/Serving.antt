@@ -48,9 +48,7 @@ none_is m e = cc
 
 on_by : (c n : ℕ) (event : Event) (outcome : Outcome) → served_by event ≡ Some n → is_on_by c event outcome ≡ (c == n)
 on_by c n (events.On id call) outcome on = ap (λ m. c == m) (some_is id.0 n on)
-on_by c n events.Connect outcome on = absurd (none_is n on)
-on_by c n (events.Site edit) outcome on = absurd (none_is n on)
-on_by c n (events.Reader edit) outcome on = absurd (none_is n on)
+on_by c n event outcome on = absurd (none_is n on)
 
 abbrev IsApart : ℕ → Happened → Type 0
 IsApart c h = (n : ℕ) × (served_by h.event ≡ Some n) × ((c == n) ≡ false)

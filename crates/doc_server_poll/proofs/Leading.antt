@@ -51,8 +51,7 @@ none_is m e = cc
 pub of_peers : (event : Event) (c : ℕ) → served_by event ≡ Some c → IsOfPeers event
 of_peers events.Connect c is = tt
 of_peers (events.On id call) c is = tt
-of_peers (events.Site edit) c is = none_is c is
-of_peers (events.Reader edit) c is = none_is c is
+of_peers event c is = absurd (none_is c is)
 
 abbrev pub leads_served : (render : Renders) (w v : World) (ps qs : List Peer) → ServesAll render w ps v qs → Leads render w v
 leads_served render w v ps qs s = record {

@@ -107,9 +107,7 @@ module _ (render : Renders) (c : ℕ) where
       → Leaves render w event v outcome → Kept w v
   event_elsewhere w v (events.On id call) outcome n on off (said, h, told) =
       on_elsewhere w v id.0 call said (ap (λ m. c == m) (some_is id.0 n on) ∙ off) h
-  event_elsewhere w v events.Connect outcome n on off h = absurd (none_is n on)
-  event_elsewhere w v (events.Site edit) outcome n on off h = absurd (none_is n on)
-  event_elsewhere w v (events.Reader edit) outcome n on off h = absurd (none_is n on)
+  event_elsewhere w v event outcome n on off h = absurd (none_is n on)
 
   pub kept_elsewhere : (w v : World) (run : List Happened) → Runs render w run v → AreElsewhere c run → Kept w v
   kept_elsewhere w v run (nothing x) off = refl

@@ -72,9 +72,7 @@ module _ (render : Renders) where
   event_keeps : (w v : World) (event : Event) (outcome : Outcome) (n : ℕ) → served_by event ≡ Some n → Leaves render w event v outcome
       → Kept w v
   event_keeps w v (events.On id call) outcome n on (said, h, told) = on_keeps w v id.0 call said h
-  event_keeps w v events.Connect outcome n on h = absurd (none_is n on)
-  event_keeps w v (events.Site edit) outcome n on h = absurd (none_is n on)
-  event_keeps w v (events.Reader edit) outcome n on h = absurd (none_is n on)
+  event_keeps w v event outcome n on h = absurd (none_is n on)
 
   pub given_kept : (w v : World) (run : List Happened) → Runs render w run v → All IsServed run → Kept w v
   given_kept w v run (nothing x) all = refl

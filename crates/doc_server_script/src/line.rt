@@ -47,9 +47,7 @@ fn event_by(heap: Heap, command: Command, rest: &str) -> Result<Event, FieldErro
         Command::Step => call_of(rest, ConnectionEvent::Step),
         Command::Disconnect => call_of(rest, ConnectionEvent::Disconnect),
         Command::Remove => Ok(Event::Site(SiteEdit::Remove(path_in(heap, rest)?))),
-        Command::Unreader => Ok(Event::Reader(ReaderEdit::Remove(Text::copy_of(
-            heap, rest,
-        )?))),
+        Command::Unreader => Ok(Event::Reader(ReaderEdit::Remove(Text::copy_of(heap, rest)?))),
         _ => match cut(rest) {
             Some((first, more)) => event_of_fields(heap, command, first, more),
             None => Err(FieldError::Bad),
@@ -128,8 +126,5 @@ fn reader_of(heap: Heap, token: &str, more: &str) -> Result<Event, FieldError>
     };
     let groups = groups_in(heap, groups)?;
     let token = Text::copy_of(heap, token)?;
-    Ok(Event::Reader(ReaderEdit::Set(
-        token,
-        Reader { owner, groups },
-    )))
+    Ok(Event::Reader(ReaderEdit::Set(token, Reader { owner, groups })))
 }

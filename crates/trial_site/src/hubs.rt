@@ -6,13 +6,12 @@ use crate::outcomes::{push_all, push_outcome};
 use crate::stop::Stop;
 use crate::world::World;
 use crate::written::{push, push_after};
-use doc_hub::event::{ConnId, ConnectionEvent, Event, ReaderEdit};
+use doc_hub::event::ConnId;
 use doc_hub::hub::Hub;
 use doc_hub::outcome::Outcome;
 use doc_page::renderer::Renderer;
 use doc_page_parts::failure::Memory;
 use doc_page_parts::heap::{Heap, String};
-use doc_store::site_edit::SiteEdit;
 
 /// Writes what a call of this name answers: that of an event, or of one of these.
 pub fn called<R: Renderer + Drop>(
@@ -28,7 +27,7 @@ pub fn called<R: Renderer + Drop>(
         "run" => run(out, *heap, hub, given),
         _ => {
             let event = event_of(*heap, name, given)?;
-            let outcome = happened(hub, &event);
+            let outcome = hub.happen(&event);
             drop(event);
             told(out, outcome)
         }
@@ -40,43 +39,6 @@ fn told(out: &mut String, outcome: Outcome) -> Result<(), Stop> {
     let pushed = push_outcome(out, &outcome);
     drop(outcome);
     Ok(pushed?)
-}
-
-/// What comes of the call of an event.
-fn happened<R: Renderer + Drop>(hub: &mut Hub<R>, event: &Event) -> Outcome {
-    match event {
-        Event::Connect => Outcome::from(hub.connect()),
-        Event::On(id, call) => happened_on(hub, *id, call),
-        Event::Site(edit) => edited_site(hub, edit),
-        Event::Reader(edit) => edited_reader(hub, edit),
-    }
-}
-
-fn happened_on<R: Renderer + Drop>(
-    hub: &mut Hub<R>,
-    id: ConnId,
-    call: &ConnectionEvent,
-) -> Outcome {
-    match call {
-        ConnectionEvent::Push(bytes) => Outcome::from(hub.push(id, bytes.get())),
-        ConnectionEvent::Step => Outcome::from(hub.step(id)),
-        ConnectionEvent::Disconnect => Outcome::Disconnected(hub.disconnect(id)),
-    }
-}
-
-fn edited_site<R: Renderer + Drop>(hub: &mut Hub<R>, edit: &SiteEdit) -> Outcome {
-    match edit {
-        SiteEdit::Put(path, groups, text) => Outcome::from(hub.put_page(path, groups, text.get())),
-        SiteEdit::Remove(path) => Outcome::Removed(hub.remove_page(path)),
-        SiteEdit::Move(from, to) => Outcome::from(hub.move_page(from, to)),
-    }
-}
-
-fn edited_reader<R: Renderer + Drop>(hub: &mut Hub<R>, edit: &ReaderEdit) -> Outcome {
-    match edit {
-        ReaderEdit::Set(token, reader) => Outcome::from(hub.set_reader(token.get(), reader)),
-        ReaderEdit::Remove(token) => Outcome::ReaderRemoved(hub.remove_reader(token.get())),
-    }
 }
 
 /// `ID BYTES`: a push and a step.
