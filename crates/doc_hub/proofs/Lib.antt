@@ -5,6 +5,7 @@ mod DropLaws
 mod FreshLaws
 mod FrontSteps
 mod GivenLaws
+mod HiddenLaws
 mod MadeLaws
 mod MadeSites
 mod NextLaws
