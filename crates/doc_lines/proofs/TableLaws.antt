@@ -58,8 +58,6 @@ find_append (e ∷ xs) ys name =
 find_one : (e : Entity) (name : Text) → find_entity (e ∷ []) name ≡ choice (bytes_eq e.0 name) e.1 None
 find_one e name = find_cons e [] name ∙ ap (choice (bytes_eq e.0 name) e.1) (find_none name)
 
--- ---- texts that are equal or not
-
 -- ---- looking up after an insertion
 
 same_key : (b d : Bool) (v w : Text) (other : Option Text) → b ≡ d → choice b v other ≡ choice d v (choice b w other)

@@ -1,4 +1,4 @@
--- Tags, destinations, titles, labels, definitions, addresses and references leave the end of a text; definitions one after another are
+-- Tags, destinations, titles, labels, definitions and addresses leave the end of a text; definitions one after another are
 -- one and then the others.
 use Rattle.std.proofs.Common.{◌≡◌, ℕ, zero, suc, ◌<◌, ◌≤◌, Bool, not, ◌==◌, List, [], ◌∷◌, length, refl, ap, sym, ◌∙◌, Option, Some, None}
 use Rattle.std.proofs.Common.{arith, subst}
@@ -396,5 +396,3 @@ mail_leaves =
     (then_leaves (some is_local_char then is 64) domain_part
     (then_leaves (some is_local_char) (is 64) (some_leaves is_local_char) (is_leaves 64)) domain_part_leaves)
     (repeated_leaves (is 46 then domain_part) (then_leaves (is 46) domain_part (is_leaves 46) domain_part_leaves))
-
--- ---- character references (2.5)
