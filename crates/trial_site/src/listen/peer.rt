@@ -38,7 +38,7 @@ pub struct Peer {
     /// None: the peer has gone away.
     stream: Option<TcpStream>,
     heard: Vec<u8>,
-    /// What was counted of them so far, so that it isn't read again.
+    /// The replies that were counted so far, which aren't read again.
     whole: Whole,
     has_ended: bool,
 }
