@@ -6,6 +6,7 @@ mod FreshLaws
 mod FrontSteps
 mod GivenLaws
 mod HiddenLaws
+mod KindSteps
 mod MadeLaws
 mod MadeSites
 mod NextLaws

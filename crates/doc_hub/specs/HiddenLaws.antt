@@ -10,7 +10,7 @@ use Rattle.doc_http.specs.declared.request.Request.{Request}
 use Rattle.doc_http.specs.declared.request.Next.TheVariants as nexts
 use Rattle.doc_hub_answers.specs.Replies.{Renders, link_shown}
 use Rattle.doc_hub.specs.declared.event.ConnId.{ConnId}
-use Rattle.doc_hub.specs.declared.event.Event.TheVariants as events
+use Rattle.doc_hub.specs.Events.{step_on}
 use Rattle.doc_hub.specs.declared.event.Step.{Step}
 use Rattle.doc_hub.specs.Runs.{Happens}
 use Rattle.doc_hub.specs.StepLaws.{Begins}
@@ -36,7 +36,7 @@ pub record HiddenAsNone : Type 0 where
       → answer_in render w request ≡ answer_in render (world_without w path) request
   pub steps : (render : Renders) (w w' v' : World) (c : ConnId) (used : ℕ) (request : Request) (path : List ℕ) (said told : Step)
       → IsHidden w.site (reader_of w request) path → Begins w c (nexts.Request used request)
-      → Happens render w (events.Step c) w' (Ok said) → Happens render (world_without w path) (events.Step c) v' (Ok told)
+      → Happens render w (step_on c) w' (Ok said) → Happens render (world_without w path) (step_on c) v' (Ok told)
       → said ≡ told
 
 -- A link to a hidden page is shown as a link to one that doesn't exist: whether the hidden page stands or not, each link of each page

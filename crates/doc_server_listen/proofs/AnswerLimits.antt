@@ -2,13 +2,12 @@
 use Rattle.std.proofs.Common.{◌≡◌, ◌≤◌, ℕ, List, length, Bool, true, false, refl, arith}
 use Rattle.std.specs.Prelude.{codes, nat_le, nat_lt, not, Option, Some, None, IfSome, Result, Ok, Err, IfOk, option_and_then, if◌then◌else◌}
 use Rattle.std.specs.List.{join_with_byte, list_all}
-use Rattle.std.specs.Str.{is_utf8}
 use Rattle.std.proofs.lemmas.Bool.Decides.{nat_tests}
 use Rattle.doc_page_parts.specs.Paths.{is_path}
 use Rattle.doc_page_parts.proofs.Bools.{and_first}
 use Rattle.doc_resolve.specs.WrittenPaths.{if_path, path_written as path_of_segments}
 use Rattle.doc_store_readers.specs.Groups.{IsGroups, different_names, group_limit, groups_of, groups_of_names, is_group, names_in_text}
-use Rattle.doc_store_readers.specs.Sites.{View, page_at}
+use Rattle.doc_store_readers.specs.Sites.{View}
 use Rattle.doc_store_readers.specs.declared.groups.GroupsError.{GroupsError}
 use Rattle.doc_store_readers.specs.declared.groups.GroupsError.TheVariants.{BadGroup, TooMany}
 use Rattle.doc_store_readers.specs.declared.reader.Reader.{Reader}
@@ -21,7 +20,7 @@ use Rattle.doc_http_targets.specs.Targets.{Route, route_of}
 use Rattle.doc_http_targets.specs.Targets as routes
 use Rattle.doc_http_targets.specs.WrittenPaths.{path_written}
 use Rattle.doc_hub.specs.EditLaws.{site_edit}
-use Rattle.doc_hub_answers.specs.Replies.{Renders, Response, answer_of, at_route, delete_at, edit_at, edit_page, edited, has_room, method_of}
+use Rattle.doc_hub_answers.specs.Replies.{Renders, Response, answer_of, delete_at, edit_at, edit_page, edited, has_room, method_of}
 use Rattle.doc_hub_answers.specs.Replies.{on_route, only_reply, put_at, put_by, put_page, reads, refused, reply_at, response_to}
 use Rattle.doc_hub_answers.specs.declared.edit.Edit.{Edit}
 use Rattle.doc_hub_answers.specs.declared.edit.Edit.TheVariants as edits
@@ -77,7 +76,7 @@ module _ (view : View) (left : Bool) where
   put_if : (path : List ℕ) (groups : List (List ℕ)) (text : List ℕ) (code : ℕ) (room : Bool) → is_path path ≡ true → IsGroups groups
       → has_room view left path text ≡ room
       → FitsWith text (if room then edited code (edits.Put path groups) else refused 507).edit
-  put_if path groups text code true one all is = (one, all, at_most (length text) text_limit (and_first _ _ is))
+  put_if path groups text code true one all is = (one, all, at_most (length text) text_limit (and_first _ _ (and_first _ _ is)))
   put_if path groups text code false one all is = tt
 
   text_if : (path : List ℕ) (groups : List (List ℕ)) (text : List ℕ) (utf8 : Bool) → is_path path ≡ true → IsGroups groups

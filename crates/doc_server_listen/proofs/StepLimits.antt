@@ -7,7 +7,8 @@ use Rattle.doc_page_parts.proofs.Bools.{and_second}
 use Rattle.doc_store_readers.proofs.KeySteps.{get_set, same_itself}
 use Rattle.doc_store_readers.specs.Pages.{Page}
 use Rattle.doc_store_readers.specs.Sites.{Site, view_of}
-use Rattle.doc_store.specs.Store.{Edit as SiteEdit, set_page}
+use Rattle.doc_store.specs.Store.{set_page}
+use Rattle.doc_store.specs.declared.site_edit.SiteEdit.{SiteEdit}
 use Rattle.doc_http.specs.Requests.{IsNext}
 use Rattle.doc_http.specs.declared.request.Next.{Next}
 use Rattle.doc_http.specs.declared.request.Next.TheVariants as nexts
@@ -17,12 +18,11 @@ use Rattle.doc_hub_answers.specs.Replies.{Renders}
 use Rattle.doc_hub_answers.specs.declared.edit.Edit.{Edit}
 use Rattle.doc_hub_answers.specs.declared.edit.Edit.TheVariants as edits
 use Rattle.doc_hub.specs.Runs.{Happens}
-use Rattle.doc_hub.specs.StepEdits.{StepTells, TellsAt, edit_of_step, told_edit}
+use Rattle.doc_hub.specs.StepEdits.{StepTells, TellsAt, edit_of_step}
 use Rattle.doc_hub.specs.Worlds.{World, Answers, Stays, StepsAt, answer_in, reader_of, stepped_by, store_of}
 use Rattle.doc_hub.specs.declared.connection.Connection.{Connection}
-use Rattle.doc_hub.specs.declared.edited.Edited.{Edited}
 use Rattle.doc_hub.specs.declared.event.ConnId.{ConnId}
-use Rattle.doc_hub.specs.declared.event.Event.TheVariants as events
+use Rattle.doc_hub.specs.Events.{step_on}
 use Rattle.doc_hub.specs.declared.event.Step.{Step}
 use Rattle.doc_hub.specs.declared.event.Step.TheVariants as steps
 use Rattle.doc_hub.specs.declared.refusal.StepError.{StepError}
@@ -36,11 +36,11 @@ use Rattle.doc_server_listen.proofs.AnswerLimits.{FitsWith, answer_fits}
 -- ---- the edit that a step tells
 
 module _ (render : Renders) (w v : World) where
-  abbrev TellsWithin : Option Edited → Type 0
+  abbrev TellsWithin : Option Edit → Type 0
   TellsWithin told = IfSome (edit_at v told) IsWithin
 
   edit_within : (text : List ℕ) (edit : Option Edit) → FitsWith text edit → v.site ≡ (store_after (store_of w) text edit).site
-      → TellsWithin (told_edit edit)
+      → TellsWithin edit
   edit_within text None fits site = tt
   edit_within text (Some (edits.Put path groups)) fits site =
       let page : Page = record { groups = groups; text = text } in
@@ -58,10 +58,10 @@ module _ (render : Renders) (w v : World) where
       edit_within request.body (answer_in render w request).edit
       (answer_fits render (view_of w.site (reader_of w request)) (reader_of w request) (puts_left w.puts) w.keep_alive request) site
 
-  none_within : (told : Option Edited) → told ≡ None → TellsWithin told
+  none_within : (told : Option Edit) → told ≡ None → TellsWithin told
   none_within told none = subst TellsWithin (sym none) tt
 
-  open_within : (n : ℕ) (c : Connection) (said : Step) (told : Option Edited) (closed : Bool)
+  open_within : (n : ℕ) (c : Connection) (said : Step) (told : Option Edit) (closed : Bool)
       → MatchBool closed (Stays w (Ok steps.Closed) v (Ok said)) (Answers render w n v (Ok said) c)
       → MatchBool closed (told ≡ None) ((next : Next) × IsNext c.unread next × (told ≡ edit_of_step render w next)) → TellsWithin told
   open_within n c said told true h none = none_within told none
@@ -69,13 +69,13 @@ module _ (render : Renders) (w v : World) where
       subst TellsWithin (ap (edit_of_step render w) (read_in_one_way c.unread next other begins also) ∙ sym tells)
       (next_within n c next (sym (ap (λ (q : World × Result Step StepError). q.0.site) is)))
 
-  at_within : (n : ℕ) (said : Step) (told : Option Edited) (k : Option Connection) → StepsAt render w n v (Ok said) k
+  at_within : (n : ℕ) (said : Step) (told : Option Edit) (k : Option Connection) → StepsAt render w n v (Ok said) k
       → TellsAt render w k told → TellsWithin told
   at_within n said told None h none = none_within told none
   at_within n said told (Some c) h tells = open_within n c said told c.closed h tells
 
-pub told_within : (render : Renders) (w v : World) (id : ConnId) (said : Step) (told : Option Edited)
-    → Happens render w (events.Step id) v (Ok said) → StepTells render w id.0 told → IfSome (edit_at v told) IsWithin
+pub told_within : (render : Renders) (w v : World) (id : ConnId) (said : Step) (told : Option Edit)
+    → Happens render w (step_on id) v (Ok said) → StepTells render w id.0 told → IfSome (edit_at v told) IsWithin
 told_within render w v id said told h tells = at_within render w v id.0 said told (map.get w.connections id.0) h tells
 
 -- ---- its line
@@ -92,6 +92,11 @@ pub one_more_fits : {E : Type 0} (whole : Bool) (before after : List ℕ) (edit 
     → room_beside whole (Some before) ≡ true → IfSome edit IsWithin → is_err said ≡ false
     → OnOk said (after ≡ before ++ lines_of (option_to_list edit)) → length after ≤ text_limit
 one_more_fits whole before after edit (Ok done) room within fine is =
-    omega (arith, ap length is, length-append before (lines_of (option_to_list edit)), more_within edit within,
-    at_most (length before + longest_line) text_limit (and_second _ _ room))
+    omega (
+      arith,
+      ap length is,
+      length-append before (lines_of (option_to_list edit)),
+      more_within edit within,
+      at_most (length before + longest_line) text_limit (and_second _ _ room),
+    )
 one_more_fits whole before after edit (Err e) room within fine is = absurd (cc)

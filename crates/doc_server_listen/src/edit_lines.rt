@@ -1,27 +1,22 @@
 //! The edits of a turn as lines of a script.
 
 ghost use Rattle.std.specs.Prelude.{◌≡◌, ◌≤◌, ◌++◌, [], None, Some, true, length, option_to_list, string_bytes, IfSome, OnOk};
-ghost use Rattle.doc_store.specs.Store.{set_page};
-ghost use Rattle.doc_hub.specs.Events.{stepping};
+ghost use Rattle.doc_hub.specs.Events.{step_on, stepping};
 ghost use Rattle.doc_hub.specs.Runs.{Happens};
-ghost use Rattle.doc_hub.specs.declared.event.Event.TheVariants as events;
 ghost use Rattle.doc_server_journal_records.specs.Records.{text_limit};
 ghost use Rattle.doc_server_script.specs.LineLengths.{IsWithin};
-ghost use Rattle.doc_server_script.specs.PageLines.{line_of, lines_of};
+ghost use Rattle.doc_server_script.specs.PageLines.{lines_of};
 ghost use Rattle.doc_server_listen.specs.Edits.{Adds, MakesIn, edit_at, has_room};
 
-use doc_hub::edited::Edited;
 use doc_hub::event::{ConnId, Step};
 use doc_hub::hub::Hub;
 use doc_hub::refusal::StepError;
+use doc_hub_answers::edit::Edit;
 use doc_page::renderer::Renderer;
 use doc_page_parts::failure::Memory;
 use doc_page_parts::heap::{Heap, String};
-use doc_page_parts::path::Path;
 use doc_server_journal_records::record::TEXT_LIMIT;
-use doc_server_script::edit::push_put;
-use doc_server_script::page_lines::push_remove_line;
-use doc_store::page::Page;
+use doc_server_script::page_lines::{push_put_line, push_remove_line};
 use std::marker::Model;
 
 /// How many bytes a path may have.
@@ -38,8 +33,10 @@ const PAGE_LIMIT: usize = 1_048_576;
 
 /// The longest line of an edit: `put `, a path, the names of groups and a text, with what stands behind each of them. Each byte of the path
 /// and of the text is written with four.
-const LONGEST_LINE: usize =
-    4 + (4 * PATH_LIMIT + 1) + GROUP_LIMIT * (NAME_LIMIT + 1) + (4 * PAGE_LIMIT + 1);
+const LONGEST_LINE: usize = 4
+    + (4 * PATH_LIMIT + 1)
+    + GROUP_LIMIT * (NAME_LIMIT + 1)
+    + (4 * PAGE_LIMIT + 1);
 
 /// Up to how many bytes a further step is taken: behind so many the line of one more edit ends within a record.
 const MOST_BYTES: usize = TEXT_LIMIT - LONGEST_LINE;
@@ -111,7 +108,7 @@ impl EditLines {
     }
 
     /// Adds the line of an edit that a step of the hub made, where it stands now.
-    fn push<R: Renderer + Drop>(&mut self, hub: &Hub<R>, edit: &Option<Edited>)
+    fn push<R: Renderer + Drop>(&mut self, hub: &Hub<R>, edit: &Option<Edit>)
         requires room { has_room self.old ≡ true }
         requires within { IfSome (edit_at hub.now.1 edit.now) IsWithin }
         ensures { Adds self.old self.new (option_to_list (edit_at hub.now.1 edit.now)) }
@@ -126,14 +123,15 @@ impl EditLines {
 }
 
 /// One step of a connection, and the line of its edit right behind it.
+#[tactic(auto, using(crate::proofs::StepLimits::told_within))]
 pub(crate) fn step_and_keep<R: Renderer + Drop>(
     hub: &mut Hub<R>,
     id: ConnId,
     edits: &mut EditLines,
 ) -> Result<Step, StepError>
     requires { has_room edits.old ≡ true }
-    ensures world { Happens (R.page hub.old.0) hub.old.1 (events.Step id) hub.new.1 result }
-    ensures edit { (edit : _) × MakesIn (R.page hub.old.0) hub.old.1 (events.Step id)
+    ensures world { Happens (R.page hub.old.0) hub.old.1 (step_on id) hub.new.1 result }
+    ensures edit { (edit : _) × MakesIn (R.page hub.old.0) hub.old.1 (step_on id)
         (stepping result) hub.new.1 edit × Adds edits.old edits.new (option_to_list edit) }
     ensures same { R.page hub.new.0 ≡ R.page hub.old.0 }
 {
@@ -146,27 +144,17 @@ pub(crate) fn step_and_keep<R: Renderer + Drop>(
 fn push_edit<R: Renderer + Drop>(
     out: &mut String,
     hub: &Hub<R>,
-    edit: &Option<Edited>,
+    edit: &Option<Edit>,
 ) -> Result<(), Memory>
     ensures { OnOk result (string_bytes out.new ≡ string_bytes out.old
         ++ lines_of (option_to_list (edit_at hub.now.1 edit.now))) }
 {
     match edit {
         None => Ok(()),
-        Some(Edited::Put(path)) => match hub.page(path) {
+        Some(Edit::Put(path, _)) => match hub.page(path) {
             Some(page) => push_put_line(out, path, page),
             None => Ok(()),
         },
-        Some(Edited::Removed(path)) => push_remove_line(out, path),
+        Some(Edit::Remove(path)) => push_remove_line(out, path),
     }
-}
-
-#[tactic(auto, using(doc_page_parts::proofs::BufferSteps::front_same, doc_page_parts::proofs::BufferSteps::front_more))]
-fn push_put_line(out: &mut String, path: &Path, page: &Page) -> Result<(), Memory>
-    ensures { OnOk result (string_bytes out.new
-        ≡ string_bytes out.old ++ line_of (set_page path.now page.now.page)) }
-{
-    push_put(out, path, page.groups(), page.text())?;
-    out.push_str("\n")?;
-    Ok(())
 }

@@ -6,7 +6,8 @@ use Rattle.std.proofs.lemmas.Bool.Decides.{nat_tests}
 use Rattle.doc_page_parts.specs.Paths.{is_path}
 use Rattle.doc_page_parts.proofs.Bools.{and_first, and_second}
 use Rattle.doc_store_readers.specs.Groups.{IsGroups, group_limit, has_good_length, is_group}
-use Rattle.doc_store.specs.Store.{Edit, set_page, remove_page, move_page}
+use Rattle.doc_store.specs.declared.site_edit.SiteEdit.{SiteEdit}
+use Rattle.doc_store.specs.declared.site_edit.SiteEdit.TheVariants as site_edits
 use Rattle.doc_server_script.specs.Edits.{behind_commas, groups_text}
 use Rattle.doc_server_script.specs.Escapes.{by_number, escaped, escaped_byte, is_printable, spaceless, spaceless_byte}
 use Rattle.doc_server_script.specs.LineLengths.{IsWithin, longest_line, name_limit, path_limit}
@@ -84,16 +85,16 @@ remove_length a = omega (arith, length-append (codes "remove " ++ a) (10 ∷ [])
 move_length : (a b : List ℕ) → length ((codes "move " ++ (a ++ 32 ∷ b)) ++ 10 ∷ []) ≡ 7 + length a + length b
 move_length a b = omega (arith, length-append (codes "move " ++ (a ++ 32 ∷ b)) (10 ∷ []), length-append a (32 ∷ b))
 
-pub line_within : (edit : Edit) → IsWithin edit → length (line_of edit) ≤ longest_line
+pub line_within : (edit : SiteEdit) → IsWithin edit → length (line_of edit) ≤ longest_line
 unfolding longest_line
-line_within (set_page path page) is = omega (
+line_within (site_edits.Put path groups text) is = omega (
   arith,
-  put_length (spaceless path) (groups_text page.groups) (escaped page.text),
+  put_length (spaceless path) (groups_text groups) (escaped text),
   path_within path is.0,
-  groups_within page.groups is.1,
-  text_within page.text,
+  groups_within groups is.1,
+  text_within text,
   is.2,
 )
-line_within (remove_page path) is = omega (arith, remove_length (spaceless path), path_within path is)
-line_within (move_page from to) is =
+line_within (site_edits.Remove path) is = omega (arith, remove_length (spaceless path), path_within path is)
+line_within (site_edits.Move from to) is =
     omega (arith, move_length (spaceless from) (spaceless to), path_within from is.0, path_within to is.1)

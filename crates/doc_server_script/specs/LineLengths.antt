@@ -2,7 +2,9 @@
 use Rattle.std.specs.Prelude.{◌≡◌, ◌≤◌, ℕ, ◌+◌, ◌*◌, true, length}
 use Rattle.doc_page_parts.specs.Paths.{is_path}
 use Rattle.doc_store_readers.specs.Groups.{IsGroups, group_limit}
-use Rattle.doc_store.specs.Store.{Edit, set_page, remove_page, move_page, text_limit}
+use Rattle.doc_store.specs.Store.{text_limit}
+use Rattle.doc_store.specs.declared.site_edit.SiteEdit.{SiteEdit}
+use Rattle.doc_store.specs.declared.site_edit.SiteEdit.TheVariants as site_edits
 
 -- how many bytes a path may have
 abbrev pub path_limit : ℕ
@@ -13,10 +15,10 @@ abbrev pub name_limit : ℕ
 name_limit = 32
 
 -- an edit at paths of pages, of groups and of a text that fits
-abbrev pub IsWithin : Edit → Type 0
-IsWithin (set_page path page) = (is_path path ≡ true) × IsGroups page.groups × (length page.text ≤ text_limit)
-IsWithin (remove_page path) = is_path path ≡ true
-IsWithin (move_page from to) = (is_path from ≡ true) × (is_path to ≡ true)
+abbrev pub IsWithin : SiteEdit → Type 0
+IsWithin (site_edits.Put path groups text) = (is_path path ≡ true) × IsGroups groups × (length text ≤ text_limit)
+IsWithin (site_edits.Remove path) = is_path path ≡ true
+IsWithin (site_edits.Move from to) = (is_path from ≡ true) × (is_path to ≡ true)
 
 -- The longest line: `put `, a path, the names of groups and a text, with what stands behind each of them, a space, a comma or the line
 -- feed. A byte of the path or of the text is written with four at most.

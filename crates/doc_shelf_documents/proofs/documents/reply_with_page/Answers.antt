@@ -53,4 +53,7 @@ returns-clause-cache g c render store page served =
       decided render store c.args.kept.now c.args.cache.now c.args.path.now c.args.stamp page served goals c.links.result.now
           c.in-Some.links.now c.new.result c.links.ensures c.in-Some.ensures (c.new.ensures ∙ c.in_ok-goals_of.ensures),
     )
-    c.keep_made.new.cache c.in-Some.made.document ? c.keep_made.ensures.cache
+    c.keep_made.new.cache c.in-Some.made.document
+    (ap (λ made. made.document) (making_gives render store c.args.kept.now c.args.cache.now c.args.path.now c.args.stamp page served goals
+    c.args.writing.head_only c.args.writing.close c.in-Some.made c.make.ensures))
+    c.keep_made.ensures.cache
