@@ -15,19 +15,18 @@ use Rattle.doc_server_config.specs.Listenings.{listening_of}
 -- ---- what is read
 
 -- nothing is said, or nothing that is `listen`'s concern: 1,024 connections, 30 seconds, no folder
-empty_text : listening_of (codes "") ≡ Ok (record { connections = 1024; idle_seconds = 30; folders = [] })
+empty_text : listening_of (codes "") ≡ Ok (record { bounds = record { connections = 1024; idle_seconds = 30 }; folders = [] })
 unfolding toml_on_literals
 empty_text = refl
 
 other_keys_of_the_document : listening_of (codes "cache = 0\npage = 1\n[listen]\n")
-    ≡ Ok (record { connections = 1024; idle_seconds = 30; folders = [] })
+    ≡ Ok (record { bounds = record { connections = 1024; idle_seconds = 30 }; folders = [] })
 unfolding toml_on_literals
 other_keys_of_the_document = refl
 
 all_keys : listening_of (codes "[[folder]]\npath = \"../d\"\nprefix = \"g/h\"\ngroups = [\"b\", \"a\"]\n[[folder]]\npath = \"\"\n[listen]\nconnections = 1\nidle_seconds = 86400\n")
     ≡ Ok (record {
-      connections = 1;
-      idle_seconds = 86400;
+      bounds = record { connections = 1; idle_seconds = 86400 };
       folders = record { file = codes "../d"; prefix = codes "g/h"; groups = codes "a" ∷ codes "b" ∷ [] }
           ∷ record { file = []; prefix = []; groups = [] } ∷ [];
     })

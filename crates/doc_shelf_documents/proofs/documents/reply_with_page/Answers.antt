@@ -29,18 +29,18 @@ returns-in_err-made-clause-cache g c render store page served =
     looked_has render store c.args.kept.now c.args.cache.now c.args.path.now c.args.stamp page served c.found_reply.new.cache _
     c.in_ok-found.ensures.cache
 
-pub returns-else-clause-reply : goal.returns-else-clause-reply
-returns-else-clause-reply g c render store page served =
+pub returns-in_default-2-clause-reply : goal.returns-in_default-2-clause-reply
+returns-in_default-2-clause-reply g c render store page served =
     let goals = g.S.Sight.goals c.args.sight.now in
     absurd (making_gives_one render store c.args.kept.now c.args.cache.now c.args.path.now c.args.stamp page served goals
-    c.args.writing.head_only c.args.writing.close c.make.ensures)
+    c.args.writing.head_only c.args.writing.close (sym c.in_default-2.is ∙ c.in_ok-made.ensures))
 
 pub returns-clause-reply : goal.returns-clause-reply
 returns-clause-reply g c render store page served =
     let goals = g.S.Sight.goals c.args.sight.now in
     ap Some (c.keep_made.ensures.reply
     ∙ ap (λ made. made.reply) (making_gives render store c.args.kept.now c.args.cache.now c.args.path.now c.args.stamp page served goals
-    c.args.writing.head_only c.args.writing.close c.in-Some.made c.make.ensures))
+    c.args.writing.head_only c.args.writing.close c.in-Some-2.made (sym c.in-Some-2.is ∙ c.in_ok-made.ensures)))
 
 pub returns-clause-cache : goal.returns-clause-cache
 returns-clause-cache g c render store page served =
@@ -53,7 +53,7 @@ returns-clause-cache g c render store page served =
       decided render store c.args.kept.now c.args.cache.now c.args.path.now c.args.stamp page served goals c.links.result.now
           c.in-Some.links.now c.new.result c.links.ensures c.in-Some.ensures (c.new.ensures ∙ c.in_ok-goals_of.ensures),
     )
-    c.keep_made.new.cache c.in-Some.made.document
+    c.keep_made.new.cache c.in-Some-2.made.document
     (ap (λ made. made.document) (making_gives render store c.args.kept.now c.args.cache.now c.args.path.now c.args.stamp page served goals
-    c.args.writing.head_only c.args.writing.close c.in-Some.made c.make.ensures))
+    c.args.writing.head_only c.args.writing.close c.in-Some-2.made (sym c.in-Some-2.is ∙ c.in_ok-made.ensures)))
     c.keep_made.ensures.cache
