@@ -1,7 +1,6 @@
 //! The edits of a turn as lines of a script.
 
-ghost use Rattle.std.specs.Prelude.{◌≡◌, ◌++◌, [], None, Some, true, option_to_list, string_bytes, IfSome, MatchOption, OnOk, OnErr};
-ghost use Rattle.std.specs.Io.{StartsWith};
+ghost use Rattle.std.specs.Prelude.{◌≡◌, ◌++◌, [], None, Some, true, option_to_list, string_bytes, IfSome, OnOk};
 ghost use Rattle.doc_hub.specs.Events.{step_on, stepping};
 ghost use Rattle.doc_hub.specs.Runs.{Happens};
 ghost use Rattle.doc_server_script.specs.PageLines.{lines_of};
