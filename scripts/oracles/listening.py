@@ -53,7 +53,8 @@ class Server:
     """A server, and what each of its peers has still to hear."""
 
     def __init__(self, what, connections, idle=1_000, calls=FULL, edits=None):
-        self.lines = [f"# {what}", (f"server {connections} {idle} {calls}{'' if edits is None else ' again'}", "()" if calls >= 4 else "no server")]
+        begun = f"server {connections} {idle} {calls}{'' if edits is None else ' again'}"
+        self.lines = [f"# {what}", (begun, "()" if calls >= 4 else "no server")]
         self.hub, self.peers, self.owed, self.edits = Hub(), 0, {}, []
         self.hub.readers = dict(READERS)
         for edit in edits or []:
@@ -76,9 +77,13 @@ class Server:
 
     def open(self):
         self.peers += 1
-        self.owed[self.peers] = ""
+        self.owed[self.peers] = []
         self.call("open", str(self.peers))
         return self.peers
+
+    def owe(self, peer, *requests):
+        """The peer has still to hear the replies to these requests."""
+        self.owed[peer] += [(request[1], self.answer(*request)) for request in requests]
 
     def answer(self, token, method, target, body=""):
         """The reply to a request, and its edit is noted."""
@@ -92,12 +97,19 @@ class Server:
     def ask(self, peer, *requests, call="send"):
         """Requests by one write or byte by byte, and then their replies."""
         self.call(f"{call} {peer} " + given("".join(bytes_of(*request) for request in requests)))
-        self.owed[peer] += "".join(self.answer(*request) for request in requests)
+        self.owe(peer, *requests)
         self.hear(peer)
 
     def hear(self, peer):
-        owed, self.owed[peer] = self.owed[peer].encode(), ""
-        self.call(f"hear {peer} {len(owed)}", told(owed))
+        """All replies that it has still to hear. Where the last one is to HEAD, they are waited for by the number of their heads."""
+        owed, self.owed[peer] = self.owed[peer], []
+        text = "".join(reply for _, reply in owed)
+        assert "HEAD" not in [method for method, _ in owed[:-1]] and text.count("\r\n\r\n") == len(owed)
+        self.call(f"{'heads' if owed[-1][0] == 'HEAD' else 'hear'} {peer} {len(owed)}", told(text.encode()))
+
+    def hear_nothing(self, peer):
+        """What has come is heard, without a turn."""
+        self.call(f"hear {peer} 0", told(b""))
 
     def last(self, peer, text, reply):
         """What ends the stream, with the last reply."""
@@ -145,6 +157,18 @@ def readers():
     for peer, token in ((owner, OWNER), (ann, ANN), (bob, BOB)):
         for path in ("a.md", "c.md", "absent.md"):
             s.ask(peer, (token, "GET", f"/page/{path}"))
+    refused(s, ann)
+    edited(s, owner, ann, bob)
+    in_parts(s, owner, ann, bob)
+    half = half_way(s, ann)
+    ended(s, ann, half)
+    s.call("fault", "None")
+    s.note("The journal has the edits.")
+    s.journal()
+    return s.lines + after(s)
+
+
+def refused(s, ann):
     s.note("Other refusals, and HEAD.")
     s.ask(ann, ("tok-none", "GET", "/page/a.md"))
     s.ask(ann, (ANN, "GET", "/nothing"))
@@ -152,6 +176,9 @@ def readers():
     s.ask(ann, (ANN, "PUT", "/page/a.md", "mine"))
     s.ask(ann, (ANN, "HEAD", "/page/a.md"))
     s.ask(ann, (ANN, "HEAD", "/page/c.md"))
+
+
+def edited(s, owner, ann, bob):
     s.note("A PUT and a DELETE, and what the others see then.")
     s.ask(owner, (OWNER, "PUT", "/page/a.md?groups=ops", "Anew\n"))
     s.ask(ann, (ANN, "GET", "/page/a.md"))
@@ -159,12 +186,19 @@ def readers():
     s.ask(owner, (OWNER, "DELETE", "/page/c.md"))
     s.ask(bob, (BOB, "GET", "/page/c.md"))
     s.ask(bob, (BOB, "GET", "/contents"))
+
+
+def in_parts(s, owner, ann, bob):
     s.note("Several requests by one write; one byte by byte.")
     s.ask(owner, (OWNER, "PUT", "/page/b.md?groups=staff", "first"), (OWNER, "GET", "/page/b.md"), (OWNER, "DELETE", "/page/b.md"),
           (OWNER, "GET", "/page/b.md"), (OWNER, "PUT", "/page/b.md?groups=staff", "again"), (OWNER, "HEAD", "/page/b.md"))
     s.ask(ann, (ANN, "GET", "/page/b.md"), (ANN, "GET", "/page/a.md"), (ANN, "GET", "/page/b.md"))
     s.ask(bob, (BOB, "GET", "/page/a.md"), call="drip")
     s.ask(owner, (OWNER, "PUT", "/page/drop.md", "drop by drop"), call="drip")
+
+
+def half_way(s, ann):
+    """The peer that waits half-way, and then gets its reply."""
     s.note("One that goes away half-way holds up nobody, nor does one that waits half-way.")
     gone = s.open()
     s.call(f"send {gone} " + given(bytes_of(ANN, "GET", "/page/b.md")[:40]))
@@ -173,10 +207,14 @@ def readers():
     request = bytes_of(ANN, "GET", "/page/b.md")
     s.call(f"send {half} " + given(request[:40]))
     s.ask(ann, (ANN, "GET", "/page/b.md"))
-    s.call(f"hear {half} 0", told(b""))
+    s.hear_nothing(half)
     s.call(f"send {half} " + given(request[40:]))
-    s.owed[half] += s.answer(ANN, "GET", "/page/b.md")
+    s.owe(half, (ANN, "GET", "/page/b.md"))
     s.hear(half)
+    return half
+
+
+def ended(s, ann, half):
     s.note("A fault, HTTP/1.0 and `close` end the stream behind the reply.")
     get = bytes_of(ANN, "GET", "/page/b.md")
     page = s.answer(ANN, "GET", "/page/b.md")
@@ -186,10 +224,6 @@ def readers():
     s.last(s.open(), get.replace("Host: h", "Host: h\r\nConnection: close") + get, closing(page))
     s.last(half, get + "GET /page/a.md HTTP/1.1\r\n\r\n", page + fault(400))
     s.ask(ann, (ANN, "GET", "/page/b.md"))
-    s.call("fault", "None")
-    s.note("The journal has the edits.")
-    s.journal()
-    return s.lines + after(s)
 
 
 def after(before):
@@ -213,16 +247,16 @@ def bound():
     peers = [s.open() for _ in range(4)]
     for peer in peers:
         s.call(f"send {peer} " + given(bytes_of(OWNER, "GET", "/nothing")))
-        s.owed[peer] = s.answer(OWNER, "GET", "/nothing")
+        s.owe(peer, (OWNER, "GET", "/nothing"))
     s.hear(peers[0])
     s.hear(peers[1])
     s.call("turns 2")
-    s.call(f"hear {peers[2]} 0", told(b""))
-    s.call(f"hear {peers[3]} 0", told(b""))
+    s.hear_nothing(peers[2])
+    s.hear_nothing(peers[3])
     s.call(f"close {peers[0]}")
     s.hear(peers[2])
     s.call("turns 2")
-    s.call(f"hear {peers[3]} 0", told(b""))
+    s.hear_nothing(peers[3])
     s.last(peers[1], "GET /nothing HTTP/1.1\r\n\r\n", fault(400))
     s.hear(peers[3])
     s.ask(peers[2], (OWNER, "GET", "/nothing"))
@@ -234,17 +268,17 @@ def slow():
     slow, other = s.open(), s.open()
     text, get = "x" * 65_536, bytes_of(OWNER, "GET", "/page/x.md")
     s.call(f"send {slow} " + given(bytes_of(OWNER, "PUT", "/page/x.md?groups=ops", text)).replace(text, "\\{65536 x}"))
-    s.owed[slow] += s.answer(OWNER, "PUT", "/page/x.md?groups=ops", text)
+    s.owe(slow, (OWNER, "PUT", "/page/x.md?groups=ops", text))
     s.hear(slow)
     s.call(f"send {slow} \\{{100 {given(get)}}}")
-    s.owed[slow] += 100 * s.answer(OWNER, "GET", "/page/x.md")
+    s.owe(slow, *100 * [(OWNER, "GET", "/page/x.md")])
     s.ask(other, (OWNER, "HEAD", "/page/x.md"))
     s.ask(other, (OWNER, "PUT", "/page/y.md?groups=ops", "Meanwhile"))
     s.ask(other, (BOB, "GET", "/page/y.md"))
     s.hear(slow)
     s.note("More requests by one write than a turn answers.")
     s.call(f"send {other} \\{{300 {given(bytes_of(ANN, 'GET', '/page/x.md'))}}}")
-    s.owed[other] += 300 * s.answer(ANN, "GET", "/page/x.md")
+    s.owe(other, *300 * [(ANN, "GET", "/page/x.md")])
     s.hear(other)
     s.journal()
     return s.lines
@@ -260,8 +294,8 @@ def silent():
 
 
 def failing(calls):
-    """A server whose journal's file fails in some call: opening makes four of them, and so does each record: it is written behind the gate and
-    synced, and the gate is opened and synced. A write that fails has written half."""
+    """A server whose journal's file fails in some call: opening makes four of them, and so does each record: it is written behind the gate
+    and synced, and the gate is opened and synced. A write that fails has written half."""
     s = Server(f"The journal's file fails behind {calls} calls.", 2, calls=calls)
     if calls < 4:
         return s.lines

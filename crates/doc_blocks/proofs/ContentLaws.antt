@@ -1,7 +1,7 @@
 -- The first line of a text, and what is read of a line.
-use Rattle.std.proofs.Common.{◌≡◌, ◌∙◌, ℕ, ◌<◌, Bool, true, false, not, ◌==◌, ◌||◌, ◌&&◌, if◌then◌else◌, List, [], ◌∷◌, ◌++◌, map}
+use Rattle.std.proofs.Common.{◌≡◌, ◌∙◌, ℕ, ◌<◌, Bool, true, false, not, ◌==◌, ◌||◌, if◌then◌else◌, List, [], ◌∷◌, ◌++◌, map}
 use Rattle.std.proofs.Common.{append_assoc, append-nil, length, drop, refl, ap, sym, subst, arith, Option, Some, None}
-use Rattle.std.specs.Prelude.{nat_lt, chars, slice_index}
+use Rattle.std.specs.Prelude.{chars, slice_index}
 use Rattle.std.specs.Str.{IsUtf8, IsCharBoundary}
 use Rattle.std.proofs.lemmas.Str.{IsCharBoundary-before_ascii}
 use Rattle.memchr.specs.Find.{Passes, Nowhere, NoneBefore, is_byte3}
@@ -13,8 +13,8 @@ use Rattle.std.proofs.lemmas.List.{append_cancel_right}
 use Rattle.doc_rules.specs.Characters.{Text, is_ending}
 use Rattle.doc_rules.specs.Parsers.{is}
 use Rattle.doc_rules.specs.Lines.{ends_line, onto_first, lines_of, without_ending, secure_char}
+use Rattle.doc_rules.proofs.PageLineLaws.{lf_ends}
 use Rattle.doc_lines.specs.RestSteps.{IsCutBefore, begins_in, IsAsciiClass}
-use Rattle.doc_lines.proofs.Ends.{has_chars}
 use Rattle.doc_blocks.specs.ContentSteps.{ends_plain, behind_lf, behind_ending, IsFirstLine}
 use Rattle.doc_page_parts.proofs.Bools.{or_first, or_second}
 
@@ -64,12 +64,6 @@ one_of_both false b e f = e
 other_of_both : (a b : Bool) → (a || b) ≡ true → b ≡ false → a ≡ true
 other_of_both true b e f = refl
 other_of_both false b e f = absurd (both_ways b f e)
-
--- a text with bytes has characters
-pub some_chars : (text : List ℕ) → IsUtf8 text → 0 < length text → 0 < length (chars text)
-some_chars text utf8 some =
-    let more : nat_lt 0 (length (chars text)) ≡ true = has_chars text utf8 some in
-    grind (arith, nat_tests)
 
 -- ---- what is behind an ending, by what is found at the front
 
@@ -142,11 +136,6 @@ alone c rest ends here = record {
   first = record { whole = c ∷ []; first = ap (lines_by c rest) here; content = sym (ap (cut_by c []) ends) };
   shorter = omega arith;
 }
-
-lf_ends : (c : ℕ) (rest : Text) → (c == 10) ≡ true → ends_line c rest ≡ true
-unfolding ends_line
-lf_ends c [] e = ap (λ (b : Bool). b || (c == 13)) e
-lf_ends c (d ∷ rest) e = ap (λ (b : Bool). b || ((c == 13) && not (d == 10))) e
 
 -- a CR LF
 both_alone : (rest : Text) → IsFirst (13 ∷ 10 ∷ rest) [] rest

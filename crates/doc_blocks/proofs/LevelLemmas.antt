@@ -254,12 +254,6 @@ unfolding paths.finished_list
 stack_bare outer gap None list' blank state e f = ap (λ (o : Option OpenList). stack_at outer gap o blank state) f
 stack_bare outer gap (Some l) list' blank state e f = cc
 
-pub finished_bare : (gap : Bool) (list : Option OpenList) (entries : List Entry) (last : Blocks) → list ≡ None
-    → finished (level_at entries last gap list) ≡ last
-unfolding paths.finished_list
-finished_bare gap None entries last e = refl
-finished_bare gap (Some l) entries last e = cc
-
 -- what is open where no list is
 pub bare_fits : (list : Option OpenList) (entries : List Entry) (AreSo : List Entry → Type 0) → list ≡ None → LevelFits list entries AreSo
     → AreSo entries
@@ -366,12 +360,6 @@ stack_list_begun outer gap None blank l s ts ts' entries last e f g h k n =
     stack_read outer gap (Some l) blank ts' ((list_of l true, last) ∷ entries) none begun
     ∙ stack_item_begun outer gap blank l s (entries, last) h (sym (stack_read outer gap None blank ts entries last f) ∙ k) n
 stack_list_begun outer gap (Some o) blank l s ts ts' entries last e f g h k n = cc
-
--- a list that changes its tightness fits where it did
-pub fits_loosened : (l : OpenList) (tight : Bool) (entries : List Entry) (AreSo : List Entry → Type 0) → ListFits l entries AreSo
-    → ListFits (record l { tight = tight }) entries AreSo
-fits_loosened l tight [] AreSo h = h
-fits_loosened l tight (entry ∷ entries) AreSo h = h
 
 -- ---- a container opens
 

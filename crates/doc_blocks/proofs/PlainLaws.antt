@@ -2,6 +2,7 @@
 use Rattle.std.proofs.Common.{◌≡◌, ℕ, Bool, true, false, ◌==◌, [], ◌∷◌, length, refl, ap, sym, ◌∙◌, Option, Some, None}
 use Rattle.std.specs.Prelude.{◌||◌, not, IsTrue, nat_le, drop, option_and_then, codes}
 use Rattle.std.specs.Char.{is_ascii_digit}
+use Rattle.std.proofs.lemmas.Bool.{or_parts}
 use Rattle.doc_rules.specs.Characters.{Text, one_of, is_space_or_tab}
 use Rattle.doc_rules.specs.Columns.{Line, Cell, skip, indent, after_indent, text_of}
 use Rattle.doc_rules.specs.ContainerStarts.{Bullet, ListMarker, ItemStart, behind_quote_marker, quote_start, digits_of, bullet_marker}
@@ -141,28 +142,24 @@ pub marks_none : (a b : Bool) → a ≡ b → IsTrue (not a) → b ≡ false
 marks_none true b e holds = absurd cc
 marks_none false b e holds = sym e
 
-neither : (a b : Bool) → (a || b) ≡ false → (a ≡ false) × (b ≡ false)
-neither true b e = absurd cc
-neither false b e = (refl, e)
-
 -- nor in front of a text whose first character begins no marker
 pub nothing_at : (line : Line) (text : Text) (c : ℕ) (rest : Text) → Some text ≡ marker_text line → text ≡ c ∷ rest
     → begins_marker c ≡ false → BeginsNothing line
 nothing_at line text c rest e here other =
     let same : text_of (after_indent line) ≡ c ∷ rest = text_behind line text e ∙ here in
-    let signs = neither (one_of (codes ">#`~<=-_*+ \t") c) (is_ascii_digit c) other in
-    let quote = neither (c == 62) _ signs.0 in
-    let number = neither (c == 35) _ quote.1 in
-    let tick = neither (c == 96) _ number.1 in
-    let tilde = neither (c == 126) _ tick.1 in
-    let angle = neither (c == 60) _ tilde.1 in
-    let equals = neither (c == 61) _ angle.1 in
-    let hyphen = neither (c == 45) _ equals.1 in
-    let low = neither (c == 95) _ hyphen.1 in
-    let star = neither (c == 42) _ low.1 in
-    let plus = neither (c == 43) _ star.1 in
-    let space = neither (c == 32) _ plus.1 in
-    let tab = neither (c == 9) _ space.1 in
+    let signs = or_parts (one_of (codes ">#`~<=-_*+ \t") c) (is_ascii_digit c) other in
+    let quote = or_parts (c == 62) _ signs.0 in
+    let number = or_parts (c == 35) _ quote.1 in
+    let tick = or_parts (c == 96) _ number.1 in
+    let tilde = or_parts (c == 126) _ tick.1 in
+    let angle = or_parts (c == 60) _ tilde.1 in
+    let equals = or_parts (c == 61) _ angle.1 in
+    let hyphen = or_parts (c == 45) _ equals.1 in
+    let low = or_parts (c == 95) _ hyphen.1 in
+    let star = or_parts (c == 42) _ low.1 in
+    let plus = or_parts (c == 43) _ star.1 in
+    let space = or_parts (c == 32) _ plus.1 in
+    let tab = or_parts (c == 9) _ space.1 in
     let gap : is_space_or_tab c ≡ false = starts.neither c space.0 tab.0 in
     let bullet : one_of (codes "-+*") c ≡ false = ap (λ b. b || ((c == 43) || ((c == 42) || false))) hyphen.0
     ∙ (ap (λ b. b || ((c == 42) || false)) plus.0 ∙ ap (λ b. b || false) star.0) in

@@ -1,15 +1,15 @@
 -- The text that is gathered for a leaf: it grows at its end, and what is kept is a front of it.
-use Rattle.std.proofs.Common.{rules, ◌≡◌, ℕ, zero, suc, ◌+◌, ◌-◌, ◌<◌, ◌≤◌, true, false, List, [], ◌∷◌, ◌++◌, length, take, chars, refl, ap}
-use Rattle.std.proofs.Common.{sym, ◌∙◌, arith, subst, append-nil, append_assoc, length-append, inl, inr}
+use Rattle.std.proofs.Common.{rules, ◌≡◌, ℕ, zero, suc, ◌+◌, ◌-◌, ◌≤◌, true, false, List, [], ◌∷◌, ◌++◌, length, chars, refl, ap}
+use Rattle.std.proofs.Common.{sym, ◌∙◌, arith, subst, append_assoc, length-append, inl, inr}
 use Rattle.std.specs.Prelude.{replicate, slice_index, Result, Ok, Err, OnOk}
 use Rattle.std.specs.Str.{IsUtf8, IsCharBoundary}
 use Rattle.std.proofs.lemmas.Bool.{cases_lt}
-use Rattle.std.proofs.lemmas.Bool.Decides.{nat_tests}
-use Rattle.std.proofs.lemmas.List.{take-append-le, get_or_append_left}
+use Rattle.std.proofs.lemmas.List.{get_or_append_left}
 use Rattle.std.proofs.lemmas.Str.{IsCharBoundary-at_seam, chars-append, chars-IsAscii}
 use Rattle.doc_rules.specs.Characters.{Text}
-use Rattle.doc_rules.specs.Columns.{Line, width_at, columns_from, cell_of, cells_from, text_of, spaces}
+use Rattle.doc_rules.specs.Columns.{Line, width_at, cells_from, text_of, spaces}
 use Rattle.doc_lines.specs.Cursors.{Position, behind_first, after_next, cells_at, left_of}
+use Rattle.doc_lines.proofs.AheadLaws.{text_of_cells}
 
 -- ---- what is kept
 
@@ -28,53 +28,15 @@ boundary_stays old more new n e u b = subst (λ (bytes : List ℕ). IsCharBounda
       (IsCharBoundary-at_seam (old ++ more) old more refl u)
 ])
 
-pub kept_stays : (old more new : List ℕ) (n : ℕ) → new ≡ old ++ more → n ≤ length old → chars (take n new) ≡ chars (take n old)
-kept_stays old more new n e h = ap (λ bytes. chars (take n bytes)) e ∙ ap chars (take-append-le n old more h)
-
 pub all_grows : (old more new : List ℕ) → new ≡ old ++ more → IsUtf8 old → chars new ≡ chars old ++ chars more
 all_grows old more new e u = ap chars e ∙ chars-append old more u
 
--- ---- spaces
-
-pub one_more_space : (start mid new : Text) (total left : ℕ) → 0 < left → mid ++ replicate left 32 ≡ start ++ replicate total 32
-    → new ≡ mid ++ 32 ∷ [] → new ++ replicate (left - 1) 32 ≡ start ++ replicate total 32
-one_more_space start mid new total zero h e f = absurd (omega arith)
-one_more_space start mid new total (suc left) h e f =
-    let one : suc left - 1 ≡ left = omega arith in
-    ap (λ n. new ++ replicate n 32) one ∙ (ap (λ xs. xs ++ replicate left 32) f ∙ (append_assoc mid (32 ∷ []) (replicate left 32) ∙ e))
-
-pub no_more_spaces : (start mid : Text) (total left : ℕ) → left ≡ 0 → mid ++ replicate left 32 ≡ start ++ replicate total 32
-    → mid ≡ start ++ replicate total 32
-no_more_spaces start mid total left z e = sym (append-nil mid) ∙ (ap (λ n. mid ++ replicate n 32) (sym z) ∙ e)
-
 -- ---- a tab that is used in part
-
-text_of_cells : (at : ℕ) (text : Text) → text_of (cells_from at text) ≡ text
-unfolding columns_from cell_of text_of
-text_of_cells at [] = refl
-text_of_cells at (c ∷ rest) = ap (λ more. c ∷ more) (text_of_cells (at + width_at c at) rest)
 
 text_of_spaces : (n : ℕ) (line : Line) → text_of (spaces n ++ line) ≡ replicate n 32 ++ text_of line
 unfolding text_of
 text_of_spaces zero line = refl
 text_of_spaces (suc n) line = ap (λ more. 32 ∷ more) (text_of_spaces n line)
-
-pub passes_on : (from : Position) → from.column ≤ (after_next from).column
-passes_on from = at from.rest
-  where
-    at : (text : Text) → from.column ≤ (behind_first from text).column
-    at [] = omega arith
-    at (c ∷ rest) = omega arith
-
-pub passes_few : (from : Position) → (after_next from).column - from.column ≤ 4
-passes_few from = at from.rest
-  where
-    few : (c at : ℕ) → width_at c at ≤ 4
-    few c at = grind (arith, nat_tests)
-
-    at : (text : Text) → (behind_first from text).column - from.column ≤ 4
-    at [] = omega arith
-    at (c ∷ rest) = let w : width_at c from.column ≤ 4 = few c from.column in omega arith
 
 pub rest_in_tab : (from : Position) → from.in_tab ≡ true
     → text_of (left_of from) ≡ replicate ((after_next from).column - from.column) 32 ++ (after_next from).rest
@@ -116,18 +78,6 @@ rest_added_in_tab line copied behind count old mid new rest t e f k g m h =
 pub rest_added : (line : Position) (old new rest : Text) → line.in_tab ≡ false → rest ≡ line.rest → new ≡ old ++ rest
     → new ≡ old ++ text_of (left_of line)
 rest_added line old new rest t g h = h ∙ ap (λ xs. old ++ xs) (g ∙ sym (rest_out_of_tab line t))
-
-pub goes_behind : (line copied behind : Position) → copied ≡ line → behind ≡ after_next copied → line.column ≤ behind.column
-goes_behind line copied behind e f = let c : behind.column ≡ (after_next line).column = ap (λ (p : Position). p.column) (f
-    ∙ ap after_next e) in let on = passes_on line in omega arith
-
-pub goes_few : (line copied behind : Position) → copied ≡ line → behind ≡ after_next copied → behind.column - line.column ≤ 4
-goes_few line copied behind e f = let c : behind.column ≡ (after_next line).column = ap (λ (p : Position). p.column) (f
-    ∙ ap after_next e) in let few = passes_few line in omega arith
-
--- one text and another behind it
-pub both_added : (old mid new first second : Text) → mid ≡ old ++ first → new ≡ mid ++ second → new ≡ old ++ (first ++ second)
-both_added old mid new first second e f = f ∙ (ap (λ xs. xs ++ second) e ∙ append_assoc old first second)
 
 -- ---- one character
 

@@ -1,14 +1,15 @@
 -- The lines of HTML blocks: the white space at a line's front ends none, and a first line that is kept or isn't.
 use Rattle.std.proofs.Common.{◌≡◌, ℕ, zero, suc, ◌-◌, Bool, true, false, [], ◌∷◌, ◌++◌, refl, ap, sym, ◌∙◌}
-use Rattle.std.specs.Prelude.{replicate, ◌&&◌}
+use Rattle.std.specs.Prelude.{replicate}
 use Rattle.doc_rules.specs.Characters.{Text, is_blank_text}
-use Rattle.doc_rules.specs.Columns.{Line, text_of, is_gap, is_blank_line}
+use Rattle.doc_rules.specs.Columns.{Line, text_of, is_blank_line}
 use Rattle.doc_rules.specs.Parsers.{through, word, word_in_any_case}
 use Rattle.doc_rules.specs.HtmlStarts as rules
 use Rattle.doc_rules.specs.HtmlStarts.{HtmlKind, ends_html, raw_text_names}
 use Rattle.doc_rules.specs.Blocks.{joined, without_last_blanks}
 use Rattle.doc_lines.specs.Cursors.{Position, after_next, left_of}
 use Rattle.doc_blocks_leaves.proofs.GatheredSteps.{rest_in_tab, rest_out_of_tab}
+use Rattle.doc_blocks_leaves.proofs.LeafLaws.{blank_text}
 
 -- ---- ends
 
@@ -43,16 +44,11 @@ ends_with_rest kind line rest answer t g h = h ∙ ap (ends_html kind) (g ∙ sy
 
 -- ---- the first line
 
-blank_is_blank : (line : Line) → is_blank_text (text_of line) ≡ is_blank_line line
-unfolding text_of
-blank_is_blank [] = refl
-blank_is_blank (cell ∷ rest) = ap (λ b. is_gap cell && b) (blank_is_blank rest)
-
 pub first_is_kept : (line : Line) → joined (without_last_blanks (text_of line ∷ []))
     ≡ elim (is_blank_line line) [ true ↦ [] | false ↦ text_of line ]
 unfolding joined without_last_blanks
 first_is_kept line = at (is_blank_text (text_of line)) ∙ ap (λ (b : Bool). elim b [ true ↦ [] | false ↦ text_of line ])
-    (blank_is_blank line)
+    (blank_text line)
   where
     at : (b : Bool) → joined (elim b [ true ↦ [] | false ↦ text_of line ∷ [] ]) ≡ elim b [ true ↦ [] | false ↦ text_of line ]
     at true = refl

@@ -1,6 +1,6 @@
 -- What a line begins: a leaf whose first line isn't blank and which no definitions leave, or a heading where a paragraph is.
 use Rattle.std.proofs.Common.{◌≡◌, ℕ, Bool, true, false, [], ◌∷◌, refl, ap, sym, ◌∙◌, subst, Option, Some, None, is_some, eqb-true}
-use Rattle.std.specs.Prelude.{◌&&◌, ◌||◌, ◌==◌, nat_le, not, length, ⊤}
+use Rattle.std.specs.Prelude.{◌||◌, ◌==◌, nat_le, not, length, ⊤}
 use Rattle.doc_rules.specs.Characters.{Text, is_space_or_tab, is_blank_text}
 use Rattle.doc_rules.specs.Columns.{Line, text_of, indent, after_indent}
 use Rattle.doc_rules.specs.Entities.{Table}
@@ -15,6 +15,7 @@ use Rattle.doc_rules.specs.Lists.{ends_blank, is_last_blank}
 use Rattle.doc_rules.specs.Blocks.{leaf_references}
 use Rattle.doc_blocks_leaves.proofs.TreePaths.{IsMadeLeaf, closed_references}
 use Rattle.doc_blocks_leaves.proofs.LeafLaws.{blank_after_indent}
+use Rattle.doc_page_parts.proofs.Bools.{and_first}
 
 abbrev pub IsBegun : Table → Situation → LeafStart → Type 0
 IsBegun table s (NewLeaf leaf) = (ends_blank (none ▹ leaf) ≡ false) × IsMadeLeaf leaf × (closed_references table leaf ≡ [])
@@ -48,10 +49,6 @@ no_blank_at : (c : ℕ) (space : Bool) → (c == 32) ≡ space → (space || (c 
 no_blank_at c true e f = subst (λ n. (n == 60) ≡ false) (sym (eqb-true c 32 e)) refl
 no_blank_at c false e f = subst (λ n. (n == 60) ≡ false) (sym (eqb-true c 9 f)) refl
 
-first_blank : (a b : Bool) → (a && b) ≡ true → a ≡ true
-first_blank true b e = refl
-first_blank false b e = e
-
 abbrev behind_first : Text → Bool → Option Text
 behind_first rest test = elim test [ true ↦ Some rest | false ↦ None ]
 
@@ -65,7 +62,7 @@ blank_begins_none : (text : Text) → is_blank_text text ≡ true → html_start
 unfolding html_start
 blank_begins_none [] e = refl
 blank_begins_none (c ∷ rest) e = not_begun (c == 60) rest _
-    (no_blank_at c (c == 32) refl (first_blank (is_space_or_tab c) (is_blank_text rest) e))
+    (no_blank_at c (c == 32) refl (and_first (is_space_or_tab c) (is_blank_text rest) e))
 
 not_blank : (kind : HtmlKind) (blank : Bool) → (blank ≡ true → Some kind ≡ None) → blank ≡ false
 not_blank kind true more = let e : Some kind ≡ None = more refl in absurd cc

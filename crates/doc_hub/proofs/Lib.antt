@@ -5,6 +5,7 @@ mod DropLaws
 mod FreshLaws
 mod FrontSteps
 mod GivenLaws
+mod HiddenLaws
 mod KindSteps
 mod MadeLaws
 mod MadeSites

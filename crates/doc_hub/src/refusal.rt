@@ -8,27 +8,17 @@ use doc_page_parts::failure::Memory;
 use doc_store::moving::MoveError;
 use doc_store::readers::ReaderError;
 use doc_store::store::EditError;
-use std::error::Error;
-use std::fmt;
+use thiserror::Error;
 
 /// Why no hub was made.
-#[derive(Clone, Copy, Debug, PartialEq, Eq)]
+#[derive(Clone, Copy, Debug, PartialEq, Eq, Error)]
 pub enum HubError {
     /// The cache's capacity isn't 1 to 4,096.
+    #[error("the cache's capacity is not 1 to 4096")]
     BadCapacity,
+    #[error("{}", Memory)]
     Memory,
 }
-
-impl fmt::Display for HubError {
-    fn fmt<W: fmt::Write>(&self, f: &mut fmt::Formatter<W>) -> fmt::Result {
-        match self {
-            HubError::BadCapacity => write!(f, "the cache's capacity is not 1 to 4096"),
-            HubError::Memory => write!(f, "{Memory}"),
-        }
-    }
-}
-
-impl Error for HubError {}
 
 impl From<Memory> for HubError {
     ghost use Rattle.std.specs.Prelude.{◌≡◌};
@@ -42,23 +32,14 @@ impl From<Memory> for HubError {
 }
 
 /// Why no connection was made.
-#[derive(Clone, Copy, Debug, PartialEq, Eq)]
+#[derive(Clone, Copy, Debug, PartialEq, Eq, Error)]
 pub enum ConnectError {
     /// All numbers of connections were given.
+    #[error("no number is left for a connection")]
     NoIds,
+    #[error("{}", Memory)]
     Memory,
 }
-
-impl fmt::Display for ConnectError {
-    fn fmt<W: fmt::Write>(&self, f: &mut fmt::Formatter<W>) -> fmt::Result {
-        match self {
-            ConnectError::NoIds => write!(f, "no number is left for a connection"),
-            ConnectError::Memory => write!(f, "{Memory}"),
-        }
-    }
-}
-
-impl Error for ConnectError {}
 
 impl From<Memory> for ConnectError {
     ghost use Rattle.std.specs.Prelude.{◌≡◌};
@@ -72,29 +53,20 @@ impl From<Memory> for ConnectError {
 }
 
 /// Why bytes were not taken from a connection's peer.
-#[derive(Clone, Copy, Debug, PartialEq, Eq)]
+#[derive(Clone, Copy, Debug, PartialEq, Eq, Error)]
 pub enum PushError {
     /// The number was never given, or its connection was dropped.
+    #[error("no such connection")]
     NoConnection,
     /// The connection is closed.
+    #[error("the connection is closed")]
     Closed,
     /// More than 4,194,304 unread bytes would stand.
+    #[error("too many unread bytes")]
     Backlog,
+    #[error("{}", Memory)]
     Memory,
 }
-
-impl fmt::Display for PushError {
-    fn fmt<W: fmt::Write>(&self, f: &mut fmt::Formatter<W>) -> fmt::Result {
-        match self {
-            PushError::NoConnection => write!(f, "no such connection"),
-            PushError::Closed => write!(f, "the connection is closed"),
-            PushError::Backlog => write!(f, "too many unread bytes"),
-            PushError::Memory => write!(f, "{Memory}"),
-        }
-    }
-}
-
-impl Error for PushError {}
 
 impl From<Memory> for PushError {
     ghost use Rattle.std.specs.Prelude.{◌≡◌};
@@ -108,24 +80,15 @@ impl From<Memory> for PushError {
 }
 
 /// Why a step did nothing.
-#[derive(Clone, Copy, Debug, PartialEq, Eq)]
+#[derive(Clone, Copy, Debug, PartialEq, Eq, Error)]
 pub enum StepError {
     /// The number was never given, or its connection was dropped.
+    #[error("no such connection")]
     NoConnection,
     /// The request waits, and a later step answers it.
+    #[error("{}", Memory)]
     Memory,
 }
-
-impl fmt::Display for StepError {
-    fn fmt<W: fmt::Write>(&self, f: &mut fmt::Formatter<W>) -> fmt::Result {
-        match self {
-            StepError::NoConnection => write!(f, "no such connection"),
-            StepError::Memory => write!(f, "{Memory}"),
-        }
-    }
-}
-
-impl Error for StepError {}
 
 impl From<Memory> for StepError {
     ghost use Rattle.std.specs.Prelude.{◌≡◌};
@@ -139,38 +102,29 @@ impl From<Memory> for StepError {
 }
 
 /// Why an event did nothing: the refusals of all calls, under the names that they have there.
-#[derive(Clone, Copy, Debug, PartialEq, Eq)]
+#[derive(Clone, Copy, Debug, PartialEq, Eq, Error)]
 pub enum Refusal {
+    #[error("{}", ConnectError::NoIds)]
     NoIds,
+    #[error("{}", PushError::NoConnection)]
     NoConnection,
+    #[error("{}", PushError::Closed)]
     Closed,
+    #[error("{}", PushError::Backlog)]
     Backlog,
+    #[error("{}", EditError::TooLong)]
     TooLong,
+    #[error("{}", EditError::StoreFull)]
     StoreFull,
+    #[error("{}", MoveError::NoPage)]
     NoPage,
+    #[error("{}", MoveError::Taken)]
     Taken,
+    #[error("{}", ReaderError::BadToken)]
     BadToken,
+    #[error("{}", Memory)]
     Memory,
 }
-
-impl fmt::Display for Refusal {
-    fn fmt<W: fmt::Write>(&self, f: &mut fmt::Formatter<W>) -> fmt::Result {
-        match self {
-            Refusal::NoIds => write!(f, "{}", ConnectError::NoIds),
-            Refusal::NoConnection => write!(f, "{}", PushError::NoConnection),
-            Refusal::Closed => write!(f, "{}", PushError::Closed),
-            Refusal::Backlog => write!(f, "{}", PushError::Backlog),
-            Refusal::TooLong => write!(f, "{}", EditError::TooLong),
-            Refusal::StoreFull => write!(f, "{}", EditError::StoreFull),
-            Refusal::NoPage => write!(f, "{}", MoveError::NoPage),
-            Refusal::Taken => write!(f, "{}", MoveError::Taken),
-            Refusal::BadToken => write!(f, "{}", ReaderError::BadToken),
-            Refusal::Memory => write!(f, "{Memory}"),
-        }
-    }
-}
-
-impl Error for Refusal {}
 
 impl From<ConnectError> for Refusal {
     ghost from_gives = { λ error refusal. refusal ≡ connect_refusal error };

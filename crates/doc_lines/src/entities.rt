@@ -16,32 +16,22 @@ ghost use Rattle.doc_lines.specs.Tables.{entities_of, twice_line, twice_or};
 use built_in::find_built_in;
 use doc_page_parts::failure::Memory;
 use doc_page_parts::heap::{BTreeMap, Heap, String};
-use std::error::Error;
-use std::fmt;
 use std::marker::Model;
 use table::{added_of, bad_line, find_either, twice_line};
+use thiserror::Error;
 
 /// Why a text is no table of character references. Lines are counted from 1.
-#[derive(Clone, Copy, Debug, PartialEq, Eq)]
+#[derive(Clone, Copy, Debug, PartialEq, Eq, Error)]
 pub enum TableError {
     /// The first line that is neither blank nor of the form `name HEX` or `name HEX HEX`.
+    #[error("line {0} is bad")]
     BadRow(usize),
     /// The first line whose name is built in or stands in an earlier line, with other characters.
+    #[error("line {0} gives a name other characters")]
     Twice(usize),
+    #[error("{}", Memory)]
     Memory,
 }
-
-impl fmt::Display for TableError {
-    fn fmt<W: fmt::Write>(&self, f: &mut fmt::Formatter<W>) -> fmt::Result {
-        match self {
-            TableError::BadRow(line) => write!(f, "line {line} is bad"),
-            TableError::Twice(line) => write!(f, "line {line} gives a name other characters"),
-            TableError::Memory => write!(f, "{Memory}"),
-        }
-    }
-}
-
-impl Error for TableError {}
 
 impl From<Memory> for TableError {
     ghost use Rattle.std.specs.Prelude.{◌≡◌};

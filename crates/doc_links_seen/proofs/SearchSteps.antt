@@ -12,10 +12,10 @@ use Rattle.std.proofs.lemmas.Bool.{cases_lt}
 use Rattle.std.proofs.lemmas.Cmp.{nat_list_cmp_total}
 use Rattle.std.proofs.lemmas.Map.Lookups.{exact_bytes}
 use Rattle.std.proofs.lemmas.Map.Text.{is_eq-slice_cmp}
-use Rattle.doc_index_tables.proofs.TableSteps.{equal_from}
 use Rattle.doc_links_seen.specs.SeenSteps.{IsInOrder}
 use Rattle.doc_links_pages.specs.Links.{page_at}
 use Rattle.doc_links_pages.specs.declared.page_links.PageLinks.{PageLinks}
+use Rattle.doc_page_parts.proofs.Orders.{is_eq_true}
 
 abbrev pub path_cmp : List ℕ → List ℕ → Ordering
 path_cmp x y = slice_cmp nat_cmp x y
@@ -47,7 +47,7 @@ module _ {A : Type 0} (page : A → List ℕ × PageLinks) (path : List ℕ) whe
       by : (b : Bool) → bytes_eq (page x).0 path ≡ b → page_at (mapped page xs) path ≡ None
           → cond b (Some (page x)) (page_at (mapped page xs) path) ≡ None
       by true e rest =
-          absurd (none zero x (omega arith) (equal_from (path_cmp (page x).0 path) (is_eq-slice_cmp (page x).0 path ∙ e)))
+          absurd (none zero x (omega arith) (is_eq_true (path_cmp (page x).0 path) (is_eq-slice_cmp (page x).0 path ∙ e)))
       by false e rest = rest
 
   at_most : (o : Ordering) → ordering_index o ≤ 2

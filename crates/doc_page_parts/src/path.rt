@@ -10,27 +10,17 @@ use crate::failure::Memory;
 use crate::heap::Heap;
 use crate::text::Text;
 use std::cmp::Ordering;
-use std::error::Error;
-use std::fmt;
 use std::marker::Model;
+use thiserror::Error;
 
 /// Why no path could be made of a text.
-#[derive(Clone, Copy, Debug, PartialEq, Eq)]
+#[derive(Clone, Copy, Debug, PartialEq, Eq, Error)]
 pub enum PathError {
+    #[error("not a path of a page")]
     BadPath,
+    #[error("{}", Memory)]
     Memory,
 }
-
-impl fmt::Display for PathError {
-    fn fmt<W: fmt::Write>(&self, f: &mut fmt::Formatter<W>) -> fmt::Result {
-        match self {
-            PathError::BadPath => write!(f, "not a path of a page"),
-            PathError::Memory => write!(f, "{Memory}"),
-        }
-    }
-}
-
-impl Error for PathError {}
 
 impl From<Memory> for PathError {
     ghost use Rattle.std.specs.Prelude.{◌≡◌};

@@ -1,5 +1,6 @@
 //! Link reference definitions (CommonMark 0.31.2, sections 4.7 and 6.3): labels, destinations and titles, the definitions at the
-//! front of a text, and a map of what they name.
+//! front of a text, and a map of what they name. Its parts stand in `doc_refs_parts`: the gate's edits of labels and of the map prove this
+//! crate once more, and not those.
 #![tactic(auto)]
 
 mod definitions;

@@ -16,37 +16,27 @@ use doc_page_parts::text::Text;
 use doc_store::readers::{Readers, ReadersError};
 use doc_store_readers::documents::readers_of_document;
 use doc_store_readers::tables::{document_of, tables_at};
-use std::error::Error;
-use std::fmt;
+use thiserror::Error;
 use toml::Table;
 
 /// Why a text is no configuration. Pages are counted from 1.
-#[derive(Clone, Copy, Debug)]
+#[derive(Clone, Copy, Debug, Error)]
 pub enum ConfigError {
     /// The text is no TOML document.
+    #[error("no TOML")]
     BadToml,
     /// The readers are refused, but never for want of memory.
+    #[error("{0}")]
     BadReaders(ReadersError),
     /// `keep_alive`, `cache`, `entities` or `page` holds what it may not.
+    #[error("a setting is bad")]
     BadSetting,
     /// The first page without a path, without a source or with both, or with a key of a wrong value.
+    #[error("page {0} is bad")]
     BadPage(usize),
+    #[error("{}", Memory)]
     Memory,
 }
-
-impl fmt::Display for ConfigError {
-    fn fmt<W: fmt::Write>(&self, f: &mut fmt::Formatter<W>) -> fmt::Result {
-        match self {
-            ConfigError::BadToml => f.write_str("no TOML"),
-            ConfigError::BadReaders(e) => write!(f, "{e}"),
-            ConfigError::BadSetting => f.write_str("a setting is bad"),
-            ConfigError::BadPage(n) => write!(f, "page {n} is bad"),
-            ConfigError::Memory => write!(f, "{Memory}"),
-        }
-    }
-}
-
-impl Error for ConfigError {}
 
 impl From<Memory> for ConfigError {
     ghost use Rattle.std.specs.Prelude.{◌≡◌};
@@ -92,7 +82,7 @@ impl SiteConfig {
     }
 
     /// The same of a document.
-    fn from_document(heap: Heap, document: &Table) -> Result<SiteConfig, ConfigError>
+    pub(crate) fn from_document(heap: Heap, document: &Table) -> Result<SiteConfig, ConfigError>
         ensures read { IfOk result (λ config.
             config_of_document (table_view document.now) ≡ Ok config) }
         ensures refused { IfErr result (λ e. e ≢ ConfigError.Memory

@@ -4,51 +4,40 @@ ghost use Rattle.std.specs.Prelude.{◌≡◌, ◌≢◌, Ok, Err, IfOk, IfErr};
 ghost use Rattle.toml.specs.View.{table_view};
 ghost use Rattle.doc_server_config.specs.Listenings.{listening_of, listening_of_document};
 
-use crate::bounds::bounds_in;
+use crate::bounds::{Bounds, bounds_in};
 use crate::folder::{Folder, FolderFault, folders_of};
 use doc_page_parts::failure::Memory;
 use doc_page_parts::heap::Heap;
 use doc_page_parts::list::List;
 use doc_store::readers::ReadersError;
 use doc_store_readers::tables::{document_of, tables_at};
-use std::error::Error;
-use std::fmt;
+use thiserror::Error;
 use toml::Table;
 
 /// Why a text says nothing that `listen` could go by. Folders are counted from 1.
-#[derive(Clone, Copy, Debug)]
+#[derive(Clone, Copy, Debug, Error)]
 pub enum ListeningError {
     /// The text is no TOML document.
+    #[error("no TOML")]
     BadToml,
     /// `listen` is no table, or has a key other than `connections` and `idle_seconds`.
+    #[error("`listen` is bad")]
     BadListen,
     /// `connections` is no integer from 1 to 65,535.
+    #[error("`connections` is bad")]
     BadConnections,
     /// `idle_seconds` is no integer from 1 to 86,400.
+    #[error("`idle_seconds` is bad")]
     BadIdleSeconds,
     /// `folder` is no array of tables.
+    #[error("`folder` is bad")]
     BadFolders,
     /// The first folder that is none, and its first fault.
+    #[error("folder {0}: {1}")]
     BadFolder(usize, FolderFault),
+    #[error("{}", Memory)]
     Memory,
 }
-
-impl fmt::Display for ListeningError {
-    fn fmt<W: fmt::Write>(&self, f: &mut fmt::Formatter<W>) -> fmt::Result {
-        let text = match self {
-            ListeningError::BadToml => "no TOML",
-            ListeningError::BadListen => "`listen` is bad",
-            ListeningError::BadConnections => "`connections` is bad",
-            ListeningError::BadIdleSeconds => "`idle_seconds` is bad",
-            ListeningError::BadFolders => "`folder` is bad",
-            ListeningError::BadFolder(n, fault) => return write!(f, "folder {n}: {fault}"),
-            ListeningError::Memory => return write!(f, "{Memory}"),
-        };
-        f.write_str(text)
-    }
-}
-
-impl Error for ListeningError {}
 
 impl From<Memory> for ListeningError {
     ghost use Rattle.std.specs.Prelude.{◌≡◌};
@@ -64,10 +53,8 @@ impl From<Memory> for ListeningError {
 /// What `listen` goes by.
 #[derive(Drop)]
 pub struct Listening {
-    /// How many connections stand at most, 1 to 65,535.
-    pub connections: usize,
-    /// After how many seconds without a byte a connection ends, 1 to 86,400.
-    pub idle_seconds: u64,
+    /// At most 65,535 connections, and a day without a byte.
+    pub bounds: Bounds,
     /// The folders in their order.
     pub folders: List<Folder>,
 }
@@ -92,7 +79,7 @@ impl Listening {
     }
 
     /// The same of a document.
-    fn from_document(heap: Heap, document: &Table) -> Result<Listening, ListeningError>
+    pub(crate) fn from_document(heap: Heap, document: &Table) -> Result<Listening, ListeningError>
         ensures read { IfOk result (λ listening.
             listening_of_document (table_view document.now) ≡ Ok listening) }
         ensures refused { IfErr result (λ e. e ≢ ListeningError.Memory
@@ -103,10 +90,6 @@ impl Listening {
             return Err(ListeningError::BadFolders);
         };
         let folders = folders_of(heap, tables)?;
-        Ok(Listening {
-            connections: bounds.connections,
-            idle_seconds: bounds.idle_seconds,
-            folders,
-        })
+        Ok(Listening { bounds, folders })
     }
 }

@@ -2,6 +2,8 @@
 //!
 //! A record is a gate (a byte: 1 open, 0 closed), the length of its text in four bytes, the lowest first, the text, and a SHA-256
 //! over the digest of the record before, that length and the text. Behind the last record stands a closed gate.
+//!
+//! It is a crate of its own, since the gate's edit of torn records proves it once more, and not what writes files.
 #![tactic(auto)]
 
 pub mod found;

@@ -1,27 +1,17 @@
 //! Why the bytes of a journal aren't read.
 
 use doc_page_parts::failure::Memory;
-use std::error::Error;
-use std::fmt;
+use thiserror::Error;
 
 /// Why the bytes of a journal aren't read.
-#[derive(Clone, Copy, Debug)]
+#[derive(Clone, Copy, Debug, Error)]
 pub enum ReadError {
     /// The record of this number, counted from 1, is damaged.
+    #[error("journal record {0}")]
     Damaged(usize),
+    #[error("{}", Memory)]
     Memory,
 }
-
-impl fmt::Display for ReadError {
-    fn fmt<W: fmt::Write>(&self, f: &mut fmt::Formatter<W>) -> fmt::Result {
-        match self {
-            ReadError::Damaged(n) => write!(f, "journal record {n}"),
-            ReadError::Memory => write!(f, "{Memory}"),
-        }
-    }
-}
-
-impl Error for ReadError {}
 
 impl From<Memory> for ReadError {
     ghost use Rattle.std.specs.Prelude.{◌≡◌};

@@ -1,5 +1,6 @@
 -- The edits of a run, and their lines.
-use Rattle.std.specs.Prelude.{◌≡◌, ⊤, ℕ, List, [], ◌∷◌, ◌++◌, Bool, true, Option, Some, None, option_map, option_to_list}
+use Rattle.std.specs.Prelude.{◌≡◌, ◌≤◌, ⊤, ℕ, ◌+◌, List, [], ◌∷◌, ◌++◌, length, Bool, true, ◌&&◌, nat_le, Option, Some, None, IfSome}
+use Rattle.std.specs.Prelude.{option_map, option_to_list}
 use Rattle.std.specs.FinMap as map
 use Rattle.std.specs.List.{flat_map}
 use Rattle.doc_store.specs.Store.{set_page, remove_page}
@@ -16,12 +17,26 @@ use Rattle.doc_hub.specs.declared.event.ConnectionEvent.TheVariants as calls
 use Rattle.doc_hub.specs.declared.event.Event.TheVariants as events
 use Rattle.doc_hub.specs.declared.outcome.Outcome.{Outcome}
 use Rattle.doc_hub.specs.declared.outcome.Outcome.TheVariants as outcomes
+use Rattle.doc_server_journal_records.specs.Records.{text_limit}
+use Rattle.doc_server_script.specs.LineLengths.{longest_line}
 use Rattle.doc_server_script.specs.PageLines.{lines_of}
 
 -- the lines of edits, where they are kept, and whether none is missing
 pub record Kept : Type 0 where
   pub lines : Option (List ℕ)
   pub is_whole : Bool
+
+-- where none is missing, a record takes the lines
+abbrev pub FitsRecord : Kept → Type 0
+FitsRecord kept = kept.is_whole ≡ true → IfSome kept.lines (λ lines. length lines ≤ text_limit)
+
+abbrev pub room_beside : Bool → Option (List ℕ) → Bool
+room_beside is_whole None = true
+room_beside is_whole (Some lines) = is_whole && nat_le (length lines + longest_line) text_limit
+
+-- Whether one more edit may be made: where lines are kept none is missing, and a record takes the longest line beside them.
+abbrev pub has_room : Kept → Bool
+has_room kept = room_beside kept.is_whole kept.lines
 
 -- the edit that a step tells, with the page that stands under the path in the world behind it
 abbrev pub edit_at : World → Option Edit → Option SiteEdit

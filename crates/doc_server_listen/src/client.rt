@@ -7,7 +7,7 @@ ghost use Rattle.doc_hub.specs.declared.event.Event.TheVariants as events;
 ghost use Rattle.doc_hub_answers.specs.Replies.{Renders};
 ghost use Rattle.doc_hub.specs.Worlds.{World, disconnected};
 ghost use Rattle.doc_server_listen.specs.Closing.{Cuts};
-ghost use Rattle.doc_server_listen.specs.Edits.{AreQuiet, Records};
+ghost use Rattle.doc_server_listen.specs.Edits.{AreQuiet, Records, has_room};
 ghost use Rattle.doc_server_listen.specs.Peers.{most_pending};
 ghost use Rattle.doc_server_listen.specs.Served.{HandsOver, Serves};
 
@@ -259,6 +259,7 @@ impl<S: Channel + Drop> Client<S> {
     fn step<R: Renderer + Drop>(&mut self, hub: &mut Hub<R>, edits: &mut EditLines) -> Option<usize>
         requires open { self.old.is_open ≡ true }
         requires room { length self.old.pending < most_pending }
+        requires further { has_room edits.old ≡ true }
         ensures serves { (s : Serves (R.page hub.old.0) hub.old.1 self.old hub.new.1 self.new)
             × Records (R.page hub.old.0) s.run hub.new.1 edits.old edits.new }
         ensures written { self.new.written ≡ self.old.written }

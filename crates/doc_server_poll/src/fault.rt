@@ -3,30 +3,20 @@
 use doc_page_parts::failure::Memory;
 use doc_server_settling::fault::TurnFault;
 use std::alloc::AllocError;
-use std::error::Error;
-use std::fmt;
+use thiserror::Error;
 
 /// Why a server doesn't run.
-#[derive(Clone, Copy, Debug)]
+#[derive(Clone, Copy, Debug, Error)]
 pub enum PollFault {
     /// The address can't be listened at, or the system can't be asked for events or for the time.
+    #[error("the address can't be listened at")]
     Socket,
     /// The edits of a turn can't be written down.
+    #[error("cannot write")]
     CannotWrite,
+    #[error("{}", Memory)]
     Memory,
 }
-
-impl fmt::Display for PollFault {
-    fn fmt<W: fmt::Write>(&self, f: &mut fmt::Formatter<W>) -> fmt::Result {
-        match self {
-            PollFault::Socket => f.write_str("the address can't be listened at"),
-            PollFault::CannotWrite => f.write_str("cannot write"),
-            PollFault::Memory => write!(f, "{Memory}"),
-        }
-    }
-}
-
-impl Error for PollFault {}
 
 impl From<Memory> for PollFault {
     ghost use Rattle.std.specs.Prelude.{◌≡◌};

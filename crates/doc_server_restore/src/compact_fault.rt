@@ -3,37 +3,27 @@
 use doc_page_parts::failure::Memory;
 use doc_server_journal::fault::{AppendError, OpenFault};
 use std::alloc::AllocError;
-use std::error::Error;
-use std::fmt;
+use thiserror::Error;
 
 /// Why the edits that lead from one site to another aren't written to a journal.
-#[derive(Clone, Copy, Debug)]
+#[derive(Clone, Copy, Debug, Error)]
 pub enum CompactFault {
     /// The device holds something already.
+    #[error("new journal not empty")]
     NotEmpty,
     /// An edit is too long for a record: its page is larger than a page may be.
+    #[error("edit too long")]
     TooLong,
     /// The journal would be too long.
+    #[error("journal too long")]
     Full,
     /// The device failed.
+    #[error("cannot use journal")]
     Failed,
     /// No memory was left.
+    #[error("{}", Memory)]
     Memory,
 }
-
-impl fmt::Display for CompactFault {
-    fn fmt<W: fmt::Write>(&self, f: &mut fmt::Formatter<W>) -> fmt::Result {
-        match self {
-            CompactFault::NotEmpty => f.write_str("new journal not empty"),
-            CompactFault::TooLong => f.write_str("edit too long"),
-            CompactFault::Full => f.write_str("journal too long"),
-            CompactFault::Failed => f.write_str("cannot use journal"),
-            CompactFault::Memory => write!(f, "{Memory}"),
-        }
-    }
-}
-
-impl Error for CompactFault {}
 
 impl From<Memory> for CompactFault {
     fn from(_e: Memory) -> CompactFault {

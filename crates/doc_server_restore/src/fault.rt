@@ -1,31 +1,21 @@
 //! Why a journal's edits aren't restored.
 
 use doc_page_parts::failure::Memory;
-use std::error::Error;
-use std::fmt;
+use thiserror::Error;
 
 /// Why the edits of a journal's records aren't restored. Records are counted from 1.
-#[derive(Clone, Copy, Debug)]
+#[derive(Clone, Copy, Debug, Error)]
 pub enum RestoreFault {
     /// This record is no text of edits.
+    #[error("bad journal record {0}")]
     BadRecord(usize),
     /// An edit of this record is refused.
+    #[error("journal record {0} refused")]
     Refused(usize),
     /// No memory was left.
+    #[error("{}", Memory)]
     Memory,
 }
-
-impl fmt::Display for RestoreFault {
-    fn fmt<W: fmt::Write>(&self, f: &mut fmt::Formatter<W>) -> fmt::Result {
-        match self {
-            RestoreFault::BadRecord(n) => write!(f, "bad journal record {n}"),
-            RestoreFault::Refused(n) => write!(f, "journal record {n} refused"),
-            RestoreFault::Memory => write!(f, "{Memory}"),
-        }
-    }
-}
-
-impl Error for RestoreFault {}
 
 impl From<Memory> for RestoreFault {
     ghost use Rattle.std.specs.Prelude.{◌≡◌};

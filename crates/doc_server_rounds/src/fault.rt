@@ -4,30 +4,20 @@ ghost use Rattle.std.specs.Prelude.{◌≡◌};
 
 use doc_hub::refusal::ConnectError;
 use doc_page_parts::failure::Memory;
-use std::error::Error;
-use std::fmt;
+use thiserror::Error;
 
 /// Why the peers of a listener were not served.
-#[derive(Clone, Copy, Debug)]
+#[derive(Clone, Copy, Debug, Error)]
 pub enum ServeFault {
     /// The listener gave no connection.
+    #[error("no connection was accepted")]
     Accept,
     /// All numbers of connections were given.
+    #[error("{}", ConnectError::NoIds)]
     NoIds,
+    #[error("{}", Memory)]
     Memory,
 }
-
-impl fmt::Display for ServeFault {
-    fn fmt<W: fmt::Write>(&self, f: &mut fmt::Formatter<W>) -> fmt::Result {
-        match self {
-            ServeFault::Accept => f.write_str("no connection was accepted"),
-            ServeFault::NoIds => write!(f, "{}", ConnectError::NoIds),
-            ServeFault::Memory => write!(f, "{Memory}"),
-        }
-    }
-}
-
-impl Error for ServeFault {}
 
 impl From<Memory> for ServeFault {
     ghost use Rattle.std.specs.Prelude.{◌≡◌};

@@ -2,28 +2,18 @@
 
 use doc_page_parts::failure::Memory;
 use doc_server_journal::fault::AppendError;
-use std::error::Error;
-use std::fmt;
+use thiserror::Error;
 
 /// Why a turn ends a server.
-#[derive(Clone, Copy, Debug)]
+#[derive(Clone, Copy, Debug, Error)]
 pub enum TurnFault {
     /// No memory was left for the edits of the turn.
+    #[error("memory")]
     Memory,
     /// The edits of the turn can't be written down.
+    #[error("cannot write")]
     CannotWrite,
 }
-
-impl fmt::Display for TurnFault {
-    fn fmt<W: fmt::Write>(&self, f: &mut fmt::Formatter<W>) -> fmt::Result {
-        match self {
-            TurnFault::Memory => write!(f, "memory"),
-            TurnFault::CannotWrite => write!(f, "cannot write"),
-        }
-    }
-}
-
-impl Error for TurnFault {}
 
 impl From<Memory> for TurnFault {
     ghost use Rattle.std.specs.Prelude.{◌≡◌};

@@ -1,4 +1,5 @@
-//! Turns of a server with a journal: the edits of a turn are on the journal's device before its replies are handed over.
+//! Turns of a server with a journal: the edits of a turn are on the journal's device before its replies are handed over. It is a crate of
+//! its own, since the gate's edit of that order proves it once more, and not all turns.
 #![tactic(auto)]
 
 pub mod fault;

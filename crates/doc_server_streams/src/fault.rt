@@ -3,52 +3,42 @@
 use doc_page_parts::failure::Memory;
 use doc_page_parts::heap::String;
 use std::alloc::AllocError;
-use std::error::Error;
-use std::fmt;
+use thiserror::Error;
 
 /// What stops the program. Each prints one line, as `docs_server: usage`, and ends it with status 2. They are found in this order, but
 /// that memory may run out anywhere, and that `CannotRead` of standard input comes where `BadScriptLine` does, and `Socket` of a
 /// connection last.
-#[derive(Debug, PartialEq, Eq, Drop)]
+#[derive(Debug, PartialEq, Eq, Drop, Error)]
 pub enum Fault {
     /// No such command.
+    #[error("usage")]
     Usage,
     /// A file that can't be read; `-` is standard input.
+    #[error("cannot read {0}")]
     CannotRead(String),
     /// The configuration is none.
+    #[error("config")]
     Config,
     /// The table of entities is none.
+    #[error("bad table")]
     BadTable,
     /// An edit that is refused, or more input than a connection holds.
+    #[error("refused")]
     Refused,
     /// A token that no reader has.
+    #[error("unknown token")]
     UnknownToken,
     /// An address that can't be listened at, or a connection that can't be accepted.
+    #[error("socket")]
     Socket,
     /// The first line of a script that is bad, counted from 1.
+    #[error("bad script line {0}")]
     BadScriptLine(u64),
+    #[error("cannot write")]
     CannotWrite,
+    #[error("memory")]
     Memory,
 }
-
-impl fmt::Display for Fault {
-    fn fmt<W: fmt::Write>(&self, f: &mut fmt::Formatter<W>) -> fmt::Result {
-        match self {
-            Fault::Usage => write!(f, "usage"),
-            Fault::CannotRead(name) => write!(f, "cannot read {name}"),
-            Fault::Config => write!(f, "config"),
-            Fault::BadTable => write!(f, "bad table"),
-            Fault::Refused => write!(f, "refused"),
-            Fault::UnknownToken => write!(f, "unknown token"),
-            Fault::Socket => write!(f, "socket"),
-            Fault::BadScriptLine(line) => write!(f, "bad script line {line}"),
-            Fault::CannotWrite => write!(f, "cannot write"),
-            Fault::Memory => write!(f, "memory"),
-        }
-    }
-}
-
-impl Error for Fault {}
 
 impl From<Memory> for Fault {
     ghost use Rattle.std.specs.Prelude.{◌≡◌};

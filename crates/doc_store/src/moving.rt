@@ -10,34 +10,24 @@ use crate::pages::Pages;
 use doc_page_parts::failure::Memory;
 use doc_page_parts::heap::Heap;
 use doc_page_parts::path::Path;
-use std::error::Error;
-use std::fmt;
+use thiserror::Error;
 
 /// Why a move was refused.
-#[derive(Clone, Copy, Debug, PartialEq, Eq)]
+#[derive(Clone, Copy, Debug, PartialEq, Eq, Error)]
 pub enum MoveError {
     /// No page stands under the old path.
+    #[error("no page stands there")]
     NoPage,
     /// A page stands under the new path.
+    #[error("a page stands there already")]
     Taken,
     /// More than 10,000 aliases would stand after the move, or no stamp is left: 2^64 - 1 puts and
     /// moves were accepted.
+    #[error("the store is full")]
     StoreFull,
+    #[error("{}", Memory)]
     Memory,
 }
-
-impl fmt::Display for MoveError {
-    fn fmt<W: fmt::Write>(&self, f: &mut fmt::Formatter<W>) -> fmt::Result {
-        match self {
-            MoveError::NoPage => write!(f, "no page stands there"),
-            MoveError::Taken => write!(f, "a page stands there already"),
-            MoveError::StoreFull => write!(f, "the store is full"),
-            MoveError::Memory => write!(f, "{Memory}"),
-        }
-    }
-}
-
-impl Error for MoveError {}
 
 impl From<Memory> for MoveError {
     ghost use Rattle.std.specs.Prelude.{◌≡◌};

@@ -21,9 +21,8 @@ use doc_store_readers::groups::Groups;
 use doc_store_readers::page::Page;
 use doc_store_readers::reader::Reader;
 use std::collections::btree_map::Iter;
-use std::error::Error;
-use std::fmt;
 use std::marker::Model;
+use thiserror::Error;
 
 /// What a put did.
 #[derive(Clone, Copy, Debug, PartialEq, Eq)]
@@ -35,27 +34,18 @@ pub enum Put {
 }
 
 /// Why an edit was refused.
-#[derive(Clone, Copy, Debug, PartialEq, Eq)]
+#[derive(Clone, Copy, Debug, PartialEq, Eq, Error)]
 pub enum EditError {
     /// The text has more than 1,048,576 bytes.
+    #[error("the text is too long")]
     TooLong,
     /// 10,000 pages stand and the path has none, or no stamp is left: 2^64 - 1 puts and moves were
     /// accepted.
+    #[error("the store is full")]
     StoreFull,
+    #[error("{}", Memory)]
     Memory,
 }
-
-impl fmt::Display for EditError {
-    fn fmt<W: fmt::Write>(&self, f: &mut fmt::Formatter<W>) -> fmt::Result {
-        match self {
-            EditError::TooLong => write!(f, "the text is too long"),
-            EditError::StoreFull => write!(f, "the store is full"),
-            EditError::Memory => write!(f, "{Memory}"),
-        }
-    }
-}
-
-impl Error for EditError {}
 
 impl From<Memory> for EditError {
     ghost use Rattle.std.specs.Prelude.{◌≡◌};

@@ -10,31 +10,21 @@ use doc_page_parts::failure::Memory;
 use doc_page_parts::heap::{Heap, Vec};
 use doc_page_parts::list::List;
 use doc_page_parts::text::Text;
-use std::error::Error;
-use std::fmt;
 use std::marker::Model;
+use thiserror::Error;
 
 /// Why no groups could be made of a text.
-#[derive(Clone, Copy, Debug, PartialEq, Eq)]
+#[derive(Clone, Copy, Debug, PartialEq, Eq, Error)]
 pub enum GroupsError {
     /// A name is no group name.
+    #[error("not the name of a group")]
     BadGroup,
     /// There are more than 32 different names.
+    #[error("more than 32 groups")]
     TooMany,
+    #[error("{}", Memory)]
     Memory,
 }
-
-impl fmt::Display for GroupsError {
-    fn fmt<W: fmt::Write>(&self, f: &mut fmt::Formatter<W>) -> fmt::Result {
-        match self {
-            GroupsError::BadGroup => write!(f, "not the name of a group"),
-            GroupsError::TooMany => write!(f, "more than 32 groups"),
-            GroupsError::Memory => write!(f, "{Memory}"),
-        }
-    }
-}
-
-impl Error for GroupsError {}
 
 impl From<Memory> for GroupsError {
     ghost use Rattle.std.specs.Prelude.{◌≡◌};

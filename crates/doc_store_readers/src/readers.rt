@@ -14,34 +14,24 @@ use doc_page_parts::heap::{BTreeMap, Heap, String};
 use doc_page_parts::list::List;
 use doc_page_parts::text::Text;
 use doc_page_parts::token::is_token;
-use std::error::Error;
-use std::fmt;
 use std::marker::Model;
+use thiserror::Error;
 
 /// Why a configuration has no readers. Entries are counted from 1.
-#[derive(Clone, Copy, Debug, PartialEq, Eq)]
+#[derive(Clone, Copy, Debug, PartialEq, Eq, Error)]
 pub enum ReadersError {
     /// The text is no TOML document, or its `reader` is no array of tables.
+    #[error("no TOML with an array of readers")]
     BadToml,
     /// The first reader entry without a token, or with a key of a wrong value.
+    #[error("reader {0} is bad")]
     BadRow(usize),
     /// The first reader entry with the token of an earlier one.
+    #[error("reader {0} has the token of an earlier one")]
     Twice(usize),
+    #[error("{}", Memory)]
     Memory,
 }
-
-impl fmt::Display for ReadersError {
-    fn fmt<W: fmt::Write>(&self, f: &mut fmt::Formatter<W>) -> fmt::Result {
-        match self {
-            ReadersError::BadToml => write!(f, "no TOML with an array of readers"),
-            ReadersError::BadRow(n) => write!(f, "reader {n} is bad"),
-            ReadersError::Twice(n) => write!(f, "reader {n} has the token of an earlier one"),
-            ReadersError::Memory => write!(f, "{Memory}"),
-        }
-    }
-}
-
-impl Error for ReadersError {}
 
 impl From<Memory> for ReadersError {
     ghost use Rattle.std.specs.Prelude.{◌≡◌};
@@ -64,23 +54,14 @@ pub enum Set {
 }
 
 /// Why a reader was not set.
-#[derive(Clone, Copy, Debug, PartialEq, Eq)]
+#[derive(Clone, Copy, Debug, PartialEq, Eq, Error)]
 pub enum ReaderError {
     /// The text is no bearer token (RFC 6750, section 2.1).
+    #[error("not a bearer token")]
     BadToken,
+    #[error("{}", Memory)]
     Memory,
 }
-
-impl fmt::Display for ReaderError {
-    fn fmt<W: fmt::Write>(&self, f: &mut fmt::Formatter<W>) -> fmt::Result {
-        match self {
-            ReaderError::BadToken => write!(f, "not a bearer token"),
-            ReaderError::Memory => write!(f, "{Memory}"),
-        }
-    }
-}
-
-impl Error for ReaderError {}
 
 impl From<Memory> for ReaderError {
     ghost use Rattle.std.specs.Prelude.{◌≡◌};

@@ -8,28 +8,18 @@ use crate::word::Word;
 use doc_page_parts::failure::Memory;
 use doc_page_parts::heap::Heap;
 use doc_page_parts::list::List;
-use std::error::Error;
-use std::fmt;
+use thiserror::Error;
 
 /// Why a query has no words to search for.
-#[derive(Clone, Copy, Debug)]
+#[derive(Clone, Copy, Debug, Error)]
 pub enum QueryError {
+    #[error("no word in the query")]
     NoWords,
+    #[error("more than 16 different words in the query")]
     TooManyWords,
+    #[error("{}", Memory)]
     Memory,
 }
-
-impl fmt::Display for QueryError {
-    fn fmt<W: fmt::Write>(&self, f: &mut fmt::Formatter<W>) -> fmt::Result {
-        match self {
-            QueryError::NoWords => write!(f, "no word in the query"),
-            QueryError::TooManyWords => write!(f, "more than 16 different words in the query"),
-            QueryError::Memory => write!(f, "{Memory}"),
-        }
-    }
-}
-
-impl Error for QueryError {}
 
 impl From<Memory> for QueryError {
     ghost use Rattle.std.specs.Prelude.{◌≡◌};

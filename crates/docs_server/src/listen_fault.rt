@@ -9,40 +9,30 @@ use doc_server_restore::compact_fault::CompactFault;
 use doc_server_restore::fault::RestoreFault;
 use doc_server_streams::fault::Fault;
 use std::alloc::AllocError;
-use std::error::Error;
-use std::fmt;
+use thiserror::Error;
 
 /// What stops the commands `listen` and `compact`.
-#[derive(Debug, Drop)]
+#[derive(Debug, Drop, Error)]
 pub enum ListenFault {
     /// What stops other commands too.
+    #[error("{0}")]
     Command(Fault),
     /// What the configuration says of a server that runs is bad.
+    #[error("config: {0}")]
     Listening(ListeningError),
     /// The journal's file isn't opened.
+    #[error("{0}")]
     File(FileFault),
     /// The journal isn't read.
+    #[error("{0}")]
     Journal(OpenFault),
     /// The journal's edits can't be made.
+    #[error("{0}")]
     Restore(RestoreFault),
     /// The new journal isn't written.
+    #[error("{0}")]
     Compact(CompactFault),
 }
-
-impl fmt::Display for ListenFault {
-    fn fmt<W: fmt::Write>(&self, f: &mut fmt::Formatter<W>) -> fmt::Result {
-        match self {
-            ListenFault::Command(fault) => write!(f, "{fault}"),
-            ListenFault::Listening(e) => write!(f, "config: {e}"),
-            ListenFault::File(fault) => write!(f, "{fault}"),
-            ListenFault::Journal(fault) => write!(f, "{fault}"),
-            ListenFault::Restore(fault) => write!(f, "{fault}"),
-            ListenFault::Compact(fault) => write!(f, "{fault}"),
-        }
-    }
-}
-
-impl Error for ListenFault {}
 
 impl From<Fault> for ListenFault {
     ghost use Rattle.std.specs.Prelude.{◌≡◌};

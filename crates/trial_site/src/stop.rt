@@ -6,35 +6,28 @@ use doc_page_parts::path::PathError;
 use doc_store::groups::GroupsError;
 use doc_store::readers::ReadersError;
 use std::alloc::{AllocError, AllocFailed};
-use std::fmt;
+use thiserror::Error;
 
 /// Why a line has no answer.
-#[derive(Clone, Copy)]
+#[derive(Clone, Copy, Debug, Error)]
 pub enum Stop {
     /// No memory was left for the line.
+    #[error("no memory for the line")]
     Memory,
     /// The line is no call.
+    #[error("no call")]
     NoCall,
     /// Memory ran out in what the line calls, and not for what is given and answered.
+    #[error("refused: {Memory}")]
     Refused,
+    #[error("refused: {0}")]
     Path(PathError),
+    #[error("refused: {0}")]
     Groups(GroupsError),
+    #[error("refused: {0}")]
     Readers(ReadersError),
+    #[error("refused: {0}")]
     Hub(HubError),
-}
-
-impl fmt::Display for Stop {
-    fn fmt<W: fmt::Write>(&self, f: &mut fmt::Formatter<W>) -> fmt::Result {
-        match self {
-            Stop::Memory => write!(f, "no memory for the line"),
-            Stop::NoCall => write!(f, "no call"),
-            Stop::Refused => write!(f, "refused: {Memory}"),
-            Stop::Path(e) => write!(f, "refused: {e}"),
-            Stop::Groups(e) => write!(f, "refused: {e}"),
-            Stop::Readers(e) => write!(f, "refused: {e}"),
-            Stop::Hub(e) => write!(f, "refused: {e}"),
-        }
-    }
 }
 
 impl From<Memory> for Stop {

@@ -1,6 +1,6 @@
 use Rattle.std.proofs.Common.{rules, ◌≡◌, ◌∙◌, List, [], map, chars, ap, sym}
 use Rattle.doc_lines.proofs.Ends.{empty_chars}
-use Rattle.doc_refs_parts.proofs.SpaceLaws.{is_none, is_some}
+use Rattle.doc_refs_parts.proofs.SpaceLaws.{is_some}
 use Rattle.doc_rules.specs.Characters.{Text}
 use Rattle.doc_rules.specs.Columns.{cells_of}
 use Rattle.doc_rules.specs.Lines.{lines_of, secure_char}
@@ -9,6 +9,7 @@ use Rattle.doc_blocks.specs.StateSteps.{State, shown, after_line, document_left}
 use Rattle.doc_blocks.specs.BuilderSteps.{state_of}
 use Rattle.doc_blocks.proofs.LeafLaws.{one_line, document_is}
 use Rattle.doc_blocks.proofs.tagged.tags.Goals as goal
+use Rattle.doc_page_parts.proofs.Numbers.{zero_test_true}
 
 pub lines-init : goal.lines-init
 lines-init c =
@@ -41,7 +42,7 @@ unfolding lines_of
 returns-clause-tags c =
     let table = c.args.entities.now in
     let s = state_of c.lines.builder in
-    let none : chars c.lines.rest.now ≡ [] = empty_chars _ (is_none _ _ c.is_empty.ensures c.lines-test.false) in
+    let none : chars c.lines.rest.now ≡ [] = empty_chars _ (zero_test_true _ _ c.is_empty.ensures c.lines-test.false) in
     c.in_ok-tagged.ensures.tags
     ∙ ap tags_of (document_is table (chars c.args.text.now) (document_left table [] (shown s))
     (ap (λ (t : Text). document_left table (lines_of t) (shown s)) (sym none) ∙ sym c.lines.invariant.left)).0
@@ -51,7 +52,7 @@ unfolding lines_of
 returns-clause-refs c =
     let table = c.args.entities.now in
     let s = state_of c.lines.builder in
-    let none : chars c.lines.rest.now ≡ [] = empty_chars _ (is_none _ _ c.is_empty.ensures c.lines-test.false) in
+    let none : chars c.lines.rest.now ≡ [] = empty_chars _ (zero_test_true _ _ c.is_empty.ensures c.lines-test.false) in
     c.in_ok-tagged.ensures.refs
     ∙ (document_is table (chars c.args.text.now) (document_left table [] (shown s))
     (ap (λ (t : Text). document_left table (lines_of t) (shown s)) (sym none) ∙ sym c.lines.invariant.left)).1

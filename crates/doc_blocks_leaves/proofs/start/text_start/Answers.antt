@@ -1,10 +1,11 @@
 use Rattle.std.proofs.Common.{rules, ◌≡◌, ◌==◌, false, refl, chars, ap, sym, ◌∙◌}
+use Rattle.std.proofs.lemmas.Result.{IfOk-weaker}
 use Rattle.doc_rules.specs.Trees.{text_begins, atx_begins, fence_begins, html_begins, setext_begins, break_begins}
 use Rattle.doc_lines.specs.Cursors.{left_of}
 use Rattle.doc_blocks_leaves.specs.Starts.{situation_of, start_of, or_else}
 use Rattle.doc_blocks_leaves.proofs.StartSteps.{at_number_sign, at_fence_sign, at_left_angle, at_equals_sign, at_hyphen, at_break_sign}
 use Rattle.doc_blocks_leaves.proofs.StartSteps.{at_other, neither, at_end}
-use Rattle.doc_blocks_leaves.proofs.Tests.{if_ok, at_front}
+use Rattle.doc_blocks_leaves.proofs.Tests.{at_front}
 use Rattle.doc_blocks_leaves.proofs.start.text_start.Goals as goal
 
 pub returns-in_default : goal.returns-in_default
@@ -42,7 +43,7 @@ returns-in-61 c =
     let table = c.args.entities.now in
     let situation = situation_of c.args.situation in
     let line = left_of c.args.line.now in
-    if_ok c.underline_start.result (λ start. start_of line start ≡ setext_begins table situation (chars c.args.text.now))
+    IfOk-weaker c.underline_start.result (λ start. start_of line start ≡ setext_begins table situation (chars c.args.text.now))
     (λ start. start_of line start ≡ text_begins table situation line (chars c.args.text.now)) (λ start e. e
     ∙ at_front (setext_begins table situation) (text_begins table situation line) _ _ _ 61 c.in-Some.ensures.characters c.in-61.is
     (at_equals_sign table situation line _)) c.underline_start.ensures
@@ -52,7 +53,7 @@ returns-in-45 c =
     let table = c.args.entities.now in
     let situation = situation_of c.args.situation in
     let line = left_of c.args.line.now in
-    if_ok c.hyphens_start.result (λ start. start_of line start ≡ or_else (setext_begins table situation (chars c.args.text.now))
+    IfOk-weaker c.hyphens_start.result (λ start. start_of line start ≡ or_else (setext_begins table situation (chars c.args.text.now))
     (break_begins (chars c.args.text.now))) (λ start. start_of line start ≡ text_begins table situation line (chars c.args.text.now))
     (λ start e. e ∙ at_front (λ text. or_else (setext_begins table situation text) (break_begins text)) (text_begins table situation line)
     _ _ _ 45 c.in-Some.ensures.characters c.in-45.is (at_hyphen table situation line _))
