@@ -1,6 +1,6 @@
 -- What events leave of a world, by their kinds: an event that is of no connection leaves the connections, and one that is no edit of
 -- the site besides leaves the site.
-use Rattle.std.proofs.Common.{◌≡◌, ℕ, Bool, refl, ap, sym, subst}
+use Rattle.std.proofs.Common.{◌≡◌, refl, ap, sym, subst}
 use Rattle.std.specs.Prelude.{⊤, Result, Ok, Err}
 use Rattle.doc_page_parts.specs.Refusals.{Gives}
 use Rattle.doc_store.specs.declared.moving.MoveError.TheVariants as move_errors

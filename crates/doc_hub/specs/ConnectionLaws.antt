@@ -1,7 +1,7 @@
 -- Laws of connections: pushes one after another, dropped connections, and their numbers.
 use Rattle.std.specs.Prelude.{◌≡◌, ◌≤◌, ◌++◌, ℕ, List, None, Result, Ok, Err}
 use Rattle.doc_hub.specs.declared.event.ConnId.{ConnId}
-use Rattle.doc_hub.specs.Events.{push_on, step_on}
+use Rattle.doc_hub.specs.Events.{push_on}
 use Rattle.doc_hub.specs.declared.event.Step.{Step}
 use Rattle.doc_hub.specs.declared.refusal.PushError.{PushError}
 use Rattle.doc_hub.specs.declared.refusal.PushError.TheVariants as push_errors

@@ -13,7 +13,7 @@
 ghost use Rattle.std.specs.Prelude.{◌≡◌, ◌+◌, false, IfOk, option_map};
 ghost use Rattle.std.specs.FinMap as map;
 ghost use Rattle.std.specs.List.{list_any};
-ghost use Rattle.doc_page_parts.specs.Refusals.{Gives, IsAnswer};
+ghost use Rattle.doc_page_parts.specs.Refusals.{IsAnswer};
 ghost use Rattle.doc_hub.specs.Counts.{Counted, moves_in, ran_out};
 ghost use Rattle.doc_hub_answers.specs.Counts.{RendersPuts};
 ghost use Rattle.doc_hub.specs.Events.{disconnect_on, push_on, step_on, stepping};

@@ -3,7 +3,7 @@ use Rattle.std.proofs.Common.{◌≡◌, ℕ, ◌+◌, List, [], ◌∷◌, ◌+
 use Rattle.std.specs.Prelude.{map as mapped, Option, Some, None, option_map, Ok, if◌then◌else◌}
 use Rattle.std.specs.FinMap as map
 use Rattle.std.specs.Option.{ok_or}
-use Rattle.doc_store.specs.Store.{set_page, remove_page, move_page, StoreState, effect_of}
+use Rattle.doc_store.specs.Store.{remove_page, StoreState, effect_of}
 use Rattle.doc_store.specs.declared.site_edit.SiteEdit.{SiteEdit}
 use Rattle.doc_store.specs.declared.site_edit.SiteEdit.TheVariants as site_edits
 use Rattle.doc_server_script.proofs.ReplayLaw.{replay_gives_the_site}

@@ -4,7 +4,7 @@ ghost use Rattle.std.specs.Prelude.{◌≡◌, IfOk, None, option_and_then};
 ghost use Rattle.std.specs.List.{list_all};
 ghost use Rattle.std.specs.Result.{result_ok};
 ghost use Rattle.doc_server.specs.Scripts.{events_of};
-ghost use Rattle.doc_server_restore.specs.Restores.{edit_in, edits_in, edits_of};
+ghost use Rattle.doc_server_restore.specs.Restores.{edits_in, edits_of};
 ghost use Rattle.doc_server_restore.specs.RestoreSteps.{Reads, is_edit};
 
 use doc_hub::event::Event;

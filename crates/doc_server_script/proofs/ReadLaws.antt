@@ -1,6 +1,6 @@
 -- The line of an edit, read, gives that edit.
 use Rattle.std.proofs.Common.{◌≡◌, ℕ, List, ◌∷◌, ◌++◌, true, cond, codes, refl, ap, ◌∙◌}
-use Rattle.std.specs.Prelude.{Some, None, option_map, option_and_then}
+use Rattle.std.specs.Prelude.{Some, None, option_and_then}
 use Rattle.std.specs.List.{list_all}
 use Rattle.std.proofs.lemmas.Str.{is_utf8-from_IsUtf8}
 use Rattle.doc_store_readers.specs.Groups.{IsGroups}
@@ -10,7 +10,7 @@ use Rattle.doc_server_script.specs.Edits.{put_line, remove_line, move_line, grou
 use Rattle.doc_server_script.specs.Escapes.{is_printable, spaceless, escaped}
 use Rattle.doc_server_script.specs.Fields.{as_text, as_path, cut, groups_in, text_of, path_in}
 use Rattle.doc_server_script.specs.Laws.{IsText, IsPathText, EditsAreRead, EditsAreLines}
-use Rattle.doc_server_script.specs.Lines.{event_of, event_in, move_with, put_of, put_with}
+use Rattle.doc_server_script.specs.Lines.{event_of, event_in, move_with, put_of, put_with, remove_with}
 use Rattle.doc_server_script.proofs.CutLaws.{all_append, cut_at, escaped_prints, no_space_in, spaceless_prints}
 use Rattle.doc_server_script.proofs.GroupLaws.{groups_back, groups_no_space, groups_print}
 use Rattle.doc_server_script.proofs.EscapeLaws.{escaped_back, spaceless_text_back}

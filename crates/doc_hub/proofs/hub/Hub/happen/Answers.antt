@@ -1,4 +1,3 @@
-use Rattle.std.proofs.Common.{refl}
 use Rattle.doc_hub.specs.declared.event.Event.TheVariants as events
 use Rattle.doc_hub.proofs.CountSteps.{counted_so}
 use Rattle.doc_hub.proofs.RunSteps.{leaves_same, leaves_so}
