@@ -38,8 +38,10 @@ const PAGE_LIMIT: usize = 1_048_576;
 
 /// The longest line of an edit: `put `, a path, the names of groups and a text, with what stands behind each of them. Each byte of the path
 /// and of the text is written with four.
-const LONGEST_LINE: usize =
-    4 + (4 * PATH_LIMIT + 1) + GROUP_LIMIT * (NAME_LIMIT + 1) + (4 * PAGE_LIMIT + 1);
+const LONGEST_LINE: usize = 4
+    + (4 * PATH_LIMIT + 1)
+    + GROUP_LIMIT * (NAME_LIMIT + 1)
+    + (4 * PAGE_LIMIT + 1);
 
 /// Up to how many bytes a further step is taken: behind so many the line of one more edit ends within a record.
 const MOST_BYTES: usize = TEXT_LIMIT - LONGEST_LINE;
