@@ -1,6 +1,6 @@
 -- The edit that goes with an answer is at the path of a page, of groups, and of a text that fits.
 use Rattle.std.proofs.Common.{◌≡◌, ◌≤◌, ℕ, List, length, Bool, true, false, refl, arith}
-use Rattle.std.specs.Prelude.{codes, nat_le, nat_lt, not, Option, Some, None, IfSome, Result, Ok, Err, IfOk, option_and_then, if◌then◌else◌}
+use Rattle.std.specs.Prelude.{codes, nat_lt, not, Option, Some, None, IfSome, Result, Ok, Err, IfOk, option_and_then, if◌then◌else◌}
 use Rattle.std.specs.List.{join_with_byte, list_all}
 use Rattle.std.proofs.lemmas.Bool.Decides.{nat_tests}
 use Rattle.doc_page_parts.specs.Paths.{is_path}
@@ -27,6 +27,7 @@ use Rattle.doc_hub_answers.specs.declared.edit.Edit.TheVariants as edits
 use Rattle.doc_hub_answers.specs.declared.method.Method.{Method}
 use Rattle.doc_hub_answers.specs.declared.method.Method.TheVariants.{Get, Head, Put, Delete, Other}
 use Rattle.doc_server_script.specs.LineLengths.{IsWithin}
+use Rattle.doc_server_script.proofs.LineLengths.{at_most}
 
 -- ---- what a request writes
 
@@ -68,9 +69,6 @@ named_are_groups text =
 -- the edit of an answer to a request with this body
 abbrev pub FitsWith : List ℕ → Option Edit → Type 0
 FitsWith text edit = IfSome (site_edit text edit) IsWithin
-
-at_most : (n m : ℕ) → nat_le n m ≡ true → n ≤ m
-at_most n m is = grind (arith, nat_tests)
 
 module _ (view : View) (left : Bool) where
   put_if : (path : List ℕ) (groups : List (List ℕ)) (text : List ℕ) (code : ℕ) (room : Bool) → is_path path ≡ true → IsGroups groups

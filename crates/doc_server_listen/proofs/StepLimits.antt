@@ -1,8 +1,7 @@
 -- The edit that a step tells is at the path of a page, of groups, and of a text that fits; so a record takes its line where there is room.
 use Rattle.std.proofs.Common.{◌≡◌, ◌≤◌, ℕ, ◌+◌, List, [], ◌++◌, length, Bool, true, false, cond, ap, sym, ◌∙◌, subst, arith, length-append}
-use Rattle.std.specs.Prelude.{MatchBool, Option, Some, None, IfSome, Result, Ok, Err, OnOk, is_err, nat_le, option_map, option_to_list}
+use Rattle.std.specs.Prelude.{MatchBool, Option, Some, None, IfSome, Result, Ok, Err, OnOk, is_err, option_map, option_to_list}
 use Rattle.std.specs.FinMap as map
-use Rattle.std.proofs.lemmas.Bool.Decides.{nat_tests}
 use Rattle.doc_page_parts.proofs.Bools.{and_second}
 use Rattle.doc_store_readers.proofs.KeySteps.{get_set, same_itself}
 use Rattle.doc_store_readers.specs.Pages.{Page}
@@ -29,7 +28,7 @@ use Rattle.doc_hub.specs.declared.refusal.StepError.{StepError}
 use Rattle.doc_server_journal_records.specs.Records.{text_limit}
 use Rattle.doc_server_script.specs.LineLengths.{IsWithin, longest_line}
 use Rattle.doc_server_script.specs.PageLines.{line_of, lines_of}
-use Rattle.doc_server_script.proofs.LineLengths.{line_within}
+use Rattle.doc_server_script.proofs.LineLengths.{at_most, line_within}
 use Rattle.doc_server_listen.specs.Edits.{edit_at, room_beside}
 use Rattle.doc_server_listen.proofs.AnswerLimits.{FitsWith, answer_fits}
 
@@ -79,9 +78,6 @@ pub told_within : (render : Renders) (w v : World) (id : ConnId) (said : Step) (
 told_within render w v id said told h tells = at_within render w v id.0 said told (map.get w.connections id.0) h tells
 
 -- ---- its line
-
-at_most : (n m : ℕ) → nat_le n m ≡ true → n ≤ m
-at_most n m is = grind (arith, nat_tests)
 
 more_within : (edit : Option SiteEdit) → IfSome edit IsWithin → length (lines_of (option_to_list edit)) ≤ longest_line
 more_within None within = omega arith

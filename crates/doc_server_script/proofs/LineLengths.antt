@@ -13,7 +13,7 @@ use Rattle.doc_server_script.specs.Escapes.{by_number, escaped, escaped_byte, is
 use Rattle.doc_server_script.specs.LineLengths.{IsWithin, longest_line, name_limit, path_limit}
 use Rattle.doc_server_script.specs.PageLines.{line_of}
 
-at_most : (n m : ℕ) → nat_le n m ≡ true → n ≤ m
+pub at_most : (n m : ℕ) → nat_le n m ≡ true → n ≤ m
 at_most n m is = grind (arith, nat_tests)
 
 -- ---- escapes
