@@ -1,0 +1,6 @@
+pub mod Limits
+pub mod Settings
+pub mod Accepts
+pub mod Views
+pub mod Folders
+pub mod Inert
