@@ -1,1 +1,6 @@
+mod Computing
+mod Sites
 mod SettingExamples
+mod FolderExamples
+mod InertExamples
+mod NavigationExamples

@@ -4,3 +4,6 @@ pub mod Accepts
 pub mod Views
 pub mod Folders
 pub mod Inert
+pub mod Lines
+pub mod Navigation
+pub mod Shell
