@@ -4,3 +4,5 @@ mod SettingExamples
 mod FolderExamples
 mod InertExamples
 mod NavigationExamples
+mod StyleSheetExamples
+pub mod InertLaws

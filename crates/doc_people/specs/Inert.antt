@@ -9,26 +9,22 @@ begins_in_any_case [] text = true
 begins_in_any_case (w ∷ word) [] = false
 begins_in_any_case (w ∷ word) (b ∷ rest) = eq_ignore_ascii_case b w && begins_in_any_case word rest
 
--- the name of a form or a frame stands in front
-abbrev pub begins_with_name : List ℕ → Bool
-begins_with_name text = begins_in_any_case (codes "form") text || begins_in_any_case (codes "iframe") text
+-- the tag of a form or of a frame begins
+abbrev pub begins_form_or_frame : List ℕ → Bool
+begins_form_or_frame text = begins_in_any_case (codes "<form") text || begins_in_any_case (codes "<iframe") text
 
--- a byte and what stands behind it: `<` and such a name
-abbrev pub is_start : ℕ → List ℕ → Bool
-is_start b rest = b == 60 && begins_with_name rest
-
--- the text with `&lt;` for each `<` that begins a form or a frame
+-- the text with `&lt;` for each `<` that begins such a tag
 unfoldable pub disarmed : List ℕ → List ℕ
 disarmed [] = []
-disarmed (b ∷ rest) = (if is_start b rest then codes "&lt;" else b ∷ []) ++ disarmed rest
+disarmed (b ∷ rest) = (if begins_form_or_frame (b ∷ rest) then codes "&lt;" else b ∷ []) ++ disarmed rest
 
--- a line that ends a tag which is left open, in each kind of quotes
+-- a line that ends a tag which is left open, in either kind of quotes
 abbrev pub ending_line : List ℕ
 ending_line = codes "<!--'\"-->\n"
 
 abbrev pub has_apostrophe : List ℕ → Bool
 has_apostrophe html = list_any (λ b. b == 39) html
 
--- the text begins no form and no frame, and where it has a `'`, that line stands behind it
+-- the HTML begins no form and no frame, and where it has a `'`, that line stands behind it
 abbrev pub inert : List ℕ → List ℕ
 inert html = disarmed html ++ (if has_apostrophe html then ending_line else [])

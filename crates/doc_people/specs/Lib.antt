@@ -7,3 +7,9 @@ pub mod Inert
 pub mod Lines
 pub mod Navigation
 pub mod Shell
+pub mod Statuses
+pub mod Sources
+pub mod Pages
+pub mod Lists
+pub mod BrokenLinks
+pub mod Laws

@@ -19,3 +19,7 @@ sees view path = is_some (page_at view.pages path)
 -- what the renderer makes of the text of the page at this path
 abbrev pub rendered_at : Renders → View → List ℕ → Option Rendered
 rendered_at render view path = option_map (λ page. render page.text) (page_at view.pages path)
+
+-- the pages, each with what the renderer makes of its text
+abbrev pub rendered_pages : Renders → View → List (List ℕ × Rendered)
+rendered_pages render view = mapped (λ page. (page.0, render page.1.text)) view.pages

@@ -2,4 +2,6 @@
 //! reader's view, and of nothing else of the site. The functions here are empty: their contracts are laws of the definitions.
 #![tactic(auto)]
 
+pub mod laws;
 pub mod settings;
+pub mod style_sheet;

@@ -1,0 +1,21 @@
+//! Laws of the definitions. The functions do nothing: their contracts are the laws.
+
+ghost use Rattle.doc_people.specs.Laws.{InertHtmlHasNoForms, InertHtmlHasNoFrames, InertHtmlStays};
+
+/// Inert HTML begins no form.
+#[tactic(auto, using(crate::proofs::InertLaws::inert_html_has_no_forms))]
+pub fn inert_html_has_no_forms()
+    ensures { InertHtmlHasNoForms }
+{}
+
+/// Inert HTML begins no frame.
+#[tactic(auto, using(crate::proofs::InertLaws::inert_html_has_no_frames))]
+pub fn inert_html_has_no_frames()
+    ensures { InertHtmlHasNoFrames }
+{}
+
+/// HTML that begins no form and no frame and has no `'` is inert as it is.
+#[tactic(auto, using(crate::proofs::InertLaws::inert_html_stays))]
+pub fn inert_html_stays()
+    ensures { InertHtmlStays }
+{}
