@@ -1,8 +1,15 @@
 mod Computing
 mod Sites
+mod Bodies
+mod QuerySteps
 mod SettingExamples
 mod FolderExamples
 mod InertExamples
 mod NavigationExamples
+mod StatusExamples
+mod PageExamples
+mod ListExamples
+mod SnippetExamples
+mod SearchExamples
 mod StyleSheetExamples
 pub mod InertLaws

@@ -12,4 +12,8 @@ pub mod Sources
 pub mod Pages
 pub mod Lists
 pub mod BrokenLinks
+pub mod Terms
+pub mod Hits
+pub mod Snippets
+pub mod Search
 pub mod Laws
