@@ -1,6 +1,6 @@
 -- Examples: folders, what stands in them, titles, labels and addresses.
-use Rattle.std.proofs.Common.{◌≡◌, ℕ, List, [], ◌∷◌, ◌++◌, true, false, replicate, refl}
-use Rattle.std.specs.Prelude.{codes, Some, None}
+use Rattle.std.proofs.Common.{◌≡◌, [], ◌∷◌, ◌++◌, true, false, replicate, refl}
+use Rattle.std.specs.Prelude.{codes}
 use Rattle.doc_store_readers.specs.Sites.{View}
 use Rattle.doc_people.specs.Folders.{contents_href, folder_href, folder_label, folder_of, is_folder, key, keys, label, name, page_href}
 use Rattle.doc_people.specs.Folders.{parent, short, title}

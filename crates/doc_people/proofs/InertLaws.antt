@@ -1,10 +1,10 @@
 -- Laws of inert HTML.
-use Rattle.std.proofs.Common.{◌≡◌, ℕ, List, [], ◌∷◌, ◌++◌, Bool, true, false, not, ◌&&◌, ◌||◌, append-nil, codes, refl, ap, sym, ◌∙◌}
+use Rattle.std.proofs.Common.{◌≡◌, ℕ, List, [], ◌∷◌, ◌++◌, Bool, true, false, not, ◌&&◌, append-nil, codes, refl, ap, sym, ◌∙◌}
 use Rattle.std.specs.Char.{eq_ignore_ascii_case}
 use Rattle.std.specs.List.{list_all}
-use Rattle.std.proofs.lemmas.Bool.{and_from, and_left, and_parts, cond_both, false_from_ne_true, or_from, or_left, or_parts, or_right}
+use Rattle.std.proofs.lemmas.Bool.{and_from, and_left, and_parts, cond_both, false_from_ne_true, or_from, or_parts}
 use Rattle.std.proofs.lemmas.Bool.{cond-false, true≢false}
-use Rattle.doc_people.specs.Inert.{begins_in_any_case, begins_form_or_frame, disarmed, ending_line, has_apostrophe, inert}
+use Rattle.doc_people.specs.Inert.{begins_in_any_case, begins_form_or_frame, disarmed, ending_line, has_apostrophe}
 use Rattle.doc_people.specs.Laws.{InertHtmlHasNoForms, InertHtmlHasNoFrames, InertHtmlStays, holds_in_any_case}
 
 -- a byte of a tag's name: neither `<` nor `&`
@@ -42,12 +42,12 @@ module _ (tail : List ℕ) (bars : Bars tail) where
       cond_both (begins_form_or_frame (b ∷ rest)) (codes "&lt;") (b ∷ [])
       (λ front. begins_in_any_case (w ∷ word) ((front ++ disarmed rest) ++ tail) ≡ true → begins_in_any_case (w ∷ word) (b ∷ rest) ≡ true)
       (λ starts at_front.
-          let ampersand = isnt (eq_ignore_ascii_case 38 w)
-              (and_parts (not (eq_ignore_ascii_case 60 w)) (not (eq_ignore_ascii_case 38 w)) parts.0).1 in
-          absurd (true≢false (sym at_front ∙ and_left (eq_ignore_ascii_case 38 w) _ ampersand)))
+      let ampersand = isnt (eq_ignore_ascii_case 38 w)
+      (and_parts (not (eq_ignore_ascii_case 60 w)) (not (eq_ignore_ascii_case 38 w)) parts.0).1 in
+      absurd (true≢false (sym at_front ∙ and_left (eq_ignore_ascii_case 38 w) _ ampersand)))
       (λ starts at_front.
-          let both = and_parts (eq_ignore_ascii_case b w) (begins_in_any_case word (disarmed rest ++ tail)) at_front in
-          and_from (eq_ignore_ascii_case b w) (begins_in_any_case word rest) both.0 (stands word rest parts.1 both.1))
+      let both = and_parts (eq_ignore_ascii_case b w) (begins_in_any_case word (disarmed rest ++ tail)) at_front in
+      and_from (eq_ignore_ascii_case b w) (begins_in_any_case word rest) both.0 (stands word rest parts.1 both.1))
       begins
 
   -- a tag that never stands in such a tail, and that begins a form or a frame, doesn't stand in disarmed text
@@ -61,13 +61,13 @@ module _ (tail : List ℕ) (bars : Bars tail) where
         (λ front. holds_in_any_case (60 ∷ word) ((front ++ disarmed rest) ++ tail) ≡ false)
         (λ _. absent starts rest)
         (λ isnt_start.
-            or_from (begins_in_any_case (60 ∷ word) (b ∷ disarmed rest ++ tail)) (holds_in_any_case (60 ∷ word) (disarmed rest ++ tail))
-            (false_from_ne_true (begins_in_any_case (60 ∷ word) (b ∷ disarmed rest ++ tail)) (λ begins.
-                let both = and_parts (eq_ignore_ascii_case b 60) (begins_in_any_case word (disarmed rest ++ tail)) begins in
-                true≢false
-                (sym (and_from (eq_ignore_ascii_case b 60) (begins_in_any_case word rest) both.0 (stands word rest plain both.1))
-                ∙ starts (b ∷ rest) isnt_start)))
-            (absent starts rest))
+        or_from (begins_in_any_case (60 ∷ word) (b ∷ disarmed rest ++ tail)) (holds_in_any_case (60 ∷ word) (disarmed rest ++ tail))
+        (false_from_ne_true (begins_in_any_case (60 ∷ word) (b ∷ disarmed rest ++ tail)) (λ begins.
+        let both = and_parts (eq_ignore_ascii_case b 60) (begins_in_any_case word (disarmed rest ++ tail)) begins in
+        true≢false
+        (sym (and_from (eq_ignore_ascii_case b 60) (begins_in_any_case word rest) both.0 (stands word rest plain both.1))
+        ∙ starts (b ∷ rest) isnt_start)))
+        (absent starts rest))
 
   without_form : holds_in_any_case (codes "<form") tail ≡ false → (html : List ℕ)
       → holds_in_any_case (codes "<form") (disarmed html ++ tail) ≡ false

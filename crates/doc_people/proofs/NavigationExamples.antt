@@ -1,5 +1,5 @@
 -- Examples: the folders that lead to a place, and what is shown of a folder.
-use Rattle.std.proofs.Common.{◌≡◌, ℕ, List, [], ◌∷◌, ◌++◌, true, false, replicate, drop, take, length, refl}
+use Rattle.std.proofs.Common.{◌≡◌, ℕ, List, [], ◌∷◌, ◌++◌, true, false, refl}
 use Rattle.std.specs.Prelude.{codes, map as mapped, Some, None}
 use Rattle.std.specs.List.{range_with_len}
 use Rattle.doc_store_readers.specs.Sites.{View}

@@ -1,5 +1,5 @@
 -- Examples: values of settings, and which Accept fields ask for the pages for people.
-use Rattle.std.proofs.Common.{◌≡◌, [], ◌∷◌, ◌++◌, true, false, replicate, refl}
+use Rattle.std.proofs.Common.{◌≡◌, [], ◌∷◌, true, false, replicate, refl}
 use Rattle.std.specs.Prelude.{codes}
 use Rattle.std.specs.Str.{chars}
 use Rattle.doc_page_parts.specs.Lines.{stripped}

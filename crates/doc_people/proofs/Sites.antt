@@ -28,7 +28,7 @@ titled text = record {
   pieces = [];
   headings = if bytes_eq text (codes "e/f/index.md")
       then record { level = 1; anchor = codes "section"; text = [] }
-          ∷ record { level = 2; anchor = codes "f--co"; text = codes "F & co" } ∷ []
+      ∷ record { level = 2; anchor = codes "f--co"; text = codes "F & co" } ∷ []
       else [];
   texts = [];
 }

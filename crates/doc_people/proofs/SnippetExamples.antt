@@ -1,9 +1,9 @@
 -- Examples: terms of queries, which pages they find in which order, and what is shown of those.
-use Rattle.std.proofs.Common.{◌≡◌, ℕ, List, [], ◌∷◌, ◌++◌, true, false, replicate, map as mapped, refl, ap}
+use Rattle.std.proofs.Common.{◌≡◌, ℕ, List, [], ◌∷◌, ◌++◌, true, false, replicate, refl, ap}
 use Rattle.std.specs.Prelude.{codes}
 use Rattle.std.specs.List.{repeat}
 use Rattle.doc_page_parts.specs.declared.rendered.Rendered.{Rendered}
-use Rattle.doc_people.specs.Hits.{hits, is_held, is_named, rarity}
+use Rattle.doc_people.specs.Hits.{hits, rarity}
 use Rattle.doc_people.specs.Snippets.{best_text, parts, snippet, snippet_of, texts_read, within}
 use Rattle.doc_people.specs.Terms.{Term, Exact, Prefix, meets, terms_of}
 use Rattle.doc_people.proofs.Computing.{search_words}
@@ -40,9 +40,12 @@ texts them = record { pieces = []; headings = []; texts = them }
 abbrev five : List (List ℕ × Rendered)
 five =
     (codes "kiwi.md", texts []) ∷ (codes "p.md", texts (codes "kiwi plum" ∷ [])) ∷ (codes "q.md", texts (codes "kiwi kiwis" ∷ []))
-    ∷ (codes "r.md", record (texts (codes "Kiwi!" ∷ codes "a kiwi" ∷ [])) {
-      headings = record { level = 1; anchor = codes "kiwi"; text = codes "Kiwi!" } ∷ [];
-    }) ∷ (codes "s.md", texts (codes "plum" ∷ [])) ∷ []
+    ∷ (
+      codes "r.md",
+      record (texts (codes "Kiwi!" ∷ codes "a kiwi" ∷ [])) {
+        headings = record { level = 1; anchor = codes "kiwi"; text = codes "Kiwi!" } ∷ [];
+      },
+    ) ∷ (codes "s.md", texts (codes "plum" ∷ [])) ∷ []
 
 kiwi_hits : hits five (Prefix (codes "kiw") ∷ [])
     ≡ record { path = codes "r.md"; score = 2 } ∷ record { path = codes "kiwi.md"; score = 0 }

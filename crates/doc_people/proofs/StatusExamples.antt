@@ -1,5 +1,5 @@
 -- Examples: pages that say no more than a status.
-use Rattle.std.proofs.Common.{◌≡◌, ℕ, List, [], ◌∷◌, ◌++◌, codes, refl}
+use Rattle.std.proofs.Common.{◌≡◌, ◌++◌, codes, refl}
 use Rattle.doc_people.specs.Statuses.{moved_body, not_found_body, not_signed_in_body}
 use Rattle.doc_people.proofs.Bodies.{bar, front}
 use Rattle.doc_people.proofs.Computing.{shell_words}

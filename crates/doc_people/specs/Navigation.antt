@@ -91,7 +91,7 @@ tree_item render view at key =
 abbrev pub tree_items : Renders → View → Option (List ℕ) → List ℕ
 tree_items render view at =
     listed_if_any (flat_map (tree_item render view at)
-        (filter (λ key. not (bytes_eq key (index_of (folder_at at)))) (window at (keys view (folder_at at)))))
+    (filter (λ key. not (bytes_eq key (index_of (folder_at at)))) (window at (keys view (folder_at at)))))
 
 -- the folder that the folder stands in
 abbrev pub up_line : Renders → View → List ℕ → List ℕ

@@ -1,5 +1,5 @@
 -- The page for people that shows a page of the site. All of this is this project's choice.
-use Rattle.std.specs.Prelude.{ℕ, List, [], ◌∷◌, ◌++◌, length, take, map as mapped, filter, Bool, not, ◌&&◌, ◌==◌, nat_le, nat_lt, bytes_eq}
+use Rattle.std.specs.Prelude.{ℕ, List, [], ◌∷◌, ◌++◌, length, take, filter, Bool, not, ◌&&◌, ◌==◌, nat_le, nat_lt}
 use Rattle.std.specs.Prelude.{codes, decimal, Option, Some, None, if◌then◌else◌}
 use Rattle.std.specs.List.{flat_map, list_any}
 use Rattle.doc_page_parts.specs.Escaping.{escaped}

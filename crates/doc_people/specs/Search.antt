@@ -8,7 +8,7 @@ use Rattle.doc_store_readers.specs.Sites.{View}
 use Rattle.doc_words_search.specs.Words.{query_of}
 use Rattle.doc_words_search.specs.declared.hit.Hit.{Hit}
 use Rattle.doc_words_search.specs.declared.query.QueryError.{QueryError}
-use Rattle.doc_words_search.specs.declared.query.QueryError.TheVariants.{NoWords, TooManyWords}
+use Rattle.doc_words_search.specs.declared.query.QueryError.TheVariants.{Memory, NoWords, TooManyWords}
 use Rattle.doc_people.specs.Hits.{hits}
 use Rattle.doc_people.specs.Limits.{hit_limit}
 use Rattle.doc_people.specs.Lines.{item}
@@ -47,12 +47,16 @@ hits_part render view terms (hit ∷ rest) =
     codes "<p class=\"found\">" ++ pages_found (length (hit ∷ rest)) ++ best_of_them (length (hit ∷ rest))
     ++ codes "</p>\n<ol class=\"hits\">\n" ++ flat_map (hit_line render view terms) (take hit_limit (hit ∷ rest)) ++ codes "</ol>\n"
 
+-- why a query finds nothing; no query is refused for memory
+abbrev pub refusal : QueryError → List ℕ
+refusal NoWords = codes "<p>A query is words: letters and numbers. This one has none.</p>\n"
+refusal TooManyWords = codes "<p>A query has 16 different words at most. This one has more.</p>\n"
+refusal Memory = []
+
 -- what the terms of a query find, or why the query finds nothing
 abbrev pub found_by : Renders → View → List Term → Result (List (List ℕ)) QueryError → List ℕ
 found_by render view terms (Ok words) = hits_part render view terms (hits (rendered_pages render view) terms)
-found_by render view terms (Err NoWords) = codes "<p>A query is words: letters and numbers. This one has none.</p>\n"
-found_by render view terms (Err TooManyWords) =
-    codes "<p>A query has 16 different words at most. This one has more.</p>\n"
+found_by render view terms (Err error) = refusal error
 
 -- below the form
 abbrev pub found : Renders → View → List ℕ → List ℕ

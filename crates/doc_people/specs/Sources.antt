@@ -5,7 +5,6 @@ use Rattle.doc_links_pages.specs.PageLinks.{page_links}
 use Rattle.doc_links_pages.specs.declared.answers.Broken.{Broken}
 use Rattle.doc_links_pages.specs.declared.page_links.PageLinks.{PageLinks}
 use Rattle.doc_page_parts.specs.declared.rendered.Rendered.{Rendered}
-use Rattle.doc_store_readers.specs.Pages.{Page}
 use Rattle.doc_store_readers.specs.Sites.{View, goal_in}
 use Rattle.doc_people.specs.Views.{Renders, rendered_pages}
 

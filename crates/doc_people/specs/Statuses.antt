@@ -1,5 +1,5 @@
 -- The pages that say no more than a status. All of this is this project's choice; the codes are those of RFC 9110, section 15.
-use Rattle.std.specs.Prelude.{ℕ, List, [], ◌∷◌, ◌++◌, ◌==◌, codes, None, if◌then◌else◌}
+use Rattle.std.specs.Prelude.{ℕ, List, [], ◌++◌, ◌==◌, codes, None, if◌then◌else◌}
 use Rattle.doc_page_parts.specs.Escaping.{escaped}
 use Rattle.doc_store_readers.specs.Sites.{View}
 use Rattle.doc_people.specs.Lines.{link}

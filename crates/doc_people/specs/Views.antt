@@ -1,7 +1,6 @@
 -- What a view shows of its pages. All of this is this project's choice.
 use Rattle.std.specs.Prelude.{ℕ, List, Bool, map as mapped, Option, is_some, option_map}
 use Rattle.doc_page_parts.specs.declared.rendered.Rendered.{Rendered}
-use Rattle.doc_store_readers.specs.Pages.{Page}
 use Rattle.doc_store_readers.specs.Sites.{View, page_at}
 
 -- what a renderer makes of each text
