@@ -9,6 +9,7 @@ mod NavigationExamples
 mod StatusExamples
 mod PageExamples
 mod ListExamples
+mod PartExamples
 mod SnippetExamples
 mod SearchExamples
 mod StyleSheetExamples

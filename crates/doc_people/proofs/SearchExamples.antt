@@ -5,7 +5,7 @@ use Rattle.doc_store_readers.specs.Sites.{View}
 use Rattle.doc_words_search.specs.Words.{query_of}
 use Rattle.doc_words_search.specs.declared.query.QueryError.{QueryError}
 use Rattle.doc_words_search.specs.declared.query.QueryError.TheVariants.{NoWords}
-use Rattle.doc_people.specs.Search.{ask, asks_nothing, code_by, found_by, search_body, search_code}
+use Rattle.doc_people.specs.Search.{ask, asks_nothing, best_of_them, code_by, found_by, pages_found, search_body, search_code}
 use Rattle.doc_people.specs.Shell.{shell}
 use Rattle.doc_people.specs.Terms.{Term, Exact, Prefix, terms_of}
 use Rattle.doc_people.proofs.Bodies.{bar, front}
@@ -107,3 +107,12 @@ code_of_no_words = code_with (codes "!") (Err NoWords) (queried (codes "!"))
 
 code_of_nothing : search_code (codes "  ") ≡ 200
 code_of_nothing = refl
+
+-- how many pages are found, and that there are more
+told :
+    (pages_found 1 ≡ codes "1 page found.")
+    × (pages_found 12 ≡ codes "12 pages found.")
+    × (best_of_them 50 ≡ [])
+    × (best_of_them 51 ≡ codes " The best 50 are these.")
+unfolding search_words
+told = (refl, refl, refl, refl)
