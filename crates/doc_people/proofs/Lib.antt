@@ -14,3 +14,4 @@ mod SnippetExamples
 mod SearchExamples
 mod StyleSheetExamples
 pub mod InertLaws
+pub mod KeyLaws

@@ -2,7 +2,7 @@
 -- it; it is there for a reader where they see a page below it. All of this is this project's choice.
 use Rattle.std.specs.Prelude.{ℕ, ◌-◌, List, [], ◌∷◌, ◌++◌, length, take, drop, map as mapped, filter, Bool, not, ◌||◌, ◌==◌, nat_le, bytes_eq}
 use Rattle.std.specs.Prelude.{chars, encode_utf8_all, codes, Option, Some, None, option_and_then, if◌then◌else◌}
-use Rattle.std.specs.List.{after_last, before_first, dedup, list_any, starts_with, suffix_len}
+use Rattle.std.specs.List.{after_last, dedup, starts_with, suffix_len}
 use Rattle.doc_page_parts.specs.Pages.{is_empty}
 use Rattle.doc_page_parts.specs.declared.rendered.Heading.{Heading}
 use Rattle.doc_page_encoding.specs.Encoding.{encoded_path}
@@ -50,14 +50,14 @@ name place = last_segment (if is_folder place then without_last place else place
 abbrev pub is_below : List ℕ → List ℕ → Bool
 is_below folder place = starts_with ◌==◌ place folder
 
--- of a path, and of what follows a folder in it: the path, or the folder in that folder
-abbrev pub key_by : List ℕ → List ℕ → List ℕ → List ℕ
-key_by folder path rest =
-    if list_any is_slash rest then folder ++ before_first is_slash rest ++ codes "/" else path
+-- a text up to its first `/`, with it, or all of it where it has none
+abbrev pub through_slash : List ℕ → List ℕ
+through_slash [] = []
+through_slash (b ∷ rest) = b ∷ (if is_slash b then [] else through_slash rest)
 
 -- what a folder shows of a path that begins with it: the path, where no `/` follows, and else the folder up to the first one
 abbrev pub key : List ℕ → List ℕ → List ℕ
-key folder path = key_by folder path (drop (length folder) path)
+key folder path = folder ++ through_slash (drop (length folder) path)
 
 -- what stands in a folder, pages and folders, each once, in the order of the paths
 unfoldable pub keys : View → List ℕ → List (List ℕ)

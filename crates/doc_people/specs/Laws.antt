@@ -1,6 +1,12 @@
 -- Laws of the definitions; the proofs are in proofs/.
 use Rattle.std.specs.Prelude.{◌≡◌, ℕ, List, [], ◌∷◌, Bool, false, ◌||◌, codes}
+use Rattle.std.specs.Cmp.Lexicographic.{slice_cmp}
+use Rattle.std.specs.List.Sorted.{IsStrictlySortedBy}
+use Rattle.std.specs.Ordering.{nat_cmp}
+use Rattle.doc_store_readers.specs.Sites.{View}
+use Rattle.doc_people.specs.Folders.{keys}
 use Rattle.doc_people.specs.Inert.{begins_in_any_case, has_apostrophe, inert}
+use Rattle.doc_people.specs.Views.{paths}
 
 -- the word stands somewhere in the text, in any case of ASCII letters
 abbrev pub holds_in_any_case : List ℕ → List ℕ → Bool
@@ -20,3 +26,9 @@ abbrev pub InertHtmlStays : Type 0
 InertHtmlStays =
     (html : List ℕ) → holds_in_any_case (codes "<form") html ≡ false → holds_in_any_case (codes "<iframe") html ≡ false
     → has_apostrophe html ≡ false → inert html ≡ html
+
+-- where the paths of a view rise in the order of bytes, what stands in a folder does, so each of it stands there once
+abbrev pub KeysRise : Type 0
+KeysRise =
+    (view : View) (folder : List ℕ) → IsStrictlySortedBy (slice_cmp nat_cmp) (paths view)
+    → IsStrictlySortedBy (slice_cmp nat_cmp) (keys view folder)

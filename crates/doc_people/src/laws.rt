@@ -1,6 +1,6 @@
 //! Laws of the definitions. The functions do nothing: their contracts are the laws.
 
-ghost use Rattle.doc_people.specs.Laws.{InertHtmlHasNoForms, InertHtmlHasNoFrames, InertHtmlStays};
+ghost use Rattle.doc_people.specs.Laws.{InertHtmlHasNoForms, InertHtmlHasNoFrames, InertHtmlStays, KeysRise};
 
 /// Inert HTML begins no form.
 #[tactic(auto, using(crate::proofs::InertLaws::inert_html_has_no_forms))]
@@ -18,4 +18,10 @@ pub fn inert_html_has_no_frames()
 #[tactic(auto, using(crate::proofs::InertLaws::inert_html_stays))]
 pub fn inert_html_stays()
     ensures { InertHtmlStays }
+{}
+
+/// What stands in a folder rises in the order of bytes, where the paths of the view do.
+#[tactic(auto, using(crate::proofs::KeyLaws::keys_rise))]
+pub fn keys_rise()
+    ensures { KeysRise }
 {}
