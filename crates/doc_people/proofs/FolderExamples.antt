@@ -3,7 +3,7 @@ use Rattle.std.proofs.Common.{◌≡◌, [], ◌∷◌, ◌++◌, true, false, r
 use Rattle.std.specs.Prelude.{codes}
 use Rattle.doc_store_readers.specs.Sites.{View}
 use Rattle.doc_people.specs.Folders.{contents_href, folder_href, folder_label, folder_of, is_folder, key, keys, label, name, page_href}
-use Rattle.doc_people.specs.Folders.{parent, short, title}
+use Rattle.doc_people.specs.Folders.{parent, sees_folder, short, title}
 use Rattle.doc_people.proofs.Computing.{shell_words}
 use Rattle.doc_people.proofs.Sites.{titled, view_of_paths}
 
@@ -49,6 +49,15 @@ all_keys :
     × (keys some_pages (codes "ops/") ≡ [])
 unfolding shell_words
 all_keys = (refl, refl, refl, refl)
+
+seen :
+    (sees_folder some_pages (codes "e/f/") ≡ true)
+    × (sees_folder some_pages (codes "ops2/") ≡ true)
+    × (sees_folder some_pages (codes "ops/") ≡ false)
+    × (sees_folder some_pages [] ≡ true)
+    × (sees_folder (view_of_paths []) [] ≡ false)
+unfolding shell_words
+seen = (refl, refl, refl, refl, refl)
 
 -- ---- titles and labels
 

@@ -133,8 +133,8 @@ kept_rise k (x ∷ xs) all rising =
     cond_both (bytes_eq x k) (dedup_from bytes_eq k xs) (k ∷ dedup_from bytes_eq x xs) (IsStrictlySortedBy cmp)
     (λ _. kept_rise k xs all.1 rising.1)
     (λ differs.
-        let less = strictly k x all.0 differs in
-        (less_than_kept k x xs less (all_less k x less xs rising.0), kept_rise x xs rising.0 rising.1))
+    let less = strictly k x all.0 differs in
+    (less_than_kept k x xs less (all_less k x less xs rising.0), kept_rise x xs rising.0 rising.1))
 
 each_rises : (ks : List (List ℕ)) → IsRising ks → IsStrictlySortedBy cmp (dedup bytes_eq ks)
 unfolding IsStrictlySortedBy

@@ -83,25 +83,22 @@ broken_group render view source links =
 abbrev pub broken_sources : List Broken → List (List ℕ)
 broken_sources links = dedup bytes_eq (mapped (λ link. link.source) links)
 
-abbrev pub broken_groups : Renders → View → List Broken → List (List ℕ) → List ℕ
-broken_groups render view links sources = flat_map (λ source. broken_group render view source (broken_of source links)) sources
-
 -- what stands before the first page
 abbrev pub broken_head : List ℕ
 broken_head =
     codes "<table class=\"broken\">\n<thead>\n<tr><th scope=\"col\">Link</th><th scope=\"col\">Leads to</th>"
     ++ codes "<th scope=\"col\">What is wrong</th></tr>\n</thead>\n"
 
--- the table, or in its place that no link is broken
-abbrev pub table_or_note : List ℕ → List ℕ → List ℕ
-table_or_note note [] = note
-table_or_note note (b ∷ groups) = broken_head ++ (b ∷ groups) ++ codes "</table>\n"
+-- the table of these pages, or in its place that there are none
+abbrev pub table_or_note : Renders → View → List ℕ → List Broken → List (List ℕ) → List ℕ
+table_or_note render view note links [] = note
+table_or_note render view note links (source ∷ rest) =
+    broken_head ++ flat_map (λ page. broken_group render view page (broken_of page links)) (source ∷ rest) ++ codes "</table>\n"
 
 abbrev pub broken_main : Renders → View → List ℕ → List Broken → List (List ℕ) → List ℕ
 broken_main render view from links sources =
     codes "<h1>Broken links</h1>\n<p>A page that you may not read counts as none.</p>\n"
-    ++ table_or_note (note_from from (codes "No link is broken on the pages that you may read."))
-    (broken_groups render view links (take source_limit sources))
+    ++ table_or_note render view (note_from from (codes "No link is broken on the pages that you may read.")) links (take source_limit sources)
     ++ pager (codes "/broken") from (slice_get sources source_limit)
 
 -- the sources from a text on

@@ -2,7 +2,7 @@
 -- it; it is there for a reader where they see a page below it. All of this is this project's choice.
 use Rattle.std.specs.Prelude.{ℕ, ◌-◌, List, [], ◌∷◌, ◌++◌, length, take, drop, map as mapped, filter, Bool, not, ◌||◌, ◌==◌, nat_le, bytes_eq}
 use Rattle.std.specs.Prelude.{chars, encode_utf8_all, codes, Option, Some, None, option_and_then, if◌then◌else◌}
-use Rattle.std.specs.List.{after_last, dedup, starts_with, suffix_len}
+use Rattle.std.specs.List.{after_last, dedup, list_any, starts_with, suffix_len}
 use Rattle.doc_page_parts.specs.Pages.{is_empty}
 use Rattle.doc_page_parts.specs.declared.rendered.Heading.{Heading}
 use Rattle.doc_page_encoding.specs.Encoding.{encoded_path}
@@ -49,6 +49,10 @@ name place = last_segment (if is_folder place then without_last place else place
 -- the path or folder begins with this folder
 abbrev pub is_below : List ℕ → List ℕ → Bool
 is_below folder place = starts_with ◌==◌ place folder
+
+-- a folder is seen where a path begins with it
+abbrev pub sees_folder : View → List ℕ → Bool
+sees_folder view folder = list_any (is_below folder) (paths view)
 
 -- a text up to its first `/`, with it, or all of it where it has none
 abbrev pub through_slash : List ℕ → List ℕ

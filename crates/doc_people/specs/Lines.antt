@@ -1,5 +1,5 @@
 -- Lines of HTML that the pages for people have in common. All of this is this project's choice.
-use Rattle.std.specs.Prelude.{ℕ, List, [], ◌∷◌, ◌++◌, Bool, true, false, codes}
+use Rattle.std.specs.Prelude.{ℕ, List, [], ◌++◌, Bool, true, false, codes}
 use Rattle.doc_page_parts.specs.Escaping.{escaped}
 
 -- the attribute of a link to the page that is shown
@@ -26,8 +26,3 @@ folder_item html = codes "<li class=\"dir\">" ++ html ++ codes "</li>\n"
 -- lines as a list
 abbrev pub listed : List ℕ → List ℕ
 listed lines = codes "<ul>\n" ++ lines ++ codes "</ul>\n"
-
--- the same, or nothing where there is no line
-abbrev pub listed_if_any : List ℕ → List ℕ
-listed_if_any [] = []
-listed_if_any (b ∷ lines) = listed (b ∷ lines)

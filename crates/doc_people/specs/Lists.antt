@@ -1,9 +1,10 @@
 -- The pages for people that list what a reader sees: the contents of a folder, and the pages that link to one. A list is shown from a text
 -- on, which the request names. All of this is this project's choice.
-use Rattle.std.specs.Prelude.{ℕ, List, [], ◌∷◌, ◌++◌, take, filter, not, ◌==◌, codes, decimal, Option, Some, None, option_map, slice_get}
+use Rattle.std.specs.Prelude.{ℕ, List, [], ◌∷◌, ◌++◌, take, filter, Bool, not, ◌&&◌, ◌==◌, is_some, codes, decimal, Option, Some, None, option_map, slice_get}
 use Rattle.std.specs.Prelude.{if◌then◌else◌}
 use Rattle.std.specs.List.{flat_map}
 use Rattle.doc_page_parts.specs.Escaping.{escaped}
+use Rattle.doc_page_parts.specs.Pages.{is_empty}
 use Rattle.doc_page_encoding.specs.Encoding.{encoded}
 use Rattle.doc_store_readers.specs.Sites.{View}
 use Rattle.doc_people.specs.Folders.{contents_href, folder_label, folder_of, is_folder, keys, label, page_href}
@@ -34,10 +35,10 @@ page_line render view path behind = item (page_and_path render view path ++ behi
 abbrev pub from_on : {X : Type 0} → (X → List ℕ) → List ℕ → List X → List X
 from_on text from entries = filter (λ entry. not (is_before (text entry) from)) entries
 
--- lines as a list, or in its place that there are none
-abbrev pub list_or_note : List ℕ → List ℕ → List ℕ
-list_or_note note [] = note
-list_or_note note (b ∷ lines) = codes "<ul class=\"list\">\n" ++ (b ∷ lines) ++ codes "</ul>\n"
+-- the lines of entries as a list, or in its place that there are none
+abbrev pub list_or_note : {X : Type 0} → (X → List ℕ) → List ℕ → List X → List ℕ
+list_or_note line note [] = note
+list_or_note line note (entry ∷ rest) = codes "<ul class=\"list\">\n" ++ flat_map line (entry ∷ rest) ++ codes "</ul>\n"
 
 -- what is said of a list that has nothing from a text on, by what is said of one that has nothing at all
 abbrev pub note_from : List ℕ → List ℕ → List ℕ
@@ -54,13 +55,16 @@ abbrev pub more_link : List ℕ → Option (List ℕ) → List ℕ
 more_link address None = []
 more_link address (Some next) = codes "<a href=\"" ++ address ++ codes "?from=" ++ encoded next ++ codes "\" rel=\"next\">More</a>\n"
 
-abbrev pub pager_of : List ℕ → List ℕ
-pager_of [] = []
-pager_of (b ∷ links) = codes "<nav class=\"pager\" aria-label=\"Parts of this list\">\n" ++ (b ∷ links) ++ codes "</nav>\n"
+-- nothing stands before the part of a list that begins at `from`, and nothing behind it
+abbrev pub is_whole : List ℕ → Option (List ℕ) → Bool
+is_whole from next = is_empty from && not (is_some next)
 
 -- the links to the other parts of the list at an address: the part that begins at `from` is shown, and `next` is the text behind it
 abbrev pub pager : List ℕ → List ℕ → Option (List ℕ) → List ℕ
-pager address from next = pager_of (start_link address from ++ more_link address next)
+pager address from next =
+    if is_whole from next then []
+    else codes "<nav class=\"pager\" aria-label=\"Parts of this list\">\n" ++ start_link address from ++ more_link address next
+    ++ codes "</nav>\n"
 
 -- ---- the contents of a folder
 
@@ -81,8 +85,7 @@ contents_from view folder from = from_on (λ key. key) from (keys view folder)
 abbrev pub contents_main : Renders → View → List ℕ → List ℕ → List (List ℕ) → List ℕ
 contents_main render view folder from keys =
     codes "<h1>" ++ escaped (contents_title render view folder) ++ codes "</h1>\n"
-    ++ list_or_note (note_from from (codes "There is no page that you may read."))
-    (flat_map (contents_line render view) (take list_limit keys))
+    ++ list_or_note (contents_line render view) (note_from from (codes "There is no page that you may read.")) (take list_limit keys)
     ++ pager (contents_href folder) from (slice_get keys list_limit)
 
 -- the contents of a folder from a text on
@@ -107,8 +110,7 @@ sources_from render view path from = from_on (λ source. source.0) from (sources
 abbrev pub backlinks_main : Renders → View → List ℕ → List ℕ → List (List ℕ × ℕ) → List ℕ
 backlinks_main render view path from sources =
     codes "<h1>Pages that link to " ++ link (page_href path) (label render view path) ++ codes "</h1>\n"
-    ++ list_or_note (note_from from (codes "No other page links here."))
-    (flat_map (backlink_line render view) (take list_limit sources))
+    ++ list_or_note (backlink_line render view) (note_from from (codes "No other page links here.")) (take list_limit sources)
     ++ pager (backlinks_href path) from (option_map (λ source. source.0) (slice_get sources list_limit))
 
 -- the pages that link to the page at this path, from a text on

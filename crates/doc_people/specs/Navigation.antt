@@ -9,7 +9,7 @@ use Rattle.doc_store_readers.specs.Sites.{View}
 use Rattle.doc_people.specs.Folders.{contents_href, folder_href, folder_label, folder_of, index_of, is_folder, is_slash, keys, label}
 use Rattle.doc_people.specs.Folders.{page_href, parent}
 use Rattle.doc_people.specs.Limits.{before_limit, after_limit}
-use Rattle.doc_people.specs.Lines.{folder_item, item, link, link_or_current, listed_if_any}
+use Rattle.doc_people.specs.Lines.{folder_item, item, link, link_or_current, listed}
 use Rattle.doc_people.specs.Views.{Renders}
 
 -- ---- the folders that lead to a place
@@ -88,10 +88,13 @@ tree_item render view at key =
     else item (link_or_current (page_href key) (is_at at key) (label render view key))
 
 -- what is shown, without the page that stands for the folder
-abbrev pub tree_items : Renders → View → Option (List ℕ) → List ℕ
-tree_items render view at =
-    listed_if_any (flat_map (tree_item render view at)
-    (filter (λ key. not (bytes_eq key (index_of (folder_at at)))) (window at (keys view (folder_at at)))))
+abbrev pub tree_keys : View → Option (List ℕ) → List (List ℕ)
+tree_keys view at = filter (λ key. not (bytes_eq key (index_of (folder_at at)))) (window at (keys view (folder_at at)))
+
+-- these as a list, or nothing where there is none
+abbrev pub tree_items : Renders → View → Option (List ℕ) → List (List ℕ) → List ℕ
+tree_items render view at [] = []
+tree_items render view at (key ∷ rest) = listed (flat_map (tree_item render view at) (key ∷ rest))
 
 -- the folder that the folder stands in
 abbrev pub up_line : Renders → View → List ℕ → List ℕ
@@ -118,5 +121,5 @@ unfoldable pub tree : Renders → View → Option (List ℕ) → List ℕ
 tree render view at =
     codes "<nav class=\"tree\" id=\".pages\" aria-label=\"Pages\">\n"
     ++ up_line render view (folder_at at) ++ top_line render view at (folder_at at)
-    ++ tree_items render view at ++ all_line at (folder_at at) (keys view (folder_at at))
+    ++ tree_items render view at (tree_keys view at) ++ all_line at (folder_at at) (keys view (folder_at at))
     ++ codes "</nav>\n"
