@@ -15,3 +15,4 @@ mod SearchExamples
 mod StyleSheetExamples
 pub mod InertLaws
 pub mod KeyLaws
+pub mod WrittenLaws

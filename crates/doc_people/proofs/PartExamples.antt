@@ -5,7 +5,6 @@ use Rattle.std.specs.List.{flat_map, range_with_len}
 use Rattle.doc_page_parts.specs.declared.rendered.Heading.{Heading}
 use Rattle.doc_page_parts.specs.declared.rendered.Piece.{Piece}
 use Rattle.doc_page_parts.specs.declared.rendered.Piece.TheVariants.{Link}
-use Rattle.doc_page_parts.specs.declared.rendered.Rendered.{Rendered}
 use Rattle.doc_store_readers.specs.Sites.{View}
 use Rattle.doc_people.specs.BrokenLinks.{broken_from, broken_main}
 use Rattle.doc_people.specs.Lists.{backlinks_main, contents_from, contents_main, pager, sources_from}

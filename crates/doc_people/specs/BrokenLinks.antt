@@ -1,5 +1,5 @@
 -- The page for people that lists broken links, source by source. All of this is this project's choice.
-use Rattle.std.specs.Prelude.{ℕ, ◌-◌, List, [], ◌∷◌, ◌++◌, length, take, map as mapped, filter, nat_lt, bytes_eq, codes, decimal, None}
+use Rattle.std.specs.Prelude.{ℕ, ◌-◌, List, [], ◌∷◌, ◌++◌, length, take, map as mapped, filter, Bool, nat_lt, bytes_eq, codes, decimal, None}
 use Rattle.std.specs.Prelude.{◌==◌, slice_get, unwrap_or, if◌then◌else◌}
 use Rattle.std.specs.List.{after_first, before_first, dedup, flat_map}
 use Rattle.percent_encoding.specs.Percent.{percent_decode}
@@ -18,12 +18,16 @@ use Rattle.doc_people.specs.declared.settings.Browse.{Browse}
 
 -- ---- a broken link
 
--- the path that a link writes, and the anchor behind its `#`, decoded
-abbrev pub written_path : List ℕ → List ℕ
-written_path target = before_first (λ b. b == 35) target
+abbrev pub is_hash : ℕ → Bool
+is_hash b = b == 35
 
+-- the path that a link writes
+abbrev pub written_path : List ℕ → List ℕ
+written_path target = before_first is_hash target
+
+-- and the anchor behind its `#`, decoded
 abbrev pub written_anchor : List ℕ → List ℕ
-written_anchor target = percent_decode (after_first (λ b. b == 35) target)
+written_anchor target = percent_decode (after_first is_hash target)
 
 -- the page that a path leads to
 abbrev pub goal_href : View → List ℕ → List ℕ
@@ -98,7 +102,8 @@ table_or_note render view note links (source ∷ rest) =
 abbrev pub broken_main : Renders → View → List ℕ → List Broken → List (List ℕ) → List ℕ
 broken_main render view from links sources =
     codes "<h1>Broken links</h1>\n<p>A page that you may not read counts as none.</p>\n"
-    ++ table_or_note render view (note_from from (codes "No link is broken on the pages that you may read.")) links (take source_limit sources)
+    ++ table_or_note render view (note_from from (codes "No link is broken on the pages that you may read.")) links
+    (take source_limit sources)
     ++ pager (codes "/broken") from (slice_get sources source_limit)
 
 -- the sources from a text on

@@ -1,9 +1,12 @@
 -- Laws of the definitions; the proofs are in proofs/.
-use Rattle.std.specs.Prelude.{◌≡◌, ℕ, List, [], ◌∷◌, Bool, false, ◌||◌, codes}
+use Rattle.std.specs.Prelude.{◌≡◌, ℕ, List, [], ◌∷◌, ◌++◌, Bool, true, false, ◌||◌, nat_lt, codes}
 use Rattle.std.specs.Cmp.Lexicographic.{slice_cmp}
+use Rattle.std.specs.List.{list_all, list_any}
 use Rattle.std.specs.List.Sorted.{IsStrictlySortedBy}
 use Rattle.std.specs.Ordering.{nat_cmp}
+use Rattle.doc_page_encoding.specs.Encoding.{encoded}
 use Rattle.doc_store_readers.specs.Sites.{View}
+use Rattle.doc_people.specs.BrokenLinks.{is_hash, written_anchor, written_path}
 use Rattle.doc_people.specs.Folders.{keys}
 use Rattle.doc_people.specs.Inert.{begins_in_any_case, has_apostrophe, inert}
 use Rattle.doc_people.specs.Views.{paths}
@@ -32,3 +35,13 @@ abbrev pub KeysRise : Type 0
 KeysRise =
     (view : View) (folder : List ℕ) → IsStrictlySortedBy (slice_cmp nat_cmp) (paths view)
     → IsStrictlySortedBy (slice_cmp nat_cmp) (keys view folder)
+
+-- what the list of broken links writes for one that names a heading, as it is told there, is the path and the anchor of the link
+abbrev pub WrittenPathsAreRead : Type 0
+WrittenPathsAreRead =
+    (path anchor : List ℕ) → list_any is_hash path ≡ false → written_path (path ++ codes "#" ++ encoded anchor) ≡ path
+
+abbrev pub WrittenAnchorsAreRead : Type 0
+WrittenAnchorsAreRead =
+    (path anchor : List ℕ) → list_any is_hash path ≡ false → list_all (λ b. nat_lt b 256) anchor ≡ true
+    → written_anchor (path ++ codes "#" ++ encoded anchor) ≡ anchor

@@ -1,6 +1,6 @@
 //! Laws of the definitions. The functions do nothing: their contracts are the laws.
 
-ghost use Rattle.doc_people.specs.Laws.{InertHtmlHasNoForms, InertHtmlHasNoFrames, InertHtmlStays, KeysRise};
+ghost use Rattle.doc_people.specs.Laws.{InertHtmlHasNoForms, InertHtmlHasNoFrames, InertHtmlStays, KeysRise, WrittenPathsAreRead, WrittenAnchorsAreRead};
 
 /// Inert HTML begins no form.
 #[tactic(auto, using(crate::proofs::InertLaws::inert_html_has_no_forms))]
@@ -24,4 +24,16 @@ pub fn inert_html_stays()
 #[tactic(auto, using(crate::proofs::KeyLaws::keys_rise))]
 pub fn keys_rise()
     ensures { KeysRise }
+{}
+
+/// The path of a broken link that names a heading is read from what is told of the link.
+#[tactic(auto, using(crate::proofs::WrittenLaws::written_paths_are_read))]
+pub fn written_paths_are_read()
+    ensures { WrittenPathsAreRead }
+{}
+
+/// And so is the anchor, decoded.
+#[tactic(auto, using(crate::proofs::WrittenLaws::written_anchors_are_read))]
+pub fn written_anchors_are_read()
+    ensures { WrittenAnchorsAreRead }
 {}
