@@ -4,6 +4,7 @@ use Rattle.std.specs.Prelude.{⊤, ◌==◌, bytes_eq, filter, map as mapped, if
 use Rattle.std.specs.Cmp.{nat_cmp_is, ranked}
 use Rattle.std.specs.Cmp.Lexicographic.{slice_cmp}
 use Rattle.std.specs.List.{AllByRecursion, dedup, dedup_from}
+use Rattle.std.specs.FinMap as map
 use Rattle.std.specs.List.Sorted.{IsStrictlySortedBy}
 use Rattle.std.specs.Ordering.{is_lt, nat_cmp, ordering_then}
 use Rattle.std.specs.declared.cmp.Ordering.{Ordering}
@@ -11,8 +12,10 @@ use Rattle.std.specs.declared.cmp.Ordering.TheVariants.{Less, Equal, Greater}
 use Rattle.std.proofs.lemmas.Bool.{and_parts, cond_both, eqb-true, true≢false}
 use Rattle.std.proofs.lemmas.Cmp.{nat_list_cmp_total}
 use Rattle.std.proofs.lemmas.Slice.Eq.{bytes_eq-Decides}
+use Rattle.doc_store_readers.specs.Sites.{visible_to}
+use Rattle.doc_store_readers.proofs.FilterSteps.{keys_in_order}
 use Rattle.doc_people.specs.Folders.{is_below, is_slash, key, keys, through_slash}
-use Rattle.doc_people.specs.Laws.{KeysRise}
+use Rattle.doc_people.specs.Laws.{KeysRise, PathsRise}
 use Rattle.doc_people.specs.Views.{paths}
 
 abbrev cmp : List ℕ → List ℕ → Ordering
@@ -144,3 +147,9 @@ pub keys_rise : KeysRise
 unfolding keys
 keys_rise view folder sorted =
     each_rises (mapped (key folder) (filter (is_below folder) (paths view))) (keys_are_rising folder (paths view) sorted)
+
+-- ---- of views of sites
+
+pub paths_rise : PathsRise
+paths_rise site reader =
+    keys_in_order (slice_cmp nat_cmp) (map.entries (visible_to site reader).pages) (map.entries_sorted (visible_to site reader).pages)

@@ -18,6 +18,7 @@ use Rattle.doc_people.specs.declared.settings.Browse.{Browse}
 
 -- ---- a broken link
 
+-- the byte before an anchor
 abbrev pub is_hash : ℕ → Bool
 is_hash b = b == 35
 
@@ -49,11 +50,13 @@ goal_cell view reasons.Page target = codes "<code>" ++ escaped target ++ codes "
 goal_cell view reasons.Anchor target = missing_heading view (written_path target) (written_anchor target)
 goal_cell view reasons.Path target = dash
 
+-- why the link is broken
 abbrev pub reason_text : Reason → List ℕ
 reason_text reasons.Page = codes "no such page"
 reason_text reasons.Anchor = codes "no such heading"
 reason_text reasons.Path = codes "no path of a page"
 
+-- a broken link: its place on its page, what it leads to, and why it is broken
 abbrev pub broken_row : View → Broken → List ℕ
 broken_row view link =
     codes "<tr><td>" ++ decimal link.place ++ codes "</td><td>" ++ goal_cell view link.reason link.target ++ codes "</td><td>"
@@ -71,6 +74,7 @@ more_row links =
     if nat_lt link_limit (length links)
     then codes "<tr><td colspan=\"3\">and " ++ decimal (length links - link_limit) ++ codes " more</td></tr>\n" else []
 
+-- the page that has the links
 abbrev pub source_row : Renders → View → List ℕ → List ℕ
 source_row render view source =
     codes "<tr><th colspan=\"3\" scope=\"rowgroup\">" ++ page_and_path render view source ++ codes "</th></tr>\n"
@@ -99,6 +103,7 @@ table_or_note render view note links [] = note
 table_or_note render view note links (source ∷ rest) =
     broken_head ++ flat_map (λ page. broken_group render view page (broken_of page links)) (source ∷ rest) ++ codes "</table>\n"
 
+-- the main part, of the broken links of a view and of the pages that have some
 abbrev pub broken_main : Renders → View → List ℕ → List Broken → List (List ℕ) → List ℕ
 broken_main render view from links sources =
     codes "<h1>Broken links</h1>\n<p>A page that you may not read counts as none.</p>\n"

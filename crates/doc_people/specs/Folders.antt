@@ -13,6 +13,7 @@ use Rattle.doc_people.specs.Views.{Renders, paths, rendered_at, sees}
 
 -- ---- folders
 
+-- the byte behind each segment of a folder
 abbrev pub is_slash : ℕ → Bool
 is_slash b = b == 47
 
@@ -78,6 +79,7 @@ first_text (heading ∷ rest) = if is_empty heading.text then first_text rest el
 abbrev pub heading_title : Renders → View → List ℕ → Option (List ℕ)
 heading_title render view path = option_and_then (λ page. first_text page.headings) (rendered_at render view path)
 
+-- the title of the page at a path, by that text
 abbrev pub title_by : List ℕ → Option (List ℕ) → List ℕ
 title_by path None = path
 title_by path (Some text) = text
@@ -98,10 +100,12 @@ short text =
 
 -- ---- labels: what links to pages and folders read
 
+-- the label of the page at a path, by that text: the text, shortened, or else the last segment of the path
 abbrev pub label_by : List ℕ → Option (List ℕ) → List ℕ
 label_by path None = name path
 label_by path (Some text) = short text
 
+-- the label of the page at this path
 abbrev pub label : Renders → View → List ℕ → List ℕ
 label render view path = label_by path (heading_title render view path)
 
@@ -113,6 +117,7 @@ folder_label render view (b ∷ rest) =
 
 -- ---- addresses, which need no escaping
 
+-- the address of a page
 abbrev pub page_href : List ℕ → List ℕ
 page_href path = codes "/page/" ++ encoded_path path
 

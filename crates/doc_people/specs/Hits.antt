@@ -29,6 +29,7 @@ rarity pages term = length pages / length (holders pages term)
 abbrev pub weight : List (List ℕ × Rendered) → Rendered → Term → ℕ
 weight pages page term = capped (count_of page term * rarity pages term)
 
+-- the score of a page: the sum over the terms
 abbrev pub score : List (List ℕ × Rendered) → List Term → Rendered → ℕ
 score pages terms page = capped (sum_by (weight pages page) terms)
 

@@ -22,6 +22,7 @@ disarmed (b ∷ rest) = (if begins_form_or_frame (b ∷ rest) then codes "&lt;" 
 abbrev pub ending_line : List ℕ
 ending_line = codes "<!--'\"-->\n"
 
+-- the HTML has a `'`
 abbrev pub has_apostrophe : List ℕ → Bool
 has_apostrophe html = list_any (λ b. b == 39) html
 

@@ -1,11 +1,12 @@
 -- Laws of the definitions; the proofs are in proofs/.
-use Rattle.std.specs.Prelude.{◌≡◌, ℕ, List, [], ◌∷◌, ◌++◌, Bool, true, false, ◌||◌, nat_lt, codes}
+use Rattle.std.specs.Prelude.{◌≡◌, ℕ, List, [], ◌∷◌, ◌++◌, Bool, true, false, ◌||◌, nat_lt, codes, Option}
 use Rattle.std.specs.Cmp.Lexicographic.{slice_cmp}
 use Rattle.std.specs.List.{list_all, list_any}
 use Rattle.std.specs.List.Sorted.{IsStrictlySortedBy}
 use Rattle.std.specs.Ordering.{nat_cmp}
 use Rattle.doc_page_encoding.specs.Encoding.{encoded}
-use Rattle.doc_store_readers.specs.Sites.{View}
+use Rattle.doc_store_readers.specs.Sites.{Site, View, view_of}
+use Rattle.doc_store_readers.specs.declared.reader.Reader.{Reader}
 use Rattle.doc_people.specs.BrokenLinks.{is_hash, written_anchor, written_path}
 use Rattle.doc_people.specs.Folders.{keys}
 use Rattle.doc_people.specs.Inert.{begins_in_any_case, has_apostrophe, inert}
@@ -30,17 +31,22 @@ InertHtmlStays =
     (html : List ℕ) → holds_in_any_case (codes "<form") html ≡ false → holds_in_any_case (codes "<iframe") html ≡ false
     → has_apostrophe html ≡ false → inert html ≡ html
 
+-- the paths of a view of a site rise in the order of bytes
+abbrev pub PathsRise : Type 0
+PathsRise = (site : Site) (reader : Option Reader) → IsStrictlySortedBy (slice_cmp nat_cmp) (paths (view_of site reader))
+
 -- where the paths of a view rise in the order of bytes, what stands in a folder does, so each of it stands there once
 abbrev pub KeysRise : Type 0
 KeysRise =
     (view : View) (folder : List ℕ) → IsStrictlySortedBy (slice_cmp nat_cmp) (paths view)
     → IsStrictlySortedBy (slice_cmp nat_cmp) (keys view folder)
 
--- what the list of broken links writes for one that names a heading, as it is told there, is the path and the anchor of the link
+-- where a link with an anchor is broken, the path that it writes is read from what is told of it
 abbrev pub WrittenPathsAreRead : Type 0
 WrittenPathsAreRead =
     (path anchor : List ℕ) → list_any is_hash path ≡ false → written_path (path ++ codes "#" ++ encoded anchor) ≡ path
 
+-- and so is the anchor
 abbrev pub WrittenAnchorsAreRead : Type 0
 WrittenAnchorsAreRead =
     (path anchor : List ℕ) → list_any is_hash path ≡ false → list_all (λ b. nat_lt b 256) anchor ≡ true

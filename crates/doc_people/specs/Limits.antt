@@ -5,24 +5,27 @@ use Rattle.std.specs.Prelude.{ℕ}
 abbrev pub title_limit : ℕ
 title_limit = 100
 
--- bytes of the language, and of each of its parts
+-- bytes of the language
 abbrev pub language_limit : ℕ
 language_limit = 35
 
+-- bytes of each part of the language
 abbrev pub subtag_limit : ℕ
 subtag_limit = 8
 
--- entries of the navigation before a page, and from it on
+-- entries of the navigation before a page
 abbrev pub before_limit : ℕ
 before_limit = 30
 
+-- and from the page on
 abbrev pub after_limit : ℕ
 after_limit = 60
 
--- headings that a page lists, and the deepest level of one
+-- headings that a page lists
 abbrev pub heading_limit : ℕ
 heading_limit = 100
 
+-- the deepest level of one of these
 abbrev pub level_limit : ℕ
 level_limit = 3
 
@@ -34,10 +37,11 @@ aside_limit = 20
 abbrev pub list_limit : ℕ
 list_limit = 200
 
--- pages of one page of broken links, and links of each
+-- pages of one page of broken links
 abbrev pub source_limit : ℕ
 source_limit = 50
 
+-- links of each of these
 abbrev pub link_limit : ℕ
 link_limit = 50
 
@@ -53,10 +57,11 @@ prefix_least = 3
 abbrev pub read_limit : ℕ
 read_limit = 65536
 
--- characters of a snippet before the first match, and in all
+-- characters of a snippet before the first match
 abbrev pub lead_limit : ℕ
 lead_limit = 60
 
+-- characters of a snippet in all
 abbrev pub snippet_limit : ℕ
 snippet_limit = 200
 

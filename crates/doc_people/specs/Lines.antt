@@ -12,6 +12,7 @@ abbrev pub link_or_current : List ℕ → Bool → List ℕ → List ℕ
 link_or_current href current text =
     codes "<a href=\"" ++ href ++ codes "\"" ++ current_if current ++ codes ">" ++ escaped text ++ codes "</a>"
 
+-- a link that leads to another page, or to a part of this one
 abbrev pub link : List ℕ → List ℕ → List ℕ
 link href text = link_or_current href false text
 

@@ -19,7 +19,7 @@ use Rattle.doc_people.specs.declared.settings.Browse.{Browse}
 
 -- ---- lines, and the parts of a list
 
--- a text that is neither title nor link, as a path
+-- a path or a folder behind the link to it
 abbrev pub path_span : List ℕ → List ℕ
 path_span path = codes " <span class=\"path\">" ++ escaped path ++ codes "</span>"
 
@@ -68,6 +68,7 @@ pager address from next =
 
 -- ---- the contents of a folder
 
+-- the title of the contents of a folder
 abbrev pub contents_title : Renders → View → List ℕ → List ℕ
 contents_title render view [] = codes "Contents"
 contents_title render view (b ∷ folder) = folder_label render view (b ∷ folder)
@@ -82,6 +83,7 @@ contents_line render view key =
 abbrev pub contents_from : View → List ℕ → List ℕ → List (List ℕ)
 contents_from view folder from = from_on (λ key. key) from (keys view folder)
 
+-- the main part, of what stands in the folder from a text on
 abbrev pub contents_main : Renders → View → List ℕ → List ℕ → List (List ℕ) → List ℕ
 contents_main render view folder from keys =
     codes "<h1>" ++ escaped (contents_title render view folder) ++ codes "</h1>\n"
@@ -100,6 +102,7 @@ contents_body render settings view folder from =
 abbrev pub link_count : ℕ → List ℕ
 link_count n = codes " " ++ decimal n ++ (if n == 1 then codes " link" else codes " links")
 
+-- a page that links to the one, with the number of its links
 abbrev pub backlink_line : Renders → View → List ℕ × ℕ → List ℕ
 backlink_line render view source = page_line render view source.0 (link_count source.1)
 
@@ -107,6 +110,7 @@ backlink_line render view source = page_line render view source.0 (link_count so
 abbrev pub sources_from : Renders → View → List ℕ → List ℕ → List (List ℕ × ℕ)
 sources_from render view path from = from_on (λ source. source.0) from (sources_of render view path)
 
+-- the main part, of the pages that link to the one from a text on
 abbrev pub backlinks_main : Renders → View → List ℕ → List ℕ → List (List ℕ × ℕ) → List ℕ
 backlinks_main render view path from sources =
     codes "<h1>Pages that link to " ++ link (page_href path) (label render view path) ++ codes "</h1>\n"

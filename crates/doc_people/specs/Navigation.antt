@@ -32,10 +32,12 @@ is_of folder place = bytes_eq folder place || bytes_eq (index_of folder) place
 abbrev pub crumb_href : View → List ℕ → List ℕ → List ℕ
 crumb_href view place folder = if bytes_eq folder place then contents_href folder else folder_href view folder
 
+-- a folder that leads to the place
 abbrev pub crumb : Renders → View → List ℕ → List ℕ → List ℕ
 crumb render view place folder =
     item (link_or_current (crumb_href view place folder) (is_of folder place) (folder_label render view folder))
 
+-- all folders that lead to the place
 abbrev pub crumbs : Renders → View → List ℕ → List ℕ
 crumbs render view place = flat_map (crumb render view place) (folders_to place)
 

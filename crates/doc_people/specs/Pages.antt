@@ -41,6 +41,7 @@ heading_line path headings = if list_any is_main headings then [] else heading_b
 abbrev pub body : View → List ℕ → Rendered → List ℕ
 body view path page = inert (filled (shown (goal_in view) path) page)
 
+-- the page, between its tags
 abbrev pub article : View → List ℕ → Rendered → List ℕ
 article view path page =
     codes "<article>\n" ++ heading_line path page.headings ++ body view path page ++ codes "</article>\n"
@@ -57,6 +58,7 @@ abbrev pub listed_headings : List Heading → List Heading
 listed_headings headings =
     take heading_limit (filter (λ heading. nat_le heading.level level_limit) (behind_title (filter has_text headings)))
 
+-- a heading that is listed
 abbrev pub heading_item : Heading → List ℕ
 heading_item heading =
     codes "<li class=\"h" ++ decimal heading.level ++ codes "\">"
@@ -69,9 +71,11 @@ on_this_page (heading ∷ rest) = codes "<h2>On this page</h2>\n" ++ listed (fla
 
 -- ---- and the pages that link to it
 
+-- the address of the list of all pages that link to one
 abbrev pub backlinks_href : List ℕ → List ℕ
 backlinks_href path = codes "/backlinks/" ++ encoded_path path
 
+-- a page that links to the one
 abbrev pub source_item : Renders → View → List ℕ × ℕ → List ℕ
 source_item render view source = item (link (page_href source.0) (label render view source.0))
 
@@ -88,6 +92,7 @@ linked_from render view path (source ∷ rest) =
     codes "<h2>Linked from</h2>\n" ++ listed (flat_map (source_item render view) (take aside_limit (source ∷ rest)))
     ++ all_sources_line path (source ∷ rest)
 
+-- what stands beside the page: nothing where both parts are empty
 abbrev pub beside : Renders → View → List ℕ → Rendered → List ℕ
 beside render view path page =
     on_this_page (listed_headings page.headings) ++ linked_from render view path (sources_of render view path)

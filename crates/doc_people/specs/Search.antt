@@ -25,6 +25,7 @@ use Rattle.doc_people.specs.declared.settings.Browse.{Browse}
 abbrev pub asks_nothing : List ℕ → Bool
 asks_nothing query = list_all (λ b. b == 32) query
 
+-- the snippet of the page at a path, where there is one
 abbrev pub snippet_by : List Term → List ℕ → Option Rendered → List ℕ
 snippet_by terms path None = []
 snippet_by terms path (Some page) = snippet terms (path, page)
@@ -34,6 +35,7 @@ abbrev pub hit_line : Renders → View → List Term → Hit → List ℕ
 hit_line render view terms hit =
     item (page_and_path render view hit.path ++ codes "\n<p>" ++ snippet_by terms hit.path (rendered_at render view hit.path) ++ codes "</p>")
 
+-- how many pages are found
 abbrev pub pages_found : ℕ → List ℕ
 pages_found n = decimal n ++ (if n == 1 then codes " page" else codes " pages") ++ codes " found."
 
@@ -41,6 +43,7 @@ pages_found n = decimal n ++ (if n == 1 then codes " page" else codes " pages") 
 abbrev pub best_of_them : ℕ → List ℕ
 best_of_them n = if nat_lt hit_limit n then codes " The best 50 are these." else []
 
+-- the pages that are found, the best ones first, or that there is none
 abbrev pub hits_part : Renders → View → List Term → List Hit → List ℕ
 hits_part render view terms [] = codes "<p class=\"found\">No page that you may read has all of these words.</p>\n"
 hits_part render view terms (hit ∷ rest) =
@@ -71,6 +74,7 @@ ask query =
     ++ codes "<input type=\"search\" name=\"q\" value=\"" ++ escaped query ++ codes "\" aria-label=\"Words\">\n"
     ++ codes "<button>Search</button>\n</form>\n"
 
+-- the main part
 abbrev pub search_main : Renders → View → List ℕ → List ℕ
 search_main render view query = codes "<h1>Search</h1>\n" ++ ask query ++ found render view query
 
@@ -79,6 +83,7 @@ unfoldable pub search_body : Renders → Browse → View → List ℕ → List �
 search_body render settings view query =
     shell render settings view (codes "Search") None (search_main render view query) []
 
+-- the code of the reply to a query, by its words
 abbrev pub code_by : Result (List (List ℕ)) QueryError → ℕ
 code_by (Ok words) = 200
 code_by (Err error) = 400

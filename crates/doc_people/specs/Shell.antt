@@ -14,10 +14,11 @@ middle_dot = codes " " ++ 0xC2 ∷ 0xB7 ∷ codes " "
 abbrev pub style_sheet_href : List ℕ
 style_sheet_href = codes "/style.css?1"
 
--- what stands before the language, and between that and the titles
+-- what stands before the language
 abbrev pub head_start : List ℕ
 head_start = codes "<!DOCTYPE html>\n<html lang=\""
 
+-- what stands between the language and the titles
 abbrev pub head_metas : List ℕ
 head_metas =
     codes "\">\n<head>\n<meta charset=\"utf-8\">\n"
@@ -72,19 +73,19 @@ bar settings =
     bar_start ++ escaped settings.title ++ codes "</a>\n<a class=\"menu\" href=\"#.pages\">Pages</a>\n"
     ++ search_form ++ site_links ++ codes "</header>\n"
 
--- the folders that lead to the place, above the page
+-- the folders that lead to the place, above the page; nothing at none
 abbrev pub over : Renders → View → Option (List ℕ) → List ℕ
 over render view None = []
 over render view (Some place) =
     codes "<div class=\"over\">\n<nav class=\"crumbs\" aria-label=\"Folders\">\n<ol>\n" ++ crumbs render view place
     ++ codes "</ol>\n</nav>\n</div>\n"
 
--- what stands beside the main part
+-- what stands beside the main part, where there is something
 abbrev pub aside_part : List ℕ → List ℕ
 aside_part [] = []
 aside_part (b ∷ aside) = codes "<aside aria-label=\"About this page\">\n" ++ (b ∷ aside) ++ codes "</aside>\n"
 
--- the place, below the page
+-- the place, below the page; nothing at none and at the empty folder
 abbrev pub foot : Option (List ℕ) → List ℕ
 foot None = []
 foot (Some []) = []

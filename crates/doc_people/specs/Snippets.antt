@@ -98,6 +98,7 @@ piece terms characters start end =
     ++ flat_map (written_part terms) (parts (slice_range characters start end))
     ++ (if nat_lt end (length characters) then ellipsis else [])
 
+-- the same from a place on
 abbrev pub piece_from : List Term → List ℕ → ℕ → List ℕ
 piece_from terms characters start = piece terms characters start (end_after start characters)
 

@@ -1,6 +1,6 @@
 //! Laws of the definitions. The functions do nothing: their contracts are the laws.
 
-ghost use Rattle.doc_people.specs.Laws.{InertHtmlHasNoForms, InertHtmlHasNoFrames, InertHtmlStays, KeysRise, WrittenPathsAreRead, WrittenAnchorsAreRead};
+ghost use Rattle.doc_people.specs.Laws.{InertHtmlHasNoForms, InertHtmlHasNoFrames, InertHtmlStays, PathsRise, KeysRise, WrittenPathsAreRead, WrittenAnchorsAreRead};
 
 /// Inert HTML begins no form.
 #[tactic(auto, using(crate::proofs::InertLaws::inert_html_has_no_forms))]
@@ -18,6 +18,12 @@ pub fn inert_html_has_no_frames()
 #[tactic(auto, using(crate::proofs::InertLaws::inert_html_stays))]
 pub fn inert_html_stays()
     ensures { InertHtmlStays }
+{}
+
+/// The paths of a view of a site rise in the order of bytes.
+#[tactic(auto, using(crate::proofs::KeyLaws::paths_rise))]
+pub fn paths_rise()
+    ensures { PathsRise }
 {}
 
 /// What stands in a folder rises in the order of bytes, where the paths of the view do.
