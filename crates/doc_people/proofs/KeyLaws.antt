@@ -18,14 +18,14 @@ use Rattle.doc_people.specs.Folders.{is_below, is_slash, key, keys, through_slas
 use Rattle.doc_people.specs.Laws.{KeysRise, PathsRise}
 use Rattle.doc_people.specs.Views.{paths}
 
-abbrev cmp : List ℕ → List ℕ → Ordering
+abbrev pub cmp : List ℕ → List ℕ → Ordering
 cmp = slice_cmp nat_cmp
 
 -- one comes before the other, or is it
 abbrev AtMost : List ℕ → List ℕ → Type 0
 AtMost x y = (cmp x y ≡ Less) ⊎ (x ≡ y)
 
-not_greater : Greater ≡ Less → ⊥
+pub not_greater : Greater ≡ Less → ⊥
 not_greater e = true≢false (sym (ap is_lt e))
 
 tied : (x y : ℕ) → x ≡ y → nat_cmp x y ≡ Equal

@@ -15,4 +15,5 @@ mod SearchExamples
 mod StyleSheetExamples
 pub mod InertLaws
 pub mod KeyLaws
+pub mod CountLaws
 pub mod WrittenLaws

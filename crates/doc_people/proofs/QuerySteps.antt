@@ -1,4 +1,4 @@
--- Queries of examples: their different words, written out.
+-- The different words of texts, written out, and the terms of queries.
 use Rattle.std.proofs.Common.{◌≡◌, ℕ, List, [], ◌∷◌, length, refl, ap, sym, ◌∙◌, arith}
 use Rattle.std.specs.Prelude.{map as mapped}
 use Rattle.std.specs.Cmp.Lexicographic.{slice_cmp}
@@ -9,7 +9,7 @@ use Rattle.doc_words_search.specs.Words.{checked, count, different, query_of, wo
 use Rattle.doc_people.specs.Terms.{Term, terms_with}
 use Rattle.doc_people.specs.Terms as terms
 
-abbrev puts : List (List ℕ × ℕ) → List (List ℕ × ℕ)
+abbrev pub puts : List (List ℕ × ℕ) → List (List ℕ × ℕ)
 puts [] = []
 puts (e ∷ es) = map.put (slice_cmp nat_cmp) e.0 e.1 (puts es)
 
@@ -17,7 +17,7 @@ nothing : (es : List (List ℕ × ℕ)) → length es ≡ 0 → es ≡ []
 nothing [] e = refl
 nothing (x ∷ es) e = absurd (omega arith)
 
-entries_are : (es : List (List ℕ × ℕ)) → map.entries (map.from_entries {R = slice_cmp nat_cmp} es) ≡ puts es
+pub entries_are : (es : List (List ℕ × ℕ)) → map.entries (map.from_entries {R = slice_cmp nat_cmp} es) ≡ puts es
 entries_are [] = nothing (map.entries (map.empty {X = ℕ} {R = slice_cmp nat_cmp}))
     (sym (map.len-entries (map.empty {X = ℕ} {R = slice_cmp nat_cmp})) ∙ map.len-empty (slice_cmp nat_cmp) ℕ)
 entries_are (e ∷ es) =

@@ -1,15 +1,20 @@
 -- Laws of the definitions; the proofs are in proofs/.
-use Rattle.std.specs.Prelude.{◌≡◌, ℕ, List, [], ◌∷◌, ◌++◌, Bool, true, false, ◌||◌, nat_lt, codes, Option}
+use Rattle.std.specs.Prelude.{◌≡◌, ℕ, List, [], ◌∷◌, ◌++◌, Bool, true, false, ◌||◌, nat_lt, codes, Option, sum_by, if◌then◌else◌}
 use Rattle.std.specs.Cmp.Lexicographic.{slice_cmp}
+use Rattle.std.specs.FinMap as map
 use Rattle.std.specs.List.{list_all, list_any}
 use Rattle.std.specs.List.Sorted.{IsStrictlySortedBy}
 use Rattle.std.specs.Ordering.{nat_cmp}
+use Rattle.doc_page_parts.specs.declared.rendered.Rendered.{Rendered}
 use Rattle.doc_page_encoding.specs.Encoding.{encoded}
 use Rattle.doc_store_readers.specs.Sites.{Site, View, view_of}
 use Rattle.doc_store_readers.specs.declared.reader.Reader.{Reader}
+use Rattle.doc_words_search.specs.Words.{capped, word_counts}
 use Rattle.doc_people.specs.BrokenLinks.{is_hash, written_anchor, written_path}
 use Rattle.doc_people.specs.Folders.{keys}
+use Rattle.doc_people.specs.Hits.{count_of}
 use Rattle.doc_people.specs.Inert.{begins_in_any_case, has_apostrophe, inert}
+use Rattle.doc_people.specs.Terms.{Term, meets}
 use Rattle.doc_people.specs.Views.{paths}
 
 -- the word stands somewhere in the text, in any case of ASCII letters
@@ -40,6 +45,12 @@ abbrev pub KeysRise : Type 0
 KeysRise =
     (view : View) (folder : List ℕ) → IsStrictlySortedBy (slice_cmp nat_cmp) (paths view)
     → IsStrictlySortedBy (slice_cmp nat_cmp) (keys view folder)
+
+-- how many words of a page a term meets is the sum of the counts of those that it meets
+abbrev pub CountsAreSums : Type 0
+CountsAreSums =
+    (page : Rendered) (term : Term)
+    → count_of page term ≡ capped (sum_by (λ entry. if meets term entry.0 then entry.1 else 0) (map.entries (word_counts page)))
 
 -- where a link with an anchor is broken, the path that it writes is read from what is told of it
 abbrev pub WrittenPathsAreRead : Type 0

@@ -1,6 +1,6 @@
 //! Laws of the definitions. The functions do nothing: their contracts are the laws.
 
-ghost use Rattle.doc_people.specs.Laws.{InertHtmlHasNoForms, InertHtmlHasNoFrames, InertHtmlStays, PathsRise, KeysRise, WrittenPathsAreRead, WrittenAnchorsAreRead};
+ghost use Rattle.doc_people.specs.Laws.{InertHtmlHasNoForms, InertHtmlHasNoFrames, InertHtmlStays, PathsRise, KeysRise, CountsAreSums, WrittenPathsAreRead, WrittenAnchorsAreRead};
 
 /// Inert HTML begins no form.
 #[tactic(auto, using(crate::proofs::InertLaws::inert_html_has_no_forms))]
@@ -30,6 +30,12 @@ pub fn paths_rise()
 #[tactic(auto, using(crate::proofs::KeyLaws::keys_rise))]
 pub fn keys_rise()
     ensures { KeysRise }
+{}
+
+/// How many words of a page a term meets is the sum of the counts of those that it meets.
+#[tactic(auto, using(crate::proofs::CountLaws::counts_are_sums))]
+pub fn counts_are_sums()
+    ensures { CountsAreSums }
 {}
 
 /// The path of a broken link that names a heading is read from what is told of the link.
