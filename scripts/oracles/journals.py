@@ -1,4 +1,4 @@
-"""Reads a journal by its rules, apart from the program: the outside model of scripts/listen_damage.sh.
+"""Reads a journal by its rules, apart from the program: the outside model of scripts/listen/damage.py.
 
 A record is a gate (a byte: 1 open, 0 closed), the length of its text in four bytes, the lowest first, the text, and a SHA-256 over the
 digest of the record before (of the first: that of `docs_server journal 1`), the length and the text. Behind the last record stands a

@@ -53,7 +53,8 @@ class Server:
     """A server, and what each of its peers has still to hear."""
 
     def __init__(self, what, connections, idle=1_000, calls=FULL, edits=None):
-        self.lines = [f"# {what}", (f"server {connections} {idle} {calls}{'' if edits is None else ' again'}", "()" if calls >= 4 else "no server")]
+        begun = f"server {connections} {idle} {calls}{'' if edits is None else ' again'}"
+        self.lines = [f"# {what}", (begun, "()" if calls >= 4 else "no server")]
         self.hub, self.peers, self.owed, self.edits = Hub(), 0, {}, []
         self.hub.readers = dict(READERS)
         for edit in edits or []:
@@ -145,6 +146,18 @@ def readers():
     for peer, token in ((owner, OWNER), (ann, ANN), (bob, BOB)):
         for path in ("a.md", "c.md", "absent.md"):
             s.ask(peer, (token, "GET", f"/page/{path}"))
+    refused(s, ann)
+    edited(s, owner, ann, bob)
+    in_parts(s, owner, ann, bob)
+    half = half_way(s, ann)
+    ended(s, ann, half)
+    s.call("fault", "None")
+    s.note("The journal has the edits.")
+    s.journal()
+    return s.lines + after(s)
+
+
+def refused(s, ann):
     s.note("Other refusals, and HEAD.")
     s.ask(ann, ("tok-none", "GET", "/page/a.md"))
     s.ask(ann, (ANN, "GET", "/nothing"))
@@ -152,6 +165,9 @@ def readers():
     s.ask(ann, (ANN, "PUT", "/page/a.md", "mine"))
     s.ask(ann, (ANN, "HEAD", "/page/a.md"))
     s.ask(ann, (ANN, "HEAD", "/page/c.md"))
+
+
+def edited(s, owner, ann, bob):
     s.note("A PUT and a DELETE, and what the others see then.")
     s.ask(owner, (OWNER, "PUT", "/page/a.md?groups=ops", "Anew\n"))
     s.ask(ann, (ANN, "GET", "/page/a.md"))
@@ -159,12 +175,19 @@ def readers():
     s.ask(owner, (OWNER, "DELETE", "/page/c.md"))
     s.ask(bob, (BOB, "GET", "/page/c.md"))
     s.ask(bob, (BOB, "GET", "/contents"))
+
+
+def in_parts(s, owner, ann, bob):
     s.note("Several requests by one write; one byte by byte.")
     s.ask(owner, (OWNER, "PUT", "/page/b.md?groups=staff", "first"), (OWNER, "GET", "/page/b.md"), (OWNER, "DELETE", "/page/b.md"),
           (OWNER, "GET", "/page/b.md"), (OWNER, "PUT", "/page/b.md?groups=staff", "again"), (OWNER, "HEAD", "/page/b.md"))
     s.ask(ann, (ANN, "GET", "/page/b.md"), (ANN, "GET", "/page/a.md"), (ANN, "GET", "/page/b.md"))
     s.ask(bob, (BOB, "GET", "/page/a.md"), call="drip")
     s.ask(owner, (OWNER, "PUT", "/page/drop.md", "drop by drop"), call="drip")
+
+
+def half_way(s, ann):
+    """The peer that waits half-way, and then gets its reply."""
     s.note("One that goes away half-way holds up nobody, nor does one that waits half-way.")
     gone = s.open()
     s.call(f"send {gone} " + given(bytes_of(ANN, "GET", "/page/b.md")[:40]))
@@ -177,6 +200,10 @@ def readers():
     s.call(f"send {half} " + given(request[40:]))
     s.owed[half] += s.answer(ANN, "GET", "/page/b.md")
     s.hear(half)
+    return half
+
+
+def ended(s, ann, half):
     s.note("A fault, HTTP/1.0 and `close` end the stream behind the reply.")
     get = bytes_of(ANN, "GET", "/page/b.md")
     page = s.answer(ANN, "GET", "/page/b.md")
@@ -186,10 +213,6 @@ def readers():
     s.last(s.open(), get.replace("Host: h", "Host: h\r\nConnection: close") + get, closing(page))
     s.last(half, get + "GET /page/a.md HTTP/1.1\r\n\r\n", page + fault(400))
     s.ask(ann, (ANN, "GET", "/page/b.md"))
-    s.call("fault", "None")
-    s.note("The journal has the edits.")
-    s.journal()
-    return s.lines + after(s)
 
 
 def after(before):
@@ -260,8 +283,8 @@ def silent():
 
 
 def failing(calls):
-    """A server whose journal's file fails in some call: opening makes four of them, and so does each record: it is written behind the gate and
-    synced, and the gate is opened and synced. A write that fails has written half."""
+    """A server whose journal's file fails in some call: opening makes four of them, and so does each record: it is written behind the gate
+    and synced, and the gate is opened and synced. A write that fails has written half."""
     s = Server(f"The journal's file fails behind {calls} calls.", 2, calls=calls)
     if calls < 4:
         return s.lines

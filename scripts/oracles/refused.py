@@ -5,7 +5,7 @@ question is asked with each of its growths refused.
 
     python3 scripts/oracles/refused.py
 
-writes its lines into stdin and stdout of crates/trial_pages, and its scenes into scripts/refusals/trial_pages.lines.
+writes its lines into stdin and stdout of crates/trial_pages, and its scenes into scripts/site/refusals/trial_pages.lines.
 """
 
 import os
@@ -15,7 +15,7 @@ from sites import GROUPS, PATHS, WORDS, put, random_edits, random_text
 from trial_lines import Dice, debug, given, several, write
 from words import words_of
 
-LINES = os.path.join(os.path.dirname(os.path.abspath(__file__)), "..", "refusals", "trial_pages.lines")
+LINES = os.path.join(os.path.dirname(os.path.abspath(__file__)), "..", "site", "refusals", "trial_pages.lines")
 MARK = "# refuse each"
 
 

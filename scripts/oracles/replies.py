@@ -8,7 +8,7 @@ knows no index, no cache and no want of memory.
     python3 scripts/oracles/replies.py
 
 writes its lines into stdin and stdout of crates/trial_site. Each history of events is told twice, call by call and as one run. Then come
-edits and a step of each route, of which scripts/refusals/trial_site.lines refuses the growths.
+edits and a step of each route, of which scripts/site/refusals/trial_site.lines refuses the growths.
 """
 
 import re

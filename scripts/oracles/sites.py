@@ -116,7 +116,8 @@ def random_edits(dice):
 
 
 def asked(dice, pages, reader):
-    """Whether a page is seen is asked at most once for a list, which `asked` tells of the page that is watched."""
+    """Whether a page is seen is asked at most once for a list, which `asked` tells of the page that is watched; for a search, by the call
+    that the product serves by."""
     cut, name = Cut(pages, reader), "owner" if reader is None else ",".join(sorted(reader))
     once = ("asked", debug("at most once"))
     calls = [(f"watch {dice.pick(list(pages) or PATHS)}", "()")]
@@ -126,7 +127,7 @@ def asked(dice, pages, reader):
         calls.append((f"backlinks {name} | {path}", debug(cut.backlinks(path))))
     for _ in range(2):
         query = " ".join(dice.pick(WORDS) for _ in range(dice.pick([1, 1, 2, 2, 3])))
-        calls += [(f"search {name} | {query}", debug(cut.search(query))), once]
+        calls += [(f"search_among {name} | {query}", debug(cut.search(query))), once]
     return calls
 
 

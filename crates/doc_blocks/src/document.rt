@@ -22,7 +22,7 @@ pub struct Document {
 
 /// The document of a text (CommonMark 0.31.2, sections 4 and 5). At most 100 quotes and items are open at once: past that a marker is
 /// text. Texts of blocks are without line endings of their own but LF, and inlines are still to be read in those of paragraphs and
-/// headings.
+/// headings. It is for callers from outside: the product reads tags.
 pub fn blocks(heap: Heap, text: &str, entities: &Entities) -> Result<Document, Memory>
     ensures blocks { IfOk result (λ document. blocks_shown document.blocks.items
         ≡ (document_of entities.now (chars text.now)).blocks) }

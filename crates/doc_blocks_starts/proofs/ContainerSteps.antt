@@ -1,6 +1,6 @@
 -- Markers of block quotes and list items, a character at a time.
 use Rattle.std.proofs.Common.{◌≡◌, ℕ, zero, suc, ◌+◌, ◌-◌, ◌*◌, ◌<◌, ◌≤◌, Bool, true, false, ◌==◌, [], ◌∷◌, drop, length, refl, ap, sym}
-use Rattle.std.proofs.Common.{◌∙◌, Option, Some, None, arith, ne_eqb}
+use Rattle.std.proofs.Common.{◌∙◌, Option, Some, None, arith}
 use Rattle.std.specs.Prelude.{fold, codes, map, min, not, nat_le, option_map, option_and_then, if◌then◌else◌}
 use Rattle.std.specs.Option.{is_some}
 use Rattle.std.specs.Char.{is_ascii_digit, digit_value}
@@ -25,18 +25,10 @@ use Rattle.doc_blocks_starts.proofs.CellLaws.{front_is_plain, front_end, front_c
 abbrev if_quoted : Line → Bool → Option Line
 if_quoted rest b = elim b [ true ↦ Some (skip 1 rest) | false ↦ None ]
 
-pub no_quote_at_end : (from : Position) → IsPlain from → None ≡ first from.rest → None ≡ behind_quote_marker (left_of from)
-unfolding behind_quote_marker
-no_quote_at_end from plain e = sym (ap behind_quote_marker (front_end from plain e))
-
 quote_at : (from next : Position) (c : ℕ) → IsPlain from → Some c ≡ first from.rest → next ≡ after_next from
     → behind_quote_marker (left_of from) ≡ if_quoted (left_of next) (c == 62)
 unfolding behind_quote_marker
 quote_at from next c plain e f = ap behind_quote_marker (front_cell from next c plain e f)
-
-pub no_quote_at : (from next : Position) (c : ℕ) → IsPlain from → Some c ≡ first from.rest → next ≡ after_next from → (c ≡ 62 → ⊥)
-    → None ≡ behind_quote_marker (left_of from)
-no_quote_at from next c plain e f other = sym (quote_at from next c plain e f ∙ ap (if_quoted (left_of next)) (ne_eqb c 62 other))
 
 pub quote_marked : (from next after : Position) (c : ℕ) → IsPlain from → Some c ≡ first from.rest → next ≡ after_next from → c ≡ 62
     → left_of after ≡ skip 1 (left_of next) →

@@ -20,12 +20,6 @@ pub record HasPassed (c : ℕ) (text rest : Text) (count : ℕ) : Type 0 where
   pub run : 0 < count → some (λ d. d == c) text ≡ many (λ d. d == c) rest
   pub size : count + length rest ≡ length text
 
-pub none_passed : (c : ℕ) (text : Text) → HasPassed c text text 0
-none_passed c text = record { nothing = λ _. refl; run = λ h. absurd (omega (arith, h)); size = omega arith }
-
-abbrev after : (ℕ → Bool) → ℕ → Text → Bool → Option Text
-after test c rest b = elim b [ true ↦ Some rest | false ↦ None ]
-
 -- one of them stands there, or none does
 passes : (c d : ℕ) (rest behind : Text) → Some behind ≡ is c (d ∷ rest) → ((d == c) ≡ true) × (behind ≡ rest)
 passes c d rest behind e = at (d == c) e
@@ -76,7 +70,3 @@ one_more_passed c text rest behind count h e =
 pub run_ends : (c : ℕ) (text rest : Text) (count : ℕ) → HasPassed c text rest count → None ≡ is c rest → (count ≡ 0 → ⊥)
     → Some rest ≡ some (λ d. d == c) text
 run_ends c text rest count h e more = sym (h.run (omega (arith, more)) ∙ many_stops c rest e)
-
-pub no_run : (c : ℕ) (text rest : Text) (count : ℕ) → HasPassed c text rest count → None ≡ is c rest → count ≡ 0
-    → None ≡ some (λ d. d == c) text
-no_run c text rest count h e none = sym (ap (option_and_then (many (λ d. d == c))) (ap (is c) (h.nothing none) ∙ sym e))

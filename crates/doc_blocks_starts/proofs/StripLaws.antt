@@ -4,6 +4,7 @@ use Rattle.std.specs.List.{list_all}
 use Rattle.std.proofs.lemmas.List.Folds.{list_all-append}
 use Rattle.doc_rules.specs.Characters.{Text, strip_front, strip_end}
 use Rattle.doc_rules.specs.Parsers.{many}
+use Rattle.doc_rules.proofs.ParserLaws.{many_strip_front}
 
 -- ---- at the end
 
@@ -36,15 +37,5 @@ end_goes class (d ∷ front) c e =
 
 -- ---- at the front
 
-many_strips : (class : ℕ → Bool) (text : Text) → many class text ≡ Some (strip_front class text)
-unfolding many strip_front
-many_strips class [] = refl
-many_strips class (c ∷ rest) = at (many_strips class rest) (class c)
-  where
-    at : many class rest ≡ Some (strip_front class rest) → (b : Bool) →
-        (elim b [ true ↦ many class rest | false ↦ Some (c ∷ rest) ]) ≡ Some (elim b [ true ↦ strip_front class rest | false ↦ c ∷ rest ])
-    at again true = again
-    at again false = refl
-
 pub front_goes : (class : ℕ → Bool) (text rest : Text) → Some rest ≡ many class text → rest ≡ strip_front class text
-front_goes class text rest e = let same : Some rest ≡ Some (strip_front class text) = e ∙ many_strips class text in cc
+front_goes class text rest e = let same : Some rest ≡ Some (strip_front class text) = e ∙ many_strip_front class text in cc

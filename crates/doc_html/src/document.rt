@@ -26,7 +26,8 @@ use doc_page_parts::text::Text;
 use doc_refs::RefMap;
 
 /// The document as HTML in the form of the examples of CommonMark 0.31.2, its links as the linker shows them. Headings carry no anchors.
-/// Where a rule over characters shows links as the linker does, the HTML is that of the rule.
+/// Where a rule over characters shows links as the linker does, the HTML is that of the rule. It is for callers from outside: the
+/// product renders pages.
 pub fn to_html<L: Linker>(
     heap: Heap,
     document: &Document,

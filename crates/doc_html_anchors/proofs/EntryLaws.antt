@@ -5,31 +5,29 @@ use Rattle.std.specs.BTreeMap.{BTreeMap, UpdatesBy, insert_entry, is_at, keys, g
 use Rattle.std.specs.Map.{lookup, keys_of}
 use Rattle.std.specs.Cmp.Lexicographic.{slice_cmp}
 use Rattle.std.specs.Ordering.{nat_cmp, match_ordering, is_eq}
-use Rattle.std.specs.Str.{IsUtf8, encode_utf8_all}
+use Rattle.std.specs.Str.{IsUtf8}
 use Rattle.std.specs.String.{string_cmp}
 use Rattle.std.specs.declared.cmp.Ordering.{Ordering}
 use Rattle.std.specs.declared.cmp.Ordering.TheVariants.{Less, Equal, Greater}
 use Rattle.std.proofs.lemmas.Map.Lookups.{exact_bytes}
 use Rattle.std.proofs.lemmas.Map.Text.{is_eq-slice_cmp, btree_map_updates_text}
 use Rattle.std.proofs.lemmas.Slice.Eq.{bytes_eq-Decides}
-use Rattle.std.proofs.lemmas.Str.{IsUtf8-string_bytes, encodes-chars}
+use Rattle.std.proofs.lemmas.Str.{IsUtf8-string_bytes}
 use Rattle.doc_rules.specs.Characters.{Text}
 use Rattle.doc_rules.specs.Anchors.{is_used, with_number}
 use Rattle.doc_html_anchors.specs.Numbers.{name_of, names, AreNumbered, AreUsed, IsNext}
 use Rattle.doc_html_anchors.specs.Uses.{Uses, IsAnchor}
 use Rattle.doc_html_anchors.proofs.NumberLaws.{own_name, first_number, all_below}
 use Rattle.doc_page_parts.proofs.Bools.{same_bool}
+use Rattle.doc_page_parts.proofs.Texts.{chars_injective}
 use Rattle.std.proofs.lemmas.Bool.{or_right}
 
 -- ---- names, and the keys that spell them
 
-same_bytes : (xs ys : List ℕ) → IsUtf8 xs → IsUtf8 ys → chars xs ≡ chars ys → xs ≡ ys
-same_bytes xs ys u v e = sym (encodes-chars xs u) ∙ ap encode_utf8_all e ∙ encodes-chars ys v
-
 same_test : (xs ys : List ℕ) → IsUtf8 xs → IsUtf8 ys → bytes_eq (chars xs) (chars ys) ≡ is_eq (slice_cmp nat_cmp xs ys)
 same_test xs ys u v =
     same_bool (bytes_eq (chars xs) (chars ys)) (bytes_eq xs ys)
-    (λ e. (bytes_eq-Decides xs ys).1 (same_bytes xs ys u v ((bytes_eq-Decides (chars xs) (chars ys)).0 e)))
+    (λ e. (bytes_eq-Decides xs ys).1 (chars_injective xs ys u v ((bytes_eq-Decides (chars xs) (chars ys)).0 e)))
     (λ e. (bytes_eq-Decides (chars xs) (chars ys)).1 (ap chars ((bytes_eq-Decides xs ys).0 e)))
     ∙ sym (is_eq-slice_cmp xs ys)
 

@@ -7,14 +7,12 @@ use Rattle.std.proofs.lemmas.Str.{encodes-chars, chars-IsAscii}
 use Rattle.doc_lines.proofs.Ends.{empty_chars}
 use Rattle.doc_rules.specs.Characters.{Text}
 use Rattle.doc_rules.specs.Anchors.{or_section}
-
-is_none : (test : Bool) (n : ℕ) → test ≡ (n == 0) → test ≡ true → n ≡ 0
-is_none test n e h = let zero : (n == 0) ≡ true = sym e ∙ h in grind (arith, nat_tests)
+use Rattle.doc_page_parts.proofs.Numbers.{zero_test_true}
 
 -- an empty name is 'section'
 pub section : (bytes : List ℕ) (test : Bool) → test ≡ (length bytes == 0) → test ≡ true → codes "section" ≡ or_section (chars bytes)
 unfolding or_section
-section bytes test e h = sym (ap or_section (empty_chars bytes (is_none test (length bytes) e h)))
+section bytes test e h = sym (ap or_section (empty_chars bytes (zero_test_true test (length bytes) e h)))
 
 -- a name with a character stays
 pub stays : (bytes : List ℕ) (test : Bool) → IsUtf8 bytes → test ≡ (length bytes == 0) → test ≡ false

@@ -16,7 +16,7 @@ use Rattle.doc_http_bodies.specs.Readings.{reading_of, IsWhole}
 use Rattle.doc_http_bodies.proofs.LawLemmas.{knows_more, takes_bytes}
 use Rattle.doc_http.specs.declared.head.HeadSearch.{HeadSearch}
 use Rattle.doc_http.specs.declared.head.HeadSpan.{HeadSpan}
-use Rattle.doc_http.specs.declared.head.HeadSpan.TheVariants.{Unfinished, TooLong, At}
+use Rattle.doc_http.specs.declared.head.HeadSpan.TheVariants.{At}
 use Rattle.doc_http.specs.declared.progress.Progress.{Progress}
 use Rattle.doc_http.specs.declared.progress.Progress.TheVariants.{Head, Body}
 use Rattle.doc_http.specs.declared.request.Next.{Next}
@@ -70,12 +70,6 @@ next_by_span : (bytes : List ℕ) (span : HeadSpan) → head_span_of bytes ≡ s
     → (found : Next) → found ≡ next_at bytes span read → IsNext bytes found
 next_by_span bytes span lies read is found e =
     (read, subst (λ s. IsReadAt bytes s read) (sym lies) is, e ∙ ap (λ s. next_at bytes s read) (sym lies))
-
-pub unfinished : (bytes : List ℕ) → Unfinished ≡ head_span_of bytes → IsNext bytes next.More
-unfinished bytes lies = next_by_span bytes Unfinished (sym lies) None refl next.More refl
-
-pub too_long : (bytes : List ℕ) → TooLong ≡ head_span_of bytes → IsNext bytes (next.Fault 431 false)
-too_long bytes lies = next_by_span bytes TooLong (sym lies) None refl (next.Fault 431 false) refl
 
 bad_behind : (text : List ℕ) (read : Option RequestHead) (end : ℕ) (rest : List ℕ) → is_bad text read ≡ true
     → next.Fault 400 false ≡ next_behind text read end rest

@@ -51,11 +51,6 @@ module _ (text : List ℕ) (headers : List HeaderSpan) (spans : RequestSpans) (h
         → is_bad text (Some head) ≡ true
     with_bad_counts bad = ap (λ t. has_bare_line_feed text || not t) (sym same_counts ∙ bad) ∙ or_true (has_bare_line_feed text)
 
-    pub with_good_counts : has_bare_line_feed text ≡ false
-        → has_good_counts spans.version (map (header_bytes text) (take spans.headers headers)) ≡ true → is_bad text (Some head) ≡ false
-    with_good_counts none good =
-        ap (λ t. t || not (has_good_counts head.minor (fields_of head))) none ∙ ap (λ t. not t) (sym same_counts ∙ good)
-
     pub method_text : IsHead text head → IsUtf8 (span_bytes text spans.method)
     method_text is = subst IsUtf8 (sym at.method) (method_is_text head.method is.0.0.method)
 

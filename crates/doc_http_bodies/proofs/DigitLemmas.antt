@@ -1,6 +1,6 @@
 -- Numbers in digits.
-use Rattle.std.proofs.Common.{◌≡◌, ℕ, suc, ◌+◌, ◌-◌, ◌*◌, ◌^◌, ◌<◌, ◌≤◌, true, false, List, length, take, get_or, sym, ap, ◌∙◌, arith}
-use Rattle.std.proofs.Common.{tests}
+use Rattle.std.proofs.Common.{◌≡◌, ℕ, ◌+◌, ◌-◌, ◌*◌, ◌^◌, ◌<◌, ◌≤◌, true, false, List, length, take, get_or, sym, ap, ◌∙◌, arith}
+use Rattle.std.proofs.Common.{tests, add-one}
 use Rattle.std.specs.Prelude.{Some, None, nat_lt, if◌then◌else◌}
 use Rattle.std.specs.List.{list_all}
 use Rattle.std.specs.Char.{digit_value, is_ascii_digit}
@@ -21,9 +21,6 @@ pub hexadecimal_more : (bs : List ℕ) (i n d : ℕ) → i < length bs → n ≡
 hexadecimal_more bs i n d inside is fits digit small =
     let next : 16 ^ (i + 1) ≡ 16 ^ i * 16 = ap (λ k. 16 ^ k) (add-one i) ∙ pow-suc 16 i in
     (rw (is, digit) (sym (digits_value_more 16 bs i inside)), omega arith)
-  where
-    add-one : (i : ℕ) → i + 1 ≡ suc i
-    add-one i = omega arith
 
 pub before_eighth : (i n : ℕ) → n < 16 ^ i → i < 8 → n < 268435456
 before_eighth i n h few =

@@ -26,19 +26,6 @@ place_miss needle text i inside miss so_far =
     (sym split) (miss_at needle (get_or text i 0) (drop (i + 1) text)) miss in
     (omega arith, so_far.1 ∙ ap (behind i) next ∙ behind_step i _)
 
-hit_at : (needle : List ℕ) (b : ℕ) (rest : List ℕ) → starts_with nat_eq (b ∷ rest) needle ≡ true → place_of needle (b ∷ rest) ≡ Some 0
-hit_at needle b rest hit = ap (λ x. cond x (Some 0) (behind 1 (place_of needle rest))) hit
-
--- the first begins at i
-pub place_hit : (needle text : List ℕ) (i : ℕ) → i < length text → starts_with nat_eq (drop i text) needle ≡ true
-    → IsSearched needle i text → Some i ≡ place_of needle text
-place_hit needle text i inside hit so_far =
-    let split = drop_more text i 0 inside in
-    let here = subst (λ t. starts_with nat_eq t needle ≡ true → place_of needle t ≡ Some 0) (sym split)
-    (hit_at needle (get_or text i 0) (drop (i + 1) text)) hit in
-    let zero_more : behind i (Some 0) ≡ Some i = ap Some (omega arith) in
-    sym (so_far.1 ∙ ap (behind i) here ∙ zero_more)
-
 -- what begins with the needle is as long
 pub at_least : (needle text : List ℕ) → starts_with nat_eq text needle ≡ true → length needle ≤ length text
 at_least [] text hit = omega arith

@@ -46,9 +46,6 @@ behind_grows at x more le = drop_grows at x (x ++ more) le (more, refl)
 
 -- ---- at a size line
 
-searched_in_line : (searched : ℕ) (text : List ℕ) → IsSearched line_end searched (take 256 text) → searched ≤ length text
-searched_in_line searched text h = omega (arith, h.0, length-take 256 text)
-
 -- what is asked of the search for a size line
 pub searched_line : (start searched total : ℕ) (window : List ℕ) → Knows (Line start searched total) window
     → IsSearched line_end searched (take 256 (drop start window))

@@ -1,12 +1,11 @@
 -- Replies by the forms that they have.
-use Rattle.std.specs.Prelude.{◌≡◌, ◌≢◌, ℕ, ◌==◌, IsTrue, Bool, false, List, [], Option, Some, None, is_some}
+use Rattle.std.specs.Prelude.{ℕ, Bool, false, List, [], Option, Some, None}
 use Rattle.doc_http_replies.specs.declared.reply.Allow.{Allow}
 use Rattle.doc_http_replies.specs.declared.reply.Reply.{Reply}
 use Rattle.doc_http_replies.specs.declared.reply_form.ReplyForm.{ReplyForm}
 use Rattle.doc_http_replies.specs.declared.reply_form.ReplyForm.TheVariants as forms
 use Rattle.doc_http_replies.specs.declared.status.Status.{Status}
 use Rattle.doc_http_replies.specs.declared.status.Status.TheVariants as statuses
-use Rattle.doc_http_replies.specs.Replies.{is_reply_code}
 
 -- the codes of statuses (RFC 9110, section 15; 431: RFC 6585, section 5; 507: RFC 4918, section 11.5)
 abbrev pub code_of : Status → ℕ
@@ -31,14 +30,6 @@ plain_reply code allow location = record { code = code; html = false; allow = al
 
 -- the reply of a form
 abbrev pub reply_of : ReplyForm → Reply
-reply_of (forms.Content html body) = content_reply html body
 reply_of (forms.Moved location) = plain_reply 301 None (Some location)
 reply_of (forms.NotAllowed allow) = plain_reply 405 (Some allow) None
 reply_of (forms.Status status) = plain_reply (code_of status) None None
-
--- a reply that can be written: one of a known code, with what that code goes with and nothing else
-pub record IsReply (reply : Reply) : Type 0 where
-  pub known : IsTrue (is_reply_code reply.code)
-  pub allowed : is_some reply.allow ≡ (reply.code == 405)
-  pub located : is_some reply.location ≡ (reply.code == 301)
-  pub content : reply.code ≢ 200 → (reply.body ≡ []) × (reply.html ≡ false)

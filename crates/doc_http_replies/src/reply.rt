@@ -39,6 +39,7 @@ impl Reply {
     /// WWW-Authenticate (401), `Connection: close` where `close`, an empty line and the content, which
     /// is the body of a 200 and else a line of the code and its reason. A 204 has neither type nor
     /// length nor content. `head_only` leaves the content out, as for HEAD.
+    /// It is for callers from outside: the product writes contents and forms.
     pub fn write(&self, heap: Heap, head_only: bool, close: bool) -> Result<Bytes, Memory>
         requires known { IsTrue (is_reply_code self.now.code) }
         requires allowed { is_some self.now.allow ≡ (self.now.code == 405) }

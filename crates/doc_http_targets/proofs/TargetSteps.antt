@@ -1,24 +1,13 @@
 -- Steps of the proofs on a request's target.
-use Rattle.std.proofs.Common.{◌≡◌, ℕ, suc, ◌+◌, ◌<◌, ◌≤◌, ◌==◌, not, Bool, true, false, cond, ltb, List, [], ◌∷◌, length, get_or, take}
+use Rattle.std.proofs.Common.{◌≡◌, ℕ, suc, ◌+◌, ◌<◌, ◌≤◌, ◌==◌, not, true, false, cond, List, [], ◌∷◌, length, get_or, take}
 use Rattle.std.proofs.Common.{drop, map, min, Some, None, codes, refl, sym, ap, ◌∙◌, arith}
 use Rattle.std.specs.Char.{to_ascii_lowercase}
-use Rattle.std.specs.List.{position, position_or_len, after_first}
-use Rattle.std.specs.Option.{unwrap_or}
+use Rattle.std.specs.List.{position_or_len, after_first}
 use Rattle.std.specs.Str.{IsUtf8, IsCharBoundary}
-use Rattle.std.proofs.lemmas.Bool.{cond_both}
 use Rattle.std.proofs.lemmas.Bool.Decides.{nat_tests}
 use Rattle.std.proofs.lemmas.List.{get_or-map, get_or-take, length-map, length-take}
-use Rattle.std.proofs.lemmas.List.Sums.{prefix_len-le-length}
 use Rattle.std.proofs.lemmas.Str.{IsCharBoundary-after_ascii}
 use Rattle.doc_http_targets.specs.TargetSteps.{after_slash}
-
--- the first place that passes, or the length
-pub position_or_end : (p : ℕ → Bool) (xs : List ℕ) → unwrap_or (position p xs) (length xs) ≡ position_or_len p xs
-position_or_end p xs =
-    let within = prefix_len-le-length (λ x. not (p x)) xs in
-    cond_both (ltb (position_or_len p xs) (length xs)) (Some (position_or_len p xs)) None
-    (λ o. unwrap_or o (length xs) ≡ position_or_len p xs)
-    (λ _. refl) (λ past. grind (arith, nat_tests))
 
 -- a letter that becomes `/` in lower case is one byte
 lower_slash : (b : ℕ) → to_ascii_lowercase b ≡ 47 → b < 128

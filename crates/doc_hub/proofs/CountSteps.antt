@@ -9,20 +9,22 @@ use Rattle.doc_store_readers.specs.Pages.{Page}
 use Rattle.doc_store.specs.Store.{StoreState, fits_in, may_move, moved_by, put_by, with_page}
 use Rattle.doc_store.specs.declared.moving.MoveError.{MoveError}
 use Rattle.doc_store.specs.declared.moving.MoveError.TheVariants as move_errors
-use Rattle.doc_store_readers.specs.declared.readers.ReaderError.{ReaderError}
-use Rattle.doc_store_readers.specs.declared.readers.ReaderError.TheVariants as reader_errors
-use Rattle.doc_store_readers.specs.declared.readers.Set.{Set}
 use Rattle.doc_store.specs.declared.store.EditError.{EditError}
 use Rattle.doc_store.specs.declared.store.EditError.TheVariants as edit_errors
 use Rattle.doc_store.specs.declared.store.Put.{Put}
 use Rattle.doc_store.proofs.StoreSteps.{taken_out}
-use Rattle.doc_hub.specs.Counts.{Counted, CountsFor, moves_by, moves_in, ran_out}
+use Rattle.doc_hub.specs.Counts.{Counted, CountsFor, CountsOn, CountsSite, moves_by, moves_in, ran_out}
 use Rattle.doc_hub_answers.specs.Counts.{RendersPuts}
-use Rattle.doc_hub.specs.Events.{Said, connecting, moving, outcome_of, pushing, putting, setting}
+use Rattle.doc_hub.specs.Events.{Said, SaidOn, SaidSite, connecting, moving, outcome_of, outcome_of_site, outcome_on}
+use Rattle.doc_hub.specs.Events.{pushing, putting}
 use Rattle.doc_hub_answers.specs.Replies.{Renders}
-use Rattle.doc_hub.specs.Runs.{Happens}
-use Rattle.doc_hub.specs.Worlds.{World, connected, last_id, store_of, with_store, world_pushed, world_reader_set}
+use Rattle.doc_hub.specs.Runs.{Happens, HappensOn, HappensSite}
+use Rattle.doc_hub.specs.Worlds.{World, connected, last_id, store_of, with_store, world_pushed}
 use Rattle.doc_hub.specs.declared.event.ConnId.{ConnId}
+use Rattle.doc_store.specs.declared.site_edit.SiteEdit.{SiteEdit}
+use Rattle.doc_store.specs.declared.site_edit.SiteEdit.TheVariants as site_edits
+use Rattle.doc_hub.specs.declared.event.ConnectionEvent.{ConnectionEvent}
+use Rattle.doc_hub.specs.declared.event.ConnectionEvent.TheVariants as calls
 use Rattle.doc_hub.specs.declared.event.Event.{Event}
 use Rattle.doc_hub.specs.declared.event.Event.TheVariants as events
 use Rattle.doc_hub.specs.declared.outcome.Outcome.{Outcome}
@@ -30,6 +32,7 @@ use Rattle.doc_hub.specs.declared.refusal.ConnectError.{ConnectError}
 use Rattle.doc_hub.specs.declared.refusal.ConnectError.TheVariants as connect_errors
 use Rattle.doc_hub.specs.declared.refusal.PushError.{PushError}
 use Rattle.doc_hub.specs.declared.refusal.PushError.TheVariants as push_errors
+use Rattle.doc_hub.proofs.KindSteps.{no_moves_beside, stand_beside}
 use Rattle.doc_hub.proofs.PutCounts.{connected_if}
 
 -- ---- numbers
@@ -115,37 +118,39 @@ pushing_moves : (said : Result (Unit {0}) PushError) → moves_by (pushing said)
 pushing_moves (Ok done) = refl
 pushing_moves (Err e) = refl
 
-setting_moves : (said : Result Set ReaderError) → moves_by (setting said) ≡ 0
-setting_moves (Ok done) = refl
-setting_moves (Err e) = refl
-
 -- ---- each event
 
 module _ (render : Renders) (rendered rendered' : ℕ) (w v : World) where
+  on_counts : (id : ℕ) (call : ConnectionEvent) (said : SaidOn call) → HappensOn render w id call v said
+      → CountsOn rendered w rendered' v call said → Counted rendered w rendered' v (outcome_on call said)
+  on_counts id (calls.Push bytes) said h same ran =
+      idle rendered rendered' w.puts v.puts (moves_by (pushing said)) same
+      (gives_same push_errors.Memory (world_pushed w id bytes) w v said refl h) (pushing_moves said)
+  on_counts id calls.Step said h counts ran = counts ran
+  on_counts id calls.Disconnect said h same ran =
+      idle rendered rendered' w.puts v.puts 0 same (sym (ap (λ (q : World × Bool). q.0.puts) h)) refl
+
+  site_counts : (edit : SiteEdit) (said : SaidSite edit) → HappensSite w edit v said → CountsSite rendered w rendered' edit
+      → Counted rendered w rendered' v (outcome_of_site edit said)
+  site_counts (site_edits.Put path groups text) said h more ran =
+      put_counts rendered rendered' w v path (record { groups = groups; text = text }) (map.contains_key w.site.pages path)
+      (fits_in (store_of w) path text) said h more ran
+  site_counts (site_edits.Remove path) said h same ran =
+      idle rendered rendered' w.puts v.puts 0 same
+      (sym (ap (λ (q : World × Bool). q.0.puts) h) ∙ removed_same (store_of w) path (map.contains_key w.site.pages path)) refl
+  site_counts (site_edits.Move from to) said h same ran =
+      move_counts rendered rendered' w v from to (may_move (store_of w) from to) said h same ran
+
   event_counts : (event : Event) (said : Said event) → Happens render w event v said → CountsFor rendered w rendered' v event said
       → Counted rendered w rendered' v (outcome_of event said)
   event_counts events.Connect said h same ran =
       idle rendered rendered' w.puts v.puts (moves_by (connecting said)) same
       (gives_same connect_errors.Memory (connected w) w v said (connect_same w (nat_lt w.given last_id)) h) (connecting_moves said)
-  event_counts (events.Push id bytes) said h same ran =
-      idle rendered rendered' w.puts v.puts (moves_by (pushing said)) same
-      (gives_same push_errors.Memory (world_pushed w id.0 bytes) w v said refl h) (pushing_moves said)
-  event_counts (events.Step id) said h counts ran = counts ran
-  event_counts (events.Disconnect id) said h same ran =
-      idle rendered rendered' w.puts v.puts 0 same (sym (ap (λ (q : World × Bool). q.0.puts) h)) refl
-  event_counts (events.Put path groups text) said h more ran =
-      put_counts rendered rendered' w v path (record { groups = groups; text = text }) (map.contains_key w.site.pages path)
-      (fits_in (store_of w) path text) said h more ran
-  event_counts (events.Remove path) said h same ran =
-      idle rendered rendered' w.puts v.puts 0 same
-      (sym (ap (λ (q : World × Bool). q.0.puts) h) ∙ removed_same (store_of w) path (map.contains_key w.site.pages path)) refl
-  event_counts (events.MovePage from to) said h same ran =
-      move_counts rendered rendered' w v from to (may_move (store_of w) from to) said h same ran
-  event_counts (events.SetReader token reader) said h same ran =
-      idle rendered rendered' w.puts v.puts (moves_by (setting said)) same
-      (gives_same reader_errors.Memory (world_reader_set w token reader) w v said refl h) (setting_moves said)
-  event_counts (events.RemoveReader token) said h same ran =
-      idle rendered rendered' w.puts v.puts 0 same (sym (ap (λ (q : World × Bool). q.0.puts) h)) refl
+  event_counts (events.On id call) said h counts ran = on_counts id.0 call said h counts ran
+  event_counts (events.Site edit) said h counts ran = site_counts edit said h counts ran
+  event_counts event said h same ran =
+      idle rendered rendered' w.puts v.puts (moves_by (outcome_of event said)) same (stand_beside render w v event said tt h).puts
+      (no_moves_beside event said tt)
 
   -- the same as a run tells it
   pub counted_so : (event : Event) (outcome : Outcome) (said : Said event) → Happens render w event v said

@@ -7,21 +7,20 @@ use Rattle.std.proofs.Math.Facts.{eqb_yes}
 use Rattle.std.proofs.lemmas.Bool.Decides.{nat_tests}
 use Rattle.std.proofs.lemmas.Cmp.{nat_cmp_total}
 use Rattle.doc_page_parts.specs.Refusals.{Gives}
-use Rattle.doc_store.specs.declared.moving.MoveError.TheVariants as move_errors
-use Rattle.doc_store_readers.specs.declared.readers.ReaderError.TheVariants as reader_errors
-use Rattle.doc_store.specs.declared.store.EditError.TheVariants as edit_errors
 use Rattle.doc_http.specs.declared.request.Next.{Next as Front}
 use Rattle.doc_http.specs.declared.request.Next.TheVariants as nexts
 use Rattle.doc_hub.specs.Connections.{new_connection, pushed_at, pushed_onto, with_pushed, finished}
-use Rattle.doc_hub.specs.Events.{Said}
+use Rattle.doc_hub.specs.Events.{Said, SaidOn}
 use Rattle.doc_hub.specs.ConnectionLaws.{NumbersAreGivenOnce}
 use Rattle.doc_hub.specs.StepLaws.{connection}
 use Rattle.doc_hub_answers.specs.Replies.{Renders}
-use Rattle.doc_hub.specs.Runs.{Happens, Happened, Runs, nothing, first}
-use Rattle.doc_hub.specs.Worlds.{World, connected, world_pushed, world_put, world_moved, world_reader_set, answer_in, world_after}
+use Rattle.doc_hub.specs.Runs.{Happens, HappensOn, Happened, Runs, nothing, first}
+use Rattle.doc_hub.specs.Worlds.{World, connected, world_pushed, answer_in, world_after}
 use Rattle.doc_hub.specs.Worlds.{stepped_by, Stays, Answers, StepsAt, last_id}
 use Rattle.doc_hub.specs.declared.connection.Connection.{Connection}
 use Rattle.doc_hub.specs.declared.event.ConnId.{ConnId}
+use Rattle.doc_hub.specs.declared.event.ConnectionEvent.{ConnectionEvent}
+use Rattle.doc_hub.specs.declared.event.ConnectionEvent.TheVariants as calls
 use Rattle.doc_hub.specs.declared.event.Event.{Event}
 use Rattle.doc_hub.specs.declared.event.Event.TheVariants as events
 use Rattle.doc_hub.specs.declared.event.Step.{Step}
@@ -33,6 +32,7 @@ use Rattle.doc_hub.specs.declared.refusal.PushError.TheVariants as push_errors
 use Rattle.doc_hub.specs.declared.refusal.StepError.{StepError}
 use Rattle.doc_hub.specs.declared.refusal.StepError.TheVariants as step_errors
 use Rattle.doc_hub.proofs.ConnectionSteps.{some_none}
+use Rattle.doc_hub.proofs.KindSteps.{connections_stand}
 
 module _ (id : ℕ) where
   -- the number was given, and has no connection
@@ -124,20 +124,19 @@ module _ (id : ℕ) where
         none_twice true k is = refl
         none_twice false k is = is
 
+    on_gone : (w v : World) (n : ℕ) (call : ConnectionEvent) (said : SaidOn call) → Gone w → HappensOn render w n call v said → Gone v
+    on_gone w v n (calls.Push bytes) said gone h = by_gives push_errors.Memory (world_pushed w n bytes) w v said gone
+        (pushed_gone w n bytes (map.get w.connections n) gone refl) h
+    on_gone w v n calls.Step said gone h = step_gone w v n (map.get w.connections n) said gone refl h
+    on_gone w v n calls.Disconnect said gone h = by_equation _ v said (dropped_gone w n gone) h
+
     event_gone : (w v : World) (event : Event) (said : Said event) → Gone w → Happens render w event v said → Gone v
     event_gone w v events.Connect said gone h = by_gives connect_errors.Memory (connected w) w v said gone
         (one_more w (nat_lt w.given last_id) gone) h
-    event_gone w v (events.Push n bytes) said gone h = by_gives push_errors.Memory (world_pushed w n.0 bytes) w v said gone
-        (pushed_gone w n.0 bytes (map.get w.connections n.0) gone refl) h
-    event_gone w v (events.Step n) said gone h = step_gone w v n.0 (map.get w.connections n.0) said gone refl h
-    event_gone w v (events.Disconnect n) said gone h = by_equation _ v said (dropped_gone w n.0 gone) h
-    event_gone w v (events.Put path groups text) said gone h = by_gives edit_errors.Memory (world_put w path groups text) w v said gone
-        gone h
-    event_gone w v (events.Remove path) said gone h = by_equation _ v said gone h
-    event_gone w v (events.MovePage from to) said gone h = by_gives move_errors.Memory (world_moved w from to) w v said gone gone h
-    event_gone w v (events.SetReader token reader) said gone h = by_gives reader_errors.Memory (world_reader_set w token reader) w v said
-        gone gone h
-    event_gone w v (events.RemoveReader token) said gone h = by_equation _ v said gone h
+    event_gone w v (events.On n call) said gone h = on_gone w v n.0 call said gone h
+    event_gone w v event said gone h =
+        let (given, same) = connections_stand render w v event said tt h in
+        (subst (λ n. id ≤ n) (sym given) gone.0, ap (λ cs. map.get cs id) same ∙ gone.1)
 
     run_gone : (w v : World) (run : List Happened) → Gone w → Runs render w run v → Gone v
     run_gone w v run gone (nothing x) = gone

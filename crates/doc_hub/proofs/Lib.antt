@@ -5,6 +5,8 @@ mod DropLaws
 mod FreshLaws
 mod FrontSteps
 mod GivenLaws
+mod HiddenLaws
+mod KindSteps
 mod MadeLaws
 mod MadeSites
 mod NextLaws

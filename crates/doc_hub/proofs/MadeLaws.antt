@@ -23,7 +23,8 @@ use Rattle.doc_store.specs.declared.store.EditError.TheVariants.{TooLong, StoreF
 use Rattle.doc_store.specs.declared.store.Put.{Put}
 use Rattle.doc_store.specs.declared.store.Put.TheVariants.{Created, Replaced}
 use Rattle.doc_hub.specs.Connections.{Connections, backlog_limit, new_connection, pushed_at}
-use Rattle.doc_hub.specs.Events.{putting, moving, connecting, pushing}
+use Rattle.doc_hub.specs.Events.{connecting, moving, push_on, pushing, putting}
+use Rattle.doc_hub.specs.declared.event.Event.TheVariants as events
 use Rattle.doc_hub.specs.FreshLaws.{only_reader}
 use Rattle.doc_hub.specs.MadeLaws.{FreshIsMade, IsMaking, makings}
 use Rattle.doc_hub_answers.specs.Replies.{Renders}
@@ -107,14 +108,14 @@ module _ (render : Renders) (readers : ReaderTable) (keep_alive : Bool) where
       let w = at site puts in
       let stands = map.contains_key site.pages path in
       let done : Put = if stands then Replaced else Created in
-      one_more w (at (effect_of site (set_page path page)) (puts + 1)) (events.Put path page.groups page.text) (putting (Ok done)) tt
+      one_more w (at (effect_of site (set_page path page)) (puts + 1)) (events.Site (set_page path page)) (putting (Ok done)) tt
       (Ok done, ap (λ said. let r = put_by (store_of w) path page stands said in (with_store w r.0, r.1)) fine, refl) so_far
 
   move_more : (site : Site) (puts : ℕ) (from to : List ℕ) → may_move (store_of (at site puts)) from to ≡ Ok tt → Reached (at site puts)
       → Reached (at (effect_of site (move_page from to)) (puts + 1))
   move_more site puts from to fine so_far =
       let w = at site puts in
-      one_more w (at (effect_of site (move_page from to)) (puts + 1)) (events.MovePage from to) (moving (Ok tt)) tt
+      one_more w (at (effect_of site (move_page from to)) (puts + 1)) (events.Site (move_page from to)) (moving (Ok tt)) tt
       (Ok tt, ap (λ said. let r = moved_by (store_of w) from to said in (with_store w r.0, r.1)) fine, refl) so_far
 
   -- ---- the pages
@@ -238,7 +239,7 @@ module _ (render : Renders) (readers : ReaderTable) (keep_alive : Bool) where
       let none : Connections = map.empty in
       let cs : Connections = map.insert none 1 new_connection in
       let room = ap (nat_lt backlog_limit) (none_before (length unread)) ∙ within (length unread) backlog_limit short in
-      one_more w (with_connection site puts (open_with unread)) (events.Push (record { 0 = 1 }) unread) (pushing (Ok tt)) tt (
+      one_more w (with_connection site puts (open_with unread)) (push_on (record { 0 = 1 }) unread) (pushing (Ok tt)) tt (
         Ok tt,
         ap (λ (r : Connections × Result (Unit {0}) PushError). (record w { connections = r.0 }, r.1))
             (ap (pushed_at cs 1 unread) (is_set none 1 new_connection) ∙ gives cs 1 unread new_connection refl room

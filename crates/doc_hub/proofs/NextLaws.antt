@@ -6,9 +6,11 @@ use Rattle.doc_page_parts.specs.Refusals.{Gives}
 use Rattle.doc_http.specs.Requests.{IsNext}
 use Rattle.doc_http.specs.declared.request.Next.{Next as Front}
 use Rattle.doc_hub.specs.Connections.{Connections, pushed_at, with_pushed}
-use Rattle.doc_hub.specs.Events.{connecting, pushing, stepping}
+use Rattle.doc_hub.specs.Events.{SaidOn, connecting, outcome_on, pushing, stepping}
 use Rattle.doc_hub.specs.declared.connection.Connection.{Connection}
 use Rattle.doc_hub.specs.declared.event.ConnId.{ConnId}
+use Rattle.doc_hub.specs.declared.event.ConnectionEvent.{ConnectionEvent}
+use Rattle.doc_hub.specs.declared.event.ConnectionEvent.TheVariants as calls
 use Rattle.doc_hub.specs.declared.event.Event.{Event}
 use Rattle.doc_hub.specs.declared.event.Event.TheVariants as events
 use Rattle.doc_hub.specs.declared.event.Step.{Step}
@@ -23,7 +25,7 @@ use Rattle.doc_hub.specs.declared.refusal.StepError.{StepError}
 use Rattle.doc_hub.specs.declared.refusal.StepError.TheVariants as step_errors
 use Rattle.doc_hub_answers.specs.Replies.{Renders}
 use Rattle.doc_hub.specs.Worlds.{World, connected, world_pushed, disconnected, stepped_by, Stays, Answers, StepsAt, last_id}
-use Rattle.doc_hub.specs.Runs.{Leaves, IsOutOfMemory}
+use Rattle.doc_hub.specs.Runs.{HappensOn, Leaves, IsOutOfMemory}
 
 -- the state is as before, where the call was refused
 abbrev pub KeptBy : {W X E : Type 0} → W → Result X E → W → Type 0
@@ -71,11 +73,14 @@ NextStep render w id (Some c) v o =
     MatchBool c.closed (Is (w, stepping (Ok steps.Closed)) v o)
     ((next : Front) × IsNext c.unread next × Is (shown stepping (stepped_by render w id c next)) v o)
 
+abbrev pub NextOn : Renders → World → ℕ → ConnectionEvent → World → Outcome → Type 0
+NextOn render w id (calls.Push bytes) v o = Is (shown pushing (world_pushed w id bytes)) v o
+NextOn render w id calls.Step v o = NextStep render w id (map.get w.connections id) v o
+NextOn render w id calls.Disconnect v o = Is (shown outcomes.Disconnected (disconnected w id)) v o
+
 abbrev pub Next : Renders → World → Event → World → Outcome → Type 0
 Next render w events.Connect v o = Is (shown connecting (connected w)) v o
-Next render w (events.Push id bytes) v o = Is (shown pushing (world_pushed w id.0 bytes)) v o
-Next render w (events.Step id) v o = NextStep render w id.0 (map.get w.connections id.0) v o
-Next render w (events.Disconnect id) v o = Is (shown outcomes.Disconnected (disconnected w id.0)) v o
+Next render w (events.On id call) v o = NextOn render w id.0 call v o
 Next render w edit v o = ⊤
 
 unchanged : (w v : World) (said r : Result Step StepError) → Stays w said v r → Is (w, stepping said) v (stepping r)
@@ -106,23 +111,23 @@ told : {S : Type 0} (as_outcome : S → Outcome) (given : World × S) (v : World
     → o ≡ as_outcome said → Is (shown as_outcome given) v o
 told as_outcome given v said o e is = ap (shown as_outcome) e ∙ ap (λ x. (v, x)) (sym is)
 
+next_on : (render : Renders) (w : World) (id : ℕ) (call : ConnectionEvent) (v : World) (o : Outcome) → ¬ (IsOutOfMemory o)
+    → (said : SaidOn call) → HappensOn render w id call v said → o ≡ outcome_on call said → NextOn render w id call v o
+next_on render w id (calls.Push bytes) v o enough said h is =
+    let given = world_pushed w id bytes in
+    told pushing given v said o
+    (exactly push_errors.Memory given.0 w v given.1 said h (λ m. enough (is ∙ ap pushing m))
+    (push_keeps w id bytes (map.get w.connections id))) is
+next_on render w id calls.Step v o enough said h is =
+    subst (λ x. NextStep render w id (map.get w.connections id) v x) (sym is)
+    (step_next render w id (map.get w.connections id) v said (λ m. enough (is ∙ ap stepping m)) h)
+next_on render w id calls.Disconnect v o enough said h is = told outcomes.Disconnected (disconnected w id) v said o h is
+
 pub next_of : (render : Renders) (w : World) (event : Event) (v : World) (outcome : Outcome) → ¬ (IsOutOfMemory outcome)
     → Leaves render w event v outcome → Next render w event v outcome
 next_of render w events.Connect v o enough (said, h, is) =
     told connecting (connected w) v said o
     (exactly connect_errors.Memory (connected w).0 w v (connected w).1 said h (λ m. enough (is ∙ ap connecting m))
     (connect_keeps w _ _ (nat_lt w.given last_id))) is
-next_of render w (events.Push id bytes) v o enough (said, h, is) =
-    let given = world_pushed w id.0 bytes in
-    told pushing given v said o
-    (exactly push_errors.Memory given.0 w v given.1 said h (λ m. enough (is ∙ ap pushing m))
-    (push_keeps w id.0 bytes (map.get w.connections id.0))) is
-next_of render w (events.Step id) v o enough (said, h, is) =
-    subst (λ x. NextStep render w id.0 (map.get w.connections id.0) v x) (sym is)
-    (step_next render w id.0 (map.get w.connections id.0) v said (λ m. enough (is ∙ ap stepping m)) h)
-next_of render w (events.Disconnect id) v o enough (said, h, is) = told outcomes.Disconnected (disconnected w id.0) v said o h is
-next_of render w (events.Put path groups text) v o enough leaves = tt
-next_of render w (events.Remove path) v o enough leaves = tt
-next_of render w (events.MovePage from to) v o enough leaves = tt
-next_of render w (events.SetReader token reader) v o enough leaves = tt
-next_of render w (events.RemoveReader token) v o enough leaves = tt
+next_of render w (events.On id call) v o enough (said, h, is) = next_on render w id.0 call v o enough said h is
+next_of render w event v o enough leaves = tt

@@ -7,7 +7,6 @@ use Rattle.doc_store_readers.specs.Pages.{Page}
 use Rattle.doc_store.specs.Store.{StoreState, fits_in, may_move, moved_by, put_by}
 use Rattle.doc_store.specs.declared.moving.MoveError.{MoveError}
 use Rattle.doc_store.specs.declared.moving.MoveError.TheVariants as move_errors
-use Rattle.doc_store_readers.specs.declared.readers.ReaderError.TheVariants as reader_errors
 use Rattle.doc_store.specs.declared.store.EditError.{EditError}
 use Rattle.doc_store.specs.declared.store.EditError.TheVariants as edit_errors
 use Rattle.doc_store.proofs.StoreSteps.{taken_out}
@@ -15,14 +14,19 @@ use Rattle.doc_http.specs.declared.request.Next.{Next}
 use Rattle.doc_http.specs.declared.request.Next.TheVariants as nexts
 use Rattle.doc_hub.specs.Connections.{new_connection}
 use Rattle.doc_hub_answers.specs.Edits.{store_after}
-use Rattle.doc_hub.specs.Events.{Said}
+use Rattle.doc_hub.specs.Events.{Said, SaidOn, SaidSite}
 use Rattle.doc_hub.specs.FreshLaws.{PutsAreCounted}
 use Rattle.doc_hub_answers.specs.Replies.{Renders}
-use Rattle.doc_hub.specs.Runs.{Happens, Leaves, nothing, first}
+use Rattle.doc_hub.specs.Runs.{Happens, HappensOn, HappensSite, Leaves, nothing, first}
 use Rattle.doc_hub.specs.Worlds.{World, Answers, Stays, StepsAt, answer_in, connected, last_id, stepped_by, store_of, world_moved}
-use Rattle.doc_hub.specs.Worlds.{world_pushed, world_put, world_reader_set}
+use Rattle.doc_hub.specs.Worlds.{world_pushed, world_put}
+use Rattle.doc_hub.proofs.KindSteps.{stand_beside}
 use Rattle.doc_hub.specs.declared.connection.Connection.{Connection}
 use Rattle.doc_hub.specs.declared.event.ConnId.{ConnId}
+use Rattle.doc_store.specs.declared.site_edit.SiteEdit.{SiteEdit}
+use Rattle.doc_store.specs.declared.site_edit.SiteEdit.TheVariants as site_edits
+use Rattle.doc_hub.specs.declared.event.ConnectionEvent.{ConnectionEvent}
+use Rattle.doc_hub.specs.declared.event.ConnectionEvent.TheVariants as calls
 use Rattle.doc_hub.specs.declared.event.Event.{Event}
 use Rattle.doc_hub.specs.declared.event.Event.TheVariants as events
 use Rattle.doc_hub.specs.declared.event.Step.{Step}
@@ -113,24 +117,27 @@ module _ (render : Renders) where
   step_counts w v n None r h = by_stay w v h.0
   step_counts w v n (Some c) r h = open_counts w v n c r c.closed h
 
-  event_counts : (w v : World) (event : Event) (said : Said event) → Happens render w event v said → Counts w v
-  event_counts w v events.Connect said h =
-      by_gives connect_errors.Memory (connected w) w v said (connect_counts w (nat_lt w.given last_id)) h
-  event_counts w v (events.Push n bytes) said h =
-      by_gives push_errors.Memory (world_pushed w n.0 bytes) w v said (none_more w.puts) h
-  event_counts w v (events.Step n) said h = step_counts w v n.0 (map.get w.connections n.0) said h
-  event_counts w v (events.Disconnect n) said h = by_equation _ w v said (none_more w.puts) h
-  event_counts w v (events.Put path groups text) said h =
+  on_counts : (w v : World) (n : ℕ) (call : ConnectionEvent) (said : SaidOn call) → HappensOn render w n call v said → Counts w v
+  on_counts w v n (calls.Push bytes) said h = by_gives push_errors.Memory (world_pushed w n bytes) w v said (none_more w.puts) h
+  on_counts w v n calls.Step said h = step_counts w v n (map.get w.connections n) said h
+  on_counts w v n calls.Disconnect said h = by_equation _ w v said (none_more w.puts) h
+
+  site_counts : (w v : World) (edit : SiteEdit) (said : SaidSite edit) → HappensSite w edit v said → Counts w v
+  site_counts w v (site_edits.Put path groups text) said h =
       by_gives edit_errors.Memory (world_put w path groups text) w v said
       (put_counts (store_of w) path (record { groups = groups; text = text }) (map.contains_key w.site.pages path)
       (fits_in (store_of w) path text)) h
-  event_counts w v (events.Remove path) said h =
+  site_counts w v (site_edits.Remove path) said h =
       by_equation _ w v said (removed_counts (store_of w) path (map.contains_key w.site.pages path)) h
-  event_counts w v (events.MovePage from to) said h =
+  site_counts w v (site_edits.Move from to) said h =
       by_gives move_errors.Memory (world_moved w from to) w v said (move_counts (store_of w) from to (may_move (store_of w) from to)) h
-  event_counts w v (events.SetReader token reader) said h =
-      by_gives reader_errors.Memory (world_reader_set w token reader) w v said (none_more w.puts) h
-  event_counts w v (events.RemoveReader token) said h = by_equation _ w v said (none_more w.puts) h
+
+  event_counts : (w v : World) (event : Event) (said : Said event) → Happens render w event v said → Counts w v
+  event_counts w v events.Connect said h =
+      by_gives connect_errors.Memory (connected w) w v said (connect_counts w (nat_lt w.given last_id)) h
+  event_counts w v (events.On n call) said h = on_counts w v n.0 call said h
+  event_counts w v (events.Site edit) said h = site_counts w v edit said h
+  event_counts w v event said h = subst (OneMore w.puts) (sym (stand_beside render w v event said tt h).puts) (none_more w.puts)
 
 pub counted : (render : Renders) (w v : World) (event : Event) (outcome : Outcome) → Leaves render w event v outcome → v.puts ≤ w.puts + 1
 counted render w v event outcome (said, h, told) = event_counts render w v event said h

@@ -13,7 +13,6 @@ use Rattle.doc_store_readers.specs.Readers.{ReaderTable}
 use Rattle.doc_store.specs.Store.{StoreState, fits_in, may_move, moved_by, put_by}
 use Rattle.doc_store.specs.declared.moving.MoveError.{MoveError}
 use Rattle.doc_store.specs.declared.moving.MoveError.TheVariants as move_errors
-use Rattle.doc_store_readers.specs.declared.readers.ReaderError.TheVariants as reader_errors
 use Rattle.doc_store.specs.declared.store.EditError.{EditError}
 use Rattle.doc_store.specs.declared.store.EditError.TheVariants as edit_errors
 use Rattle.doc_store.proofs.StoreSteps.{taken_out}
@@ -22,16 +21,21 @@ use Rattle.doc_http.specs.declared.request.Next.{Next}
 use Rattle.doc_http.specs.declared.request.Next.TheVariants as nexts
 use Rattle.doc_hub.specs.Connections.{Connections, backlog_limit, finished, new_connection, pushed_at, with_pushed}
 use Rattle.doc_hub_answers.specs.Edits.{CanBeMade, store_after}
-use Rattle.doc_hub.specs.Events.{Said}
+use Rattle.doc_hub.specs.Events.{Said, SaidOn, SaidSite}
 use Rattle.doc_hub.specs.FreshLaws.{SendsAsFreshAlways}
 use Rattle.doc_hub.specs.MadeLaws.{IsWithin, MadeReplies, SendsAsMade, makings}
 use Rattle.doc_hub_answers.specs.Replies.{Renders}
-use Rattle.doc_hub.specs.Runs.{Happens, Happened, Runs, nothing, first}
+use Rattle.doc_hub.specs.Runs.{Happens, HappensOn, HappensSite, Happened, Runs, nothing, first}
 use Rattle.doc_hub.specs.StepLaws.{open_with, site_seen}
 use Rattle.doc_hub.specs.Worlds.{World, Answers, Stays, StepsAt, answer_in, connected, disconnected, last_id, new_world, reader_of}
-use Rattle.doc_hub.specs.Worlds.{stepped_by, store_of, world_moved, world_pushed, world_put, world_reader_set}
+use Rattle.doc_hub.specs.Worlds.{stepped_by, store_of, world_moved, world_pushed, world_put}
+use Rattle.doc_hub.proofs.KindSteps.{stand_beside}
 use Rattle.doc_hub.specs.declared.connection.Connection.{Connection}
 use Rattle.doc_hub.specs.declared.event.ConnId.{ConnId}
+use Rattle.doc_store.specs.declared.site_edit.SiteEdit.{SiteEdit}
+use Rattle.doc_store.specs.declared.site_edit.SiteEdit.TheVariants as site_edits
+use Rattle.doc_hub.specs.declared.event.ConnectionEvent.{ConnectionEvent}
+use Rattle.doc_hub.specs.declared.event.ConnectionEvent.TheVariants as calls
 use Rattle.doc_hub.specs.declared.event.Event.{Event}
 use Rattle.doc_hub.specs.declared.event.Event.TheVariants as events
 use Rattle.doc_hub.specs.declared.event.Step.{Step}
@@ -193,32 +197,39 @@ module _ (render : Renders) where
   step_can w v n None r found can h = subst CanBe (sym h.0) can
   step_can w v n (Some k) r found can h = open_can w v n k r k.closed found can h
 
-  event_can : (w v : World) (event : Event) (said : Said event) → CanBe w → Happens render w event v said → CanBe v
-  event_can w v events.Connect said can h =
-      by_gives connect_errors.Memory (connected w) w v said can (connect_can w (nat_lt w.given last_id) can) h
-  event_can w v (events.Push n bytes) said can h =
-      by_gives push_errors.Memory (world_pushed w n.0 bytes) w v said can
-      (record { stored = can.stored; short = pushed_short w.connections n.0 bytes (map.get w.connections n.0) can.short }) h
-  event_can w v (events.Step n) said can h = step_can w v n.0 (map.get w.connections n.0) said refl can h
-  event_can w v (events.Disconnect n) said can h =
-      by_equation (disconnected w n.0) v said (record { stored = can.stored; short = removed_short w.connections n.0 can.short }) h
-  event_can w v (events.Put path groups text) said can h =
+  on_can : (w v : World) (n : ℕ) (call : ConnectionEvent) (said : SaidOn call) → CanBe w → HappensOn render w n call v said → CanBe v
+  on_can w v n (calls.Push bytes) said can h =
+      by_gives push_errors.Memory (world_pushed w n bytes) w v said can
+      (record { stored = can.stored; short = pushed_short w.connections n bytes (map.get w.connections n) can.short }) h
+  on_can w v n calls.Step said can h = step_can w v n (map.get w.connections n) said refl can h
+  on_can w v n calls.Disconnect said can h =
+      by_equation (disconnected w n) v said (record { stored = can.stored; short = removed_short w.connections n can.short }) h
+
+  site_can : (w v : World) (edit : SiteEdit) (said : SaidSite edit) → CanBe w → HappensSite w edit v said → CanBe v
+  site_can w v (site_edits.Put path groups text) said can h =
       by_gives edit_errors.Memory (world_put w path groups text) w v said can
       (record {
         stored = put_can w path (record { groups = groups; text = text }) (map.contains_key w.site.pages path)
             (fits_in (store_of w) path text) refl can.stored;
         short = can.short;
       }) h
-  event_can w v (events.Remove path) said can h =
+  site_can w v (site_edits.Remove path) said can h =
       by_equation _ v said (record { stored = remove_can w path (map.contains_key w.site.pages path) can.stored; short = can.short }) h
-  event_can w v (events.MovePage from to) said can h =
+  site_can w v (site_edits.Move from to) said can h =
       by_gives move_errors.Memory (world_moved w from to) w v said can
       (record { stored = move_can w from to (may_move (store_of w) from to) refl can.stored; short = can.short }) h
-  event_can w v (events.SetReader token reader) said can h =
-      by_gives reader_errors.Memory (world_reader_set w token reader) w v said can
-      (record { stored = can.stored; short = can.short }) h
-  event_can w v (events.RemoveReader token) said can h =
-      by_equation _ v said (record { stored = can.stored; short = can.short }) h
+
+  event_can : (w v : World) (event : Event) (said : Said event) → CanBe w → Happens render w event v said → CanBe v
+  event_can w v events.Connect said can h =
+      by_gives connect_errors.Memory (connected w) w v said can (connect_can w (nat_lt w.given last_id) can) h
+  event_can w v (events.On n call) said can h = on_can w v n.0 call said can h
+  event_can w v (events.Site edit) said can h = site_can w v edit said can h
+  event_can w v event said can h =
+      let beside = stand_beside render w v event said tt h in
+      record {
+        stored = subst (λ site. Stored site v.puts) (sym beside.site) (subst (λ puts. Stored w.site puts) (sym beside.puts) can.stored);
+        short = subst IsShort (sym beside.connections) can.short;
+      }
 
   all_can : (w v : World) (run : List Happened) → CanBe w → Runs render w run v → All (λ h. CanBe h.world) run
   all_can w v run can (nothing x) = All-nil (λ (h : Happened). CanBe h.world)

@@ -33,15 +33,13 @@ use Rattle.doc_listings.specs.Listings.{backlinks_text, entry_lines, heading_lin
 use Rattle.doc_hub.specs.Connections.{pushed_onto, finished, backlog_limit}
 use Rattle.doc_hub_answers.specs.Edits.{puts_left}
 use Rattle.doc_hub_answers.specs.Replies.{Renders, answer_of, fault_bytes}
-use Rattle.doc_hub.specs.StepEdits.{edit_of_step, told_edit}
+use Rattle.doc_hub.specs.StepEdits.{edit_of_step}
 use Rattle.doc_hub.specs.Worlds.{World, reader_of}
 use Rattle.doc_http_targets.specs.Queries.{value_of}
 use Rattle.doc_http_targets.specs.Targets.{origin_form, route_of}
 use Rattle.doc_http_targets.specs.WrittenPaths.{path_written}
 use Rattle.doc_hub_answers.specs.declared.answer.Answer.{Answer}
 use Rattle.doc_hub.specs.declared.connection.Connection.{Connection}
-use Rattle.doc_hub.specs.declared.edited.Edited.{Edited}
-use Rattle.doc_hub.specs.declared.edited.Edited.TheVariants.{Put, Removed}
 use Rattle.doc_hub.specs.declared.refusal.PushError.TheVariants.{Closed}
 use Rattle.doc_hub_answers.specs.declared.edit.Edit.{Edit}
 use Rattle.doc_hub_answers.specs.declared.edit.Edit.TheVariants as edits
@@ -398,14 +396,14 @@ removal_of_a_bad_path = refl
 -- ---- the edit that a step tells
 
 -- by what a step knows of a world for a request
-abbrev edit_seen : View → Option Reader → Bool → Request → Option Edited
-edit_seen view reader left request = told_edit (answer_of plain_page view reader left true request).edit
+abbrev edit_seen : View → Option Reader → Bool → Request → Option Edit
+edit_seen view reader left request = (answer_of plain_page view reader left true request).edit
 
 step_tells_what_is_seen : (w : World) (used : ℕ) (request : Request) (view : View) (reader : Option Reader) (left : Bool)
     → view_of w.site (reader_of w request) ≡ view → reader_of w request ≡ reader → puts_left w.puts ≡ left → w.keep_alive ≡ true
     → edit_of_step plain_page w (nexts.Request used request) ≡ edit_seen view reader left request
 step_tells_what_is_seen w used request view reader left sees is remains keeps =
-    λ i. told_edit (answer_of plain_page (sees i) (is i) (remains i) (keeps i) request).edit
+    λ i. (answer_of plain_page (sees i) (is i) (remains i) (keeps i) request).edit
 
 step_of_a_fault : (w : World) → edit_of_step plain_page w (nexts.Fault 400 false) ≡ None
 step_of_a_fault w = refl
@@ -417,18 +415,18 @@ step_of_a_get : edit_seen owner_view owner true (asked (codes "GET") (codes "/pa
 unfolding computing
 step_of_a_get = refl
 
-step_of_a_put : edit_seen owner_view owner true (sent (codes "PUT") (codes "/page/n.md?groups=staff") (codes "hi")) ≡ Some (Put (codes "n.md"))
+step_of_a_put : edit_seen owner_view owner true (sent (codes "PUT") (codes "/page/n.md?groups=staff") (codes "hi")) ≡ Some (edits.Put (codes "n.md") (codes "staff" ∷ []))
 unfolding computing
 step_of_a_put = refl
 
 step_of_a_put_of_an_old_page : edit_seen owner_view owner true (sent (codes "PUT") (codes "/page/a.md") (codes "hi"))
-    ≡ Some (Put (codes "a.md"))
+    ≡ Some (edits.Put (codes "a.md") [])
 unfolding computing
 step_of_a_put_of_an_old_page = refl
 
 -- a put under an alias makes a page there; a removal under one is refused, since no page stands there
 step_of_a_put_of_an_alias : edit_seen moved_view owner true (sent (codes "PUT") (codes "/page/c.md") (codes "hi"))
-    ≡ Some (Put (codes "c.md"))
+    ≡ Some (edits.Put (codes "c.md") [])
 unfolding computing
 step_of_a_put_of_an_alias = refl
 
@@ -436,7 +434,7 @@ step_of_a_removal_of_an_alias : edit_seen moved_view owner true (asked (codes "D
 unfolding computing
 step_of_a_removal_of_an_alias = refl
 
-step_of_a_removal : edit_seen owner_view owner true (asked (codes "DELETE") (codes "/page/a.md")) ≡ Some (Removed (codes "a.md"))
+step_of_a_removal : edit_seen owner_view owner true (asked (codes "DELETE") (codes "/page/a.md")) ≡ Some (edits.Remove (codes "a.md"))
 unfolding computing
 step_of_a_removal = refl
 

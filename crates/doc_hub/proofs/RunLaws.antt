@@ -7,9 +7,6 @@ use Rattle.std.proofs.lemmas.Cmp.{nat_cmp_total}
 use Rattle.std.proofs.Math.Facts.{eqb_yes}
 use Rattle.std.proofs.lemmas.List.Elements.{All-head, All-tail}
 use Rattle.doc_page_parts.specs.Refusals.{Gives}
-use Rattle.doc_store.specs.declared.moving.MoveError.TheVariants as move_errors
-use Rattle.doc_store_readers.specs.declared.readers.ReaderError.TheVariants as reader_errors
-use Rattle.doc_store.specs.declared.store.EditError.TheVariants as edit_errors
 use Rattle.doc_http.specs.Requests.{IsNext}
 use Rattle.doc_http.specs.declared.request.Next.{Next as Front}
 use Rattle.doc_http.specs.declared.request.Next.TheVariants as nexts
@@ -28,17 +25,20 @@ use Rattle.doc_hub.specs.declared.refusal.StepError.{StepError}
 use Rattle.doc_hub.specs.declared.refusal.StepError.TheVariants as step_errors
 use Rattle.doc_hub_answers.specs.Replies.{Renders}
 use Rattle.doc_hub.specs.Worlds.{World, Answers, Stays, StepsAt, answer_in, disconnected, last_id, step_said, stepped_by, world_after}
-use Rattle.doc_hub.specs.Worlds.{world_moved, world_pushed, world_put, world_reader_removed, world_reader_set, world_removed}
+use Rattle.doc_hub.specs.Worlds.{world_pushed}
+use Rattle.doc_hub.specs.declared.event.ConnectionEvent.{ConnectionEvent}
+use Rattle.doc_hub.specs.declared.event.ConnectionEvent.TheVariants as calls
 use Rattle.doc_hub.specs.declared.event.Event.{Event}
 use Rattle.doc_hub.specs.declared.event.Event.TheVariants as events
 use Rattle.doc_hub.specs.declared.outcome.Outcome.{Outcome}
 use Rattle.doc_hub.specs.declared.outcome.Outcome.TheVariants as outcomes
-use Rattle.doc_hub.specs.Events.{Said, connecting, outcome_of, pushing, stepping}
-use Rattle.doc_hub.specs.Runs.{IsOutOfMemory, Happened, Happens, Leaves, Runs, nothing, first, sent_by, is_on_by, is_on, events_on}
-use Rattle.doc_hub.specs.RunLaws.{AgreeAt, Matched, RunsAlike}
+use Rattle.doc_hub.specs.Events.{Said, SaidOn, connecting, outcome_of, pushing, step_on, stepping}
+use Rattle.doc_hub.specs.Runs.{IsOutOfMemory, Happened, Happens, HappensOn, Leaves, Runs, nothing, first, sent_by, is_on_by, is_on, events_on}
+use Rattle.doc_hub.specs.RunLaws.{AgreeAt, AgreeOnCall, Matched, RunsAlike}
 use Rattle.doc_hub.specs.StepLaws.{AgreeOn, connection}
 use Rattle.doc_hub.proofs.StepLaws.{answers_alike}
-use Rattle.doc_hub.proofs.NextLaws.{Is, shown, Next, NextStep, next_of}
+use Rattle.doc_hub.proofs.NextLaws.{Is, shown, Next, NextOn, NextStep, next_of}
+use Rattle.doc_hub.proofs.KindSteps.{connections_stand}
 
 -- one connection changes
 put_at : (w : World) (id : ℕ) (k : Connection) (c : ℕ) (b : Bool) → (c == id) ≡ b
@@ -121,24 +121,22 @@ module _ (render : Renders) (c : ℕ) where
       kept_by w v given (Ok x) gives (kept (ap (λ (q : World × Result X E). q.1) gives))
   kept_given memory w v given (Err e) gives kept = kept_where_refused w v gives.1
 
+  on_elsewhere : (w : World) (id : ℕ) (call : ConnectionEvent) (v : World) (said : SaidOn call) → (c == id) ≡ false
+      → HappensOn render w id call v said → Kept w v
+  on_elsewhere w id (calls.Push bytes) v said off h =
+      kept_given push_errors.Memory w v (world_pushed w id bytes) said h (λ is. push_elsewhere w id bytes
+      (map.get w.connections id) off)
+  on_elsewhere w id calls.Step v said off h = step_elsewhere w v id (map.get w.connections id) said off h
+  on_elsewhere w id calls.Disconnect v said off h = kept_by w v (disconnected w id) said h (gone_at w id c false off)
+
   elsewhere : (w : World) (e : Event) (v : World) (said : Said e) → is_on_by c e (outcome_of e said) ≡ false → Happens render w e v said
       → Kept w v
   elsewhere w events.Connect v said off h =
       let t = nat_lt w.given last_id in
       kept_given connect_errors.Memory w v (connected_if w t) said h (λ is. connect_elsewhere w t
       (ap (λ r. is_on_by c events.Connect (connecting r)) is ∙ off))
-  elsewhere w (events.Push id bytes) v said off h =
-      kept_given push_errors.Memory w v (world_pushed w id.0 bytes) said h (λ is. push_elsewhere w id.0 bytes
-      (map.get w.connections id.0) off)
-  elsewhere w (events.Step id) v said off h = step_elsewhere w v id.0 (map.get w.connections id.0) said off h
-  elsewhere w (events.Disconnect id) v said off h = kept_by w v (disconnected w id.0) said h (gone_at w id.0 c false off)
-  elsewhere w (events.Put path groups text) v said off h =
-      kept_given edit_errors.Memory w v (world_put w path groups text) said h (λ is. refl)
-  elsewhere w (events.Remove path) v said off h = kept_by w v (world_removed w path) said h refl
-  elsewhere w (events.MovePage from to) v said off h = kept_given move_errors.Memory w v (world_moved w from to) said h (λ is. refl)
-  elsewhere w (events.SetReader token reader) v said off h =
-      kept_given reader_errors.Memory w v (world_reader_set w token reader) said h (λ is. refl)
-  elsewhere w (events.RemoveReader token) v said off h = kept_by w v (world_reader_removed w token) said h refl
+  elsewhere w (events.On id call) v said off h = on_elsewhere w id.0 call v said off h
+  elsewhere w event v said off h = ap (λ cs. map.get cs c) (connections_stand render w v event said tt h).1
 
   leaves_elsewhere : (w : World) (e : Event) (v : World) (o : Outcome) → is_on_by c e o ≡ false → Leaves render w e v o → Kept w v
   leaves_elsewhere w e v o off (said, h, told) = elsewhere w e v said (ap (is_on_by c e) (sym told) ∙ off) h
@@ -238,7 +236,7 @@ module _ (render : Renders) (c : ℕ) where
       h (subst P (read_in_one_way k.unread d f is_d is_f) g) (front_same w v k f on alike (agree f is_f))
 
   step_same : (w v w' v' : World) (o p : Outcome) (k : Option Connection) → (c == c) ≡ true → connection c w ≡ k → connection c v ≡ k
-      → AgreeAt c w v (events.Step (record { 0 = c })) → NextStep render w c k w' o → NextStep render v c k v' p → Same w' v' o p
+      → AgreeAt c w v (step_on (record { 0 = c })) → NextStep render w c k w' o → NextStep render v c k v' p → Same w' v' o p
   step_same w v w' v' o p None on here there agree h g = same_by (w, stepping (Err step_errors.NoConnection))
       (v, stepping (Err step_errors.NoConnection)) w' v' o p h g (refl, here ∙ sym there)
   step_same w v w' v' o p (Some k) on here there agree h g = open_same w v w' v' o p k k.closed on (here ∙ sym there) (agree k here) h g
@@ -270,10 +268,10 @@ module _ (render : Renders) (c : ℕ) where
   same_made : (w v w' v' : World) (o p : Outcome) → Made (w', o) → Made (v', p) → Same w' v' o p
   same_made w v w' v' o p (none, here) (nor, there) = (none ∙ sym nor, here ∙ sym there)
 
-  same_event : (w v w' v' : World) (e : Event) (o p : Outcome) → is_on_by c e o ≡ true → is_on_by c e p ≡ true
-      → connection c w ≡ connection c v → AgreeAt c w v e → Next render w e w' o → Next render v e v' p → Same w' v' o p
-  same_event w v w' v' events.Connect o p on on' alike agree h g = same_made w v w' v' o p (made w w' o on h) (made v v' p on' g)
-  same_event w v w' v' (events.Push id bytes) o p on on' alike agree h g = at id.0 (eqb_yes (subst T (sym on) tt)) h g
+  same_on : (w v w' v' : World) (id : ConnId) (call : ConnectionEvent) (o p : Outcome) → (c == id.0) ≡ true
+      → connection c w ≡ connection c v → AgreeOnCall c w v call → NextOn render w id.0 call w' o → NextOn render v id.0 call v' p
+      → Same w' v' o p
+  same_on w v w' v' id (calls.Push bytes) o p on alike agree h g = at id.0 (eqb_yes (subst T (sym on) tt)) h g
     where
       at : (n : ℕ) → c ≡ n → Is (shown pushing (world_pushed w n bytes)) w' o → Is (shown pushing (world_pushed v n bytes)) v' p
           → Same w' v' o p
@@ -284,21 +282,22 @@ module _ (render : Renders) (c : ℕ) where
             pushed_here w bytes (connection c w) itself refl ∙ ap (push_result bytes) alike
                 ∙ sym (pushed_here v bytes (connection c v) itself refl),
           ))
-  same_event w v w' v' (events.Step id) o p on on' alike agree h g = at id.0 (eqb_yes (subst T (sym on) tt)) h g
+  same_on w v w' v' id calls.Step o p on alike agree h g = at id.0 (eqb_yes (subst T (sym on) tt)) h g
     where
       at : (n : ℕ) → c ≡ n → NextStep render w n (map.get w.connections n) w' o → NextStep render v n (map.get v.connections n) v' p
           → Same w' v' o p
       at n is = subst (λ m. NextStep render w m (map.get w.connections m) w' o → NextStep render v m (map.get v.connections m) v' p
           → Same w' v' o p) is (λ h g.
           step_same w v w' v' o p (connection c w) itself refl (sym alike) agree h (subst (λ k. NextStep render v c k v' p) (sym alike) g))
-  same_event w v w' v' (events.Disconnect id) o p on on' alike agree h g =
+  same_on w v w' v' id calls.Disconnect o p on alike agree h g =
       same_by (shown outcomes.Disconnected (disconnected w id.0)) (shown outcomes.Disconnected (disconnected v id.0)) w' v' o p h g
       (refl, gone_at w id.0 c true on ∙ sym (gone_at v id.0 c true on))
-  same_event w v w' v' (events.Put path groups text) o p on on' alike agree h g = absurd (subst T (sym on) tt)
-  same_event w v w' v' (events.Remove path) o p on on' alike agree h g = absurd (subst T (sym on) tt)
-  same_event w v w' v' (events.MovePage from to) o p on on' alike agree h g = absurd (subst T (sym on) tt)
-  same_event w v w' v' (events.SetReader token reader) o p on on' alike agree h g = absurd (subst T (sym on) tt)
-  same_event w v w' v' (events.RemoveReader token) o p on on' alike agree h g = absurd (subst T (sym on) tt)
+
+  same_event : (w v w' v' : World) (e : Event) (o p : Outcome) → is_on_by c e o ≡ true → is_on_by c e p ≡ true
+      → connection c w ≡ connection c v → AgreeAt c w v e → Next render w e w' o → Next render v e v' p → Same w' v' o p
+  same_event w v w' v' events.Connect o p on on' alike agree h g = same_made w v w' v' o p (made w w' o on h) (made v v' p on' g)
+  same_event w v w' v' (events.On id call) o p on on' alike agree h g = same_on w v w' v' id call o p on alike agree h g
+  same_event w v w' v' event o p on on' alike agree h g = absurd (subst T (sym on) tt)
 
   same_sent : (hs gs : List Happened) (k j : Option Connection) → k ≡ j → Chain k hs → Chain j gs → Matched c hs gs
       → flat_map (λ h. sent_by h.outcome) hs ≡ flat_map (λ h. sent_by h.outcome) gs

@@ -12,6 +12,11 @@ pub leaves_so : (render : Renders) (w : World) (event same : Event) (v : World) 
     → Happens render w same v said → outcome ≡ outcome_of same said → Leaves render w event v outcome
 leaves_so render w event same v outcome said is happens told = subst (λ e. Leaves render w e v outcome) (sym is) (said, happens, told)
 
+-- the same of a kind of events
+pub leaves_same : (render : Renders) (w : World) (event same : Event) (v : World) (outcome : Outcome) → event ≡ same
+    → Leaves render w same v outcome → Leaves render w event v outcome
+leaves_same render w event same v outcome is leaves = subst (λ e. Leaves render w e v outcome) (sym is) leaves
+
 -- a run of no events
 pub no_event : (render : Renders) (w : World) (outcomes : List Outcome) → outcomes ≡ [] → RunsAll render [] w w outcomes
 no_event render w outcomes none = record { run = []; runs = nothing w; all = refl; told = sym none }

@@ -4,26 +4,29 @@ use Rattle.std.specs.Prelude.{nat_lt, MatchBool, Option, Some, None, Result, Ok,
 use Rattle.std.specs.FinMap as map
 use Rattle.doc_page_parts.specs.Refusals.{Gives}
 use Rattle.doc_store_readers.specs.Pages.{Page}
-use Rattle.doc_store.specs.Store.{StoreState, Edit as SiteEdit, set_page, remove_page, move_page, effect_of, fits_in, put_by, without_page}
+use Rattle.doc_store.specs.Store.{StoreState, set_page, remove_page, move_page, effect_of, fits_in, put_by, without_page}
 use Rattle.doc_store.specs.Store.{may_move, moved_by}
 use Rattle.doc_store.specs.declared.moving.MoveError.{MoveError}
 use Rattle.doc_store.specs.declared.moving.MoveError.TheVariants as move_errors
-use Rattle.doc_store_readers.specs.declared.readers.ReaderError.TheVariants as reader_errors
 use Rattle.doc_store.specs.declared.store.EditError.{EditError}
 use Rattle.doc_store.specs.declared.store.EditError.TheVariants as edit_errors
 use Rattle.doc_store.specs.declared.store.Put.{Put}
 use Rattle.doc_http.specs.Requests.{IsNext}
 use Rattle.doc_http.specs.declared.request.Next.{Next}
 use Rattle.doc_http.specs.declared.request.Next.TheVariants as nexts
-use Rattle.doc_hub.specs.EditLaws.{SiteIsOfEdits, Makes, StepMakes, edit_by, removed_if, site_after, site_after_all, site_edit}
+use Rattle.doc_hub.specs.EditLaws.{SiteIsOfEdits, Makes, StepMakes, edit_by, made_if, site_after, site_after_all, site_edit}
 use Rattle.doc_hub_answers.specs.Edits.{CanBeMade, store_after}
-use Rattle.doc_hub.specs.Events.{Said, moving, outcome_of, putting, stepping}
+use Rattle.doc_hub.specs.Events.{Said, SaidOn, SaidSite, moving, outcome_of, outcome_of_site, outcome_on, putting, step_on, stepping}
 use Rattle.doc_hub_answers.specs.Replies.{Renders}
-use Rattle.doc_hub.specs.Runs.{Happens, Leaves, nothing, first}
+use Rattle.doc_hub.specs.Runs.{Happens, HappensOn, HappensSite, Leaves, nothing, first}
 use Rattle.doc_hub.specs.Worlds.{World, Answers, Stays, StepsAt, answer_in, connected, last_id, reader_of, stepped_by, store_of}
-use Rattle.doc_hub.specs.Worlds.{world_moved, world_pushed, world_put, world_reader_set}
+use Rattle.doc_hub.specs.Worlds.{world_moved, world_pushed, world_put}
 use Rattle.doc_hub.specs.declared.connection.Connection.{Connection}
 use Rattle.doc_hub.specs.declared.event.ConnId.{ConnId}
+use Rattle.doc_store.specs.declared.site_edit.SiteEdit.{SiteEdit}
+use Rattle.doc_store.specs.declared.site_edit.SiteEdit.TheVariants as site_edits
+use Rattle.doc_hub.specs.declared.event.ConnectionEvent.{ConnectionEvent}
+use Rattle.doc_hub.specs.declared.event.ConnectionEvent.TheVariants as calls
 use Rattle.doc_hub.specs.declared.event.Event.{Event}
 use Rattle.doc_hub.specs.declared.event.Event.TheVariants as events
 use Rattle.doc_hub.specs.declared.event.Step.{Step}
@@ -37,6 +40,7 @@ use Rattle.doc_hub.specs.declared.refusal.StepError.TheVariants as step_errors
 use Rattle.doc_hub_answers.specs.declared.edit.Edit.{Edit}
 use Rattle.doc_hub_answers.specs.declared.edit.Edit.TheVariants as edits
 use Rattle.doc_hub_answers.proofs.AnswerEdits.{answer_can_be_made}
+use Rattle.doc_hub.proofs.KindSteps.{stand_beside}
 
 err_ok : {X E : Type 0} (e : E) (x : X) → ◌≡◌ {A = Result X E} (Err e) (Ok x) → ⊥
 err_ok e x is = cc
@@ -48,14 +52,14 @@ ok_err x e is = cc
 
 removed_by : (store : StoreState) (path : List ℕ) (stands : Bool)
     → (if stands then record { site = effect_of store.site (remove_page path); stamps = map.remove store.stamps path; puts = store.puts }
-    else store).site ≡ site_after store.site (removed_if stands path)
+    else store).site ≡ site_after store.site (made_if stands (remove_page path))
 removed_by store path true = refl
 removed_by store path false = refl
 
 removed_site : (store : StoreState) (path : List ℕ) (stood : Bool) → map.contains_key store.site.pages path ≡ stood
-    → (without_page store path).site ≡ site_after store.site (removed_if stood path)
+    → (without_page store path).site ≡ site_after store.site (made_if stood (remove_page path))
 removed_site store path stood is = removed_by store path (map.contains_key store.site.pages path)
-    ∙ ap (λ t. site_after store.site (removed_if t path)) is
+    ∙ ap (λ t. site_after store.site (made_if t (remove_page path))) is
 
 -- the edit of a request that can be made is that of the site
 pub made_site : (store : StoreState) (text : List ℕ) (edit : Option Edit) → CanBeMade store text edit
@@ -140,14 +144,14 @@ module _ (render : Renders) where
   refused_step w v n e (Some c) h = refused_open w v n c e c.closed h
 
   stepping_edits : (w v : World) (id : ConnId) (r : Result Step StepError) → StepsAt render w id.0 v r (map.get w.connections id.0)
-      → Edits render w v (events.Step id) (stepping r)
+      → Edits render w v (step_on id) (stepping r)
   stepping_edits w v id (Ok said) h = step_edits w v id.0 said (map.get w.connections id.0) h
   stepping_edits w v id (Err e) h = (None, refl, refused_step w v id.0 e (map.get w.connections id.0) h)
 
   -- ---- edits beside requests
 
   put_edits : (w v : World) (path : List ℕ) (groups : List (List ℕ)) (text : List ℕ) (r : Result Put EditError)
-      → Gives edit_errors.Memory (world_put w path groups text) w v r → Edits render w v (events.Put path groups text) (putting r)
+      → Gives edit_errors.Memory (world_put w path groups text) w v r → Edits render w v (events.Site (site_edits.Put path groups text)) (putting r)
   put_edits w v path groups text (Ok done) gives =
       let page : Page = record { groups = groups; text = text } in (
         Some (set_page path page),
@@ -159,7 +163,7 @@ module _ (render : Renders) where
   put_edits w v path groups text (Err e) gives = (None, refl, ap (λ (x : World). x.site) gives.1)
 
   move_edits : (w v : World) (from to : List ℕ) (r : Result (Unit {0}) MoveError) → Gives move_errors.Memory (world_moved w from to) w v r
-      → Edits render w v (events.MovePage from to) (moving r)
+      → Edits render w v (events.Site (site_edits.Move from to)) (moving r)
   move_edits w v from to (Ok done) gives = (
     Some (move_page from to),
     refl,
@@ -170,28 +174,30 @@ module _ (render : Renders) where
 
   -- ---- each event
 
-  event_edits : (w v : World) (event : Event) (said : Said event) → Happens render w event v said
-      → Edits render w v event (outcome_of event said)
-  event_edits w v events.Connect said h =
-      (None, refl, kept connect_errors.Memory (connected w) w v said (connect_keeps w _ _ (nat_lt w.given last_id) refl) h)
-  event_edits w v (events.Push id bytes) said h = (None, refl, kept push_errors.Memory (world_pushed w id.0 bytes) w v said refl h)
-  event_edits w v (events.Step id) said h = stepping_edits w v id said h
-  event_edits w v (events.Disconnect id) said h = (None, refl, sym (ap (λ (q : World × Bool). q.0.site) h))
-  event_edits w v (events.Put path groups text) said h = put_edits w v path groups text said h
-  event_edits w v (events.Remove path) said h = (
-    removed_if said path,
+  on_edits : (w v : World) (id : ConnId) (call : ConnectionEvent) (said : SaidOn call) → HappensOn render w id.0 call v said
+      → Edits render w v (events.On id call) (outcome_on call said)
+  on_edits w v id (calls.Push bytes) said h = (None, refl, kept push_errors.Memory (world_pushed w id.0 bytes) w v said refl h)
+  on_edits w v id calls.Step said h = stepping_edits w v id said h
+  on_edits w v id calls.Disconnect said h = (None, refl, sym (ap (λ (q : World × Bool). q.0.site) h))
+
+  site_edits_of : (w v : World) (edit : SiteEdit) (said : SaidSite edit) → HappensSite w edit v said
+      → Edits render w v (events.Site edit) (outcome_of_site edit said)
+  site_edits_of w v (site_edits.Put path groups text) said h = put_edits w v path groups text said h
+  site_edits_of w v (site_edits.Remove path) said h = (
+    made_if said (remove_page path),
     refl,
     sym (ap (λ (q : World × Bool). q.0.site) h)
         ∙ removed_site (store_of w) path said (ap (λ (q : World × Bool). q.1) h),
   )
-  event_edits w v (events.MovePage from to) said h = move_edits w v from to said h
-  event_edits w v (events.SetReader token reader) said h = (
-    None,
-    refl,
-    kept reader_errors.Memory (world_reader_set w token reader) w v
-        said refl h,
-  )
-  event_edits w v (events.RemoveReader token) said h = (None, refl, sym (ap (λ (q : World × Bool). q.0.site) h))
+  site_edits_of w v (site_edits.Move from to) said h = move_edits w v from to said h
+
+  event_edits : (w v : World) (event : Event) (said : Said event) → Happens render w event v said
+      → Edits render w v event (outcome_of event said)
+  event_edits w v events.Connect said h =
+      (None, refl, kept connect_errors.Memory (connected w) w v said (connect_keeps w _ _ (nat_lt w.given last_id) refl) h)
+  event_edits w v (events.On id call) said h = on_edits w v id call said h
+  event_edits w v (events.Site edit) said h = site_edits_of w v edit said h
+  event_edits w v event said h = (None, refl, (stand_beside render w v event said tt h).site)
 
   leaves_edits : (w v : World) (event : Event) (outcome : Outcome) → Leaves render w event v outcome → Edits render w v event outcome
   leaves_edits w v event outcome (said, h, told) = subst (λ o. Edits render w v event o) (sym told) (event_edits w v event said h)

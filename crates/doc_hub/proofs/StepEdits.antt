@@ -1,5 +1,5 @@
 -- The edit that a step tells is the one that it makes.
-use Rattle.std.proofs.Common.{◌≡◌, ℕ, List, Bool, true, false, cond, ap, sym, ◌∙◌, subst}
+use Rattle.std.proofs.Common.{◌≡◌, ℕ, List, Bool, true, false, cond, refl, ap, sym, ◌∙◌, subst}
 use Rattle.std.specs.Prelude.{MatchBool, Option, Some, None, Result, Ok}
 use Rattle.std.specs.FinMap as map
 use Rattle.doc_store_readers.proofs.KeySteps.{get_set, same_itself}
@@ -11,10 +11,9 @@ use Rattle.doc_http.specs.declared.request.Next.TheVariants as nexts
 use Rattle.doc_http.proofs.LawLemmas.{read_in_one_way}
 use Rattle.doc_hub_answers.specs.Edits.{CanBeMade, store_after}
 use Rattle.doc_hub_answers.specs.Replies.{Renders}
-use Rattle.doc_hub.specs.StepEdits.{Changes, StepsChange, TellsAt, edit_of_step, told_edit}
+use Rattle.doc_hub.specs.StepEdits.{Changes, StepsChange, TellsAt, edit_of_step}
 use Rattle.doc_hub.specs.Worlds.{World, Answers, Stays, StepsAt, answer_in, reader_of, stepped_by, store_of}
 use Rattle.doc_hub.specs.declared.connection.Connection.{Connection}
-use Rattle.doc_hub.specs.declared.edited.Edited.{Edited}
 use Rattle.doc_hub.specs.declared.event.Step.{Step}
 use Rattle.doc_hub.specs.declared.event.Step.TheVariants as steps
 use Rattle.doc_hub.specs.declared.refusal.StepError.{StepError}
@@ -27,10 +26,11 @@ module _ (render : Renders) (w v : World) where
   -- the store's edit, which can be made
   edit_changes : (text : List ℕ) (edit : Option Edit) → CanBeMade (store_of w) text edit
       → v.site ≡ (store_after (store_of w) text edit).site
-      → Changes w (told_edit edit) v
+      → Changes w edit v
   edit_changes text None can site = site
   edit_changes text (Some (edits.Put path groups)) can site = let page : Page = record { groups = groups; text = text } in record {
     page = page;
+    for_groups = refl;
     stands = ap (λ (s : Site). map.get s.pages path) site ∙ get_set w.site.pages path page path
         ∙ ap (λ t. cond t (Some page) (map.get w.site.pages path)) (same_itself path);
     fits = can.1;
@@ -47,7 +47,7 @@ module _ (render : Renders) (w v : World) where
       edit_changes request.body (answer_in render w request).edit
       (answer_can_be_made render (store_of w) (reader_of w request) w.keep_alive request) site
 
-  open_changes : (n : ℕ) (c : Connection) (said : Step) (edit : Option Edited) (closed : Bool)
+  open_changes : (n : ℕ) (c : Connection) (said : Step) (edit : Option Edit) (closed : Bool)
       → MatchBool closed (Stays w (Ok steps.Closed) v (Ok said)) (Answers render w n v (Ok said) c)
       → MatchBool closed (edit ≡ None) ((next : Next) × IsNext c.unread next × (edit ≡ edit_of_step render w next)) → Changes w edit v
   open_changes n c said edit true h told = subst (λ e. Changes w e v) (sym told) (ap (λ (x : World). x.site) h.0)
@@ -55,7 +55,7 @@ module _ (render : Renders) (w v : World) where
       subst (λ e. Changes w e v) (ap (edit_of_step render w) (read_in_one_way c.unread next other begins also) ∙ sym told)
       (next_changes n c next (sym (ap (λ (q : World × Result Step StepError). q.0.site) is)))
 
-  at_changes : (n : ℕ) (said : Step) (edit : Option Edited) (k : Option Connection) → StepsAt render w n v (Ok said) k
+  at_changes : (n : ℕ) (said : Step) (edit : Option Edit) (k : Option Connection) → StepsAt render w n v (Ok said) k
       → TellsAt render w k edit → Changes w edit v
   at_changes n said edit None h told = subst (λ e. Changes w e v) (sym told) (ap (λ (x : World). x.site) h.0)
   at_changes n said edit (Some c) h told = open_changes n c said edit c.closed h told

@@ -1,7 +1,7 @@
 -- Laws of connections: pushes one after another, dropped connections, and their numbers.
 use Rattle.std.specs.Prelude.{◌≡◌, ◌≤◌, ◌++◌, ℕ, List, None, Result, Ok, Err}
 use Rattle.doc_hub.specs.declared.event.ConnId.{ConnId}
-use Rattle.doc_hub.specs.declared.event.Event.TheVariants as events
+use Rattle.doc_hub.specs.Events.{push_on, step_on}
 use Rattle.doc_hub.specs.declared.event.Step.{Step}
 use Rattle.doc_hub.specs.declared.refusal.PushError.{PushError}
 use Rattle.doc_hub.specs.declared.refusal.PushError.TheVariants as push_errors
@@ -18,8 +18,8 @@ use Rattle.doc_hub.specs.Worlds.{World, Stays, Steps, disconnected, world_pushed
 abbrev pub PushesJoin : Type 0
 PushesJoin =
     (render : Renders) (w v u : World) (c : ConnId) (bytes more : List ℕ)
-    → Happens render w (events.Push c bytes) v (Ok tt) → Happens render v (events.Push c more) u (Ok tt)
-    → Happens render w (events.Push c (bytes ++ more)) u (Ok tt)
+    → Happens render w (push_on c bytes) v (Ok tt) → Happens render v (push_on c more) u (Ok tt)
+    → Happens render w (push_on c (bytes ++ more)) u (Ok tt)
 
 -- ---- dropped connections
 

@@ -2,11 +2,14 @@
 use Rattle.std.specs.Prelude.{◌≡◌, ℕ, List, [], ◌∷◌, Bool, true, false, MatchBool, Option, Some, None, ⊤}
 use Rattle.std.specs.FinMap as map
 use Rattle.doc_store_readers.specs.Sites.{Site}
-use Rattle.doc_store.specs.Store.{Edit as SiteEdit, set_page, remove_page, move_page, effect_of}
+use Rattle.doc_store.specs.Store.{set_page, remove_page, effect_of}
+use Rattle.doc_store.specs.declared.site_edit.SiteEdit.{SiteEdit}
 use Rattle.doc_http.specs.Requests.{IsNext}
 use Rattle.doc_http.specs.declared.request.Next.{Next}
 use Rattle.doc_http.specs.declared.request.Next.TheVariants as nexts
 use Rattle.doc_hub.specs.declared.connection.Connection.{Connection}
+use Rattle.doc_hub.specs.declared.event.ConnectionEvent.{ConnectionEvent}
+use Rattle.doc_hub.specs.declared.event.ConnectionEvent.TheVariants as calls
 use Rattle.doc_hub.specs.declared.event.Event.{Event}
 use Rattle.doc_hub.specs.declared.event.Event.TheVariants as events
 use Rattle.doc_hub.specs.declared.outcome.Outcome.{Outcome}
@@ -33,17 +36,25 @@ abbrev pub StepMakes : Renders → World → Option Connection → Option SiteEd
 StepMakes render w None edit = edit ≡ None
 StepMakes render w (Some c) edit = MatchBool c.closed (edit ≡ None) ((next : Next) × IsNext c.unread next × (edit ≡ edit_by render w next))
 
-abbrev pub removed_if : Bool → List ℕ → Option SiteEdit
-removed_if true path = Some (remove_page path)
-removed_if false path = None
+abbrev pub made_if : Bool → SiteEdit → Option SiteEdit
+made_if true edit = Some edit
+made_if false edit = None
 
--- the edit that an event makes in this world, where it has this outcome; what is refused makes none
+-- the edit where it has this outcome; what is refused, and a removal of no page, makes none
+abbrev pub made_by : SiteEdit → Outcome → Option SiteEdit
+made_by edit (outcomes.Edited put) = Some edit
+made_by edit (outcomes.Removed stood) = made_if stood edit
+made_by edit outcomes.Moved = Some edit
+made_by edit outcome = None
+
+abbrev pub MakesOn : Renders → World → ℕ → ConnectionEvent → Outcome → Option SiteEdit → Type 0
+MakesOn render w id calls.Step (outcomes.Stepped said) edit = StepMakes render w (map.get w.connections id) edit
+MakesOn render w id call outcome edit = edit ≡ None
+
+-- the edit that an event makes in this world, where it has this outcome
 abbrev pub Makes : Renders → World → Event → Outcome → Option SiteEdit → Type 0
-Makes render w (events.Put path groups text) (outcomes.Edited put) edit = edit
-    ≡ Some (set_page path (record { groups = groups; text = text }))
-Makes render w (events.Remove path) (outcomes.Removed stood) edit = edit ≡ removed_if stood path
-Makes render w (events.MovePage from to) outcomes.Moved edit = edit ≡ Some (move_page from to)
-Makes render w (events.Step id) (outcomes.Stepped said) edit = StepMakes render w (map.get w.connections id.0) edit
+Makes render w (events.On id call) outcome edit = MakesOn render w id.0 call outcome edit
+Makes render w (events.Site asked) outcome edit = edit ≡ made_by asked outcome
 Makes render w event outcome edit = edit ≡ None
 
 abbrev pub site_after : Site → Option SiteEdit → Site

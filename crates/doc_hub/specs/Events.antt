@@ -1,5 +1,5 @@
 -- Events, what the call of each answers, and how a run tells it.
-use Rattle.std.specs.Prelude.{Bool, Result, Ok, Err}
+use Rattle.std.specs.Prelude.{ℕ, List, Bool, Result, Ok, Err}
 use Rattle.doc_store.specs.declared.moving.MoveError.{MoveError}
 use Rattle.doc_store.specs.declared.moving.MoveError.TheVariants as move_errors
 use Rattle.doc_store_readers.specs.declared.readers.ReaderError.{ReaderError}
@@ -8,9 +8,15 @@ use Rattle.doc_store_readers.specs.declared.readers.Set.{Set}
 use Rattle.doc_store.specs.declared.store.EditError.{EditError}
 use Rattle.doc_store.specs.declared.store.EditError.TheVariants as edit_errors
 use Rattle.doc_store.specs.declared.store.Put.{Put}
+use Rattle.doc_store.specs.declared.site_edit.SiteEdit.{SiteEdit}
+use Rattle.doc_store.specs.declared.site_edit.SiteEdit.TheVariants as site_edits
 use Rattle.doc_hub.specs.declared.event.ConnId.{ConnId}
+use Rattle.doc_hub.specs.declared.event.ConnectionEvent.{ConnectionEvent}
+use Rattle.doc_hub.specs.declared.event.ConnectionEvent.TheVariants as calls
 use Rattle.doc_hub.specs.declared.event.Event.{Event}
 use Rattle.doc_hub.specs.declared.event.Event.TheVariants as events
+use Rattle.doc_hub.specs.declared.event.ReaderEdit.{ReaderEdit}
+use Rattle.doc_hub.specs.declared.event.ReaderEdit.TheVariants as reader_edits
 use Rattle.doc_hub.specs.declared.event.Step.{Step}
 use Rattle.doc_hub.specs.declared.outcome.Outcome.{Outcome}
 use Rattle.doc_hub.specs.declared.outcome.Outcome.TheVariants as outcomes
@@ -23,17 +29,37 @@ use Rattle.doc_hub.specs.declared.refusal.Refusal.TheVariants as refusals
 use Rattle.doc_hub.specs.declared.refusal.StepError.{StepError}
 use Rattle.doc_hub.specs.declared.refusal.StepError.TheVariants as step_errors
 
--- what the call of an event answers
+-- the events of a connection
+abbrev pub push_on : ConnId → List ℕ → Event
+push_on id bytes = events.On id (calls.Push bytes)
+
+abbrev pub step_on : ConnId → Event
+step_on id = events.On id calls.Step
+
+abbrev pub disconnect_on : ConnId → Event
+disconnect_on id = events.On id calls.Disconnect
+
+-- ---- what the call of an event answers
+
+abbrev pub SaidOn : ConnectionEvent → Type 0
+SaidOn (calls.Push bytes) = Result (Unit {0}) PushError
+SaidOn calls.Step = Result Step StepError
+SaidOn calls.Disconnect = Bool
+
+abbrev pub SaidSite : SiteEdit → Type 0
+SaidSite (site_edits.Put path groups text) = Result Put EditError
+SaidSite (site_edits.Remove path) = Bool
+SaidSite (site_edits.Move from to) = Result (Unit {0}) MoveError
+
+abbrev pub SaidReader : ReaderEdit → Type 0
+SaidReader (reader_edits.Set token reader) = Result Set ReaderError
+SaidReader (reader_edits.Remove token) = Bool
+
 abbrev pub Said : Event → Type 0
 Said events.Connect = Result ConnId ConnectError
-Said (events.Push id bytes) = Result (Unit {0}) PushError
-Said (events.Step id) = Result Step StepError
-Said (events.Disconnect id) = Bool
-Said (events.Put path groups text) = Result Put EditError
-Said (events.Remove path) = Bool
-Said (events.MovePage from to) = Result (Unit {0}) MoveError
-Said (events.SetReader token reader) = Result Set ReaderError
-Said (events.RemoveReader token) = Bool
+Said (events.On id call) = SaidOn call
+Said (events.Site edit) = SaidSite edit
+Said (events.Reader edit) = SaidReader edit
 
 -- ---- the refusals of the calls, under their own names
 
@@ -92,14 +118,23 @@ abbrev pub setting : Result Set ReaderError → Outcome
 setting (Ok done) = outcomes.ReaderSet done
 setting (Err e) = outcomes.Refused (reader_refusal e)
 
+abbrev pub outcome_on : (call : ConnectionEvent) → SaidOn call → Outcome
+outcome_on (calls.Push bytes) said = pushing said
+outcome_on calls.Step said = stepping said
+outcome_on calls.Disconnect said = outcomes.Disconnected said
+
+abbrev pub outcome_of_site : (edit : SiteEdit) → SaidSite edit → Outcome
+outcome_of_site (site_edits.Put path groups text) said = putting said
+outcome_of_site (site_edits.Remove path) said = outcomes.Removed said
+outcome_of_site (site_edits.Move from to) said = moving said
+
+abbrev pub outcome_of_reader : (edit : ReaderEdit) → SaidReader edit → Outcome
+outcome_of_reader (reader_edits.Set token reader) said = setting said
+outcome_of_reader (reader_edits.Remove token) said = outcomes.ReaderRemoved said
+
 -- what a call answered, as a run tells it
 abbrev pub outcome_of : (event : Event) → Said event → Outcome
 outcome_of events.Connect said = connecting said
-outcome_of (events.Push id bytes) said = pushing said
-outcome_of (events.Step id) said = stepping said
-outcome_of (events.Disconnect id) said = outcomes.Disconnected said
-outcome_of (events.Put path groups text) said = putting said
-outcome_of (events.Remove path) said = outcomes.Removed said
-outcome_of (events.MovePage from to) said = moving said
-outcome_of (events.SetReader token reader) said = setting said
-outcome_of (events.RemoveReader token) said = outcomes.ReaderRemoved said
+outcome_of (events.On id call) said = outcome_on call said
+outcome_of (events.Site edit) said = outcome_of_site edit said
+outcome_of (events.Reader edit) said = outcome_of_reader edit said

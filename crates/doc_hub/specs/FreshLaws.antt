@@ -10,7 +10,7 @@ use Rattle.doc_http.specs.Requests.{IsNext}
 use Rattle.doc_http.specs.declared.request.Next.{Next}
 use Rattle.doc_http.specs.declared.request.Next.TheVariants as nexts
 use Rattle.doc_hub.specs.declared.event.ConnId.{ConnId}
-use Rattle.doc_hub.specs.declared.event.Event.TheVariants as events
+use Rattle.doc_hub.specs.Events.{step_on}
 use Rattle.doc_hub.specs.declared.event.Step.{Step}
 use Rattle.doc_hub.specs.declared.outcome.Outcome.TheVariants as outcomes
 use Rattle.doc_hub.specs.declared.refusal.StepError.{StepError}
@@ -54,14 +54,14 @@ first_connection = record { 0 = 1 }
 -- A step of the connection answers so: it may, and it answers nothing else, but where memory runs out.
 pub record StepSays (render : Renders) (w : World) (c : ConnId) (said : Step) : Type 0 where
   pub left : World
-  pub happens : Happens render w (events.Step c) left (Ok said)
-  pub alone : (v : World) (other : Result Step StepError) → Happens render w (events.Step c) v other → ¬ (other ≡ Err step_errors.Memory)
+  pub happens : Happens render w (step_on c) left (Ok said)
+  pub alone : (v : World) (other : Result Step StepError) → Happens render w (step_on c) v other → ¬ (other ≡ Err step_errors.Memory)
       → other ≡ Ok said
 
 -- a step of an open connection with these unread bytes, which begin so, that was answered
 pub record IsAnswered (h : Happened) (unread : List ℕ) (next : Next) (said : Step) : Type 0 where
   pub c : ConnId
-  pub event : h.event ≡ events.Step c
+  pub event : h.event ≡ step_on c
   pub stands : connection c.0 h.world ≡ Some (open_with unread)
   pub begins : IsNext unread next
   pub told : h.outcome ≡ outcomes.Stepped said

@@ -5,6 +5,7 @@ pub mod CutLaws
 pub mod EditLaws
 pub mod Events
 pub mod FreshLaws
+pub mod HiddenLaws
 pub mod MadeLaws
 pub mod RunLaws
 pub mod Runs

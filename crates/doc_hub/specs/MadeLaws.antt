@@ -16,6 +16,10 @@ use Rattle.doc_hub_answers.specs.Replies.{Renders}
 use Rattle.doc_hub.specs.Runs.{Happened, Runs}
 use Rattle.doc_hub.specs.StepLaws.{site_seen}
 use Rattle.doc_hub.specs.Worlds.{World, new_world, reader_of}
+use Rattle.doc_store.specs.declared.site_edit.SiteEdit.{SiteEdit}
+use Rattle.doc_store.specs.declared.site_edit.SiteEdit.TheVariants as site_edits
+use Rattle.doc_hub.specs.declared.event.ConnectionEvent.{ConnectionEvent}
+use Rattle.doc_hub.specs.declared.event.ConnectionEvent.TheVariants as calls
 use Rattle.doc_hub.specs.declared.event.Event.{Event}
 use Rattle.doc_hub.specs.declared.event.Event.TheVariants as events
 use Rattle.doc_hub.specs.declared.event.Step.{Step}
@@ -28,11 +32,18 @@ pub record IsWithin (site : Site) : Type 0 where
   pub texts : (path : List ℕ) (page : Page) → map.get site.pages path ≡ Some page → length page.text ≤ text_limit
 
 -- what makes a fresh server of a new hub: puts and moves, then a connection and the bytes that came on it
+abbrev pub IsMakingOn : ConnectionEvent → Type 0
+IsMakingOn (calls.Push bytes) = ⊤
+IsMakingOn other = ⊥
+
+abbrev pub IsMakingEdit : SiteEdit → Type 0
+IsMakingEdit (site_edits.Remove path) = ⊥
+IsMakingEdit other = ⊤
+
 abbrev pub IsMakingEvent : Event → Type 0
-IsMakingEvent (events.Put path groups text) = ⊤
-IsMakingEvent (events.MovePage from to) = ⊤
 IsMakingEvent events.Connect = ⊤
-IsMakingEvent (events.Push id bytes) = ⊤
+IsMakingEvent (events.On id call) = IsMakingOn call
+IsMakingEvent (events.Site edit) = IsMakingEdit edit
 IsMakingEvent other = ⊥
 
 abbrev pub IsMaking : Happened → Type 0

@@ -3,6 +3,8 @@ use Rattle.std.specs.Prelude.{◌≡◌, ℕ, All, List, [], ◌∷◌, Some, �
 use Rattle.doc_http.specs.Requests.{IsNext}
 use Rattle.doc_http.specs.declared.request.Next.{Next}
 use Rattle.doc_hub.specs.declared.connection.Connection.{Connection}
+use Rattle.doc_hub.specs.declared.event.ConnectionEvent.{ConnectionEvent}
+use Rattle.doc_hub.specs.declared.event.ConnectionEvent.TheVariants as calls
 use Rattle.doc_hub.specs.declared.event.Event.{Event}
 use Rattle.doc_hub.specs.declared.event.Event.TheVariants as events
 use Rattle.doc_hub_answers.specs.Replies.{Renders}
@@ -11,8 +13,12 @@ use Rattle.doc_hub.specs.StepLaws.{AgreeOn, connection}
 use Rattle.doc_hub.specs.Worlds.{World}
 
 -- the worlds are alike for whatever the connection's unread bytes begin with, before a step of it
+abbrev pub AgreeOnCall : ℕ → World → World → ConnectionEvent → Type 0
+AgreeOnCall c w v calls.Step = (k : Connection) → connection c w ≡ Some k → (next : Next) → IsNext k.unread next → AgreeOn w v next
+AgreeOnCall c w v call = ⊤
+
 abbrev pub AgreeAt : ℕ → World → World → Event → Type 0
-AgreeAt c w v (events.Step id) = (k : Connection) → connection c w ≡ Some k → (next : Next) → IsNext k.unread next → AgreeOn w v next
+AgreeAt c w v (events.On id call) = AgreeOnCall c w v call
 AgreeAt c w v event = ⊤
 
 -- the same events on the connection in the same order, what made it among them, in worlds that are alike before each step

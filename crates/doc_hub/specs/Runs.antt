@@ -5,12 +5,18 @@ use Rattle.doc_page_parts.specs.declared.failure.Memory.{Memory}
 use Rattle.doc_store.specs.declared.moving.MoveError.TheVariants as move_errors
 use Rattle.doc_store_readers.specs.declared.readers.ReaderError.TheVariants as reader_errors
 use Rattle.doc_store.specs.declared.store.EditError.TheVariants as edit_errors
-use Rattle.doc_hub.specs.Events.{Said, outcome_of}
+use Rattle.doc_hub.specs.Events.{Said, SaidOn, SaidReader, SaidSite, outcome_of}
 use Rattle.doc_hub_answers.specs.Replies.{Renders}
 use Rattle.doc_hub.specs.Worlds.{World, connected, world_pushed, disconnected, world_put, world_removed, world_moved, world_reader_set}
 use Rattle.doc_hub.specs.Worlds.{world_reader_removed, Steps}
+use Rattle.doc_store.specs.declared.site_edit.SiteEdit.{SiteEdit}
+use Rattle.doc_store.specs.declared.site_edit.SiteEdit.TheVariants as site_edits
+use Rattle.doc_hub.specs.declared.event.ConnectionEvent.{ConnectionEvent}
+use Rattle.doc_hub.specs.declared.event.ConnectionEvent.TheVariants as calls
 use Rattle.doc_hub.specs.declared.event.Event.{Event}
 use Rattle.doc_hub.specs.declared.event.Event.TheVariants as events
+use Rattle.doc_hub.specs.declared.event.ReaderEdit.{ReaderEdit}
+use Rattle.doc_hub.specs.declared.event.ReaderEdit.TheVariants as reader_edits
 use Rattle.doc_hub.specs.declared.event.Step.{Step}
 use Rattle.doc_hub.specs.declared.event.Step.TheVariants as steps
 use Rattle.doc_hub.specs.declared.outcome.Outcome.{Outcome}
@@ -19,17 +25,27 @@ use Rattle.doc_hub.specs.declared.refusal.ConnectError.TheVariants as connect_er
 use Rattle.doc_hub.specs.declared.refusal.PushError.TheVariants as push_errors
 use Rattle.doc_hub.specs.declared.refusal.Refusal.TheVariants as refusals
 
+-- What a call leaves and answers, by what it is of: a connection, the site or the readers.
+abbrev pub HappensOn : Renders → World → ℕ → (call : ConnectionEvent) → World → SaidOn call → Type 0
+HappensOn render w id (calls.Push bytes) v said = Gives push_errors.Memory (world_pushed w id bytes) w v said
+HappensOn render w id calls.Step v said = Steps render w id v said
+HappensOn render w id calls.Disconnect v said = ◌≡◌ {A = World × Bool} (disconnected w id) (v, said)
+
+abbrev pub HappensSite : World → (edit : SiteEdit) → World → SaidSite edit → Type 0
+HappensSite w (site_edits.Put path groups text) v said = Gives edit_errors.Memory (world_put w path groups text) w v said
+HappensSite w (site_edits.Remove path) v said = ◌≡◌ {A = World × Bool} (world_removed w path) (v, said)
+HappensSite w (site_edits.Move from to) v said = Gives move_errors.Memory (world_moved w from to) w v said
+
+abbrev pub HappensReader : World → (edit : ReaderEdit) → World → SaidReader edit → Type 0
+HappensReader w (reader_edits.Set token reader) v said = Gives reader_errors.Memory (world_reader_set w token reader) w v said
+HappensReader w (reader_edits.Remove token) v said = ◌≡◌ {A = World × Bool} (world_reader_removed w token) (v, said)
+
 -- The call of the event leaves this world and answers so, or memory ran out and the world is as before.
 abbrev pub Happens : Renders → World → (event : Event) → World → Said event → Type 0
 Happens render w events.Connect v said = Gives connect_errors.Memory (connected w) w v said
-Happens render w (events.Push id bytes) v said = Gives push_errors.Memory (world_pushed w id.0 bytes) w v said
-Happens render w (events.Step id) v said = Steps render w id.0 v said
-Happens render w (events.Disconnect id) v said = ◌≡◌ {A = World × Bool} (disconnected w id.0) (v, said)
-Happens render w (events.Put path groups text) v said = Gives edit_errors.Memory (world_put w path groups text) w v said
-Happens render w (events.Remove path) v said = ◌≡◌ {A = World × Bool} (world_removed w path) (v, said)
-Happens render w (events.MovePage from to) v said = Gives move_errors.Memory (world_moved w from to) w v said
-Happens render w (events.SetReader token reader) v said = Gives reader_errors.Memory (world_reader_set w token reader) w v said
-Happens render w (events.RemoveReader token) v said = ◌≡◌ {A = World × Bool} (world_reader_removed w token) (v, said)
+Happens render w (events.On id call) v said = HappensOn render w id.0 call v said
+Happens render w (events.Site edit) v said = HappensSite w edit v said
+Happens render w (events.Reader edit) v said = HappensReader w edit v said
 
 -- The event leaves this world, and its outcome is what its call answers.
 abbrev pub Leaves : Renders → World → Event → World → Outcome → Type 0
@@ -88,9 +104,7 @@ is_made c outcome = false
 -- whether an event with this outcome is on the connection: what makes it, its pushes and steps, and what drops it
 abbrev pub is_on_by : ℕ → Event → Outcome → Bool
 is_on_by c events.Connect outcome = is_made c outcome
-is_on_by c (events.Push id bytes) outcome = c == id.0
-is_on_by c (events.Step id) outcome = c == id.0
-is_on_by c (events.Disconnect id) outcome = c == id.0
+is_on_by c (events.On id call) outcome = c == id.0
 is_on_by c event outcome = false
 
 abbrev pub is_on : ℕ → Happened → Bool

@@ -1,4 +1,5 @@
--- The edit that a step makes, as the step tells it, and what of the site it changes.
+-- The edit that a step makes, as the step tells it, and what of the site it changes. A step tells the edit that its request asks
+-- for, whose text is the request's body: it stands in the site then.
 use Rattle.std.specs.Prelude.{◌≡◌, ℕ, List, true, MatchBool, Option, Some, None, Result, Ok, Err}
 use Rattle.std.specs.FinMap as map
 use Rattle.doc_store_readers.specs.Pages.{Page}
@@ -7,10 +8,8 @@ use Rattle.doc_http.specs.Requests.{IsNext}
 use Rattle.doc_http.specs.declared.request.Next.{Next}
 use Rattle.doc_http.specs.declared.request.Next.TheVariants as nexts
 use Rattle.doc_hub.specs.declared.connection.Connection.{Connection}
-use Rattle.doc_hub.specs.declared.edited.Edited.{Edited}
-use Rattle.doc_hub.specs.declared.edited.Edited.TheVariants.{Put, Removed}
 use Rattle.doc_hub.specs.declared.event.ConnId.{ConnId}
-use Rattle.doc_hub.specs.declared.event.Event.TheVariants as events
+use Rattle.doc_hub.specs.Events.{step_on}
 use Rattle.doc_hub.specs.declared.event.Step.{Step}
 use Rattle.doc_hub.specs.declared.refusal.StepError.{StepError}
 use Rattle.doc_hub_answers.specs.declared.edit.Edit.{Edit}
@@ -20,35 +19,30 @@ use Rattle.doc_hub.specs.Runs.{Happens}
 use Rattle.doc_hub.specs.Worlds.{World, answer_in, store_of}
 
 -- the answer of a step without the edit beside it
-abbrev pub step_in : Result (Step × Option Edited) StepError → Result Step StepError
+abbrev pub step_in : Result (Step × Option Edit) StepError → Result Step StepError
 step_in (Ok told) = Ok told.0
 step_in (Err e) = Err e
 
--- the edit that goes with an answer by its path alone: what a put sets stands in the site then
-abbrev pub told_edit : Option Edit → Option Edited
-told_edit None = None
-told_edit (Some (edits.Put path groups)) = Some (Put path)
-told_edit (Some (edits.Remove path)) = Some (Removed path)
-
 -- the edit of a step by what the unread bytes begin with: that of the answer to a request
-abbrev pub edit_of_step : Renders → World → Next → Option Edited
-edit_of_step render w (nexts.Request used request) = told_edit (answer_in render w request).edit
+abbrev pub edit_of_step : Renders → World → Next → Option Edit
+edit_of_step render w (nexts.Request used request) = (answer_in render w request).edit
 edit_of_step render w next = None
 
 -- a step that answered makes this edit on an open connection, and on a closed one none
-abbrev pub TellsAt : Renders → World → Option Connection → Option Edited → Type 0
+abbrev pub TellsAt : Renders → World → Option Connection → Option Edit → Type 0
 TellsAt render w None edit = edit ≡ None
 TellsAt render w (Some c) edit =
     MatchBool c.closed (edit ≡ None) ((next : Next) × IsNext c.unread next × (edit ≡ edit_of_step render w next))
 
-abbrev pub StepTells : Renders → World → ℕ → Option Edited → Type 0
+abbrev pub StepTells : Renders → World → ℕ → Option Edit → Type 0
 StepTells render w id edit = TellsAt render w (map.get w.connections id) edit
 
 -- ---- what it changes
 
--- a page that fits was put under the path, where it stands then
-pub record WasPut (w v : World) (path : List ℕ) : Type 0 where
+-- a page for these groups that fits was put under the path, where it stands then
+pub record WasPut (w v : World) (path : List ℕ) (groups : List (List ℕ)) : Type 0 where
   pub page : Page
+  pub for_groups : page.groups ≡ groups
   pub stands : map.get v.site.pages path ≡ Some page
   pub fits : fits_in (store_of w) path page.text ≡ Ok tt
   pub site : v.site ≡ effect_of w.site (set_page path page)
@@ -59,14 +53,14 @@ pub record WasRemoved (w v : World) (path : List ℕ) : Type 0 where
   pub site : v.site ≡ effect_of w.site (remove_page path)
 
 -- one site is the other with just this edit made
-abbrev pub Changes : World → Option Edited → World → Type 0
+abbrev pub Changes : World → Option Edit → World → Type 0
 Changes w None v = v.site ≡ w.site
-Changes w (Some (Put path)) v = WasPut w v path
-Changes w (Some (Removed path)) v = WasRemoved w v path
+Changes w (Some (edits.Put path groups)) v = WasPut w v path groups
+Changes w (Some (edits.Remove path)) v = WasRemoved w v path
 
 -- An answered step changes the site by the edit that it tells and by nothing else; a refused one leaves it.
 pub record StepsChange : Type 0 where
-  pub answered : (render : Renders) (w v : World) (id : ConnId) (said : Step) (edit : Option Edited)
-      → Happens render w (events.Step id) v (Ok said) → StepTells render w id.0 edit → Changes w edit v
-  pub refused : (render : Renders) (w v : World) (id : ConnId) (e : StepError) → Happens render w (events.Step id) v (Err e)
+  pub answered : (render : Renders) (w v : World) (id : ConnId) (said : Step) (edit : Option Edit)
+      → Happens render w (step_on id) v (Ok said) → StepTells render w id.0 edit → Changes w edit v
+  pub refused : (render : Renders) (w v : World) (id : ConnId) (e : StepError) → Happens render w (step_on id) v (Err e)
       → v.site ≡ w.site

@@ -9,7 +9,7 @@ use Rattle.doc_http.specs.declared.request.Next.{Next}
 use Rattle.doc_http.specs.declared.request.Next.TheVariants as nexts
 use Rattle.doc_hub.specs.declared.connection.Connection.{Connection}
 use Rattle.doc_hub.specs.declared.event.ConnId.{ConnId}
-use Rattle.doc_hub.specs.declared.event.Event.TheVariants as events
+use Rattle.doc_hub.specs.Events.{step_on}
 use Rattle.doc_hub.specs.declared.event.Step.{Step}
 use Rattle.doc_hub_answers.specs.Edits.{puts_left}
 use Rattle.doc_hub_answers.specs.Replies.{Renders}
@@ -62,5 +62,5 @@ abbrev pub StepsAlike : Type 0
 StepsAlike =
     (render : Renders) (w v w' v' : World) (c d : ConnId) (next : Next) (said told : Step)
     → Begins w c next → Begins v d next → AgreeOn w v next
-    → Happens render w (events.Step c) w' (Ok said) → Happens render v (events.Step d) v' (Ok told)
+    → Happens render w (step_on c) w' (Ok said) → Happens render v (step_on d) v' (Ok told)
     → said ≡ told

@@ -1,10 +1,9 @@
 //! Events, and what a step of a hub does.
 
 use doc_page_parts::bytes::Bytes;
-use doc_page_parts::path::Path;
 use doc_page_parts::text::Text;
-use doc_store::groups::Groups;
 use doc_store::reader::Reader;
+use doc_store::site_edit::SiteEdit;
 
 /// The number of a connection. The first one given is 1, and none is given twice.
 #[derive(Clone, Copy, Debug, PartialEq, Eq)]
@@ -23,19 +22,33 @@ pub enum Step {
     Closed,
 }
 
-/// A call of a hub, with all that it takes.
+/// A call of a hub, with all that it takes: by its flat name one of Connect, Push, Step, Disconnect, Put,
+/// Remove, MovePage, SetReader and RemoveReader.
 #[derive(Debug, Drop)]
 pub enum Event {
     Connect,
-    Push(ConnId, Bytes),
-    Step(ConnId),
-    Disconnect(ConnId),
-    /// The page's path, the groups that it is for, and its text.
-    Put(Path, Groups, Text),
-    Remove(Path),
-    /// From the first path to the second.
-    MovePage(Path, Path),
+    /// Push, Step or Disconnect of a connection.
+    On(ConnId, ConnectionEvent),
+    /// Put, Remove or MovePage.
+    Site(SiteEdit),
+    /// SetReader or RemoveReader.
+    Reader(ReaderEdit),
+}
+
+/// What happens on a connection.
+#[derive(Debug, Drop)]
+pub enum ConnectionEvent {
+    /// Its peer sent these bytes.
+    Push(Bytes),
+    Step,
+    Disconnect,
+}
+
+/// An edit of the readers.
+#[derive(Debug, Drop)]
+pub enum ReaderEdit {
     /// A token, and the reader that it is for.
-    SetReader(Text, Reader),
-    RemoveReader(Text),
+    Set(Text, Reader),
+    /// The token's reader is removed.
+    Remove(Text),
 }

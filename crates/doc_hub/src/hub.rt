@@ -16,7 +16,7 @@ ghost use Rattle.std.specs.List.{list_any};
 ghost use Rattle.doc_page_parts.specs.Refusals.{Gives, IsAnswer};
 ghost use Rattle.doc_hub.specs.Counts.{Counted, moves_in, ran_out};
 ghost use Rattle.doc_hub_answers.specs.Counts.{RendersPuts};
-ghost use Rattle.doc_hub.specs.Events.{stepping};
+ghost use Rattle.doc_hub.specs.Events.{disconnect_on, push_on, step_on, stepping};
 ghost use Rattle.doc_hub.specs.Runs.{Happens, Leaves, GivesRun};
 ghost use Rattle.doc_hub.specs.StepEdits.{StepTells, step_in};
 ghost use Rattle.doc_hub.specs.Worlds.{hub_made, report_in, store_of};
@@ -25,8 +25,7 @@ ghost use Rattle.doc_store.specs.Store.{fits_in};
 
 use crate::connection::Connection;
 use crate::connections::Connections;
-use crate::edited::Edited;
-use crate::event::{ConnId, Event, Step};
+use crate::event::{ConnId, ConnectionEvent, Event, ReaderEdit, Step};
 use crate::outcome::Outcome;
 use crate::refusal::{ConnectError, HubError, PushError, StepError};
 use crate::telling::step_of;
@@ -34,6 +33,7 @@ use doc_http::request::Next;
 use doc_http::unread::Unread;
 use doc_http_targets::routes::Routes;
 use doc_hub_answers::answer::answer_to_fault;
+use doc_hub_answers::edit::Edit;
 use doc_hub_replies::serving::Serving;
 use doc_page::renderer::Renderer;
 use doc_page_parts::failure::Memory;
@@ -47,6 +47,7 @@ use doc_store::moving::MoveError;
 use doc_store::page::Page;
 use doc_store::reader::Reader;
 use doc_store::readers::{ReaderError, Readers, Set};
+use doc_store::site_edit::SiteEdit;
 use doc_store::store::{EditError, Put};
 use std::marker::Model;
 
@@ -159,7 +160,7 @@ impl<R: Renderer + Drop> Hub<R> {
     /// Bytes that a connection's peer sent.
     pub fn push(&mut self, id: ConnId, bytes: &[u8]) -> Result<(), PushError>
         ensures world { Happens (R.page self.old.0) self.old.1
-            (Event.Push id bytes.now) self.new.1 result }
+            (push_on id bytes.now) self.new.1 result }
         ensures same { R.page self.new.0 ≡ R.page self.old.0 }
         ensures counted { R.count self.new.0 ≡ R.count self.old.0 }
     {
@@ -170,21 +171,22 @@ impl<R: Renderer + Drop> Hub<R> {
     /// makes the edit that it asks for. `Memory` says that nothing was sent and nothing changed: the
     /// request waits.
     pub fn step(&mut self, id: ConnId) -> Result<Step, StepError>
-        ensures world { Happens (R.page self.old.0) self.old.1 (Event.Step id) self.new.1 result }
+        ensures world { Happens (R.page self.old.0) self.old.1 (step_on id) self.new.1 result }
         ensures same { R.page self.new.0 ≡ R.page self.old.0 }
         ensures counted { Counted (R.count self.old.0) self.old.1
             (R.count self.new.0) self.new.1 (stepping result) }
     {
-        let (step, _edited) = self.step_edited(id)?;
+        let (step, _edit) = self.step_edited(id)?;
         Ok(step)
     }
 
-    /// The same step, and beside it the edit that it made, if any: so that a server can write it down before
-    /// the next step. It takes no more memory than `step`.
-    pub fn step_edited(&mut self, id: ConnId) -> Result<(Step, Option<Edited>), StepError>
+    /// The same step, and beside it the edit that its request asked for and that it made, if any: so that a
+    /// server can write it down before the next step. The text of a page that was put stands under its path
+    /// then, and is copied nowhere. It takes no more memory than `step`.
+    pub fn step_edited(&mut self, id: ConnId) -> Result<(Step, Option<Edit>), StepError>
         ensures world { Happens (R.page self.old.0) self.old.1
-            (Event.Step id) self.new.1 (step_in result) }
-        ensures edited { IfOk result
+            (step_on id) self.new.1 (step_in result) }
+        ensures edit { IfOk result
             (λ told. StepTells (R.page self.old.0) self.old.1 id.0 told.1) }
         ensures same { R.page self.new.0 ≡ R.page self.old.0 }
         ensures counted { Counted (R.count self.old.0) self.old.1
@@ -221,7 +223,7 @@ impl<R: Renderer + Drop> Hub<R> {
     /// given, and calls on it answer that there is no such connection. It takes no memory.
     pub fn disconnect(&mut self, id: ConnId) -> bool
         ensures world { Happens (R.page self.old.0) self.old.1
-            (Event.Disconnect id) self.new.1 result }
+            (disconnect_on id) self.new.1 result }
         ensures same { R.page self.new.0 ≡ R.page self.old.0 }
         ensures counted { R.count self.new.0 ≡ R.count self.old.0 }
     {
@@ -239,7 +241,7 @@ impl<R: Renderer + Drop> Hub<R> {
     /// Puts a page under a path, in place of the one that stands there.
     pub fn put_page(&mut self, path: &Path, groups: &Groups, text: &str) -> Result<Put, EditError>
         ensures world { Happens (R.page self.old.0) self.old.1
-            (Event.Put path.now groups.now text.now) self.new.1 result }
+            (Event.Site (SiteEdit.Put path.now groups.now text.now)) self.new.1 result }
         ensures same { R.page self.new.0 ≡ R.page self.old.0 }
         ensures counted { R.count self.new.0 ≡ R.count self.old.0
             + rendered_for (fits_in (store_of self.old.1) path.now text.now) }
@@ -251,7 +253,7 @@ impl<R: Renderer + Drop> Hub<R> {
     /// memory.
     pub fn remove_page(&mut self, path: &Path) -> bool
         ensures world { Happens (R.page self.old.0) self.old.1
-            (Event.Remove path.now) self.new.1 result }
+            (Event.Site (SiteEdit.Remove path.now)) self.new.1 result }
         ensures same { R.page self.new.0 ≡ R.page self.old.0 }
         ensures counted { R.count self.new.0 ≡ R.count self.old.0 }
     {
@@ -262,7 +264,7 @@ impl<R: Renderer + Drop> Hub<R> {
     /// in this order, `NoPage`, `Taken`, `StoreFull` and `Memory`.
     pub fn move_page(&mut self, from: &Path, to: &Path) -> Result<(), MoveError>
         ensures world { Happens (R.page self.old.0) self.old.1
-            (Event.MovePage from.now to.now) self.new.1 result }
+            (Event.Site (SiteEdit.Move from.now to.now)) self.new.1 result }
         ensures same { R.page self.new.0 ≡ R.page self.old.0 }
         ensures counted { R.count self.new.0 ≡ R.count self.old.0 }
     {
@@ -273,7 +275,7 @@ impl<R: Renderer + Drop> Hub<R> {
     /// reader's, also on a connection that stands. Refused are, in this order, `BadToken` and `Memory`.
     pub fn set_reader(&mut self, token: &str, reader: &Reader) -> Result<Set, ReaderError>
         ensures world { Happens (R.page self.old.0) self.old.1
-            (Event.SetReader token.now reader.now) self.new.1 result }
+            (Event.Reader (ReaderEdit.Set token.now reader.now)) self.new.1 result }
         ensures same { R.page self.new.0 ≡ R.page self.old.0 }
         ensures counted { R.count self.new.0 ≡ R.count self.old.0 }
     {
@@ -284,7 +286,7 @@ impl<R: Renderer + Drop> Hub<R> {
     /// memory.
     pub fn remove_reader(&mut self, token: &str) -> bool
         ensures world { Happens (R.page self.old.0) self.old.1
-            (Event.RemoveReader token.now) self.new.1 result }
+            (Event.Reader (ReaderEdit.Remove token.now)) self.new.1 result }
         ensures same { R.page self.new.0 ≡ R.page self.old.0 }
         ensures counted { R.count self.new.0 ≡ R.count self.old.0 }
     {
@@ -322,8 +324,8 @@ impl<R: Renderer + Drop> Hub<R> {
         Ok(List::new(outcomes))
     }
 
-    /// The call of an event.
-    fn happen(&mut self, event: &Event) -> Outcome
+    /// Makes an event happen: its call, and what comes of it.
+    pub fn happen(&mut self, event: &Event) -> Outcome
         ensures world { Leaves (R.page self.old.0) self.old.1 event.now self.new.1 result }
         ensures same { R.page self.new.0 ≡ R.page self.old.0 }
         ensures counted { Counted (R.count self.old.0) self.old.1
@@ -331,18 +333,52 @@ impl<R: Renderer + Drop> Hub<R> {
     {
         match event {
             Event::Connect => Outcome::from(self.connect()),
-            Event::Push(id, bytes) => Outcome::from(self.push(*id, bytes.get())),
-            Event::Step(id) => Outcome::from(self.step(*id)),
-            Event::Disconnect(id) => Outcome::Disconnected(self.disconnect(*id)),
-            Event::Put(path, groups, text) => {
+            Event::On(id, call) => self.happen_on(*id, call),
+            Event::Site(edit) => self.edit_site(edit),
+            Event::Reader(edit) => self.edit_reader(edit),
+        }
+    }
+
+    /// The call of an event on a connection.
+    fn happen_on(&mut self, id: ConnId, call: &ConnectionEvent) -> Outcome
+        ensures world { Leaves (R.page self.old.0) self.old.1 (Event.On id call.now) self.new.1 result }
+        ensures same { R.page self.new.0 ≡ R.page self.old.0 }
+        ensures counted { Counted (R.count self.old.0) self.old.1
+            (R.count self.new.0) self.new.1 result }
+    {
+        match call {
+            ConnectionEvent::Push(bytes) => Outcome::from(self.push(id, bytes.get())),
+            ConnectionEvent::Step => Outcome::from(self.step(id)),
+            ConnectionEvent::Disconnect => Outcome::Disconnected(self.disconnect(id)),
+        }
+    }
+
+    /// The call of an edit of the site.
+    fn edit_site(&mut self, edit: &SiteEdit) -> Outcome
+        ensures world { Leaves (R.page self.old.0) self.old.1 (Event.Site edit.now) self.new.1 result }
+        ensures same { R.page self.new.0 ≡ R.page self.old.0 }
+        ensures counted { Counted (R.count self.old.0) self.old.1
+            (R.count self.new.0) self.new.1 result }
+    {
+        match edit {
+            SiteEdit::Put(path, groups, text) => {
                 Outcome::from(self.put_page(path, groups, text.get()))
             }
-            Event::Remove(path) => Outcome::Removed(self.remove_page(path)),
-            Event::MovePage(from, to) => Outcome::from(self.move_page(from, to)),
-            Event::SetReader(token, reader) => {
-                Outcome::from(self.set_reader(token.get(), reader))
-            }
-            Event::RemoveReader(token) => Outcome::ReaderRemoved(self.remove_reader(token.get())),
+            SiteEdit::Remove(path) => Outcome::Removed(self.remove_page(path)),
+            SiteEdit::Move(from, to) => Outcome::from(self.move_page(from, to)),
+        }
+    }
+
+    /// The call of an edit of the readers.
+    fn edit_reader(&mut self, edit: &ReaderEdit) -> Outcome
+        ensures world { Leaves (R.page self.old.0) self.old.1 (Event.Reader edit.now) self.new.1 result }
+        ensures same { R.page self.new.0 ≡ R.page self.old.0 }
+        ensures counted { Counted (R.count self.old.0) self.old.1
+            (R.count self.new.0) self.new.1 result }
+    {
+        match edit {
+            ReaderEdit::Set(token, reader) => Outcome::from(self.set_reader(token.get(), reader)),
+            ReaderEdit::Remove(token) => Outcome::ReaderRemoved(self.remove_reader(token.get())),
         }
     }
 }

@@ -6,6 +6,7 @@ ghost use Rattle.doc_hub.specs.CutLaws.{DecisionsOfCut};
 ghost use Rattle.doc_hub.specs.EditLaws.{SiteIsOfEdits};
 ghost use Rattle.doc_hub.specs.FreshLaws.{NewRepliesAsFresh, PutsAreCounted, PutsAreLeft};
 ghost use Rattle.doc_hub.specs.FreshLaws.{RepliesAsFresh};
+ghost use Rattle.doc_hub.specs.HiddenLaws.{HiddenAsNone, LinksToHiddenAsToNone};
 ghost use Rattle.doc_hub.specs.MadeLaws.{FreshIsMade, MadeReplies};
 ghost use Rattle.doc_hub.specs.RunLaws.{RunsAlike};
 ghost use Rattle.doc_hub.specs.StepEdits.{StepsChange};
@@ -17,6 +18,21 @@ ghost use Rattle.doc_hub.specs.StepLaws.{AnswersAlike, StepsAlike};
 #[tactic(auto, using(crate::proofs::StepLaws::answers_alike))]
 pub fn answers_are_noninterfering()
     ensures { AnswersAlike }
+{}
+
+/// A hidden page is answered exactly as a page that doesn't exist: each request of a reader who doesn't see
+/// the page has the same answer, byte for byte and with the same edit, where the page was removed; and so
+/// have steps of an open connection whose unread bytes begin with that request, where both are answered.
+#[tactic(auto, using(crate::proofs::HiddenLaws::hidden_as_none))]
+pub fn a_hidden_page_is_answered_as_none()
+    ensures { HiddenAsNone }
+{}
+
+/// A link to a hidden page is shown like a link to none: each link, and each page with its links, is shown
+/// to a reader who doesn't see the hidden page as it is where that was removed.
+#[tactic(auto, using(crate::proofs::HiddenLaws::links_to_hidden_as_to_none))]
+pub fn a_link_to_a_hidden_page_is_shown_as_one_to_none()
+    ensures { LinksToHiddenAsToNone }
 {}
 
 /// Step noninterference. Two steps send equal bytes and do the same where their connections are open,

@@ -3,7 +3,6 @@
 
 mod connection;
 mod connections;
-pub mod edited;
 pub mod event;
 pub mod hub;
 pub mod laws;

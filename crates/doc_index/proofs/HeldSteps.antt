@@ -4,12 +4,13 @@ use Rattle.std.specs.Prelude.{Option, Some, None, option_map}
 use Rattle.std.specs.Cmp.Lexicographic.{slice_cmp}
 use Rattle.std.specs.FinMap as map
 use Rattle.std.specs.Ordering.{nat_cmp}
+use Rattle.std.proofs.lemmas.Option.{same_Some, none-some}
 use Rattle.doc_index.specs.declared.held.Held.{Held}
 use Rattle.doc_index.specs.Held.{Known, entries_of, held, known, slot_at}
 use Rattle.doc_index.specs.IndexSteps.{IsIndex}
 use Rattle.doc_index_tables.specs.Maps.{pair_cmp}
 use Rattle.doc_index_tables.specs.TableSteps.{HasSame, NumberTable, number_at, number_in}
-use Rattle.doc_index_tables.proofs.PairSteps.{both_same, pair_is, pair_itself, pairs_exact, pairs_total, same_pair}
+use Rattle.doc_index_tables.proofs.PairSteps.{pair_is, pair_itself, pairs_total, same_pair}
 
 pub some_is : {A : Type 0} (x y : A) → Some x ≡ Some y → x ≡ y
 some_is x y e = cc
@@ -29,12 +30,12 @@ module _ {T : Type 0} where
       → slot_at slots i ≡ Some page → pair_of page ≡ q
       → ((j : ℕ) (other : Held T) → slot_at slots j ≡ Some other → pair_of other ≡ q → known other ≡ k)
       → found q slots ≡ Some k
-  found_one q k [] i page is pair alike = absurd (not_some page is)
-  found_one q k (None ∷ slots) zero page is pair alike = absurd (not_some page is)
+  found_one q k [] i page is pair alike = absurd (none-some page is)
+  found_one q k (None ∷ slots) zero page is pair alike = absurd (none-some page is)
   found_one q k (None ∷ slots) (suc i) page is pair alike = found_one q k slots i page is pair (λ j. alike (suc j))
   found_one q k (Some first ∷ slots) zero page is pair alike =
-      ap (λ b. cond b (Some (known first)) (found q slots)) (ap (same_pair q) (ap pair_of (some_is first page is) ∙ pair) ∙ pair_itself q)
-      ∙ ap Some (alike zero first refl (ap pair_of (some_is first page is) ∙ pair))
+      ap (λ b. cond b (Some (known first)) (found q slots)) (ap (same_pair q) (ap pair_of (same_Some first page is) ∙ pair) ∙ pair_itself q)
+      ∙ ap Some (alike zero first refl (ap pair_of (same_Some first page is) ∙ pair))
   found_one q k (Some first ∷ slots) (suc i) page is pair alike =
       by (same_pair q (pair_of first)) refl (found_one q k slots i page is pair (λ j. alike (suc j)))
     where
@@ -68,20 +69,20 @@ module _ {T : Type 0} where
       leads_to i other at same = ap (λ p. number_at places p.0 p.1) (sym same) ∙ is.placed i other at
 
       by : (x : Option ℕ) → number_at places path stamp ≡ x → found (path, stamp) slots ≡ known_at slots x
-      by None e = found_none (path, stamp) slots (λ j other at same. not_some j (sym e ∙ leads_to j other at same))
+      by None e = found_none (path, stamp) slots (λ j other at same. none-some j (sym e ∙ leads_to j other at same))
       by (Some i) e =
           let there = is.leads path stamp i e in
           found_one (path, stamp) (known there.0) slots i there.0 there.1 (ap₂ (λ p s. (p, s)) there.2 there.3)
-          (λ j other at same. ap known (some_is other there.0 (sym at
-          ∙ ap (slot_at slots) (some_is j i (sym (leads_to j other at same) ∙ e)) ∙ there.1)))
+          (λ j other at same. ap known (same_Some other there.0 (sym at
+          ∙ ap (slot_at slots) (same_Some j i (sym (leads_to j other at same) ∙ e)) ∙ there.1)))
           ∙ sym (ap (option_map known) there.1)
 
   -- an empty index
   pub nothing_held : IsIndex {T = T} 0 [] map.empty map.empty
   nothing_held = record {
     within = λ i above. refl;
-    placed = λ i page at. absurd (not_some page at);
-    leads = λ path stamp i at. absurd (not_some i (sym (no_number path stamp) ∙ at));
+    placed = λ i page at. absurd (none-some page at);
+    leads = λ path stamp i at. absurd (none-some i (sym (no_number path stamp) ∙ at));
     counted = λ key i. no_number key i;
   }
     where

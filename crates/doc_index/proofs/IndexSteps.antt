@@ -3,14 +3,15 @@ use Rattle.std.proofs.Common.{◌≡◌, ◌≢◌, ◌<◌, ◌≤◌, lt_of_le
 use Rattle.std.specs.Borrow.{Bor}
 use Rattle.std.specs.Prelude.{IfSome, option_copied, Option, Some, None, option_map}
 use Rattle.std.specs.FinMap as map
+use Rattle.std.proofs.lemmas.Option.{same_Some, none-some}
 use Rattle.doc_index.specs.declared.held.Held.{Held}
 use Rattle.doc_index.specs.Held.{AreApart, count_in, held, known, slot_at}
 use Rattle.doc_index.specs.IndexSteps.{IsIndex}
 use Rattle.doc_index_tables.specs.TableSteps.{HasCounts, LacksCounts, NumberTable, number_at, same_number, with_number, without_number}
 use Rattle.doc_index_tables.proofs.CountSteps.{at_set, at_taken, number_is, number_itself}
-use Rattle.doc_index.proofs.HeldSteps.{held_at, known_at, not_some, pair_of, some_is}
+use Rattle.doc_index.proofs.HeldSteps.{held_at, known_at, pair_of}
 use Rattle.doc_index_tables.proofs.PairSteps.{both_same, pair_is, pair_itself, pairs_exact, pairs_total, same_pair}
-use Rattle.doc_index_tables.proofs.TableSteps.{none_is}
+use Rattle.doc_page_parts.proofs.Options.{is_some_false}
 
 -- by pairs
 place_set : (places : NumberTable) (p q : List ℕ × ℕ) (v : ℕ)
@@ -37,7 +38,7 @@ module _ {T : Type 0} {last : ℕ} (slots : List (Option (Held T))) (places post
       by None e = refl
       by (Some i) e =
           let there = is.leads p.0 p.1 i e in
-          absurd (not_some (known there.0)
+          absurd (none-some (known there.0)
           (sym free ∙ held_at slots places postings is p.0 p.1 ∙ ap (known_at slots) e ∙ ap (option_map known) there.1))
 
   -- a page enters a slot
@@ -71,14 +72,14 @@ module _ {T : Type 0} {last : ℕ} (slots : List (Option (Held T))) (places post
         by_other : (i : ℕ) (other : Held T) → slot_at slots i ≡ Some other → (b : Bool) → same_pair (pair_of other) (pair_of page) ≡ b
             → cond b (Some v) (number_at places other.path other.stamp) ≡ Some i
         by_other i other at true e =
-            absurd (not_some i (sym (unplaced (pair_of page) free)
+            absurd (none-some i (sym (unplaced (pair_of page) free)
             ∙ ap (λ p. number_at places p.0 p.1) (sym (pair_is (pair_of other) (pair_of page) e)) ∙ is.placed i other at))
         by_other i other at false e = is.placed i other at
 
         by_slot : (i : ℕ) (other : Held T) → slot_at after i ≡ Some other → (b : Bool) → same_number i v ≡ b
             → number_at places_after other.path other.stamp ≡ Some i
         by_slot i other at true e =
-            let same : other ≡ page = some_is other page (sym at ∙ ap (slot_at after) (number_is i v e) ∙ there) in
+            let same : other ≡ page = same_Some other page (sym at ∙ ap (slot_at after) (number_is i v e) ∙ there) in
             place_after (pair_of other)
             ∙ ap (λ b. cond b (Some v) (number_at places other.path other.stamp))
             (ap (λ o. same_pair (pair_of o) (pair_of page)) same ∙ pair_itself (pair_of page))
@@ -93,12 +94,12 @@ module _ {T : Type 0} {last : ℕ} (slots : List (Option (Held T))) (places post
         by_pair path stamp i at true e =
             let same = pair_is (path, stamp) (pair_of page) e in
             let here : v ≡ i =
-            some_is v i (sym (place_after (path, stamp) ∙ ap (λ b. cond b (Some v) (number_at places path stamp)) e) ∙ at) in
+            same_Some v i (sym (place_after (path, stamp) ∙ ap (λ b. cond b (Some v) (number_at places path stamp)) e) ∙ at) in
             (page, ap (slot_at after) (sym here) ∙ there, ap (λ p. p.0) (sym same), ap (λ p. p.1) (sym same))
         by_pair path stamp i at false e =
             let old = is.leads path stamp i
             (sym (place_after (path, stamp) ∙ ap (λ b. cond b (Some v) (number_at places path stamp)) e) ∙ at) in
-            let apart : i ≢ v = λ same. not_some old.0 (sym vacant ∙ ap (slot_at slots) (sym same) ∙ old.1) in
+            let apart : i ≢ v = λ same. none-some old.0 (sym vacant ∙ ap (slot_at slots) (sym same) ∙ old.1) in
             (old.0, elsewhere i apart ∙ old.1, old.2, old.3)
 
         by_count : (q : List ℕ) (i : ℕ) (b : Bool) → same_number i v ≡ b
@@ -118,7 +119,7 @@ module _ {T : Type 0} {last : ℕ} (slots : List (Option (Held T))) (places post
         unchanged q None e = refl
         unchanged q (Some i) e =
             let old = is.leads q.0 q.1 i e in
-            ap (option_map known) (elsewhere i (λ same. not_some old.0 (sym vacant ∙ ap (slot_at slots) (sym same) ∙ old.1)))
+            ap (option_map known) (elsewhere i (λ same. none-some old.0 (sym vacant ∙ ap (slot_at slots) (sym same) ∙ old.1)))
 
         by : (q : List ℕ × ℕ) (b : Bool) → known_at after (cond b (Some v) (number_at places q.0 q.1))
             ≡ cond b (Some (known page)) (known_at slots (number_at places q.0 q.1))
@@ -137,7 +138,7 @@ module _ {T : Type 0} {last : ℕ} (slots : List (Option (Held T))) (places post
     pair_left : pair_of page ≡ p
     pair_left =
         let there = is.leads p.0 p.1 v leads in
-        ap pair_of (some_is page there.0 (sym stood ∙ there.1)) ∙ ap₂ (λ a b. (a, b)) there.2 there.3
+        ap pair_of (same_Some page there.0 (sym stood ∙ there.1)) ∙ ap₂ (λ a b. (a, b)) there.2 there.3
 
     pub left : IsIndex last after places_after postings_after
     left = record {
@@ -154,13 +155,13 @@ module _ {T : Type 0} {last : ℕ} (slots : List (Option (Held T))) (places post
         by_other : (i : ℕ) (other : Held T) → i ≢ v → slot_at slots i ≡ Some other → (b : Bool) → same_pair (pair_of other) p ≡ b
             → cond b None (number_at places other.path other.stamp) ≡ Some i
         by_other i other apart at true e =
-            absurd (apart (some_is i v (sym (ap (λ r. number_at places r.0 r.1) (sym (pair_is (pair_of other) p e)) ∙ is.placed i other at)
+            absurd (apart (same_Some i v (sym (ap (λ r. number_at places r.0 r.1) (sym (pair_is (pair_of other) p e)) ∙ is.placed i other at)
             ∙ leads)))
         by_other i other apart at false e = is.placed i other at
 
         by_slot : (i : ℕ) (other : Held T) → slot_at after i ≡ Some other → (b : Bool) → same_number i v ≡ b
             → number_at places_after other.path other.stamp ≡ Some i
-        by_slot i other at true e = absurd (not_some other (sym (ap (slot_at after) (number_is i v e) ∙ changed) ∙ at))
+        by_slot i other at true e = absurd (none-some other (sym (ap (slot_at after) (number_is i v e) ∙ changed) ∙ at))
         by_slot i other at false e =
             place_left (pair_of other)
             ∙ by_other i other (not_same i v e) (sym (others i (not_same i v e)) ∙ at) (same_pair (pair_of other) p) refl
@@ -168,18 +169,18 @@ module _ {T : Type 0} {last : ℕ} (slots : List (Option (Held T))) (places post
         by_pair : (path : List ℕ) (stamp i : ℕ) → number_at places_after path stamp ≡ Some i → (b : Bool) → same_pair (path, stamp) p ≡ b
             → (other : Held T) × (slot_at after i ≡ Some other) × (other.path ≡ path) × (other.stamp ≡ stamp)
         by_pair path stamp i at true e =
-            absurd (not_some i (sym (place_left (path, stamp) ∙ ap (λ b. cond b None (number_at places path stamp)) e) ∙ at))
+            absurd (none-some i (sym (place_left (path, stamp) ∙ ap (λ b. cond b None (number_at places path stamp)) e) ∙ at))
         by_pair path stamp i at false e =
             let old = is.leads path stamp i
             (sym (place_left (path, stamp) ∙ ap (λ b. cond b None (number_at places path stamp)) e) ∙ at) in
             let apart : i ≢ v = λ same. other_pair (path, stamp) p e (sym (
-            ap pair_of (some_is page old.0 (sym stood ∙ ap (slot_at slots) (sym same) ∙ old.1)) ∙ ap₂ (λ a b. (a, b)) old.2 old.3)
+            ap pair_of (same_Some page old.0 (sym stood ∙ ap (slot_at slots) (sym same) ∙ old.1)) ∙ ap₂ (λ a b. (a, b)) old.2 old.3)
             ∙ pair_left) in
             (old.0, others i apart ∙ old.1, old.2, old.3)
 
         by_key : (q : List ℕ) (b : Bool) → map.contains_key page.counts q ≡ b → cond b None (number_at postings q v) ≡ None
         by_key q true e = refl
-        by_key q false e = is.counted q v ∙ ap (λ x. count_in x q) stood ∙ none_is _ e
+        by_key q false e = is.counted q v ∙ ap (λ x. count_in x q) stood ∙ is_some_false _ e
 
         by_count : (q : List ℕ) (i : ℕ) (b : Bool) → same_number i v ≡ b
             → cond (b && map.contains_key page.counts q) None (number_at postings q i) ≡ count_in (slot_at after i) q
@@ -202,7 +203,7 @@ module _ {T : Type 0} {last : ℕ} (slots : List (Option (Held T))) (places post
         unchanged q apart (Some i) e =
             let old = is.leads q.0 q.1 i e in
             ap (option_map known) (others i (λ same. apart (sym (
-            ap pair_of (some_is page old.0 (sym stood ∙ ap (slot_at slots) (sym same) ∙ old.1)) ∙ ap₂ (λ a b. (a, b)) old.2 old.3)
+            ap pair_of (same_Some page old.0 (sym stood ∙ ap (slot_at slots) (sym same) ∙ old.1)) ∙ ap₂ (λ a b. (a, b)) old.2 old.3)
             ∙ pair_left)))
 
         by : (q : List ℕ × ℕ) (b : Bool) → same_pair q p ≡ b → known_at after (cond b None (number_at places q.0 q.1))
@@ -221,7 +222,7 @@ module _ {T : Type 0} {last : ℕ} (slots : List (Option (Held T))) (places post
 
   pub apart : AreApart slots
   apart i j page other at at_other paths stamps =
-      some_is i j (sym (is.placed i page at) ∙ ap₂ (λ p s. number_at places p s) paths stamps ∙ is.placed j other at_other)
+      same_Some i j (sym (is.placed i page at) ∙ ap₂ (λ p s. number_at places p s) paths stamps ∙ is.placed j other at_other)
 
 -- what is not held is not taken away
 pub absent : {T : Type 0} (slots : List (Option (Held T))) (p : List ℕ × ℕ) → None ≡ map.get (held slots) p

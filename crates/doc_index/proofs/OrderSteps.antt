@@ -8,13 +8,13 @@ use Rattle.std.specs.List.Sorted.{IsStrictlySortedBy}
 use Rattle.std.specs.Map.{keys_of}
 use Rattle.std.specs.Ordering.{nat_cmp}
 use Rattle.std.proofs.lemmas.Cmp.{nat_list_cmp_total}
-use Rattle.doc_page_parts.proofs.Maps.{entries_in_order}
+use Rattle.doc_page_parts.proofs.Maps.{entries_in_order, is_sorted_keys}
 use Rattle.doc_index.specs.declared.held.Held.{Held}
 use Rattle.doc_index.specs.Held.{Known, entries_of, held, known, slot_at}
 use Rattle.doc_index.specs.IndexSteps.{IsIndex}
 use Rattle.doc_index_tables.specs.Maps.{pair_cmp}
 use Rattle.doc_index_tables.specs.TableSteps.{NumberTable, number_at, number_in, numbers_of}
-use Rattle.doc_index_tables.proofs.EntrySteps.{each_found, sorted_is}
+use Rattle.doc_index_tables.proofs.EntrySteps.{each_found}
 use Rattle.doc_index_tables.proofs.FlatSteps.{all_flat, flat, found, found_flat, numbers_flat, sorted_flat}
 use Rattle.doc_index_tables.proofs.PairSteps.{pairs_exact, pairs_total, same_pair}
 use Rattle.doc_index.proofs.HeldSteps.{held_at, known_at}
@@ -51,7 +51,7 @@ module _ {A : Type 0} {last : ℕ} (places : NumberTable) (slots : List (Option 
   pub in_order : entries_of (mapped (slot_at slots) (numbers_of (map.values places))) ≡ map.entries (held slots)
   in_order =
       let rows = map.entries places in
-      let sorted = sorted_is (slice_cmp nat_cmp) rows (map.entries_sorted places) in
+      let sorted = is_sorted_keys (slice_cmp nat_cmp) rows (map.entries_sorted places) in
       let all = all_flat places rows (each_found (slice_cmp nat_cmp) nat_list_cmp_total rows sorted) in
       let in_pages = subst (IsStrictlySortedBy pair_cmp) (sym (keys_of_pages (flat rows) all)) (sorted_flat rows sorted) in
       ap (λ ns. entries_of (mapped (slot_at slots) ns)) (numbers_flat rows)

@@ -6,12 +6,15 @@ use Rattle.std.specs.FinMap as map
 use Rattle.std.specs.Ordering.{nat_cmp, is_eq}
 use Rattle.std.proofs.lemmas.Cmp.{nat_list_cmp_total, nat_cmp_total, tied_itself}
 use Rattle.std.proofs.lemmas.Map.Lookups.{exact_unsigned}
+use Rattle.std.proofs.Common.{drop-cons}
 use Rattle.doc_index_tables.specs.Maps.{NumberMap, TextMap}
 use Rattle.doc_index_tables.specs.TableSteps.{HasCounts, HasSame, LacksCounts, NumberTable, left_in_row, number_at, number_in, row_or_empty, same_number, same_text, with_number, without_number}
-use Rattle.doc_index_tables.proofs.TableSteps.{equal_from, none_is, same_text as text_is}
+use Rattle.doc_index_tables.proofs.TableSteps.{same_text as text_is}
+use Rattle.doc_page_parts.proofs.Orders.{is_eq_true}
+use Rattle.doc_page_parts.proofs.Options.{is_some_false}
 
 pub number_is : (m n : ℕ) → same_number m n ≡ true → m ≡ n
-number_is m n e = exact_unsigned m n (equal_from (nat_cmp m n) e)
+number_is m n e = exact_unsigned m n (is_eq_true (nat_cmp m n) e)
 
 pub number_itself : (n : ℕ) → same_number n n ≡ true
 number_itself n = ap is_eq (tied_itself nat_cmp_total n)
@@ -82,20 +85,6 @@ LacksEntries es slot old table =
     (q : List ℕ) (n : ℕ) → number_at table q n ≡ cond (same_number n slot && is_some (found q es)) None (number_at old q n)
 
 module _ (slot : ℕ) (old table : NumberTable) where
-  pub none_yet : ((q : List ℕ) → number_at old q slot ≡ None) → HasEntries [] slot old old
-  none_yet free q n = by (same_number n slot) refl
-    where
-      by : (b : Bool) → same_number n slot ≡ b → number_at old q n ≡ cond b None (number_at old q n)
-      by true e = ap (number_at old q) (number_is n slot e) ∙ free q
-      by false e = refl
-
-  pub none_taken : LacksEntries [] slot old old
-  none_taken q n = by (same_number n slot)
-    where
-      by : (b : Bool) → number_at old q n ≡ cond (b && false) None (number_at old q n)
-      by true = refl
-      by false = refl
-
   pub one_set : (e : List ℕ × ℕ) (es : List (List ℕ × ℕ)) → HasEntries es slot old table
       → HasEntries (e ∷ es) slot old (with_number table e.0 slot e.1)
   one_set e es has q n =
@@ -143,7 +132,7 @@ module _ (slot : ℕ) (old table : NumberTable) where
           → cond (b && c) None (cond b (found q (drop i es)) (number_at old q n)) ≡ number_at old q n
       by true true e f = sym (ap (number_at old q) (number_is n slot e) ∙ free q)
       by true false e f =
-          found_later es i q (sym (map.get-from_entries nat_list_cmp_total es q) ∙ ap (λ m. map.get m q) is ∙ none_is _ f)
+          found_later es i q (sym (map.get-from_entries nat_list_cmp_total es q) ∙ ap (λ m. map.get m q) is ∙ is_some_false _ f)
           ∙ sym (ap (number_at old q) (number_is n slot e) ∙ free q)
       by false c e f = refl
 
@@ -156,11 +145,6 @@ module _ (es : List (List ℕ × ℕ)) (counts : TextMap ℕ) (is : map.from_ent
 
   pub all_taken : LacksEntries es slot old table → LacksCounts counts slot old table
   all_taken lacks q n = lacks q n ∙ ap (λ x. cond (same_number n slot && is_some x) None (number_at old q n)) (found_is q)
-
-pub drop_from : {X : Type 0} (xs : List X) (i : ℕ) (d : X) → i < length xs → drop i xs ≡ get_or xs i d ∷ drop (suc i) xs
-drop_from [] i d within = absurd (omega (arith, within))
-drop_from (x ∷ xs) zero d within = refl
-drop_from (x ∷ xs) (suc i) d within = drop_from xs i d (omega (arith, within))
 
 pub drop_all : {X : Type 0} (xs : List X) → drop (length xs) xs ≡ []
 drop_all [] = refl
@@ -178,7 +162,7 @@ again i some = omega (arith, some)
 
 dropped : {X : Type 0} (xs : List X) (i : ℕ) (x : X) → 0 < i → i ≤ length xs → x ≡ get_or xs (i - 1) x → drop (i - 1) xs ≡ x ∷ drop i xs
 dropped xs i x some within is =
-    drop_from xs (i - 1) x (before i (length xs) some within) ∙ ap (λ y. y ∷ drop (suc (i - 1)) xs) (sym is)
+    drop-cons xs (i - 1) x (before i (length xs) some within) ∙ ap (λ y. y ∷ drop (suc (i - 1)) xs) (sym is)
     ∙ ap (λ j. x ∷ drop j xs) (again i some)
 
 module _ (items : List (List ℕ × ℕ)) (slot : ℕ) (old table new : NumberTable) (i : ℕ) where
@@ -218,7 +202,7 @@ given_back counts slot old table new free has lacks q n =
     by : (b c : Bool) → same_number n slot ≡ b → map.contains_key counts q ≡ c
         → cond (b && c) None (cond b (map.get counts q) (number_at old q n)) ≡ number_at old q n
     by true true e f = sym (ap (number_at old q) (number_is n slot e) ∙ free q)
-    by true false e f = none_is _ f ∙ sym (ap (number_at old q) (number_is n slot e) ∙ free q)
+    by true false e f = is_some_false _ f ∙ sym (ap (number_at old q) (number_is n slot e) ∙ free q)
     by false c e f = refl
 
 pub ok_then : {X E P : Type 0} (r : Result X E) → is_err r ≡ false → OnOk r P → P

@@ -1,13 +1,12 @@
 -- Entries of a map in the order of their keys.
 use Rattle.std.proofs.lemmas.Map.Lookups.{exact_bytes}
-use Rattle.std.proofs.Common.{String, string_bytes, ◌≡◌, List, [], ◌∷◌, Bool, true, false, cond, ◌&&◌, T, is_eq, is_lt, refl, ap, ◌∙◌}
-use Rattle.std.specs.Prelude.{IfOk, OnOk, Result, Ok, Err, Some, None, map as mapped}
+use Rattle.std.proofs.Common.{String, string_bytes, ◌≡◌, List, [], ◌∷◌, cond, is_eq, refl, ap, ◌∙◌}
+use Rattle.std.specs.Prelude.{Some, map as mapped}
 use Rattle.std.specs.declared.cmp.Ordering.{Ordering}
-use Rattle.std.specs.declared.cmp.Ordering.TheVariants.{Less, Equal, Greater}
+use Rattle.std.specs.declared.cmp.Ordering.TheVariants.{Less}
 use Rattle.std.specs.Cmp.{IsTotalOrder, eq_by_cmp_equiv}
 use Rattle.std.specs.Cmp.Lexicographic.{slice_cmp}
 use Rattle.std.specs.FinMap as map
-use Rattle.std.specs.FinMap.Entries.{below_all}
 use Rattle.std.specs.List.{AllByRecursion}
 use Rattle.std.specs.List.Sorted.{IsStrictlySortedBy}
 use Rattle.std.specs.Map.{keys_of, values_of}
@@ -17,33 +16,7 @@ use Rattle.std.proofs.lemmas.Cmp.{nat_list_cmp_total, tied_itself}
 use Rattle.doc_page_parts.proofs.Maps.{entries_in_order}
 use Rattle.doc_index_tables.specs.Maps.{by_bytes}
 
-to_less : (o : Ordering) → T (is_lt o) → o ≡ Less
-to_less Less h = refl
-to_less Equal h = absurd h
-to_less Greater h = absurd h
-
-first_holds : (a b : Bool) → T (a && b) → T a
-first_holds true b h = tt
-first_holds false b h = absurd h
-
-second_holds : (a b : Bool) → T (a && b) → T b
-second_holds true b h = h
-second_holds false b h = absurd h
-
 module _ {K X : Type 0} (R : K → K → Ordering) where
-  below_before : (k : K) (es : List (K × X)) → T (below_all R k es) → AllByRecursion (λ y. R k y ≡ Less) (keys_of es)
-  below_before k [] h = tt
-  below_before k (e ∷ es) h = (to_less (R k e.0) (first_holds _ _ h), below_before k es (second_holds _ _ h))
-
-  pub sorted_is : (es : List (K × X)) → T (map.is_sorted R es) → IsStrictlySortedBy R (keys_of es)
-  unfolding IsStrictlySortedBy
-  sorted_is [] h = tt
-  sorted_is (e ∷ es) h = (below_before e.0 es (first_holds _ _ h), sorted_is es (second_holds _ _ h))
-
-  pub not_found : (k : K) (es : List (K × X)) → AllByRecursion (λ y. R k y ≡ Less) (keys_of es) → map.find R k es ≡ None
-  not_found k [] before = refl
-  not_found k (e ∷ es) before = ap (λ o. cond (is_eq o) (Some e.1) (map.find R k es)) before.0 ∙ not_found k es before.1
-
   -- in sorted entries each is found
   found_later : IsTotalOrder R → (x : K × X) (es xs : List (K × X)) → AllByRecursion (λ y. R x.0 y ≡ Less) (keys_of xs)
       → AllByRecursion (λ e. map.find R e.0 es ≡ Some e.1) xs → AllByRecursion (λ e. map.find R e.0 (x ∷ es) ≡ Some e.1) xs
@@ -62,10 +35,6 @@ module _ {K X : Type 0} (R : K → K → Ordering) where
     found_later total e es es sorted.0 (each_found total es sorted.1),
   )
 
-pub told_in_order : {X E Q : Type 0} {P S : X → Type 0} (r : Result X E) → (Q → (x : X) → P x → S x) → OnOk r Q → IfOk r P → IfOk r S
-told_in_order (Ok x) f q h = f q x h
-told_in_order (Err e) f q h = tt
-
 -- `String` keys in order, by their bytes
 module _ {A X : Type 0} where
   before_bytes : (k : String A) (es : List (String A × X)) → AllByRecursion (λ y. string_cmp k y ≡ Less) (keys_of es)
@@ -73,7 +42,8 @@ module _ {A X : Type 0} where
   before_bytes k [] before = tt
   before_bytes k (e ∷ es) before = (before.0, before_bytes k es before.1)
 
-  sorted_bytes : (es : List (String A × X)) → IsStrictlySortedBy string_cmp (keys_of es)
+  -- entries in the order of their texts are so by their bytes
+  pub sorted_bytes : (es : List (String A × X)) → IsStrictlySortedBy string_cmp (keys_of es)
       → IsStrictlySortedBy (slice_cmp nat_cmp) (keys_of (by_bytes es))
   unfolding IsStrictlySortedBy
   sorted_bytes [] sorted = tt

@@ -11,9 +11,10 @@ use Rattle.std.specs.Ordering.{nat_cmp, ordering_then}
 use Rattle.std.proofs.lemmas.Cmp.{nat_cmp_total, nat_list_cmp_total, tied_itself}
 use Rattle.doc_index_tables.specs.Maps.{NumberMap, pair_cmp}
 use Rattle.doc_index_tables.specs.TableSteps.{NumberTable, number_at, number_in, numbers_of, same_number, same_text}
-use Rattle.doc_index_tables.proofs.EntrySteps.{each_found, not_found, sorted_is}
+use Rattle.doc_index_tables.proofs.EntrySteps.{each_found}
 use Rattle.doc_index_tables.proofs.PairSteps.{both_same}
 use Rattle.doc_index_tables.proofs.TableSteps.{same_text as text_is}
+use Rattle.doc_page_parts.proofs.Maps.{is_sorted_keys, find_before}
 
 -- the numbers of one text, and those of all
 abbrev pub tagged : List ℕ → List (ℕ × ℕ) → List ((List ℕ × ℕ) × ℕ)
@@ -57,7 +58,7 @@ pub sorted_flat : (es : List (List ℕ × NumberMap ℕ)) → IsStrictlySortedBy
 unfolding IsStrictlySortedBy
 sorted_flat [] sorted = tt
 sorted_flat (e ∷ es) sorted =
-    sorted_tagged e.0 (map.entries e.1) es (sorted_is nat_cmp (map.entries e.1) (map.entries_sorted e.1)) sorted.0 (sorted_flat es sorted.1)
+    sorted_tagged e.0 (map.entries e.1) es (is_sorted_keys nat_cmp (map.entries e.1) (map.entries_sorted e.1)) sorted.0 (sorted_flat es sorted.1)
 
 abbrev pub found : List ℕ × ℕ → List ((List ℕ × ℕ) × ℕ) → Option ℕ
 found q es = map.find pair_cmp q es
@@ -89,7 +90,7 @@ found_flat q (e ∷ es) sorted = by (same_text q.0 e.0) refl sorted.0 (found_fla
     by true same before rest =
         found_same q e.0 same (map.entries e.1) (flat es)
         (rest ∙ ap (λ r. number_in r q.1) (ap (λ k. map.find (slice_cmp nat_cmp) k es) (text_is q.0 e.0 same)
-        ∙ not_found (slice_cmp nat_cmp) e.0 es before))
+        ∙ find_before (slice_cmp nat_cmp) e.0 es before))
         ∙ sym (map.get-entries e.1 q.1)
     by false same before rest = found_other q e.0 same (map.entries e.1) (flat es) ∙ rest
 
@@ -118,5 +119,5 @@ module _ (places : NumberTable) where
   all_flat [] got = tt
   all_flat (e ∷ es) got =
       all_tagged e.0 e.1 (map.get-entries places e.0 ∙ got.0) (map.entries e.1)
-      (each_found nat_cmp nat_cmp_total (map.entries e.1) (sorted_is nat_cmp (map.entries e.1) (map.entries_sorted e.1)))
+      (each_found nat_cmp nat_cmp_total (map.entries e.1) (is_sorted_keys nat_cmp (map.entries e.1) (map.entries_sorted e.1)))
       (flat es) (all_flat es got.1)

@@ -9,7 +9,7 @@ use Rattle.std.proofs.lemmas.Cmp.{nat_cmp_total, nat_list_cmp_total, on_total, t
 use Rattle.std.proofs.lemmas.Map.Lookups.{CmpEqualImpliesEq, exact_bytes, exact_pairs, exact_unsigned}
 use Rattle.doc_index_tables.specs.Maps.{pair_cmp}
 use Rattle.doc_index_tables.specs.TableSteps.{same_number, same_text}
-use Rattle.doc_index_tables.proofs.TableSteps.{equal_from}
+use Rattle.doc_page_parts.proofs.Orders.{is_eq_true}
 
 pub pairs_total : IsTotalOrder pair_cmp
 pairs_total = then_total (on_total (λ (p : List ℕ × ℕ). p.0) nat_list_cmp_total) (on_total (λ (p : List ℕ × ℕ). p.1) nat_cmp_total)
@@ -30,7 +30,7 @@ both_same p q = by (slice_cmp nat_cmp p.0 q.0)
     by Greater = refl
 
 pub pair_is : (p q : List ℕ × ℕ) → same_pair p q ≡ true → p ≡ q
-pair_is p q e = pairs_exact p q (equal_from (pair_cmp p q) e)
+pair_is p q e = pairs_exact p q (is_eq_true (pair_cmp p q) e)
 
 pub pair_itself : (p : List ℕ × ℕ) → same_pair p p ≡ true
 pair_itself p = ap is_eq (tied_itself pairs_total p)

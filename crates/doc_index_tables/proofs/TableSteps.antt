@@ -1,6 +1,6 @@
 -- Maps by texts that a `BTreeMap` with `String` keys keeps.
 use Rattle.std.proofs.Common.{◌-◌, ◌≡◌, ℕ, List, [], ◌∷◌, Bool, true, false, cond, String, string_bytes, refl, ap, sym, ◌∙◌}
-use Rattle.std.specs.Prelude.{Option, Some, None, IsTrue, is_some, Result, Ok, Err, OnOk, OnErr}
+use Rattle.std.specs.Prelude.{Option, Some, None, is_some, Result, Ok, Err, OnOk}
 use Rattle.std.specs.declared.cmp.Ordering.{Ordering}
 use Rattle.std.specs.declared.cmp.Ordering.TheVariants.{Less, Equal, Greater}
 use Rattle.std.specs.BTreeMap.{BTreeMap, UpdatesBy, is_at}
@@ -13,6 +13,7 @@ use Rattle.std.proofs.lemmas.Cmp.{nat_list_cmp_total, nat_cmp_total}
 use Rattle.std.proofs.lemmas.Map.Lookups.{exact_bytes}
 use Rattle.std.proofs.lemmas.Map.Text.{btree_map_updates_text, is_eq-slice_cmp}
 use Rattle.doc_page_parts.proofs.Maps.{inserted, looked_up, removed}
+use Rattle.doc_page_parts.proofs.Orders.{is_eq_true}
 use Rattle.doc_index_tables.specs.Maps.{NumberMap, TextMap, by_bytes, text_map}
 use Rattle.doc_index_tables.specs.TableSteps.{NumberTable, row_or_empty, left_in_row, with_number}
 
@@ -52,19 +53,11 @@ equal_from Equal e = refl
 equal_from Greater e = cc
 
 pub same_text : (q k : List ℕ) → eq_by_cmp (slice_cmp nat_cmp) q k ≡ true → q ≡ k
-same_text q k e = exact_bytes q k (equal_from (slice_cmp nat_cmp q k) e)
-
-pub none_is : {X : Type 0} (x : Option X) → is_some x ≡ false → x ≡ None
-none_is None e = refl
-none_is (Some x) e = cc
+same_text q k e = exact_bytes q k (is_eq_true (slice_cmp nat_cmp q k) e)
 
 pub on_ok : {X E P Q : Type 0} (r : Result X E) → (P → Q) → OnOk r P → OnOk r Q
 on_ok (Ok x) f h = f h
 on_ok (Err e) f h = tt
-
-pub on_err : {X E P Q : Type 0} (r : Result X E) → (P → Q) → OnErr r P → OnErr r Q
-on_err (Ok x) f h = tt
-on_err (Err e) f h = f h
 
 module _ {X : Type 0} (m : TextMap X) (text : List ℕ) where
   -- what stands at a key set once more changes nothing
@@ -104,7 +97,3 @@ pub nothing_left : (table : NumberTable) (text : List ℕ) (n : ℕ) → map.get
 nothing_left table text n none =
     sym (ap (λ r. map.len (map.remove (row_or_empty r) n)) none ∙ map.len-remove nat_cmp_total empty_row n
     ∙ ap (λ b. cond b (map.len empty_row - 1) (map.len empty_row)) (ap is_some (map.get-empty nat_cmp n)) ∙ map.len-empty nat_cmp ℕ)
-
-pub not_none : {X : Type 0} (x : Option X) → x ≡ None → IsTrue (is_some x) → ⊥
-not_none None e h = cc
-not_none (Some x) e h = cc

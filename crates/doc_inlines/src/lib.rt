@@ -43,7 +43,7 @@ pub use mark::{Mark, Span};
 pub use reader::Reader;
 
 /// The inlines of a text. The slices of the marks stand in the text one after another, and each `&`, `<`, `>` and `"` is a text of
-/// its own.
+/// its own. It is for callers from outside: the product keeps a reader.
 pub fn inlines<'t>(
     heap: Heap,
     text: &'t str,

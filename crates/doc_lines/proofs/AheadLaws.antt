@@ -126,12 +126,8 @@ pub plain_at_passed : (from : Position) → IsSound from
     → ((passed from).in_tab ≡ false) × (cells_from (passed from).column (passed from).rest ≡ after_indent (left_of from))
 plain_at_passed from sound = left_by_tab from.in_tab from refl sound
 
-pub left_of_passed : (from : Position) → IsSound from → left_of (passed from) ≡ after_indent (left_of from)
-left_of_passed from sound =
-    let there = plain_at_passed from sound in
-    ap (λ (b : Bool). cells_at b (passed from).column (passed from).rest) there.0 ∙ there.1
-
-text_of_cells : (at : ℕ) (text : Text) → text_of (cells_from at text) ≡ text
+-- the text of its cells is the text
+pub text_of_cells : (at : ℕ) (text : Text) → text_of (cells_from at text) ≡ text
 unfolding columns_from cell_of text_of
 text_of_cells at [] = refl
 text_of_cells at (c ∷ rest) = ap (λ more. c ∷ more) (text_of_cells (at + width_at c at) rest)

@@ -13,7 +13,7 @@ use Rattle.doc_rules.specs.Characters.{Text}
 use Rattle.doc_rules.specs.Entities.{Entity, Table, built_in}
 use Rattle.doc_rules.specs.Escapes.{find_entity}
 use Rattle.doc_lines.specs.declared.entities.names.TheConstants.{NAMES, ROWS}
-use Rattle.doc_lines.specs.Entities.{row_entity, is_within, Rises, has_ascii_names}
+use Rattle.doc_lines.specs.Entities.{row_entity, Rises, has_ascii_names}
 use Rattle.doc_lines.proofs.TableLaws.{choice, find_cons, find_none}
 use Rattle.doc_lines.proofs.SearchLaws.{rising, from_rising}
 use Rattle.std.proofs.lemmas.Bool.{and_parts}
@@ -70,9 +70,6 @@ covers_rows = refl
 
 pub rows_are_built_in : (name : Text) → find_entity (map (row_entity NAMES.now) ROWS.now) name ≡ find_entity built_in name
 rows_are_built_in = same_names (map (row_entity NAMES.now) ROWS.now) built_in rows_cover covers_rows
-
-pub rows_within : list_all (is_within NAMES.now) ROWS.now ≡ true
-rows_within = refl
 
 rows_rising : rising (map (row_entity NAMES.now) ROWS.now) ≡ true
 rows_rising = refl

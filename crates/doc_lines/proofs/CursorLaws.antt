@@ -8,7 +8,8 @@ use Rattle.std.proofs.lemmas.Bool.{cases_Bool, cases_lt}
 use Rattle.std.proofs.lemmas.Bool.Decides.{nat_tests}
 use Rattle.std.proofs.Math.Nat.{min-eq_left, min-eq_right}
 use Rattle.doc_rules.specs.Characters.{Text, is_space_or_tab}
-use Rattle.doc_rules.specs.Columns.{Line, Cell, width_at, columns_from, cell_of, cells_from, is_gap, spaces, skip, indent}
+use Rattle.doc_rules.specs.Columns.{Line, Cell, width_at, columns_from, cell_of, cells_from, spaces, skip, indent}
+use Rattle.doc_rules.proofs.QuoteLaws.{skip_none}
 use Rattle.doc_lines.specs.Cursors.{Position, position_at, first, behind, skipped_in, skipped, cells_at, left_of, IsSoundAt, IsSound}
 use Rattle.doc_page_parts.proofs.Bools.{and_false}
 
@@ -53,11 +54,6 @@ skipped_choice t f from n c rest = elim t [
 
 abbrev space : Cell
 space = record { char = 32; width = 1 }
-
-skip_none : (line : Line) → skip 0 line ≡ line
-unfolding skip
-skip_none [] = refl
-skip_none (cell ∷ rest) = ap (λ (t : Bool). skip_choice t (nat_le cell.width 0) 0 cell rest) (and_false (is_gap cell))
 
 skip_spaces : (w n : ℕ) (line : Line) → w ≤ n → skip n (spaces w ++ line) ≡ skip (n - w) line
 unfolding skip
@@ -208,16 +204,6 @@ left_by_tab false n from outside sound = plain_left from.rest n from outside ref
 -- what is left behind spaces and tabs that are skipped is what CommonMark's `skip` leaves
 pub left_of_skipped : (n : ℕ) (from : Position) → IsSound from → left_of (skipped n from) ≡ skip n (left_of from)
 left_of_skipped n from sound = left_by_tab from.in_tab n from refl sound
-
--- the next character is the first cell that is left, but inside a tab, where its columns are spaces
-pub left_of_next : (from : Position) (c : ℕ) (rest : Text) → from.in_tab ≡ false → from.rest ≡ c ∷ rest
-    → left_of from ≡ record { char = c; width = width_at c from.column } ∷ left_of (behind from c rest)
-unfolding columns_from cell_of
-left_of_next from c rest plain here = ap (λ (b : Bool). cells_at b from.column from.rest) plain ∙ ap (cells_at false from.column) here
-
-pub left_of_next_in_tab : (from : Position) (rest : Text) → from.in_tab ≡ true → from.rest ≡ 9 ∷ rest
-    → left_of from ≡ spaces (width_at 9 from.column) ++ left_of (behind from 9 rest)
-left_of_next_in_tab from rest inside here = ap (λ (b : Bool). cells_at b from.column from.rest) inside ∙ ap (cells_at true from.column) here
 
 -- ---- how many columns are skipped
 

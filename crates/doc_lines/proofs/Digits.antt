@@ -1,5 +1,5 @@
 -- What stands between the marks of a number's reference is digits, and the number that they write is small.
-use Rattle.std.proofs.Common.{◌≡◌, ℕ, zero, suc, ◌+◌, ◌*◌, ◌-◌, ◌^◌, ◌<◌, ◌≤◌, Bool, true, false, ◌==◌, List, [], ◌∷◌, ◌++◌, take, drop}
+use Rattle.std.proofs.Common.{◌≡◌, ℕ, zero, suc, ◌+◌, ◌*◌, ◌-◌, ◌^◌, ◌<◌, ◌≤◌, Bool, true, false, List, [], ◌∷◌, ◌++◌, take, drop}
 use Rattle.std.proofs.Common.{length, refl, ap, sym, ◌∙◌, subst, Option, Some, None, arith, append_assoc, length-append, chars, cond}
 use Rattle.std.proofs.Common.{ne_eqb}
 use Rattle.std.specs.Prelude.{codes, ◌&&◌, Result, Ok, Err, fold}
@@ -8,7 +8,7 @@ use Rattle.std.specs.Char.{digit_value, is_ascii_digit, is_ascii_hexdigit}
 use Rattle.std.specs.Str.{IsUtf8, IsAscii}
 use Rattle.std.specs.Str.Parse.{AllDigits, IsNumeral, digits_value_after, digits_value, without_leading_plus, ParsesUnsigned}
 use Rattle.std.proofs.Math.Seq.{take-append_seam}
-use Rattle.std.proofs.lemmas.Bool.{eqb-true, and_parts}
+use Rattle.std.proofs.lemmas.Bool.{and_parts}
 use Rattle.std.proofs.lemmas.Bool.Decides.{nat_tests}
 use Rattle.std.proofs.lemmas.List.{append_cancel_right}
 use Rattle.std.proofs.lemmas.Str.{encodes-chars, encodes-IsAscii}
@@ -16,6 +16,7 @@ use Rattle.doc_rules.specs.Characters.{Text, one_of}
 use Rattle.doc_rules.specs.Parsers.{one, is, ◌then◌, at_most, before, inside}
 use Rattle.doc_rules.specs.Escapes.{number, decimal_reference, hexadecimal_reference}
 use Rattle.doc_rules.specs.Rests.{IsRest}
+use Rattle.doc_rules.proofs.ParserLaws.{is_cons}
 use Rattle.doc_lines.specs.MeaningSteps.{IsDigits}
 use Rattle.doc_lines.proofs.Slices.{front_is_before}
 use Rattle.doc_lines.proofs.Steps.{then_is}
@@ -24,14 +25,6 @@ use Rattle.doc_lines.proofs.Steps.{then_is}
 
 abbrev tested : Bool → Text → Option Text
 tested b more = elim b [ true ↦ Some more | false ↦ None ]
-
-pub is_gives : (c : ℕ) (text rest : Text) → Some rest ≡ is c text → text ≡ c ∷ rest
-is_gives c [] rest e = absurd cc
-is_gives c (d ∷ more) rest e = at (d == c) refl e
-  where
-    at : (b : Bool) → (d == c) ≡ b → Some rest ≡ tested b more → d ∷ more ≡ c ∷ rest
-    at true f g = let same : d ≡ c = eqb-true d c f in let ends : rest ≡ more = cc in cc
-    at false f g = absurd cc
 
 -- a character of this class, and what stands behind it
 pub record Taken (class : ℕ → Bool) (text rest : Text) : Type 0 where
@@ -224,8 +217,8 @@ hexadecimal_is text mark digits second end out d e f g h =
 pub number_is_inside : (a b : ℕ) (text digits end rest front : Text) → Some digits ≡ is a text → Some rest ≡ is b end
     → digits ≡ front ++ end → front ≡ inside (before rest text)
 number_is_inside a b text digits end rest front e f g =
-    inside_is a b front rest text (is_gives a text digits e
-    ∙ ap (λ more. a ∷ more) (g ∙ ap (λ more. front ++ more) (is_gives b end rest f)))
+    inside_is a b front rest text (is_cons a text digits e
+    ∙ ap (λ more. a ∷ more) (g ∙ ap (λ more. front ++ more) (is_cons b end rest f)))
 
 pub number_is_inside_mark : (a b : ℕ) (class : ℕ → Bool) (text mark digits end rest front : Text) → Some mark ≡ is a text
     → Some digits ≡ one class mark → Some rest ≡ is b end → digits ≡ front ++ end →
@@ -233,17 +226,5 @@ pub number_is_inside_mark : (a b : ℕ) (class : ℕ → Bool) (text mark digits
 number_is_inside_mark a b class text mark digits end rest front e h f g =
     let t : Taken class mark digits = one_gives class mark digits h in
     ap (drop 1) (inside_is a b (t.char ∷ front) rest text
-    (is_gives a text mark e ∙ ap (λ more. a ∷ more) (t.split
-    ∙ ap (λ more. t.char ∷ more) (g ∙ ap (λ more. front ++ more) (is_gives b end rest f)))))
-
-pub rest_behind : (c : ℕ) (text rest : Text) → Some rest ≡ is c text → IsRest rest text
-rest_behind c text rest e = record { front = c ∷ []; split = is_gives c text rest e }
-
--- a name stands before its ';'
-pub name_is_taken : (text end rest front : Text) → text ≡ front ++ end → Some rest ≡ is 59 end
-    → front ≡ take (length text - length rest - 1) text
-name_is_taken text end rest front e f =
-    let all : text ≡ front ++ (59 ∷ rest) = e ∙ ap (λ more. front ++ more) (is_gives 59 end rest f) in
-    let n : length text ≡ length (front ++ (59 ∷ rest)) = ap length all in
-    let m : length text - length rest - 1 ≡ length front = omega (arith, length-append front (59 ∷ rest)) in
-    sym (ap (λ k. take k text) m ∙ (ap (take (length front)) all ∙ take-append_seam front (59 ∷ rest)))
+    (is_cons a text mark e ∙ ap (λ more. a ∷ more) (t.split
+    ∙ ap (λ more. t.char ∷ more) (g ∙ ap (λ more. front ++ more) (is_cons b end rest f)))))

@@ -1,6 +1,6 @@
 -- The lines of a text as bytes are its lines as characters.
 use Rattle.std.proofs.Common.{◌≡◌, ℕ, ◌+◌, ◌/◌, ◌%◌, ◌<◌, ◌≤◌, Bool, true, false, cond, ltb, List, [], ◌∷◌, ◌++◌, map, length, chars, refl}
-use Rattle.std.proofs.Common.{ap, sym, ◌∙◌, arith, inl, inr, append-nil, ne_eqb}
+use Rattle.std.proofs.Common.{ap, sym, ◌∙◌, arith, inl, inr, ne_eqb}
 use Rattle.std.specs.Prelude.{◌==◌, ◌&&◌, ◌||◌, not, if◌then◌else◌}
 use Rattle.std.specs.Char.{IsScalar, encode_utf8}
 use Rattle.std.specs.List.{onto_first}
@@ -8,14 +8,15 @@ use Rattle.std.specs.Str.{encode_utf8_all}
 use Rattle.std.proofs.Math.Utf8.{scalar, scalars}
 use Rattle.std.proofs.lemmas.Bool.{cases_lt}
 use Rattle.std.proofs.lemmas.Bool.Decides.{nat_tests}
-use Rattle.std.proofs.lemmas.Str.{chars-nil, chars-append, chars_past_char, encode_ascii, encodes-chars, scalars-chars, IsUtf8-encode}
+use Rattle.std.proofs.lemmas.Str.{chars-append, encode_ascii, encodes-chars, scalars-chars, IsUtf8-encode}
 use Rattle.std.proofs.lemmas.Str.{length-encode, len_utf8_bounds}
 use Rattle.doc_page_parts.specs.Lines as bytewise
-use Rattle.doc_page_parts.proofs.LineSteps.{onto_front, onto_front-nil, onto_front-cons}
+use Rattle.doc_page_parts.proofs.LineSteps.{onto_front, onto_front-cons, onto_front_alone}
 use Rattle.doc_rules.specs.Characters.{Text}
 use Rattle.doc_rules.specs.Lines as rules
 use Rattle.doc_lines.specs.Lines.{LinesAreLines}
 use Rattle.doc_page_parts.proofs.Bools.{and_first, and_second}
+use Rattle.doc_page_parts.proofs.Texts.{chars_encode}
 
 -- ---- the bytes of a character
 
@@ -39,22 +40,14 @@ high_bytes c h = rw h (high_in (ltb c 2048) (ltb c 65536) (c / 64) (c % 64) (c /
 nonempty : (c : ℕ) → 0 < length (encode_utf8 c)
 nonempty c = omega (arith, length-encode c, (len_utf8_bounds c).0)
 
-chars_of_char : (c : ℕ) → IsScalar c → chars (encode_utf8 c) ≡ c ∷ []
-chars_of_char c s = chars_past_char (encode_utf8 c) [] c (IsUtf8-encode c s) (sym (append-nil (encode_utf8 c)))
-    ∙ ap (λ more. c ∷ more) chars-nil
-
 chars_behind_char : (c : ℕ) (bs : List ℕ) → IsScalar c → chars (encode_utf8 c ++ bs) ≡ c ∷ chars bs
-chars_behind_char c bs s = chars-append (encode_utf8 c) bs (IsUtf8-encode c s) ∙ ap (λ cs. cs ++ chars bs) (chars_of_char c s)
+chars_behind_char c bs s = chars-append (encode_utf8 c) bs (IsUtf8-encode c s) ∙ ap (λ cs. cs ++ chars bs) (chars_encode c s)
 
 -- ---- a character before the first line
 
-alone : (bs : List ℕ) → 0 < length bs → onto_front bs [] ≡ bs ∷ []
-alone [] h = absurd (omega arith)
-alone (b ∷ bs) h = onto_front-nil b bs
-
 chars_onto_front : (c : ℕ) (ls : List (List ℕ)) → IsScalar c → map chars (onto_front (encode_utf8 c) ls) ≡ rules.onto_first c (map chars ls)
 unfolding rules.onto_first
-chars_onto_front c [] s = ap (map chars) (alone (encode_utf8 c) (nonempty c)) ∙ ap (λ line. line ∷ []) (chars_of_char c s)
+chars_onto_front c [] s = ap (map chars) (onto_front_alone (encode_utf8 c) (nonempty c)) ∙ ap (λ line. line ∷ []) (chars_encode c s)
 chars_onto_front c (l ∷ ls) s = ap (map chars) (onto_front-cons (encode_utf8 c) l ls)
     ∙ ap (λ line. line ∷ map chars ls) (chars_behind_char c l s)
 
@@ -101,7 +94,7 @@ ascii_step : (c : ℕ) (cs : Text) (ls : List (List ℕ)) → IsScalar c → enc
     → (t : Bool) →
     map chars (if t then (c ∷ []) ∷ ls else onto_first c ls)
     ≡ elim t [ true ↦ (c ∷ []) ∷ rules.lines_of cs | false ↦ rules.onto_first c (rules.lines_of cs) ]
-ascii_step c cs ls s one e true = ap (λ line. line ∷ map chars ls) (ap chars (sym one) ∙ chars_of_char c s)
+ascii_step c cs ls s one e true = ap (λ line. line ∷ map chars ls) (ap chars (sym one) ∙ chars_encode c s)
     ∙ ap (λ (more : List Text). (c ∷ []) ∷ more) e
 ascii_step c cs ls s one e false =
     ap (λ (bs : List ℕ). map chars (onto_front bs ls)) (sym one) ∙ chars_onto_front c ls s ∙ ap (rules.onto_first c) e

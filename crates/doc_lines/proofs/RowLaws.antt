@@ -1,30 +1,16 @@
 -- Numbers of lines and of hexadecimal digits; names are of ASCII characters.
-use Rattle.std.proofs.Common.{◌≡◌, ℕ, suc, ◌+◌, ◌*◌, ◌^◌, ◌<◌, ◌≤◌, Bool, true, false, List, [], ◌∷◌, length, take, get_or, refl, ap, sym}
-use Rattle.std.proofs.Common.{◌∙◌, arith, add-one, Option, Some, None}
+use Rattle.std.proofs.Common.{◌≡◌, ℕ, suc, ◌+◌, ◌^◌, ◌<◌, ◌≤◌, Bool, true, false, List, [], ◌∷◌, length, refl, ap, sym}
+use Rattle.std.proofs.Common.{◌∙◌, arith, Option, Some, None}
 use Rattle.std.specs.Prelude.{if◌then◌else◌, nat_lt, nat_le, ◌&&◌, option_map}
-use Rattle.std.specs.Char.{digit_value, is_ascii_alphabetic, is_ascii_alphanumeric}
+use Rattle.std.specs.Char.{is_ascii_alphabetic, is_ascii_alphanumeric}
 use Rattle.std.specs.List.{onto_first, list_all}
 use Rattle.std.proofs.lemmas.Bool.Decides.{nat_tests}
-use Rattle.std.proofs.Math.Nat.{pow-le-pow_right, pow-suc}
-use Rattle.std.proofs.lemmas.List.Sums.{fold_more}
+use Rattle.std.proofs.Math.Nat.{pow-le-pow_right}
 use Rattle.doc_page_parts.specs.Lines.{lines, ends_line, without_ending}
 use Rattle.doc_rules.specs.Characters.{Text}
 use Rattle.doc_rules.specs.Entities.{Entity}
-use Rattle.doc_rules.specs.Escapes.{number}
 use Rattle.doc_lines.specs.Tables.{is_name, at_space, fields_entity, fields_characters, entity_of}
 use Rattle.std.proofs.lemmas.Bool.{and_parts}
-
--- one more digit
-pub number_more : (digits : List ℕ) (i n v : ℕ) → i < length digits → n ≡ number 16 (take i digits) → v ≡ digit_value (get_or digits i 0)
-    → n * 16 + v ≡ number 16 (take (i + 1) digits)
-unfolding number
-number_more digits i n v h e d = ap (λ k. k * 16 + v) e ∙ ap (λ k. number 16 (take i digits) * 16 + k) d
-    ∙ sym (fold_more (λ k c. k * 16 + digit_value c) 0 digits i 0 h)
-
-pub number_less : (i n v : ℕ) → n < 16 ^ i → v < 16 → n * 16 + v < 16 ^ (i + 1)
-number_less i n v h d =
-    let next : 16 ^ (i + 1) ≡ 16 ^ i * 16 = ap (λ k. 16 ^ k) (add-one i) ∙ pow-suc 16 i in
-    omega arith
 
 -- at most 5 digits came before
 pub number_fits : (i n : ℕ) → n < 16 ^ i → i < 6 → n < 1048576

@@ -5,7 +5,6 @@ use Rattle.std.specs.Prelude.{◌&&◌, bytes_eq}
 use Rattle.std.specs.List.{list_all}
 use Rattle.std.specs.Cmp.Lexicographic.{slice_cmp}
 use Rattle.std.specs.Ordering.{nat_cmp, is_eq, is_lt, ordering_reverse}
-use Rattle.std.specs.declared.cmp.Ordering.{Ordering}
 use Rattle.std.specs.declared.cmp.Ordering.TheVariants.{Less, Equal, Greater}
 use Rattle.std.proofs.lemmas.Cmp.{nat_list_cmp_total, tied_itself}
 use Rattle.std.proofs.lemmas.List.{take-append-drop, drop_more}
@@ -19,6 +18,7 @@ use Rattle.doc_lines.specs.declared.entities.names.Row.{Row}
 use Rattle.doc_lines.specs.Entities.{characters, row_entity, is_within, RisesFrom, Rises}
 use Rattle.doc_lines.proofs.TableLaws.{choice, find_cons, find_none}
 use Rattle.std.proofs.lemmas.Bool.{and_parts}
+use Rattle.doc_page_parts.proofs.Orders.{is_lt_true}
 
 -- ---- the order of names
 
@@ -142,10 +142,6 @@ pub front_within : (names : List ℕ) (rows : List Row) (m : ℕ) (d : Row) → 
     → list_all (is_within names) (take m rows) ≡ true
 front_within names rows m d h all = (within_split names rows m d h all).0
 
-pub row_within : (names : List ℕ) (rows : List Row) (m : ℕ) (d : Row) → m < length rows → list_all (is_within names) rows ≡ true
-    → is_within names (get_or rows m d) ≡ true
-row_within names rows m d h all = (within_split names rows m d h all).1
-
 pub back_within : (names : List ℕ) (rows : List Row) (m : ℕ) (d : Row) → m < length rows → list_all (is_within names) rows ≡ true
     → list_all (is_within names) (drop (m + 1) rows) ≡ true
 back_within names rows m d h all = (within_split names rows m d h all).2
@@ -189,16 +185,11 @@ abbrev pub rising : Table → Bool
 rising [] = true
 rising (e ∷ more) = rising_from e more
 
-is_less : (o : Ordering) → is_lt o ≡ true → o ≡ Less
-is_less Less e = refl
-is_less Equal e = absurd cc
-is_less Greater e = absurd cc
-
 from_rising_from : (e : Entity) (T : Table) → rising_from e T ≡ true → RisesFrom e T
 from_rising_from e [] h = tt
 from_rising_from e (f ∷ more) h =
     let parts = and_parts (is_lt (slice_cmp nat_cmp e.0 f.0)) (rising_from f more) h in
-    (is_less _ parts.0, from_rising_from f more parts.1)
+    (is_lt_true _ parts.0, from_rising_from f more parts.1)
 
 pub from_rising : (T : Table) → rising T ≡ true → Rises T
 from_rising [] h = tt

@@ -1,7 +1,7 @@
 -- Looking names up in tables, and tables that are made line by line.
 use Rattle.std.proofs.Common.{◌≡◌, ℕ, zero, suc, ◌+◌, ◌-◌, ◌<◌, Bool, true, false, cond, not, List, [], ◌∷◌, ◌++◌, take, drop, refl, ap}
 use Rattle.std.proofs.Common.{sym, ◌∙◌, arith, Option, Some, None, append_assoc, append-nil, String, string_bytes}
-use Rattle.std.specs.Prelude.{◌&&◌, nat_lt, bytes_eq, option_map}
+use Rattle.std.specs.Prelude.{nat_lt, bytes_eq, option_map}
 use Rattle.std.specs.List.{list_all}
 use Rattle.std.specs.BTreeMap.{insert_entry, is_at}
 use Rattle.std.specs.Map.{lookup}
@@ -11,17 +11,14 @@ use Rattle.std.specs.Ordering.{nat_cmp, match_ordering, is_eq}
 use Rattle.std.specs.declared.cmp.Ordering.{Ordering}
 use Rattle.std.specs.declared.cmp.Ordering.TheVariants.{Less, Equal, Greater}
 use Rattle.std.proofs.lemmas.Map.Text.{is_eq-slice_cmp}
-use Rattle.std.proofs.lemmas.Slice.Eq.{bytes_eq-Decides}
 use Rattle.doc_rules.specs.Characters.{Text}
 use Rattle.doc_rules.specs.Entities.{Entity, Table, built_in}
 use Rattle.doc_rules.specs.Escapes.{find_entity}
 use Rattle.doc_lines.specs.Entities.{characters, entities_shown, has_ascii_names}
 use Rattle.doc_lines.specs.Tables.{is_row, bad_line, entity_of, entities_in, contradicts, line_contradicts, twice_line, with_entity}
 use Rattle.doc_lines.specs.Tables.{with_entities}
-use Rattle.std.proofs.lemmas.Bool.{and_parts}
-
-both : {x y : Bool} → x ≡ true → y ≡ true → (x && y) ≡ true
-both {x = x} {y = y} e h = ap (λ (b : Bool). b && y) e ∙ h
+use Rattle.std.proofs.lemmas.Bool.{and_parts, and_from}
+use Rattle.doc_page_parts.proofs.Texts.{bytes_eq_true}
 
 abbrev is_ascii : Text → Bool
 is_ascii name = list_all (λ b. nat_lt b 128) name
@@ -61,14 +58,6 @@ find_append (e ∷ xs) ys name =
 find_one : (e : Entity) (name : Text) → find_entity (e ∷ []) name ≡ choice (bytes_eq e.0 name) e.1 None
 find_one e name = find_cons e [] name ∙ ap (choice (bytes_eq e.0 name) e.1) (find_none name)
 
--- ---- texts that are equal or not
-
-equal : (xs ys : Text) → bytes_eq xs ys ≡ true → xs ≡ ys
-equal xs ys e = (bytes_eq-Decides xs ys).0 e
-
-itself : (xs : Text) → bytes_eq xs xs ≡ true
-itself xs = (bytes_eq-Decides xs xs).1 refl
-
 -- ---- looking up after an insertion
 
 same_key : (b d : Bool) (v w : Text) (other : Option Text) → b ≡ d → choice b v other ≡ choice d v (choice b w other)
@@ -80,7 +69,7 @@ same_key false false v w other e = refl
 other_key : (k e name v w : Text) (other : Option Text) (b : Bool) → b ≡ bytes_eq e name → (d : Bool) → d ≡ bytes_eq k name
     → bytes_eq k e ≡ false → choice b w (choice d v other) ≡ choice d v (choice b w other)
 other_key k e name v w other true b true d apart =
-    let same : bytes_eq k e ≡ true = ap (bytes_eq k) (equal e name (sym b)) ∙ sym d in
+    let same : bytes_eq k e ≡ true = ap (bytes_eq k) (bytes_eq_true e name (sym b)) ∙ sym d in
     let never : false ≡ true = sym apart ∙ same in
     absurd cc
 other_key k e name v w other true b false d apart = refl
@@ -93,7 +82,7 @@ inserted_choice : (o : Ordering) (k e : Text) (v w : Text) (rest after : Table) 
     ≡ choice (bytes_eq k name) v (find_entity ((e, w) ∷ rest) name)
 inserted_choice Less k e v w rest after name is there = find_cons (k, v) ((e, w) ∷ rest) name
 inserted_choice Equal k e v w rest after name is there =
-    let same : k ≡ e = equal k e (sym is) in
+    let same : k ≡ e = bytes_eq_true k e (sym is) in
     find_cons (e, v) rest name ∙ same_key (bytes_eq e name) (bytes_eq k name) v w (find_entity rest name)
     (ap (λ n. bytes_eq n name) (sym same)) ∙ ap (choice (bytes_eq k name) v) (sym (find_cons (e, w) rest name))
 inserted_choice Greater k e v w rest after name is there =
@@ -146,7 +135,7 @@ kept_finds : (first second o : Option Text) (added : Table) (entity : Entity) (n
     → verdict_on o entity.1 ≡ false
     → or_else first (find_entity (table_with o added entity) name) ≡ or_else (or_else first second) (choice b entity.1 None)
 kept_finds first second None added entity name true is one two found kept =
-    let same : entity.0 ≡ name = equal entity.0 name (sym is) in
+    let same : entity.0 ≡ name = bytes_eq_true entity.0 name (sym is) in
     let nothing : or_else first second ≡ None = sym (ap (find_entity (built_in ++ added)) same ∙ find_append built_in added name
     ∙ ap (λ o. or_else o (find_entity added name)) (sym one) ∙ ap (or_else first) (sym two)) ∙ sym found in
     let inserted : find_entity (table_with None added entity) name ≡ Some entity.1 = find_inserted added entity.0 entity.1 name
@@ -157,7 +146,7 @@ kept_finds first second None added entity name false is one two found kept =
     ∙ ap (λ (b : Bool). choice b entity.1 (find_entity added name)) (sym is) ∙ sym two in
     ap (or_else first) inserted ∙ sym (or_else-none (or_else first second))
 kept_finds first second (Some those) added entity name true is one two found kept =
-    let same : entity.0 ≡ name = equal entity.0 name (sym is) in
+    let same : entity.0 ≡ name = bytes_eq_true entity.0 name (sym is) in
     let there : or_else first second ≡ Some those = sym (ap (find_entity (built_in ++ added)) same ∙ find_append built_in added name
     ∙ ap (λ o. or_else o (find_entity added name)) (sym one) ∙ ap (or_else first) (sym two)) ∙ sym found in
     ap (or_else first) (sym two) ∙ there ∙ sym (ap (λ o. or_else o (Some entity.1)) there)
@@ -321,13 +310,13 @@ insert_shown (e ∷ rest) key those = inserted_key (string_cmp key e.0) key thos
 ascii_inserted_at : (o : Ordering) (k e v w : Text) (rest after : Table) → is_ascii k ≡ true → is_ascii e ≡ true
     → has_ascii_names rest ≡ true → has_ascii_names after ≡ true →
     has_ascii_names (match_ordering o ((k, v) ∷ (e, w) ∷ rest) ((e, v) ∷ rest) ((e, w) ∷ after)) ≡ true
-ascii_inserted_at Less k e v w rest after a b c d = both a (both b c)
-ascii_inserted_at Equal k e v w rest after a b c d = both b c
-ascii_inserted_at Greater k e v w rest after a b c d = both b d
+ascii_inserted_at Less k e v w rest after a b c d = and_from _ _ a (and_from _ _ b c)
+ascii_inserted_at Equal k e v w rest after a b c d = and_from _ _ b c
+ascii_inserted_at Greater k e v w rest after a b c d = and_from _ _ b d
 
 pub ascii_inserted : (added : Table) (k v : Text) → is_ascii k ≡ true → has_ascii_names added ≡ true
     → has_ascii_names (insert_entry (slice_cmp nat_cmp) added k v) ≡ true
-ascii_inserted [] k v a b = both a refl
+ascii_inserted [] k v a b = and_from _ _ a refl
 ascii_inserted (e ∷ rest) k v a b =
     let parts = and_parts (is_ascii e.0) (has_ascii_names rest) b in
     ascii_inserted_at (slice_cmp nat_cmp k e.0) k e.0 v e.1 rest (insert_entry (slice_cmp nat_cmp) rest k v) a parts.0 parts.1

@@ -149,7 +149,8 @@ impl LinkIndex {
     }
 
     /// The pages that a sight sees and that have links to a page which it sees, by path, each with the number of these links. There
-    /// are none where it doesn't see the page.
+    /// are none where it doesn't see the page. It takes any path, and goes over the links of all pages that are seen, since an index
+    /// knows no page's names: where they are known, the product serves `backlinks_under`.
     pub fn backlinks<S: Sight>(&self, target: &Path, sight: &S) -> Result<List<(Path, u64)>, Memory>
         requires once { IsOnce self.now }
         ensures { IfOk result (λ all.

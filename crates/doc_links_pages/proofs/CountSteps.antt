@@ -8,14 +8,15 @@ use Rattle.std.proofs.lemmas.Cmp.{nat_list_cmp_total}
 use Rattle.std.proofs.lemmas.Map.Lookups.{exact_bytes}
 use Rattle.std.proofs.lemmas.Map.Text.{is_eq-slice_cmp}
 use Rattle.doc_index_tables.specs.Maps.{TextMap}
-use Rattle.doc_index_tables.proofs.TableSteps.{equal_from}
 use Rattle.doc_links_pages.specs.KnownSteps.{count_at}
+use Rattle.doc_page_parts.proofs.Orders.{is_eq_true}
+use Rattle.doc_page_parts.proofs.Texts.{bytes_eq_true}
 
 none_less : (n : ℕ) → n ≡ n + 0
 none_less n = omega arith
 
 pub same_bytes : (x y : List ℕ) → bytes_eq x y ≡ true → x ≡ y
-same_bytes x y e = exact_bytes x y (equal_from (slice_cmp nat_cmp x y) (is_eq-slice_cmp x y ∙ e))
+same_bytes x y e = exact_bytes x y (is_eq_true (slice_cmp nat_cmp x y) (is_eq-slice_cmp x y ∙ e))
 
 -- at first nothing is counted
 pub none_counted : (path : List ℕ) → count_at map.empty path ≡ 0
@@ -32,5 +33,5 @@ one_counted old new written is path =
   where
     by : (b : Bool) → bytes_eq path written ≡ b
         → unwrap_or (cond b (Some (count_at old written + 1)) (map.get old path)) 0 ≡ count_at old path + cond b 1 0
-    by true e = ap (λ p. count_at old p + 1) (sym (same_bytes path written e))
+    by true e = ap (λ p. count_at old p + 1) (sym (bytes_eq_true path written e))
     by false e = none_less (count_at old path)

@@ -2,10 +2,9 @@
 use Rattle.std.proofs.Common.{◌≡◌, ℕ, List, [], ◌∷◌, ◌++◌, length, map, Bool, true, false, not, refl, ap, sym, ◌∙◌, arith, All, eqb, suc}
 use Rattle.std.proofs.Common.{Bor}
 use Rattle.std.specs.Prelude.{filter, Result, Ok, Err, OnOk}
-use Rattle.std.specs.List.{slice_split, join_with_byte, flat_map}
+use Rattle.std.specs.List.{slice_split, join_with_byte}
 use Rattle.std.proofs.lemmas.Bool.Decides.{nat_tests}
-use Rattle.std.proofs.lemmas.List.{append-nil, append_assoc, length-map}
-use Rattle.std.proofs.lemmas.List.Concat.{flat_map-append}
+use Rattle.std.proofs.lemmas.List.{append-nil, append_assoc}
 use Rattle.std.proofs.lemmas.List.Splits.{slice_split_at, slice_split_none}
 use Rattle.doc_page_parts.specs.declared.failure.Memory.{Memory}
 use Rattle.doc_page_parts.specs.Pages.{is_empty}
@@ -15,9 +14,6 @@ use Rattle.doc_page.specs.Plain.{paragraphs}
 is_empty_by_length : {X : Type 0} (xs : List X) (t : Bool) → t ≡ eqb (length xs) 0 → t ≡ is_empty xs
 is_empty_by_length [] t e = e
 is_empty_by_length (x ∷ xs) t e = e ∙ grind (arith, nat_tests)
-
-length_now : (run : List (Bor (List ℕ))) (n : ℕ) → n ≡ length run → n ≡ length (map (λ l. l.now) run)
-length_now run n e = e ∙ sym (length-map run (λ l. l.now))
 
 -- the paragraphs of one run, of no line, and of a run that an empty line ends
 pub one_paragraph : (run : List (List ℕ)) {n : ℕ} → length run ≡ suc n → All (λ l. is_empty l ≡ false) run
@@ -51,10 +47,6 @@ pub joined_is : (x : List ℕ) (xs : List (List ℕ)) → join_with_byte 10 (x �
 unfolding lines_after
 joined_is x [] = sym (append-nil x)
 joined_is x (y ∷ xs) = ap (λ r. x ++ 10 ∷ r) (joined_is y xs)
-
-pub lines_more : (xs : List (List ℕ)) (x : List ℕ) → lines_after (xs ++ x ∷ []) ≡ lines_after xs ++ 10 ∷ x
-unfolding lines_after
-lines_more xs x = flat_map-append (λ line. 10 ∷ line) xs (x ∷ []) ∙ ap (λ r. flat_map (λ line. 10 ∷ line) xs ++ 10 ∷ r) (append-nil x)
 
 -- the paragraph of a run
 pub paragraph_some : (run : List (Bor (List ℕ))) (first : Bor (List ℕ)) (others : List (Bor (List ℕ))) (out : List ℕ)

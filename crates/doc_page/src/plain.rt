@@ -18,7 +18,7 @@ mod paragraphs;
 
 /// Makes a page of a text that has no markup. Each longest run of lines that are not blank is a
 /// paragraph: its lines are stripped of spaces and tabs, escaped, and joined by LF. There are no
-/// headings and no links. Contracts see how many calls were made.
+/// headings and no links. Contracts see how many calls were made. It is for callers from outside and for trials.
 #[derive(Drop)]
 pub struct PlainRenderer<L: Ledger> {
     count: Count<L>,

@@ -8,10 +8,6 @@ use Rattle.std.proofs.lemmas.List.Concat.{flat_map-append}
 use Rattle.std.proofs.lemmas.Str.{IsCharBoundary-after_ascii}
 use Rattle.doc_page_parts.specs.Escaping.{escaped, escaped_byte}
 
-pub escaped-append : (xs ys : List ℕ) → escaped (xs ++ ys) ≡ escaped xs ++ escaped ys
-unfolding escaped
-escaped-append xs ys = flat_map-append escaped_byte xs ys
-
 -- nothing is escaped before the first byte
 pub escaped_none : (text old new : List ℕ) → new ≡ old → new ++ slice_range text 0 0 ≡ old ++ escaped (take 0 text)
 unfolding escaped

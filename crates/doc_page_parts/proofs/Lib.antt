@@ -2,5 +2,11 @@ pub mod Bools
 pub mod BufferSteps
 pub mod EscapingSteps
 pub mod LineSteps
+pub mod Lists
 pub mod Maps
+pub mod Numbers
+pub mod Options
+pub mod Orders
+pub mod Results
 pub mod StrippingSteps
+pub mod Texts

@@ -54,14 +54,15 @@ lines_end bs i t h e f so_far =
     ∙ onto_front-cons (take i bs) (get_or bs i 0 ∷ []) (lines (drop (i + 1) bs))
     ∙ sym (ap (λ s. s ∷ lines (drop (i + 1) bs)) (take_more bs i 0 h))
 
-all_front : (bs : List ℕ) → 0 < length bs → onto_front bs [] ≡ bs ∷ []
-all_front [] h = absurd (omega arith)
-all_front (b ∷ bs) h = onto_front-nil b bs
+-- bytes before no line are one line
+pub onto_front_alone : (bs : List ℕ) → 0 < length bs → onto_front bs [] ≡ bs ∷ []
+onto_front_alone [] h = absurd (omega arith)
+onto_front_alone (b ∷ bs) h = onto_front-nil b bs
 
 pub lines_last : (bs : List ℕ) (i n : ℕ) → 0 < length bs → length bs ≤ i → length bs ≤ n
     → lines bs ≡ onto_front (take i bs) (lines (drop i bs)) → lines bs ≡ take n bs ∷ lines (drop n bs)
 unfolding lines
-lines_last bs i n h l m so_far = so_far ∙ rw (take_all i bs l, drop_all i bs l, take_all n bs m, drop_all n bs m) (all_front bs h)
+lines_last bs i n h l m so_far = so_far ∙ rw (take_all i bs l, drop_all i bs l, take_all n bs m, drop_all n bs m) (onto_front_alone bs h)
 
 -- a text may be cut after a line
 pub cut_after_line : (bs : List ℕ) (i : ℕ) (t : Bool) → IsUtf8 bs → i < length bs

@@ -8,7 +8,8 @@ use crate::failure::Memory;
 use crate::heap::{Heap, String};
 use crate::text::Text;
 
-/// The text with `&`, `<`, `>` and `"` written `&amp;`, `&lt;`, `&gt;` and `&quot;`.
+/// The text with `&`, `<`, `>` and `"` written `&amp;`, `&lt;`, `&gt;` and `&quot;`. It is for callers from outside:
+/// nothing in the product calls it.
 pub fn escape(heap: Heap, text: &str) -> Result<Text, Memory>
     ensures { IfOk result (λ html. html ≡ escaped text.now) }
 {

@@ -11,7 +11,8 @@ use crate::linker::{Linker, Shown};
 use crate::rendered::{Piece, Rendered};
 use crate::text::Text;
 
-/// The page's pieces, joined, with its links as the linker shows them.
+/// The page's pieces, joined, with its links as the linker shows them. It is for callers from outside: nothing in the
+/// product calls it.
 pub fn fill<L: Linker>(heap: Heap, page: &Rendered, linker: &L) -> Result<Text, Memory>
     ensures { IfOk result (λ html. html ≡ filled (L.shown linker.now) page.now) }
 {

@@ -8,7 +8,7 @@ use Rattle.std.specs.FinMap.{get, get-from_entries}
 use Rattle.std.specs.List.{All}
 use Rattle.std.specs.Map.{lookup}
 use Rattle.std.specs.Ordering.{nat_cmp, match_ordering, is_eq}
-use Rattle.std.specs.Str.{IsUtf8, encode_utf8_all}
+use Rattle.std.specs.Str.{IsUtf8}
 use Rattle.std.specs.String.{string_cmp}
 use Rattle.std.specs.declared.cmp.Ordering.{Ordering}
 use Rattle.std.specs.declared.cmp.Ordering.TheVariants.{Less, Equal, Greater}
@@ -17,7 +17,7 @@ use Rattle.std.proofs.lemmas.List.Elements.{All-nil, All-cons, All-head, All-tai
 use Rattle.std.proofs.lemmas.Map.Lookups.{exact_bytes}
 use Rattle.std.proofs.lemmas.Map.Text.{is_eq-slice_cmp}
 use Rattle.std.proofs.lemmas.Slice.Eq.{bytes_eq-Decides}
-use Rattle.std.proofs.lemmas.Str.{IsUtf8-string_bytes, encodes-chars}
+use Rattle.std.proofs.lemmas.Str.{IsUtf8-string_bytes}
 use Rattle.doc_rules.specs.Characters.{Text}
 use Rattle.doc_rules.specs.Destinations as rules
 use Rattle.doc_refs.specs.EntrySteps.{targets_shown, AreEntries, AreGrown, earlier, with_entry}
@@ -26,17 +26,15 @@ use Rattle.doc_refs.specs.declared.ref_map.Entry.{Entry}
 use Rattle.doc_refs_parts.specs.declared.target.Target.{Target}
 use Rattle.doc_refs_parts.proofs.MapLaws.{named, is_name, is_name-same, same_targets, first_of, get-joined, get-single}
 use Rattle.doc_page_parts.proofs.Bools.{same_bool}
+use Rattle.doc_page_parts.proofs.Texts.{chars_injective}
 
 -- ---- names of labels
-
-same_bytes : (xs ys : List ℕ) → IsUtf8 xs → IsUtf8 ys → chars xs ≡ chars ys → xs ≡ ys
-same_bytes xs ys u v e = sym (encodes-chars xs u) ∙ ap encode_utf8_all e ∙ encodes-chars ys v
 
 same_test : (xs ys : List ℕ) → IsUtf8 xs → IsUtf8 ys → is_name (chars xs) (chars ys) ≡ is_eq (slice_cmp nat_cmp xs ys)
 same_test xs ys u v =
     is_eq-slice_cmp (chars xs) (chars ys)
     ∙ same_bool (bytes_eq (chars xs) (chars ys)) (bytes_eq xs ys)
-    (λ e. (bytes_eq-Decides xs ys).1 (same_bytes xs ys u v ((bytes_eq-Decides (chars xs) (chars ys)).0 e)))
+    (λ e. (bytes_eq-Decides xs ys).1 (chars_injective xs ys u v ((bytes_eq-Decides (chars xs) (chars ys)).0 e)))
     (λ e. (bytes_eq-Decides (chars xs) (chars ys)).1 (ap chars ((bytes_eq-Decides xs ys).0 e)))
     ∙ sym (is_eq-slice_cmp xs ys)
 
@@ -109,7 +107,7 @@ named-inserted_at Greater label entry e es after name is h =
     (named (pairs_shown es) name) (λ p q.
     ap is_eq is ∙ is_eq-slice_cmp (string_bytes label) (string_bytes e.0)
     ∙ (bytes_eq-Decides (string_bytes label) (string_bytes e.0)).1
-    (same_bytes (string_bytes label) (string_bytes e.0) (IsUtf8-string_bytes label) (IsUtf8-string_bytes e.0)
+    (chars_injective (string_bytes label) (string_bytes e.0) (IsUtf8-string_bytes label) (IsUtf8-string_bytes e.0)
     (sym (is_name-same name (name_of label) q) ∙ is_name-same name (name_of e.0) p)))
 
 named-inserted : {A : Type 0} (es : List (String A × Entry)) (label : String A) (entry : Entry) (name : Text)

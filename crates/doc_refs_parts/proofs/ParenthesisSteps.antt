@@ -1,12 +1,11 @@
 -- One step further in a destination without '<' and '>'.
-use Rattle.std.proofs.Common.{◌≡◌, ℕ, zero, suc, ◌+◌, ◌-◌, ◌<◌, ◌≤◌, Bool, true, false, ◌==◌, [], ◌∷◌, refl, ap, sym, ◌∙◌, subst, Option}
+use Rattle.std.proofs.Common.{◌≡◌, ℕ, zero, suc, ◌+◌, ◌-◌, ◌<◌, ◌≤◌, ◌∷◌, refl, ap, sym, ◌∙◌, subst, Option}
 use Rattle.std.proofs.Common.{Some, None, arith}
 use Rattle.std.specs.Prelude.{option_and_then}
-use Rattle.std.proofs.lemmas.Bool.{eqb-true}
 use Rattle.doc_rules.specs.Characters.{Text}
 use Rattle.doc_rules.specs.Parsers.{Parser, one, is, ◌then◌, ◌or◌}
 use Rattle.doc_rules.specs.Destinations.{escaped, is_bare, balanced}
-use Rattle.doc_rules.proofs.ParserLaws.{Takes, first_takes, or_takes, repeated_step}
+use Rattle.doc_rules.proofs.ParserLaws.{Takes, first_takes, or_takes, repeated_step, is_cons}
 use Rattle.doc_rules.proofs.GrammarLaws.{is_leaves, is_takes, balanced_leaves}
 use Rattle.doc_lines.proofs.Steps.{repeated_ends, repeated_goes_on}
 use Rattle.doc_refs_parts.proofs.Escapes.{escaped_or_one_takes, run_ends, run_goes_on}
@@ -85,14 +84,6 @@ goes_no_further (suc levels) n outermost text e f = ap (after_close levels n out
 
 -- ---- as a scanner finds it
 
-begins_with : (c : ℕ) (text behind : Text) → Some behind ≡ is c text → text ≡ c ∷ behind
-begins_with c [] behind e = absurd cc
-begins_with c (d ∷ rest) behind e = at (d == c) refl e
-  where
-    at : (b : Bool) → (d == c) ≡ b → Some behind ≡ elim b [ true ↦ Some rest | false ↦ None ] → d ∷ rest ≡ c ∷ behind
-    at true f k = let same : d ≡ c = eqb-true d c f in let more : rest ≡ behind = cc in ap (λ e. e ∷ rest) same ∙ ap (λ xs. c ∷ xs) more
-    at false f k = absurd cc
-
 -- an opening parenthesis, and a level is left
 pub opens : (levels : ℕ) (start outermost text behind : Text) → levels < 32 → Some behind ≡ is 40 text
     → start ≡ ends_at levels outermost text →
@@ -100,7 +91,7 @@ pub opens : (levels : ℕ) (start outermost text behind : Text) → levels < 32 
 opens levels start outermost text behind h e f =
     let more : 32 - levels ≡ suc (32 - (levels + 1)) = omega arith in
     let deeper : suc levels ≡ levels + 1 = omega arith in
-    let same : text ≡ 40 ∷ behind = begins_with 40 text behind e in
+    let same : text ≡ 40 ∷ behind = is_cons 40 text behind e in
     ap (λ (t : Text). finish (levels + 1) (32 - (levels + 1)) t behind) f
     ∙ sym (ap (λ n. finish levels n outermost text) more ∙ (ap (finish levels (suc (32 - (levels + 1))) outermost) same
     ∙ (goes_in levels (32 - (levels + 1)) outermost behind
@@ -113,7 +104,7 @@ pub ends_at_opening : (levels : ℕ) (outermost text behind : Text) → 32 ≤ l
 unfolding balanced
 ends_at_opening levels outermost text behind h e =
     let none : 0 ≡ 32 - levels = omega arith in
-    subst (λ (t : Text). Some (ends_at levels outermost t) ≡ finish levels (32 - levels) outermost t) (sym (begins_with 40 text behind e))
+    subst (λ (t : Text). Some (ends_at levels outermost t) ≡ finish levels (32 - levels) outermost t) (sym (is_cons 40 text behind e))
     (goes_no_further levels 0 outermost (40 ∷ behind) (run_ends is_bare (40 ∷ behind) refl) refl
     ∙ ap (λ n. finish levels n outermost (40 ∷ behind)) none)
 
@@ -124,7 +115,7 @@ closes levels outermost text behind h e f =
     let more : ℕ = levels - 1 in
     let left : suc (32 - levels) ≡ 32 - more = omega arith in
     let deeper : levels ≡ suc more = omega arith in
-    sym (ap (finish levels (32 - levels) outermost) (begins_with 41 text behind f)
+    sym (ap (finish levels (32 - levels) outermost) (is_cons 41 text behind f)
     ∙ (ap (λ d. finish d (32 - levels) outermost (41 ∷ behind)) deeper
     ∙ (goes_out more (32 - levels) outermost behind ∙ ap (λ n. finish more n outermost behind) left)))
 
@@ -132,7 +123,7 @@ closes levels outermost text behind h e f =
 outside : (n : ℕ) (outermost text behind : Text) → Some behind ≡ is 41 text
     → Some (ends_at zero outermost text) ≡ finish zero n outermost text
 unfolding finish
-outside n outermost text behind e = subst (λ (t : Text). Some t ≡ balanced n t) (sym (begins_with 41 text behind e))
+outside n outermost text behind e = subst (λ (t : Text). Some t ≡ balanced n t) (sym (is_cons 41 text behind e))
     (run_stops n (41 ∷ behind) refl refl)
 
 pub ends_at_closing : (levels n : ℕ) (outermost text behind : Text) → levels ≡ 0 → Some behind ≡ is 41 text

@@ -1,16 +1,14 @@
 -- What collapsing keeps of a word, the white space behind it and the rest.
-use Rattle.std.proofs.Common.{◌≡◌, ℕ, ◌<◌, ◌≤◌, Bool, true, false, not, List, [], ◌∷◌, ◌++◌, length, refl, ap, sym, ◌∙◌, Option, Some}
-use Rattle.std.proofs.Common.{arith, append_assoc, append-nil, chars, IsUtf8}
+use Rattle.std.proofs.Common.{◌≡◌, ℕ, ◌<◌, ◌≤◌, Bool, true, false, not, [], ◌∷◌, ◌++◌, length, refl, ap, sym, ◌∙◌, Option, Some}
+use Rattle.std.proofs.Common.{arith, append_assoc, append-nil}
 use Rattle.std.specs.Prelude.{◌&&◌, ◌==◌}
 use Rattle.std.specs.List.{list_all}
-use Rattle.std.specs.Str.{encode_utf8_all}
 use Rattle.std.proofs.lemmas.Bool.Decides.{nat_tests}
 use Rattle.std.proofs.lemmas.List.{append_cancel_right}
-use Rattle.std.proofs.lemmas.Str.{encodes-chars}
 use Rattle.doc_rules.specs.Characters.{Text, is_space_tab_or_ending, first_or, strip_front, strip_end, strip}
 use Rattle.doc_rules.specs.Parsers.{many}
 use Rattle.doc_rules.specs.Labels.{collapse}
-use Rattle.doc_rules.proofs.ParserLaws.{rest_is_shorter, many_leaves}
+use Rattle.doc_rules.proofs.ParserLaws.{rest_is_shorter, many_leaves, many_strip_front}
 use Rattle.std.proofs.lemmas.Bool.{not-true, not-false, and_left}
 
 -- a character of a word
@@ -80,30 +78,10 @@ end_of_all test (c ∷ rest) e = end_cons test c rest ∙ ap (end_choice test c 
 
 -- ---- the front
 
-abbrev front_choice : (ℕ → Bool) → ℕ → Text → Bool → Text
-front_choice test c rest b = elim b [ true ↦ strip_front test rest | false ↦ c ∷ rest ]
-
-front_cons : (test : ℕ → Bool) (c : ℕ) (rest : Text) → strip_front test (c ∷ rest) ≡ front_choice test c rest (test c)
-unfolding strip_front
-front_cons test c rest = refl
-
-front_nil : (test : ℕ → Bool) → strip_front test [] ≡ []
-unfolding strip_front
-front_nil test = refl
-
--- what a run leaves is the text without it
-run_is_stripped : (test : ℕ → Bool) (text : Text) → many test text ≡ Some (strip_front test text)
-run_is_stripped test [] = many_nil test ∙ ap Some (sym (front_nil test))
-run_is_stripped test (c ∷ rest) = many_cons test c rest ∙ at (run_is_stripped test rest) (test c) ∙ ap Some (sym (front_cons test c rest))
-  where
-    at : many test rest ≡ Some (strip_front test rest) → (b : Bool) → many_choice test c rest b ≡ Some (front_choice test c rest b)
-    at more true = more
-    at more false = refl
-
 pub front_is_stripped : (text rest : Text) → Some rest ≡ many is_space_tab_or_ending text
     → collapse (strip_end is_space_tab_or_ending rest) ≡ collapse (strip is_space_tab_or_ending text)
 front_is_stripped text rest e =
-    let same : rest ≡ strip_front is_space_tab_or_ending text = cc (run_is_stripped is_space_tab_or_ending text) in
+    let same : rest ≡ strip_front is_space_tab_or_ending text = cc (many_strip_front is_space_tab_or_ending text) in
     ap (λ (r : Text). collapse (strip_end is_space_tab_or_ending r)) same
 
 -- ---- the word
@@ -279,13 +257,6 @@ word_takes (c ∷ text) gap rest e f n = at (is_word_char c) refl
 
 -- ---- bytes and characters
 
-pub some_characters : (bytes : List ℕ) → IsUtf8 bytes → 0 < length bytes → 0 < length (chars bytes)
-some_characters bytes u n = at (chars bytes) (encodes-chars bytes u)
-  where
-    at : (cs : Text) → encode_utf8_all cs ≡ bytes → 0 < length cs
-    at [] e = let none : 0 ≡ length bytes = ap length e in absurd (omega arith)
-    at (c ∷ cs) e = omega arith
-
 -- behind the last word nothing is left
 pub nothing_left : (done rest whole : Text) → rest ≡ [] → done ++ collapse (strip_end is_space_tab_or_ending rest) ≡ whole → done ≡ whole
 nothing_left done rest whole n e =
@@ -293,9 +264,6 @@ nothing_left done rest whole n e =
     = ap (λ (t : Text). collapse (strip_end is_space_tab_or_ending t)) n ∙ ap collapse (end_nil is_space_tab_or_ending) ∙ collapse_nil in
     sym (ap (λ (t : Text). done ++ t) nothing ∙ append-nil done) ∙ e
 
--- what `is_empty` answers
-pub is_none : (test : Bool) (n : ℕ) → test ≡ (n == 0) → test ≡ true → n ≡ 0
-is_none test n e h = let zero : (n == 0) ≡ true = sym e ∙ h in grind (arith, nat_tests)
-
+-- what `is_empty` answers of something
 pub is_some : (test : Bool) (n : ℕ) → test ≡ (n == 0) → test ≡ false → 0 < n
 is_some test n e h = let more : (n == 0) ≡ false = sym e ∙ h in grind (arith, nat_tests)

@@ -1,10 +1,9 @@
 -- Steps of the proofs on a reference's components.
-use Rattle.std.proofs.Common.{◌≡◌, ◌≢◌, ℕ, suc, ◌+◌, ◌<◌, ◌==◌, not, Bool, true, false, cond, ltb, List, [], ◌∷◌, length, get_or, drop}
+use Rattle.std.proofs.Common.{◌≡◌, ◌≢◌, ℕ, suc, ◌+◌, ◌<◌, ◌==◌, not, true, false, cond, List, [], ◌∷◌, length, get_or, drop}
 use Rattle.std.proofs.Common.{Option, Some, None, refl, sym, ap, ◌∙◌, arith, Bor}
-use Rattle.std.specs.List.{position, position_or_len, after_first}
-use Rattle.std.specs.Option.{unwrap_or, option_copied, MatchOption}
+use Rattle.std.specs.List.{position_or_len, after_first}
+use Rattle.std.specs.Option.{option_copied, MatchOption}
 use Rattle.std.specs.Str.{IsCharBoundary}
-use Rattle.std.proofs.lemmas.Bool.{cond_both}
 use Rattle.std.proofs.lemmas.Bool.Decides.{nat_tests}
 use Rattle.std.proofs.lemmas.List.Sums.{prefix_len-le-length}
 use Rattle.doc_resolve.specs.References.{behind, behind_slash, authority_len}
@@ -31,14 +30,6 @@ behind-found c (b ∷ rest) found =
       | false ↦ λ h. let e : 1 + at + 1 ≡ suc (at + 1) = omega arith in behind-found c rest (omega arith)
           ∙ ap (λ n. Some (drop n (b ∷ rest))) (sym e)
     ] found
-
--- the first place that passes, or the length
-pub position_or_end : (p : ℕ → Bool) (xs : List ℕ) → unwrap_or (position p xs) (length xs) ≡ position_or_len p xs
-position_or_end p xs =
-    let within = prefix_len-le-length (λ x. not (p x)) xs in
-    cond_both (ltb (position_or_len p xs) (length xs)) (Some (position_or_len p xs)) None
-    (λ o. unwrap_or o (length xs) ≡ position_or_len p xs)
-    (λ _. refl) (λ past. grind (arith, nat_tests))
 
 -- a `/` stands where an authority ends, if not the text does
 slash_at : (text : List ℕ) → authority_len text < length text → get_or text (authority_len text) 0 ≡ 47

@@ -13,7 +13,7 @@ use doc_page_parts::rendered::Rendered;
 use doc_page_parts::sight::Sight;
 
 /// The page that each link of the page at this path leads to for a reader, in the order of the links; `None` of a link that leads to
-/// no page that the reader sees, and of one out of the site.
+/// no page that the reader sees, and of one out of the site. It is for callers from outside: the product takes the links' kinds.
 pub fn decisions<S: Sight>(
     heap: Heap,
     page: &Path,

@@ -14,9 +14,6 @@ weight_append [] ys = omega arith
 weight_append (Delimiters r ∷ xs) ys = let e : weight (xs ++ ys) ≡ weight xs + weight ys = weight_append xs ys in omega arith
 weight_append (x ∷ xs) ys = weight_append xs ys
 
-last_weighs : (x : Inline) (n : ℕ) → n + weight (x ∷ []) ≡ weight (x ∷ []) + n
-last_weighs x n = omega arith
-
 weight_cons : (x : Inline) (xs : List Inline) → weight (x ∷ xs) ≡ weight (x ∷ []) + weight xs
 weight_cons x xs = weight_append (x ∷ []) xs
 
@@ -76,7 +73,8 @@ unfolding weight
 less_fits n r h true e = let f : n < r.left = ltb-true n r.left e in omega arith
 less_fits n r h false e = omega arith
 
-strong_counts : (m : Bool) → 1 ≤ (if m then 2 else 1)
+-- one or two delimiters are one at least
+pub strong_counts : (m : Bool) → 1 ≤ (if m then 2 else 1)
 strong_counts true = omega arith
 strong_counts false = omega arith
 

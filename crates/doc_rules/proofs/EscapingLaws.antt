@@ -1,13 +1,14 @@
 -- Escaping the characters of a text is escaping its bytes in UTF-8: no byte of a character past ASCII is escaped.
-use Rattle.std.proofs.Common.{◌≡◌, ℕ, ◌+◌, ◌≤◌, ◌<◌, inl, inr, Bool, true, false, List, [], ◌∷◌, ◌++◌, refl, ap, sym, ◌∙◌, subst, arith}
+use Rattle.std.proofs.Common.{◌≡◌, ℕ, ◌+◌, ◌≤◌, inl, inr, Bool, true, false, List, [], ◌∷◌, ◌++◌, refl, ap, sym, ◌∙◌, subst, arith}
 use Rattle.std.specs.Prelude.{◌==◌, ◌/◌, ◌%◌, flat_map, encode_utf8_all, codes}
 use Rattle.std.specs.Char.{encode_utf8}
 use Rattle.std.specs.List.{AllByRecursion}
-use Rattle.std.proofs.lemmas.Bool.{ne_eqb, lt-ltb, le-ltb, cases_lt, cases_eq}
+use Rattle.std.proofs.lemmas.Bool.{ne_eqb, cases_lt, cases_eq}
 use Rattle.std.proofs.lemmas.List.{append-nil}
 use Rattle.std.proofs.lemmas.List.Concat.{flat_map-append}
-use Rattle.std.proofs.lemmas.Str.{encodes-append}
+use Rattle.std.proofs.lemmas.Str.{encodes-append, encode_ascii}
 use Rattle.doc_page_parts.specs.Escaping.{escaped_byte, escaped}
+use Rattle.doc_page_parts.proofs.Texts.{encode_two_bytes, encode_three_bytes, encode_four_bytes}
 use Rattle.doc_rules.specs.Characters.{Text}
 use Rattle.doc_rules.specs.Escaping.{escaped_char, html_escape}
 use Rattle.doc_rules.specs.Laws.{EscapingIsByBytes}
@@ -32,28 +33,15 @@ all_stay (b ∷ bytes) h = ap (λ front. front ++ flat_map escaped_byte bytes) h
 
 -- ---- the bytes of a character past ASCII
 
-two_bytes : (c : ℕ) → 128 ≤ c → c < 2048 → encode_utf8 c ≡ (192 + c / 64) ∷ (128 + c % 64) ∷ []
-unfolding encode_utf8
-two_bytes c l h = rw (le-ltb c 128 l, lt-ltb c 2048 h)
-
-three_bytes : (c : ℕ) → 2048 ≤ c → c < 65536 → encode_utf8 c ≡ (224 + c / 4096) ∷ (128 + (c / 64) % 64) ∷ (128 + c % 64) ∷ []
-unfolding encode_utf8
-three_bytes c l h = rw (le-ltb c 128 (omega arith), le-ltb c 2048 l, lt-ltb c 65536 h)
-
-four_bytes : (c : ℕ) → 65536 ≤ c → encode_utf8 c ≡ (240 + c / 262144) ∷ (128 + (c / 4096) % 64) ∷ (128 + (c / 64) % 64) ∷ (128 + c % 64) ∷
-    []
-unfolding encode_utf8
-four_bytes c l = rw (le-ltb c 128 (omega arith), le-ltb c 2048 (omega arith), le-ltb c 65536 l)
-
 high_bytes_stay : (c : ℕ) → 128 ≤ c → AllByRecursion Stays (encode_utf8 c)
 high_bytes_stay c h =
     elim (cases_lt c 2048) [
-      | inl l ↦ subst (AllByRecursion Stays) (sym (two_bytes c h l))
+      | inl l ↦ subst (AllByRecursion Stays) (sym (encode_two_bytes c h l))
           (high_sum 192 (c / 64) (omega arith), (high_sum 128 (c % 64) (omega arith), tt))
       | inr g ↦ elim (cases_lt c 65536) [
-        | inl l ↦ subst (AllByRecursion Stays) (sym (three_bytes c g l))
+        | inl l ↦ subst (AllByRecursion Stays) (sym (encode_three_bytes c g l))
             (high_sum 224 (c / 4096) (omega arith), (high_sum 128 ((c / 64) % 64) (omega arith), (high_sum 128 (c % 64) (omega arith), tt)))
-        | inr k ↦ subst (AllByRecursion Stays) (sym (four_bytes c k)) (
+        | inr k ↦ subst (AllByRecursion Stays) (sym (encode_four_bytes c k)) (
           high_sum 240 (c / 262144) (omega arith),
           (
             high_sum 128 ((c / 4096) % 64) (omega arith),
@@ -64,10 +52,6 @@ high_bytes_stay c h =
     ]
 
 -- ---- characters
-
-one_byte : (c : ℕ) → c < 128 → encode_utf8 c ≡ c ∷ []
-unfolding encode_utf8
-one_byte c l = rw (lt-ltb c 128 l)
 
 abbrev Alike : ℕ → Type 0
 Alike c = encode_utf8_all (escaped_char c) ≡ flat_map escaped_byte (encode_utf8 c)
@@ -89,7 +73,7 @@ unfolding escaped_char encode_utf8
 quotation_mark = refl
 
 bytes_stay : (c : ℕ) → Stays c → AllByRecursion Stays (encode_utf8 c)
-bytes_stay c h = elim (cases_lt c 128) [ inl l ↦ subst (AllByRecursion Stays) (sym (one_byte c l)) (h, tt) | inr g ↦ high_bytes_stay c g ]
+bytes_stay c h = elim (cases_lt c 128) [ inl l ↦ subst (AllByRecursion Stays) (sym (encode_ascii c l)) (h, tt) | inr g ↦ high_bytes_stay c g ]
 
 abbrev escaped_at : ℕ → Bool → Bool → Bool → Bool → Text
 escaped_at c a b d e =

@@ -19,7 +19,8 @@ use Rattle.doc_rules.proofs.PieceLaws.{pieces_join}
 -- ---- tags
 
 -- characters are escaped as bytes are
-same_choice : (c : ℕ) (a b d e : Bool) →
+-- a cascade of tests is a match on each
+pub same_choice : (c : ℕ) (a b d e : Bool) →
     (if a then codes "&amp;" else (if b then codes "&lt;" else (if d then codes "&gt;" else (if e then codes "&quot;" else c ∷ []))))
     ≡ elim a [
       | true ↦ codes "&amp;"

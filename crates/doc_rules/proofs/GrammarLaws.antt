@@ -1,9 +1,9 @@
--- Tags, destinations, titles, labels, definitions, addresses and references leave the end of a text; definitions one after another are
+-- Tags, destinations, titles, labels, definitions and addresses leave the end of a text; definitions one after another are
 -- one and then the others.
 use Rattle.std.proofs.Common.{◌≡◌, ℕ, zero, suc, ◌<◌, ◌≤◌, Bool, not, ◌==◌, List, [], ◌∷◌, length, refl, ap, sym, ◌∙◌, Option, Some, None}
 use Rattle.std.proofs.Common.{arith, subst}
 use Rattle.std.specs.Prelude.{codes, ◌||◌, option_map, nat_lt}
-use Rattle.std.specs.Char.{is_ascii_punctuation, is_ascii_alphabetic, is_ascii_alphanumeric, is_ascii_digit, is_ascii_hexdigit}
+use Rattle.std.specs.Char.{is_ascii_punctuation, is_ascii_alphabetic, is_ascii_alphanumeric}
 use Rattle.std.specs.Char.{is_ascii_control}
 use Rattle.doc_rules.specs.Characters.{Text, one_of, none_of, is_space_or_tab}
 use Rattle.doc_rules.specs.Parsers.{one, is, word, ◌then◌, ◌or◌, maybe, many, some, at_most, repeated, through, before, inside, passing}
@@ -12,7 +12,6 @@ use Rattle.doc_rules.specs.Entities.{Table}
 use Rattle.doc_rules.specs.Tags.{tag_name, attribute_name, quoted_by, attribute_value, attribute, open_tag, closing_tag, html_tag, comment}
 use Rattle.doc_rules.specs.Tags.{instruction, declaration, cdata, raw_html}
 use Rattle.doc_rules.specs.Autolinks.{is_scheme_char, scheme, uri, is_local_char, is_domain_char, is_domain_part, domain_part, mail}
-use Rattle.doc_rules.specs.Escapes.{decimal_reference, hexadecimal_reference, named_reference}
 use Rattle.doc_rules.specs.Destinations.{escaped, many_or_escaped, angled, is_bare, balanced, bare, destination, has_blank_line, title_in}
 use Rattle.doc_rules.specs.Destinations.{title}
 use Rattle.doc_rules.specs.Labels.{label_text, is_label, label}
@@ -22,7 +21,7 @@ use Rattle.doc_rules.specs.Definitions.{definitions_of}
 use Rattle.doc_rules.specs.Rests.{IsRest}
 use Rattle.doc_rules.proofs.ParserLaws.{Leaves, Takes, rest_is_shorter, one_leaves, one_takes, nothing_leaves, word_leaves, then_leaves}
 use Rattle.doc_rules.proofs.ParserLaws.{first_takes, or_leaves, maybe_leaves, many_leaves, some_leaves, at_most_leaves, repeated_leaves}
-use Rattle.doc_rules.proofs.ParserLaws.{through_leaves, passing_leaves, line_ending_leaves, spacing_leaves, some_spacing_leaves, is_all}
+use Rattle.doc_rules.proofs.ParserLaws.{through_leaves, passing_leaves, line_ending_leaves, spacing_leaves, some_spacing_leaves}
 use Rattle.doc_rules.proofs.ParserLaws.{is_rest_again}
 
 pub is_leaves : (c : ℕ) → Leaves (is c)
@@ -371,22 +370,6 @@ definitions_step table (c ∷ text) = at (definition_source (c ∷ text)) refl
         ap (λ (more : List Definition × Text). (definition_of table source ∷ more.0, more.1))
         (definitions_enough (length text) (length source.rest) table source.rest (omega arith) (omega arith))
 
--- the definitions at the front of a text leave its end
-within_ends : (n : ℕ) (table : Table) (text : Text) → IsRest (definitions_within n table text).1 text
-unfolding definitions_within
-within_ends zero table text = is_all text
-within_ends (suc n) table text = at (λ rest. within_ends n table rest) (definition_source text) refl
-  where
-    at : ((rest : Text) → IsRest (definitions_within n table rest).1 rest) → (found : Option DefinitionSource)
-        → definition_source text ≡ found → IsRest (one_more n table text found).1 text
-    at go None e = is_all text
-    at go (Some source) e = is_rest_again text source.rest (definitions_within n table source.rest).1 (go source.rest)
-        (definition_ends text source e)
-
-pub definitions_end : (table : Table) (text : Text) → IsRest (definitions_of table text).1 text
-unfolding definitions_of
-definitions_end table text = within_ends (length text) table text
-
 -- ---- autolinks (6.5)
 
 pub scheme_leaves : Leaves scheme
@@ -413,26 +396,3 @@ mail_leaves =
     (then_leaves (some is_local_char then is 64) domain_part
     (then_leaves (some is_local_char) (is 64) (some_leaves is_local_char) (is_leaves 64)) domain_part_leaves)
     (repeated_leaves (is 46 then domain_part) (then_leaves (is 46) domain_part (is_leaves 46) domain_part_leaves))
-
--- ---- character references (2.5)
-
-pub decimal_reference_leaves : Leaves decimal_reference
-unfolding decimal_reference
-decimal_reference_leaves =
-    then_leaves (is 35 then one is_ascii_digit then at_most 6 (one is_ascii_digit)) (is 59)
-    (then_leaves (is 35 then one is_ascii_digit) (at_most 6 (one is_ascii_digit))
-    (then_leaves (is 35) (one is_ascii_digit) (is_leaves 35) (one_leaves is_ascii_digit))
-    (at_most_leaves 6 (one is_ascii_digit) (one_leaves is_ascii_digit))) (is_leaves 59)
-
-pub hexadecimal_reference_leaves : Leaves hexadecimal_reference
-unfolding hexadecimal_reference
-hexadecimal_reference_leaves =
-    then_leaves (is 35 then one (one_of (codes "xX")) then one is_ascii_hexdigit then at_most 5 (one is_ascii_hexdigit)) (is 59)
-    (then_leaves (is 35 then one (one_of (codes "xX")) then one is_ascii_hexdigit) (at_most 5 (one is_ascii_hexdigit))
-    (then_leaves (is 35 then one (one_of (codes "xX"))) (one is_ascii_hexdigit)
-    (then_leaves (is 35) (one (one_of (codes "xX"))) (is_leaves 35) (one_leaves (one_of (codes "xX")))) (one_leaves is_ascii_hexdigit))
-    (at_most_leaves 5 (one is_ascii_hexdigit) (one_leaves is_ascii_hexdigit))) (is_leaves 59)
-
-pub named_reference_leaves : Leaves named_reference
-unfolding named_reference
-named_reference_leaves = then_leaves (some is_ascii_alphanumeric) (is 59) (some_leaves is_ascii_alphanumeric) (is_leaves 59)

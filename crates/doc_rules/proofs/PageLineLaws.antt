@@ -70,7 +70,8 @@ lf_follows false false next is e = absurd (false≢true is)
 lf_follows false true true is e = refl
 lf_follows false true false is e = absurd (false≢true (sym e))
 
-lf_ends : (c : ℕ) (rest : Text) → (c == 10) ≡ true → ends_line c rest ≡ true
+-- a LF ends a line
+pub lf_ends : (c : ℕ) (rest : Text) → (c == 10) ≡ true → ends_line c rest ≡ true
 unfolding ends_line
 lf_ends c [] e = ap (λ b. b || (c == 13)) e
 lf_ends c (d ∷ rest) e = ap (λ b. b || ((c == 13) && not (d == 10))) e

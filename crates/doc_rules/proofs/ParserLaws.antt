@@ -1,12 +1,11 @@
 -- What a parser leaves is the end of the text: what it takes stands before it. Code that goes over a text needs these.
 use Rattle.std.proofs.Common.{◌≡◌, ℕ, zero, suc, ◌+◌, ◌-◌, ◌<◌, ◌≤◌, Bool, true, false, ◌==◌, [], ◌∷◌, ◌++◌, take, length, refl, ap, sym}
-use Rattle.std.proofs.Common.{◌∙◌, subst, Option, Some, None, arith, append_assoc, length-append}
+use Rattle.std.proofs.Common.{◌∙◌, subst, Option, Some, None, arith, append_assoc, length-append, eqb-true}
 use Rattle.std.proofs.Math.Seq.{take-append_seam}
 use Rattle.std.specs.Prelude.{codes}
-use Rattle.std.specs.Char.{to_ascii_lowercase}
-use Rattle.doc_rules.specs.Characters.{Text, is_space_or_tab}
+use Rattle.doc_rules.specs.Characters.{Text, is_space_or_tab, strip_front}
 use Rattle.doc_rules.specs.Rests.{IsRest}
-use Rattle.doc_rules.specs.Parsers.{Parser, one, is, word, word_in_any_case, ◌then◌, ◌or◌, maybe, many, at_most, repeated, through, before}
+use Rattle.doc_rules.specs.Parsers.{Parser, one, is, word, ◌then◌, ◌or◌, maybe, many, at_most, repeated, through, before}
 use Rattle.doc_rules.specs.Parsers.{passing, some, line_ending, spacing, some_spacing}
 
 -- a parser leaves the end of each text that it is given
@@ -69,6 +68,15 @@ pub one_takes : (test : ℕ → Bool) → Takes (one test)
 one_takes test [] rest e = absurd cc
 one_takes test (c ∷ more) rest e = passed_takes (test c) c more rest e
 
+-- what stands before the rest that `is` leaves
+pub is_cons : (c : ℕ) (text rest : Text) → Some rest ≡ is c text → text ≡ c ∷ rest
+is_cons c [] rest e = absurd cc
+is_cons c (d ∷ more) rest e = at (d == c) refl e
+  where
+    at : (b : Bool) → (d == c) ≡ b → Some rest ≡ if_passed b more → d ∷ more ≡ c ∷ rest
+    at true f g = let same : d ≡ c = eqb-true d c f in let ends : rest ≡ more = cc in cc
+    at false f g = absurd cc
+
 pub nothing_leaves : Leaves Some
 nothing_leaves text rest e = let same : text ≡ rest = cc in subst (λ r. IsRest r text) same (is_all text)
 
@@ -80,17 +88,6 @@ word_leaves (c ∷ more) (d ∷ text) rest e = at (λ f. word_leaves more text r
   where
     at : (word more text ≡ Some rest → IsRest rest text) → (b : Bool) → (elim b [ true ↦ word more text | false ↦ None ]) ≡ Some rest
         → IsRest rest (d ∷ text)
-    at go true f = is_rest_behind d rest text (go f)
-    at go false f = absurd cc
-
-pub word_in_any_case_leaves : (w : Text) → Leaves (word_in_any_case w)
-unfolding word_in_any_case
-word_in_any_case_leaves [] text rest e = nothing_leaves text rest e
-word_in_any_case_leaves (c ∷ more) [] rest e = absurd cc
-word_in_any_case_leaves (c ∷ more) (d ∷ text) rest e = at (λ f. word_in_any_case_leaves more text rest f) (c == to_ascii_lowercase d) e
-  where
-    at : (word_in_any_case more text ≡ Some rest → IsRest rest text) → (b : Bool)
-        → (elim b [ true ↦ word_in_any_case more text | false ↦ None ]) ≡ Some rest → IsRest rest (d ∷ text)
     at go true f = is_rest_behind d rest text (go f)
     at go false f = absurd cc
 
@@ -143,6 +140,17 @@ pub maybe_leaves : (read : Parser) → Leaves read → Leaves (maybe read)
 maybe_leaves read h = or_leaves read Some h nothing_leaves
 
 -- ---- many things
+
+-- many of a class are those that `strip_front` drops
+pub many_strip_front : (class : ℕ → Bool) (text : Text) → many class text ≡ Some (strip_front class text)
+unfolding many strip_front
+many_strip_front class [] = refl
+many_strip_front class (c ∷ rest) = at (many_strip_front class rest) (class c)
+  where
+    at : many class rest ≡ Some (strip_front class rest) → (b : Bool)
+        → (elim b [ true ↦ many class rest | false ↦ Some (c ∷ rest) ]) ≡ Some (elim b [ true ↦ strip_front class rest | false ↦ c ∷ rest ])
+    at again true = again
+    at again false = refl
 
 pub many_leaves : (test : ℕ → Bool) → Leaves (many test)
 unfolding many
@@ -247,9 +255,6 @@ repeated_step read (c ∷ text) h = at (read (c ∷ text)) refl
 
 pub some_leaves : (test : ℕ → Bool) → Leaves (some test)
 some_leaves test = then_leaves (one test) (many test) (one_leaves test) (many_leaves test)
-
-pub some_takes : (test : ℕ → Bool) → Takes (some test)
-some_takes test = first_takes (one test) (many test) (one_takes test) (many_leaves test)
 
 pub line_ending_leaves : Leaves line_ending
 line_ending_leaves =

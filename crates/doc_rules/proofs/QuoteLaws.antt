@@ -1,5 +1,5 @@
 -- The tree of a quoted text is one quote over the tree of the text: each of its lines goes into that quote, and inside is the line itself.
-use Rattle.std.proofs.Common.{◌≡◌, ℕ, suc, ◌+◌, ◌-◌, Bool, true, false, List, [], ◌∷◌, ◌++◌, map, refl, ap, sym, ◌∙◌, Some, None, arith}
+use Rattle.std.proofs.Common.{◌≡◌, ℕ, suc, ◌+◌, ◌-◌, Bool, true, false, List, [], ◌∷◌, ◌++◌, map, refl, ap, sym, ◌∙◌, Some, None}
 use Rattle.std.specs.Prelude.{◌||◌, ◌==◌, nat_le, ◌%◌, if◌then◌else◌}
 use Rattle.std.specs.List.{AllByRecursion}
 use Rattle.doc_rules.specs.Characters.{Text}
@@ -16,6 +16,7 @@ use Rattle.doc_rules.specs.Laws.{has_tab, QuotedTree, QuotedDocument, quote_over
 use Rattle.doc_rules.proofs.QuoteLines.{marked_line, quoted_has}
 use Rattle.doc_page_parts.proofs.Bools.{or_first, or_second, and_false}
 use Rattle.std.proofs.lemmas.Bool.{or_from}
+use Rattle.std.proofs.Common.{sub-one}
 
 -- ---- texts without tabs
 
@@ -73,7 +74,8 @@ shifted (c ∷ rest) a b e =
     ∙ ap (λ more. record { char = c; width = width_at c b } ∷ more)
     (shifted rest (a + width_at c a) (b + width_at c b) (or_second (c == 9) (has_tab rest) e))
 
-skip_none : (line : Line) → skip 0 line ≡ line
+-- no columns are passed
+pub skip_none : (line : Line) → skip 0 line ≡ line
 unfolding skip
 skip_none [] = refl
 skip_none (cell ∷ rest) = ap (λ t. elim t [
@@ -89,9 +91,6 @@ quote_behind line e = ap Some (skip_none _ ∙ shifted (line_content line) 2 0 (
 
 -- ---- the tree
 
-one_less : (n : ℕ) → suc n - 1 ≡ n
-one_less n = omega arith
-
 add_inside : (room : ℕ) (table : Table) (tree : Tree) (line rest : Line) → quote_start line ≡ Some rest →
     add_line (suc room) table line (node none QuoteLines tree) ≡ node none QuoteLines (add_line room table rest tree)
 unfolding add_line matched
@@ -101,7 +100,7 @@ add_inside room table tree line rest e =
       | None ↦ add_blocks (suc room) table
           (lazy_situation tree) line (node none QuoteLines tree)
     ]) e
-    ∙ ap (λ n. node none QuoteLines (add_line n table rest tree)) (one_less room)
+    ∙ ap (λ n. node none QuoteLines (add_line n table rest tree)) (sub-one (suc room))
 
 add_first : (room : ℕ) (table : Table) (line rest : Line) → quote_start line ≡ Some rest
     → add_line (suc room) table line none ≡ node none QuoteLines (add_line room table rest none)

@@ -1,6 +1,6 @@
 -- Room for containers that isn't used does not matter: by the steps of adding a line, once for the tree and once for its depth.
 use Rattle.std.proofs.Common.{◌≡◌, ℕ, zero, suc, ◌-◌, Bool, true, false, List, [], ◌∷◌, ◌++◌, refl, ap, sym, ◌∙◌, subst, Option, Some, None}
-use Rattle.std.proofs.Common.{arith}
+use Rattle.std.proofs.Common.{sub-one}
 use Rattle.std.specs.Prelude.{◌||◌, ◌&&◌, not, nat_le}
 use Rattle.doc_rules.specs.Characters.{Text}
 use Rattle.doc_rules.specs.Lines.{lines_of, line_content}
@@ -151,9 +151,6 @@ add_to_leaf_same room table line before (FencedLines true opening info lines) h 
 add_to_leaf_same room table line before (HtmlLines true kind lines) h = refl
 add_to_leaf_same room table line before leaf h = add_blocks_same room table NoParagraph line (before ▹ leaf) h
 
-one_less : (n : ℕ) → suc n - 1 ≡ n
-one_less n = omega arith
-
 abbrev at_node : ℕ → Table → Line → Tree → ContainerLines → Tree → Option Line → Tree
 at_node room table line before c inside found =
     elim found [
@@ -171,9 +168,9 @@ node_same room table line before c inside more None h = add_blocks_same room tab
 node_same zero table line before c inside more (Some rest) h = absurd h
 node_same (suc room) table line before c inside more (Some rest) h =
     let g : IsWithin room (add_line (suc room) table rest inside) = subst (λ n. IsWithin room (add_line n table rest inside))
-    (one_less (suc room)) h.1 in
-    ap (λ n. node before c (add_line n table rest inside)) (one_less room)
-    ∙ (ap (node before c) (more room rest g) ∙ ap (λ n. node before c (add_line n table rest inside)) (sym (one_less (suc room))))
+    (sub-one (suc (suc room))) h.1 in
+    ap (λ n. node before c (add_line n table rest inside)) (sub-one (suc room))
+    ∙ (ap (node before c) (more room rest g) ∙ ap (λ n. node before c (add_line n table rest inside)) (sym (sub-one (suc (suc room)))))
 
 add_line_same : (room : ℕ) (table : Table) (line : Line) (tree : Tree) → IsWithin room (add_line (suc room) table line tree)
     → add_line room table line tree ≡ add_line (suc room) table line tree
@@ -252,11 +249,6 @@ unfolding add_leaf_or_item
 quotes_deep n room table s line tree (Some rest) h = node_before n tree (add_blocks room table NoParagraph rest none) QuoteLines h
 quotes_deep n room table s line tree None h = add_leaf_or_item_deep n s line tree (λ first. add_blocks room table NoParagraph first none)
     (leaf_begins table s line) h
-
-add_blocks_once_deep : (n room : ℕ) (table : Table) (s : Situation) (line : Line) (tree : Tree)
-    → IsWithin n (add_blocks (suc room) table s line tree) → IsWithin n tree
-unfolding add_blocks
-add_blocks_once_deep n room table s line tree h = quotes_deep n room table s line tree (quote_start line) h
 
 add_leaf_deep : (n : ℕ) (s : Situation) (line : Line) (tree : Tree) (start : Option LeafStart)
     → IsWithin n (elim start [ Some b ↦ with_start tree b | None ↦ add_text s line tree ]) → IsWithin n tree

@@ -6,6 +6,7 @@ use Rattle.doc_hub.specs.Connections.{backlog_limit}
 use Rattle.doc_hub_answers.specs.Replies.{Renders}
 use Rattle.doc_hub.specs.Worlds.{World, connected, last_id}
 use Rattle.doc_hub.specs.Runs.{Happens, Happened, first}
+use Rattle.doc_hub.specs.Events.{push_on}
 use Rattle.doc_hub.specs.declared.event.Event.TheVariants as events
 use Rattle.doc_hub.specs.declared.outcome.Outcome.TheVariants as outcomes
 use Rattle.doc_hub.specs.declared.event.ConnId.{ConnId}
@@ -30,34 +31,34 @@ unfolding demo_world last_id number_or
 first_given w id is = ap (number_or id) is
 
 module _ (render : Renders) (w1 w2 : World) (bytes : List ℕ) (Goes : ℕ → List Happened → Type 0) (Grows : List ℕ → Type 0) where
-  from_first : (w3 : World) → Happens render demo_world events.Connect w1 (Ok one) → Happens render w1 (events.Push one bytes) w2 (Ok tt)
+  from_first : (w3 : World) → Happens render demo_world events.Connect w1 (Ok one) → Happens render w1 (push_on one bytes) w2 (Ok tt)
       → StepsSend render w2 1 w3 (Goes 1) Grows
       → RunSends render (Some bytes) (Goes 1) Grows
   from_first w3 made taken (rest, runs, goes, grows) =
       let a : Happened = record { world = demo_world; event = events.Connect; outcome = outcomes.Conn one } in
-      let b : Happened = record { world = w1; event = events.Push one bytes; outcome = outcomes.Pushed } in (
+      let b : Happened = record { world = w1; event = push_on one bytes; outcome = outcomes.Pushed } in (
         bytes,
         a ∷ b ∷ rest,
         rest,
         w3,
         refl,
         first demo_world w1 w3 events.Connect (outcomes.Conn one) (b ∷ rest) (Ok one, made, refl)
-            (first w1 w2 w3 (events.Push one bytes) outcomes.Pushed rest (Ok tt, taken, refl) runs),
+            (first w1 w2 w3 (push_on one bytes) outcomes.Pushed rest (Ok tt, taken, refl) runs),
         (a, b, refl, (refl, refl), (refl, refl)),
         goes,
         grows,
       )
 
   from_number : (w3 : World) (id : ConnId) → one ≡ id → Happens render demo_world events.Connect w1 (Ok id)
-      → Happens render w1 (events.Push id bytes) w2 (Ok tt)
+      → Happens render w1 (push_on id bytes) w2 (Ok tt)
       → StepsSend render w2 id.0 w3 (Goes id.0) Grows → RunSends render (Some bytes) (Goes 1) Grows
   from_number w3 id is =
-      subst (λ (n : ConnId). Happens render demo_world events.Connect w1 (Ok n) → Happens render w1 (events.Push n bytes) w2 (Ok tt)
+      subst (λ (n : ConnId). Happens render demo_world events.Connect w1 (Ok n) → Happens render w1 (push_on n bytes) w2 (Ok tt)
       → StepsSend render w2 n.0 w3 (Goes n.0) Grows → RunSends render (Some bytes) (Goes 1) Grows) is
       (from_first w3)
 
   pub opened : (p1 p2 : Renders) (w0 w3 : World) (id : ConnId) → p1 ≡ render → p2 ≡ p1 → w0 ≡ demo_world
-      → Happens render w0 events.Connect w1 (Ok id) → Happens p1 w1 (events.Push id bytes) w2 (Ok tt)
+      → Happens render w0 events.Connect w1 (Ok id) → Happens p1 w1 (push_on id bytes) w2 (Ok tt)
       → StepsSend p2 w2 id.0 w3 (Goes id.0) Grows
       → RunSends render (Some bytes) (Goes 1) Grows
   opened p1 p2 w0 w3 id e1 e2 is made taken sent =
@@ -68,7 +69,7 @@ module _ (render : Renders) (w1 w2 : World) (bytes : List ℕ) (Goes : ℕ → L
 -- what stops the replies stops the demonstration
 pub stopped : (render p1 p2 : Renders) (w0 w1 w2 : World) (id : ConnId) (bytes : List ℕ) (old new : Option (List ℕ)) (fault : Fault)
     → p1 ≡ render → p2 ≡ p1 → w0 ≡ demo_world
-    → Happens render w0 events.Connect w1 (Ok id) → Happens p1 w1 (events.Push id bytes) w2 (Ok tt) → StopsReplies p2 w2 id.0 old new fault
+    → Happens render w0 events.Connect w1 (Ok id) → Happens p1 w1 (push_on id bytes) w2 (Ok tt) → StopsReplies p2 w2 id.0 old new fault
     → StopsDemo render (Some bytes) old new fault
 stopped render p1 p2 w0 w1 w2 id bytes old new faults.Usage e1 e2 is made taken stops = stops
 stopped render p1 p2 w0 w1 w2 id bytes old new faults.Config e1 e2 is made taken stops = stops

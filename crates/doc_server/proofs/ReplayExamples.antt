@@ -2,6 +2,7 @@
 use Rattle.std.proofs.Common.{◌≡◌, [], ◌∷◌, refl}
 use Rattle.std.specs.Prelude.{codes, Ok, Err}
 use Rattle.std.specs.Fmt.{digits}
+use Rattle.doc_hub.specs.Events.{push_on, step_on}
 use Rattle.doc_hub.specs.declared.event.Event.TheVariants as events
 use Rattle.doc_hub.specs.declared.event.Step.TheVariants as steps
 use Rattle.doc_hub.specs.declared.outcome.Outcome.TheVariants as outcomes
@@ -38,7 +39,7 @@ no_events = refl
 
 three_events :
     events_of (codes "connect\npush 1 a\\n\nstep 1")
-    ≡ Ok (events.Connect ∷ events.Push (record { 0 = 1 }) (codes "a\n") ∷ events.Step (record { 0 = 1 }) ∷ [])
+    ≡ Ok (events.Connect ∷ push_on (record { 0 = 1 }) (codes "a\n") ∷ step_on (record { 0 = 1 }) ∷ [])
 unfolding lines event_of unescaped
 three_events = refl
 

@@ -9,7 +9,7 @@ use Rattle.std.proofs.lemmas.List.Elements.{All-nil, All-push}
 use Rattle.doc_hub_answers.specs.Replies.{Renders}
 use Rattle.doc_hub.specs.Worlds.{World}
 use Rattle.doc_hub.specs.Runs.{Happens, Leaves, Happened, nothing, bytes_of, sent_by, sent_on}
-use Rattle.doc_hub.specs.declared.event.Event.TheVariants as events
+use Rattle.doc_hub.specs.Events.{step_on}
 use Rattle.doc_hub.specs.declared.outcome.Outcome.{Outcome}
 use Rattle.doc_hub.specs.declared.outcome.Outcome.TheVariants as outcomes
 use Rattle.doc_hub.specs.declared.event.Step.{Step}
@@ -26,13 +26,13 @@ use Rattle.doc_server.proofs.Unread.{unread_len, Left, reply_takes}
 
 reply_of : (render : Renders) (w v : World) (id : ℕ) (old new : Option (List ℕ)) (said : Step) (given : List ℕ)
     → Sends (outcomes.Stepped said) → bytes_of said ≡ given
-    → Happens render w (events.Step (record { 0 = id })) v (Ok said) → Appends old new given → SendsNext render w id v old new true
+    → Happens render w (step_on (record { 0 = id })) v (Ok said) → Appends old new given → SendsNext render w id v old new true
 reply_of render w v id old new said given sends same happens
     appends = (outcomes.Stepped said, (Ok said, happens, refl), sends, subst (Appends old new) (sym same) appends)
 
 pub reply_sent : (render : Renders) (w v : World) (id : ℕ) (old new : Option (List ℕ)) (said : Step) (reply given : List ℕ)
     → said ≡ steps.Sent reply
-    → Happens render w (events.Step (record { 0 = id })) v (Ok said) → given ≡ reply → Appends old new given
+    → Happens render w (step_on (record { 0 = id })) v (Ok said) → given ≡ reply → Appends old new given
     → SendsNext render w id v old new true
 reply_sent render w v id old new said reply given is happens same appends =
     reply_of render w v id old new said given (subst (λ s. Sends (outcomes.Stepped s)) (sym is) tt) (ap bytes_of is
@@ -40,14 +40,14 @@ reply_sent render w v id old new said reply given is happens same appends =
 
 pub last_sent : (render : Renders) (w v : World) (id : ℕ) (old new : Option (List ℕ)) (said : Step) (reply given : List ℕ)
     → said ≡ steps.Last reply
-    → Happens render w (events.Step (record { 0 = id })) v (Ok said) → given ≡ reply → Appends old new given
+    → Happens render w (step_on (record { 0 = id })) v (Ok said) → given ≡ reply → Appends old new given
     → SendsNext render w id v old new true
 last_sent render w v id old new said reply given is happens same appends =
     reply_of render w v id old new said given (subst (λ s. Sends (outcomes.Stepped s)) (sym is) tt) (ap bytes_of is
     ∙ sym same) happens appends
 
 end_of : (render : Renders) (w v : World) (id : ℕ) (old : Option (List ℕ)) (said : Step) → Ends (outcomes.Stepped said) → bytes_of said ≡ []
-    → Happens render w (events.Step (record { 0 = id })) v (Ok said) → SendsNext render w id v old old false
+    → Happens render w (step_on (record { 0 = id })) v (Ok said) → SendsNext render w id v old old false
 end_of render w v id old said ends none happens = (
   outcomes.Stepped said,
   (Ok said, happens, refl),
@@ -57,12 +57,12 @@ end_of render w v id old said ends none happens = (
 )
 
 pub none_left : (render : Renders) (w v : World) (id : ℕ) (old : Option (List ℕ)) (said : Step) → said ≡ steps.More
-    → Happens render w (events.Step (record { 0 = id })) v (Ok said) → SendsNext render w id v old old false
+    → Happens render w (step_on (record { 0 = id })) v (Ok said) → SendsNext render w id v old old false
 none_left render w v id old said is happens = end_of render w v id old said (subst (λ s. Ends (outcomes.Stepped s)) (sym is) tt)
     (ap bytes_of is) happens
 
 pub closed_before : (render : Renders) (w v : World) (id : ℕ) (old : Option (List ℕ)) (said : Step) → said ≡ steps.Closed
-    → Happens render w (events.Step (record { 0 = id })) v (Ok said) → SendsNext render w id v old old false
+    → Happens render w (step_on (record { 0 = id })) v (Ok said) → SendsNext render w id v old old false
 closed_before render w v id old said is happens = end_of render w v id old said (subst (λ s. Ends (outcomes.Stepped s)) (sym is) tt)
     (ap bytes_of is) happens
 
@@ -81,19 +81,19 @@ itself id = grind (arith)
 -- the output after one step more
 grown : (id : ℕ) (run : List Happened) (v : World) (outcome : Outcome) (old mid new : Option (List ℕ)) → Appends old mid (sent_on id run)
     → Appends mid new (sent_by outcome)
-    → Appends old new (sent_on id (run ++ record { world = v; event = events.Step (record { 0 = id }); outcome = outcome } ∷ []))
+    → Appends old new (sent_on id (run ++ record { world = v; event = step_on (record { 0 = id }); outcome = outcome } ∷ []))
 grown id run v outcome old mid new p q =
-    subst (Appends old new) (sym (sent_more id run (record { world = v; event = events.Step (record { 0 = id }); outcome = outcome })
+    subst (Appends old new) (sym (sent_more id run (record { world = v; event = step_on (record { 0 = id }); outcome = outcome })
     (itself id)))
     (Appends-trans old mid new (sent_on id run) (sent_by outcome) p q)
 
 one_reply : (render page : Renders) (w v u : World) (id : ℕ) (old mid new : Option (List ℕ)) → page ≡ render
     → Replied render w id v old mid → SendsNext page v id u mid new true → Replied render w id u old new
 one_reply render page w v u id old mid new same (replies, runs, all, p) (outcome, happens, sends, q) =
-    let h : Happened = record { world = v; event = events.Step (record { 0 = id }); outcome = outcome } in (
+    let h : Happened = record { world = v; event = step_on (record { 0 = id }); outcome = outcome } in (
       replies ++ h ∷ [],
-      one_more render w v u replies (events.Step (record { 0 = id })) outcome runs
-          (subst (λ r. Leaves r v (events.Step (record { 0 = id })) u outcome) same happens),
+      one_more render w v u replies (step_on (record { 0 = id })) outcome runs
+          (subst (λ r. Leaves r v (step_on (record { 0 = id })) u outcome) same happens),
       All-push (IsStep id Sends) replies h all (refl, sends),
       grown id replies v outcome old mid new p q,
     )
@@ -116,10 +116,10 @@ the_end : (render page : Renders) (w v u : World) (id : ℕ) (old mid new kept :
     → Replied render w id v old mid → SendsNext page v id u mid new false → Keeps new kept
     → SendsToEnd render w id u old kept
 the_end render page w v u id old mid new kept same (replies, runs, all, p) (outcome, happens, ends, q) keeps =
-    let h : Happened = record { world = v; event = events.Step (record { 0 = id }); outcome = outcome } in (
+    let h : Happened = record { world = v; event = step_on (record { 0 = id }); outcome = outcome } in (
       replies ++ h ∷ [],
-      one_more render w v u replies (events.Step (record { 0 = id })) outcome runs
-          (subst (λ r. Leaves r v (events.Step (record { 0 = id })) u outcome) same happens),
+      one_more render w v u replies (step_on (record { 0 = id })) outcome runs
+          (subst (λ r. Leaves r v (step_on (record { 0 = id })) u outcome) same happens),
       (replies, h, refl, all, (refl, ends)),
       Appends-kept old new kept _ (grown id replies v outcome old mid new p q) keeps,
     )
@@ -154,7 +154,7 @@ step_stopped render w v id old fault is same = subst (StopsNext render w id v ol
 
 cut_of : (render : Renders) (w v : World) (id : ℕ) (old new : Option (List ℕ)) (said : Step) (given : List ℕ) (fault : Fault)
     → Sends (outcomes.Stepped said) → bytes_of said ≡ given
-    → Happens render w (events.Step (record { 0 = id })) v (Ok said) → AppendsPrefix old new given → fault ≡ faults.CannotWrite
+    → Happens render w (step_on (record { 0 = id })) v (Ok said) → AppendsPrefix old new given → fault ≡ faults.CannotWrite
     → StopsNext render w id v old new fault
 cut_of render w v id old new said given fault sends same happens grows is =
     subst (StopsNext render w id v old new) (sym is) (
@@ -167,7 +167,7 @@ cut_of render w v id old new said given fault sends same happens grows is =
 
 pub reply_cut : (render : Renders) (w v : World) (id : ℕ) (old new : Option (List ℕ)) (said : Step) (reply given : List ℕ) (fault : Fault)
     → said ≡ steps.Sent reply
-    → Happens render w (events.Step (record { 0 = id })) v (Ok said) → given ≡ reply → AppendsPrefix old new given
+    → Happens render w (step_on (record { 0 = id })) v (Ok said) → given ≡ reply → AppendsPrefix old new given
     → fault ≡ faults.CannotWrite → StopsNext render w id v old new fault
 reply_cut render w v id old new said reply given fault is happens same grows =
     cut_of render w v id old new said given fault (subst (λ s. Sends (outcomes.Stepped s)) (sym is) tt) (ap bytes_of is
@@ -175,7 +175,7 @@ reply_cut render w v id old new said reply given fault is happens same grows =
 
 pub last_cut : (render : Renders) (w v : World) (id : ℕ) (old new : Option (List ℕ)) (said : Step) (reply given : List ℕ) (fault : Fault)
     → said ≡ steps.Last reply
-    → Happens render w (events.Step (record { 0 = id })) v (Ok said) → given ≡ reply → AppendsPrefix old new given
+    → Happens render w (step_on (record { 0 = id })) v (Ok said) → given ≡ reply → AppendsPrefix old new given
     → fault ≡ faults.CannotWrite → StopsNext render w id v old new fault
 last_cut render w v id old new said reply given fault is happens same grows =
     cut_of render w v id old new said given fault (subst (λ s. Sends (outcomes.Stepped s)) (sym is) tt) (ap bytes_of is
@@ -184,13 +184,13 @@ last_cut render w v id old new said reply given fault is happens same grows =
 -- whole replies, and then a prefix of one more
 cut_off : (id : ℕ) (run : List Happened) (v : World) (outcome : Outcome) (old mid new : Option (List ℕ)) → Appends old mid (sent_on id run)
     → AppendsPrefix mid new (sent_by outcome)
-    → AppendsPrefix old new (sent_on id (run ++ record { world = v; event = events.Step (record { 0 = id }); outcome = outcome } ∷ []))
+    → AppendsPrefix old new (sent_on id (run ++ record { world = v; event = step_on (record { 0 = id }); outcome = outcome } ∷ []))
 cut_off id run v outcome old mid new p (n, q) = (
   length (sent_on id run) + n,
   subst (Appends old new) (
       sym (take-append-add (sent_on id run) (sent_by outcome) n)
       ∙ ap (take (length (sent_on id run) + n))
-      (sym (sent_more id run (record { world = v; event = events.Step (record { 0 = id }); outcome = outcome }) (itself id)))
+      (sym (sent_more id run (record { world = v; event = step_on (record { 0 = id }); outcome = outcome }) (itself id)))
       ) (Appends-trans old mid new (sent_on id run) (take n (sent_by outcome)) p q),
 )
 
@@ -208,12 +208,12 @@ replies_stopped render page w v u id old mid new faults.Refused same sent stops 
 replies_stopped render page w v u id old mid new faults.Memory same (replies, runs, all, p)
     (still, keeps) = (v, (replies, runs, all, Appends-kept old mid new (sent_on id replies) p keeps))
 replies_stopped render page w v u id old mid new faults.CannotWrite same (replies, runs, all, p) (outcome, happens, sends, grows) =
-    let h : Happened = record { world = v; event = events.Step (record { 0 = id }); outcome = outcome } in (
+    let h : Happened = record { world = v; event = step_on (record { 0 = id }); outcome = outcome } in (
       u,
       (
         replies ++ h ∷ [],
-        one_more render w v u replies (events.Step (record { 0 = id })) outcome runs
-            (subst (λ r. Leaves r v (events.Step (record { 0 = id })) u outcome) same happens),
+        one_more render w v u replies (step_on (record { 0 = id })) outcome runs
+            (subst (λ r. Leaves r v (step_on (record { 0 = id })) u outcome) same happens),
         All-push (IsStep id Sends) replies h all (refl, sends),
         cut_off id replies v outcome old mid new p grows,
       ),

@@ -13,8 +13,7 @@ use Rattle.doc_hub.specs.Connections.{finished}
 use Rattle.doc_hub_answers.specs.Replies.{Renders}
 use Rattle.doc_hub.specs.Worlds.{World, answer_in, world_after, with_finished, stepped_by, Stays, Answers, StepsAt}
 use Rattle.doc_hub.specs.Runs.{Happens, Leaves}
-use Rattle.doc_hub.specs.Events.{stepping}
-use Rattle.doc_hub.specs.declared.event.Event.TheVariants as events
+use Rattle.doc_hub.specs.Events.{step_on, stepping}
 use Rattle.doc_hub.specs.declared.outcome.Outcome.{Outcome}
 use Rattle.doc_hub.specs.declared.connection.Connection.{Connection}
 use Rattle.doc_hub.specs.declared.event.Step.{Step}
@@ -100,7 +99,7 @@ module _ (render : Renders) (w v : World) (id : ℕ) where
   by_option said (Some k) h sends = by_closed said k k.closed h sends
 
   -- a step that sends a reply takes unread bytes, and the connection still stands
-  pub reply_takes : (outcome : Outcome) → Leaves render w (events.Step (record { 0 = id })) v outcome → Sends outcome
+  pub reply_takes : (outcome : Outcome) → Leaves render w (step_on (record { 0 = id })) v outcome → Sends outcome
       → Left (unread_len w id) v id
   reply_takes outcome (Err e, h, is) sends = absurd (subst Sends is sends)
   reply_takes outcome (Ok said, h, is) sends = by_option said (map.get w.connections id) h (subst Sends is sends)
@@ -117,7 +116,7 @@ module _ (render : Renders) (w v : World) (id : ℕ) where
   missing_closed k false (next, found, is) = front_answers k next step_errors.NoConnection is
 
   -- a connection that was made is not missing
-  pub not_missing : IsMade w id → Happens render w (events.Step (record { 0 = id })) v (Err step_errors.NoConnection) → ⊥
+  pub not_missing : IsMade w id → Happens render w (step_on (record { 0 = id })) v (Err step_errors.NoConnection) → ⊥
   not_missing (k, is) h = missing_closed k k.closed (subst (StepsAt render w id v (Err step_errors.NoConnection)) is h)
 
   memory_closed : (k : Connection) (closed : Bool)
@@ -130,5 +129,5 @@ module _ (render : Renders) (w v : World) (id : ℕ) where
   memory_option (Some k) h = memory_closed k k.closed h
 
   -- a step that memory stopped leaves the world
-  pub memory_leaves : Happens render w (events.Step (record { 0 = id })) v (Err step_errors.Memory) → v ≡ w
+  pub memory_leaves : Happens render w (step_on (record { 0 = id })) v (Err step_errors.Memory) → v ≡ w
   memory_leaves h = memory_option (map.get w.connections id) h

@@ -6,6 +6,7 @@ use Rattle.doc_hub_answers.specs.Replies.{Renders}
 use Rattle.doc_hub.specs.Worlds.{World}
 use Rattle.doc_hub.specs.Runs.{Happened, Runs, sent_on}
 use Rattle.doc_hub.specs.declared.event.Event.{Event}
+use Rattle.doc_hub.specs.Events.{push_on, step_on}
 use Rattle.doc_hub.specs.declared.event.Event.TheVariants as events
 use Rattle.doc_hub.specs.declared.event.Step.TheVariants as steps
 use Rattle.doc_hub.specs.declared.outcome.Outcome.{Outcome}
@@ -29,7 +30,7 @@ Ends outcome = ⊥
 
 -- a step of this connection, of which something is known
 abbrev pub IsStep : ℕ → (Outcome → Type 0) → Happened → Type 0
-IsStep id Is h = (h.event ≡ events.Step (record { 0 = id })) × Is h.outcome
+IsStep id Is h = (h.event ≡ step_on (record { 0 = id })) × Is h.outcome
 
 -- this event with this outcome
 abbrev pub Was : Event → Outcome → Happened → Type 0
@@ -48,7 +49,7 @@ StepsToEnd id run =
 abbrev pub Opens : List ℕ → List Happened → List Happened → Type 0
 Opens bytes rest run =
     (made taken : Happened) × (run ≡ made ∷ taken ∷ rest)
-    × Was events.Connect (outcomes.Conn (record { 0 = 1 })) made × Was (events.Push (record { 0 = 1 }) bytes) outcomes.Pushed taken
+    × Was events.Connect (outcomes.Conn (record { 0 = 1 })) made × Was (push_on (record { 0 = 1 }) bytes) outcomes.Pushed taken
 
 -- A run from the demonstration world opens the connection with all that the input had left, where that
 -- is known. `Goes` says how it goes on, and `Grows` what becomes of what it sends on the connection.

@@ -5,7 +5,7 @@ use Rattle.std.specs.Io.KnownBytes.{Appends, Keeps}
 use Rattle.doc_hub_answers.specs.Replies.{Renders}
 use Rattle.doc_hub.specs.Worlds.{World}
 use Rattle.doc_hub.specs.Runs.{Leaves, Happened, Runs, sent_by, sent_on}
-use Rattle.doc_hub.specs.declared.event.Event.TheVariants as events
+use Rattle.doc_hub.specs.Events.{step_on}
 use Rattle.doc_hub.specs.declared.outcome.Outcome.{Outcome}
 use Rattle.doc_hub.specs.declared.connection.Connection.{Connection}
 use Rattle.doc_server.specs.Demo.{Sends, Ends, AreReplies, StepsToEnd}
@@ -27,14 +27,14 @@ StopsCall r fault = ⊥
 -- where there was no more.
 abbrev pub SendsNext : Renders → World → ℕ → World → Option (List ℕ) → Option (List ℕ) → Bool → Type 0
 SendsNext render w id v old new more =
-    (outcome : Outcome) × Leaves render w (events.Step (record { 0 = id })) v outcome × MatchBool more (Sends outcome) (Ends outcome)
+    (outcome : Outcome) × Leaves render w (step_on (record { 0 = id })) v outcome × MatchBool more (Sends outcome) (Ends outcome)
     × Appends old new (sent_by outcome)
 
 -- Memory ran out before the step, or its reply was cut off.
 abbrev pub StopsNext : Renders → World → ℕ → World → Option (List ℕ) → Option (List ℕ) → Fault → Type 0
 StopsNext render w id v old new faults.Memory = (v ≡ w) × Keeps old new
 StopsNext render w id v old new faults.CannotWrite =
-    (outcome : Outcome) × Leaves render w (events.Step (record { 0 = id })) v outcome × Sends outcome
+    (outcome : Outcome) × Leaves render w (step_on (record { 0 = id })) v outcome × Sends outcome
     × AppendsPrefix old new (sent_by outcome)
 StopsNext render w id v old new fault = ⊥
 

@@ -2,6 +2,7 @@
 
 ghost use Rattle.std.specs.Prelude.{◌≡◌, true, Some, Ok, IfOk, IfErr, OnOk, OnErr};
 ghost use Rattle.doc_hub.specs.Runs.{Happens};
+ghost use Rattle.doc_hub.specs.Events.{push_on, step_on};
 ghost use Rattle.doc_hub.specs.declared.event.Event.TheVariants as events;
 ghost use Rattle.doc_hub.specs.Worlds.{connected, world_pushed};
 ghost use Rattle.doc_server.specs.Demo.{Demonstrates, StopsDemo};
@@ -85,7 +86,7 @@ fn connect<R: Renderer + Drop>(hub: &mut Hub<R>) -> Result<ConnId, Fault>
 /// Pushes the bytes on a connection.
 fn push<R: Renderer + Drop>(hub: &mut Hub<R>, id: ConnId, bytes: &[u8]) -> Result<(), Fault>
     ensures world { OnOk result
-        (Happens (R.page hub.old.0) hub.old.1 (events.Push id bytes.now) hub.new.1 (Ok tt)) }
+        (Happens (R.page hub.old.0) hub.old.1 (push_on id bytes.now) hub.new.1 (Ok tt)) }
     ensures same { R.page hub.new.0 ≡ R.page hub.old.0 }
     ensures fault { IfErr result (StopsCall (world_pushed hub.old.1 id.0 bytes.now).1) }
 {
@@ -147,7 +148,7 @@ fn write_reply<R: Renderer + Drop, O: Output>(
 fn step<R: Renderer + Drop>(hub: &mut Hub<R>, id: ConnId) -> Result<Step, Fault>
     requires made { IsMade hub.old.1 id.0 }
     ensures world { IfOk result
-        (λ said. Happens (R.page hub.old.0) hub.old.1 (events.Step id) hub.new.1 (Ok said)) }
+        (λ said. Happens (R.page hub.old.0) hub.old.1 (step_on id) hub.new.1 (Ok said)) }
     ensures same { R.page hub.new.0 ≡ R.page hub.old.0 }
     ensures fault { IfErr result (λ fault. fault ≡ Fault.Memory) }
     ensures kept { OnErr result (hub.new.1 ≡ hub.old.1) }

@@ -13,7 +13,7 @@ use Rattle.doc_server_config.specs.Folders.{folders_from}
 
 -- what these parts are
 abbrev pub listening_with : Bounds → List Folder → Listening
-listening_with bounds folders = record { connections = bounds.connections; idle_seconds = bounds.idle_seconds; folders = folders }
+listening_with bounds folders = record { bounds = bounds; folders = folders }
 
 -- the same where the folders may be refused
 abbrev pub with_folders : Bounds → Result (List Folder) ListeningError → Result Listening ListeningError

@@ -82,7 +82,7 @@ impl SiteConfig {
     }
 
     /// The same of a document.
-    fn from_document(heap: Heap, document: &Table) -> Result<SiteConfig, ConfigError>
+    pub(crate) fn from_document(heap: Heap, document: &Table) -> Result<SiteConfig, ConfigError>
         ensures read { IfOk result (λ config.
             config_of_document (table_view document.now) ≡ Ok config) }
         ensures refused { IfErr result (λ e. e ≢ ConfigError.Memory

@@ -8,6 +8,7 @@
 
 pub mod bounds;
 pub mod config;
+pub mod document;
 pub mod file_name;
 pub mod folder;
 pub mod folder_pages;

@@ -4,7 +4,7 @@ ghost use Rattle.std.specs.Prelude.{◌≡◌, ◌≢◌, Ok, Err, IfOk, IfErr};
 ghost use Rattle.toml.specs.View.{table_view};
 ghost use Rattle.doc_server_config.specs.Listenings.{listening_of, listening_of_document};
 
-use crate::bounds::bounds_in;
+use crate::bounds::{Bounds, bounds_in};
 use crate::folder::{Folder, FolderFault, folders_of};
 use doc_page_parts::failure::Memory;
 use doc_page_parts::heap::Heap;
@@ -53,10 +53,8 @@ impl From<Memory> for ListeningError {
 /// What `listen` goes by.
 #[derive(Drop)]
 pub struct Listening {
-    /// How many connections stand at most, 1 to 65,535.
-    pub connections: usize,
-    /// After how many seconds without a byte a connection ends, 1 to 86,400.
-    pub idle_seconds: u64,
+    /// At most 65,535 connections, and a day without a byte.
+    pub bounds: Bounds,
     /// The folders in their order.
     pub folders: List<Folder>,
 }
@@ -81,7 +79,7 @@ impl Listening {
     }
 
     /// The same of a document.
-    fn from_document(heap: Heap, document: &Table) -> Result<Listening, ListeningError>
+    pub(crate) fn from_document(heap: Heap, document: &Table) -> Result<Listening, ListeningError>
         ensures read { IfOk result (λ listening.
             listening_of_document (table_view document.now) ≡ Ok listening) }
         ensures refused { IfErr result (λ e. e ≢ ListeningError.Memory
@@ -92,10 +90,6 @@ impl Listening {
             return Err(ListeningError::BadFolders);
         };
         let folders = folders_of(heap, tables)?;
-        Ok(Listening {
-            connections: bounds.connections,
-            idle_seconds: bounds.idle_seconds,
-            folders,
-        })
+        Ok(Listening { bounds, folders })
     }
 }

@@ -1,5 +1,5 @@
 -- How a run of changes of a file goes on.
-use Rattle.std.proofs.Common.{◌≡◌, inl, inr, ⊎_elim, ℕ, List, Option, Some, None, Result, Ok, Err, OnOk, IsErr, IsErrAnd, refl, subst, arith, IfSome}
+use Rattle.std.proofs.Common.{◌≡◌, inl, inr, ⊎_elim, ℕ, List, Option, Some, None, Result, Err, IsErrAnd, refl, subst, arith, IfSome}
 use Rattle.std.specs.Option.{option_map}
 use Rattle.doc_server_journal.specs.Devices.{Elapses, Follows, LeavesOnly, Stepped}
 
@@ -14,11 +14,6 @@ known {X} o x P is said = let Q : Option X → Type 0 = λ v. IfSome v P in subs
 pub if_mapped : {X Y : Type 0} (f : X → Y) (o : Option X) (P : Y → Type 0) → ((x : X) → o ≡ Some x → P (f x)) → IfSome (option_map f o) P
 if_mapped f None P g = tt
 if_mapped f (Some x) P g = g x refl
-
--- of a result that is an error nothing is said
-pub no_ok : {X E : Type 0} (r : Result X E) (P : Type 0) → IsErr r → OnOk r P
-no_ok (Ok x) P is = absurd cc
-no_ok (Err e) P is = tt
 
 -- nor of one that is another error
 pub other_error : {X E P : Type 0} (r : Result X E) (e f : E) → IsErrAnd r (λ x. x ≡ e) → (f ≡ e → ⊥) → r ≡ Err f → P

@@ -2,13 +2,14 @@
 use Rattle.std.proofs.Common.{◌≡◌, ℕ, List, [], ◌∷◌, ◌++◌, refl, sym, ap, ◌∙◌, subst, append-nil, append_assoc}
 use Rattle.std.proofs.lemmas.Grind.{flat_map-append}
 use Rattle.std.specs.Prelude.{Option, Some, None, Result, option_map, option_to_list}
-use Rattle.doc_store.specs.Store.{Edit as SiteEdit}
-use Rattle.doc_hub.specs.Events.{stepping}
+use Rattle.doc_store.specs.declared.site_edit.SiteEdit.{SiteEdit}
+use Rattle.doc_hub.specs.Events.{disconnect_on, step_on, stepping}
 use Rattle.doc_hub_answers.specs.Replies.{Renders}
 use Rattle.doc_hub.specs.Runs.{Happened, Runs, nothing, first}
 use Rattle.doc_hub.specs.Worlds.{World}
 use Rattle.doc_hub.specs.declared.event.ConnId.{ConnId}
 use Rattle.doc_hub.specs.declared.event.Event.{Event}
+use Rattle.doc_hub.specs.declared.event.ConnectionEvent.TheVariants as calls
 use Rattle.doc_hub.specs.declared.event.Event.TheVariants as events
 use Rattle.doc_hub.specs.declared.event.Step.{Step}
 use Rattle.doc_hub.specs.declared.outcome.Outcome.{Outcome}
@@ -80,15 +81,10 @@ quiet_join [] ys one two = two
 quiet_join (h ∷ xs) ys one two = (one.0, quiet_join xs ys one.1 two)
 
 quiet_one : (render : Renders) (w v : World) (event : Event) (outcome : Outcome) → IsQuiet event → MakesIn render w event outcome v None
-quiet_one render w v (events.Push id bytes) outcome q = refl
-quiet_one render w v (events.Disconnect id) outcome q = refl
-quiet_one render w v events.Connect outcome q = absurd q
-quiet_one render w v (events.Step id) outcome q = absurd q
-quiet_one render w v (events.Put path groups text) outcome q = absurd q
-quiet_one render w v (events.Remove path) outcome q = absurd q
-quiet_one render w v (events.MovePage from to) outcome q = absurd q
-quiet_one render w v (events.SetReader token reader) outcome q = absurd q
-quiet_one render w v (events.RemoveReader token) outcome q = absurd q
+quiet_one render w v (events.On id (calls.Push bytes)) outcome q = refl
+quiet_one render w v (events.On id calls.Disconnect) outcome q = refl
+quiet_one render w v (events.On id calls.Step) outcome q = absurd q
+quiet_one render w v event outcome q = absurd q
 
 abbrev nones : List Happened → List (Option SiteEdit)
 nones [] = []
@@ -114,11 +110,11 @@ quiet_records render run v a q = record {
 -- what a step is known to make and to add
 abbrev pub Told : Renders → World → ConnId → Result Step StepError → World → Kept → Kept → Type 0
 Told render w id said v a b =
-    (edit : Option SiteEdit) × MakesIn render w (events.Step id) (stepping said) v edit × Adds a b (option_to_list edit)
+    (edit : Option SiteEdit) × MakesIn render w (step_on id) (stepping said) v edit × Adds a b (option_to_list edit)
 
 pub step_records : (render : Renders) (w v : World) (id : ConnId) (said : Result Step StepError) (a b : Kept)
     → Told render w id said v a b
-    → Records render (record { world = w; event = events.Step id; outcome = stepping said } ∷ []) v a b
+    → Records render (record { world = w; event = step_on id; outcome = stepping said } ∷ []) v a b
 step_records render w v id said a b (edit, made, adds) = record {
   edits = edit ∷ [];
   made = (made, tt);
@@ -128,8 +124,8 @@ step_records render w v id said a b (edit, made, adds) = record {
 -- and the connection is dropped
 pub last_records : (render : Renders) (w v u : World) (id other : ConnId) (said : Result Step StepError) (outcome : Outcome) (a b : Kept)
     → Told render w id said v a b
-    → Records render (record { world = w; event = events.Step id; outcome = stepping said }
-    ∷ record { world = v; event = events.Disconnect other; outcome = outcome } ∷ []) u a b
+    → Records render (record { world = w; event = step_on id; outcome = stepping said }
+    ∷ record { world = v; event = disconnect_on other; outcome = outcome } ∷ []) u a b
 last_records render w v u id other said outcome a b (edit, made, adds) = record {
   edits = edit ∷ None ∷ [];
   made = (made, (refl, tt));

@@ -15,7 +15,7 @@ use Rattle.doc_hub.specs.StepLaws.{connection}
 use Rattle.doc_hub.specs.Worlds.{World}
 use Rattle.doc_hub.specs.declared.event.ConnId.{ConnId}
 use Rattle.doc_hub.specs.declared.event.Event.{Event}
-use Rattle.doc_hub.specs.declared.event.Event.TheVariants as events
+use Rattle.doc_hub.specs.Events.{disconnect_on, step_on}
 use Rattle.doc_hub.specs.declared.event.Step.TheVariants as steps
 use Rattle.doc_hub.specs.declared.outcome.Outcome.{Outcome}
 use Rattle.doc_hub.specs.declared.outcome.Outcome.TheVariants as outcomes
@@ -143,7 +143,7 @@ module _ (render : Renders) where
 
   -- ---- the disconnect, behind a run on the connection
 
-  pub disconnect_drops : (w v : World) (id : ConnId) (said : Bool) → Happens render w (events.Disconnect id) v said
+  pub disconnect_drops : (w v : World) (id : ConnId) (said : Bool) → Happens render w (disconnect_on id) v said
       → connection id.0 v ≡ None
   disconnect_drops w v id said h =
       subst (λ (r : World × Bool). connection id.0 r.0 ≡ None) h
@@ -151,11 +151,11 @@ module _ (render : Renders) where
       ∙ ap (λ t. cond t None (connection id.0 w)) (unsigned_tied id.0 id.0 ∙ itself id.0))
 
   module _ (w v u : World) (p q : Peer) (xs : List Happened) (id : ConnId) (said : Bool) (own : id.0 ≡ p.id)
-      (runs : Runs render w xs v) (all : AreOf p.id xs) (drops : Happens render v (events.Disconnect id) u said) where
+      (runs : Runs render w xs v) (all : AreOf p.id xs) (drops : Happens render v (disconnect_on id) u said) where
     abbrev drop_one : Happened
-    drop_one = happened v (events.Disconnect id) (outcomes.Disconnected said)
+    drop_one = happened v (disconnect_on id) (outcomes.Disconnected said)
 
-    pub on_own : served_by (events.Disconnect id) ≡ Some p.id
+    pub on_own : served_by (disconnect_on id) ≡ Some p.id
     on_own = ap Some own
 
     abbrev ys : List Happened
@@ -182,7 +182,7 @@ module _ (render : Renders) where
         → KeepsBound p.id xs p q → (p.failed ≡ true → q.failed ≡ true) → Closes p.id xs q → Serves render w p u q
     drops_client opened shut id_same (lost, takes) gives few fails why = record {
       run = xs ++ ys;
-      runs = runs_join render w v u xs ys runs (first v u u (events.Disconnect id) (outcomes.Disconnected said) [] (said, drops, refl)
+      runs = runs_join render w v u xs ys runs (first v u u (disconnect_on id) (outcomes.Disconnected said) [] (said, drops, refl)
           (nothing u));
       own = All-append (λ h. served_by h.event ≡ Some p.id) xs ys all
           (All-cons (λ h. served_by h.event ≡ Some p.id) drop_one [] on_own (All-nil (λ h. served_by h.event ≡ Some p.id)));
@@ -199,7 +199,7 @@ module _ (render : Renders) where
 
   -- a client closes behind no event
   abbrev pub drops_only : (w u : World) (p q : Peer) (id : ConnId) (said : Bool) → id.0 ≡ p.id
-      → Happens render w (events.Disconnect id) u said
+      → Happens render w (disconnect_on id) u said
       → p.is_open ≡ true → q.is_open ≡ false → q.id ≡ p.id → Consumes p.unread q.unread []
       → HandsOver p.written q.written p.pending q.pending → (p.failed ≡ true → q.failed ≡ true) → (q.failed ≡ true) ⊎ IsAtEnd q.unread
       → Serves render w p u q
@@ -209,7 +209,7 @@ module _ (render : Renders) where
 
   -- a client closes behind one event
   abbrev pub drops_after : (w v u : World) (p q : Peer) (event : Event) (outcome : Outcome) (id : ConnId) (said : Bool) → id.0 ≡ p.id
-      → served_by event ≡ Some p.id → Leaves render w event v outcome → Happens render v (events.Disconnect id) u said
+      → served_by event ≡ Some p.id → Leaves render w event v outcome → Happens render v (disconnect_on id) u said
       → p.is_open ≡ true → q.is_open ≡ false → q.id ≡ p.id
       → (lost : List ℕ) × Consumes p.unread q.unread (pushed_by event outcome ++ lost) → q.written ≡ p.written
       → q.pending ≡ p.pending ++ sent_by outcome → length p.pending < most_pending ⊎ (sent_by outcome ≡ [])
@@ -228,11 +228,11 @@ module _ (render : Renders) where
 
   -- a step sends a reply that waits
   abbrev pub replied : (w v : World) (p q : Peer) (id : ConnId) (bytes : List ℕ) → id.0 ≡ p.id
-      → Happens render w (events.Step id) v (Ok (steps.Sent bytes)) → p.is_open ≡ true → q.is_open ≡ true → q.id ≡ p.id
+      → Happens render w (step_on id) v (Ok (steps.Sent bytes)) → p.is_open ≡ true → q.is_open ≡ true → q.id ≡ p.id
       → q.unread ≡ p.unread → q.written ≡ p.written → q.pending ≡ p.pending ++ bytes → length p.pending < most_pending
       → (p.failed ≡ true → q.failed ≡ true) → Serves render w p v q
   replied w v p q id bytes own h opened stays same unread written waits room fails =
-      one_event w v p q (events.Step id) (outcomes.Stepped (steps.Sent bytes)) (ap Some own) (Ok (steps.Sent bytes), h, refl) opened stays
+      one_event w v p q (step_on id) (outcomes.Stepped (steps.Sent bytes)) (ap Some own) (Ok (steps.Sent bytes), h, refl) opened stays
       same
       (subst (λ l. Consumes p.unread l []) (sym unread) (Consumes-nil p.unread)) (out_waits p q bytes written waits)
       (inr (waits_few p q bytes waits room)) fails
@@ -261,15 +261,15 @@ module _ (render : Renders) where
   }
 
   -- and one that is closed now
-  abbrev pub cut_now : (w v : World) (p q : Peer) (id : ConnId) (said : Bool) → id.0 ≡ p.id → Happens render w (events.Disconnect id) v said
+  abbrev pub cut_now : (w v : World) (p q : Peer) (id : ConnId) (said : Bool) → id.0 ≡ p.id → Happens render w (disconnect_on id) v said
       → q ≡ record p { is_open = false } → Cuts render w p v q
   cut_now w v p q id said own drops same = record {
-    run = happened w (events.Disconnect id) (outcomes.Disconnected said) ∷ [];
-    runs = runs_one w v p q (events.Disconnect id) (outcomes.Disconnected said) (ap Some own) (said, drops, refl);
-    own = own_one w v p q (events.Disconnect id) (outcomes.Disconnected said) (ap Some own) (said, drops, refl);
+    run = happened w (disconnect_on id) (outcomes.Disconnected said) ∷ [];
+    runs = runs_one w v p q (disconnect_on id) (outcomes.Disconnected said) (ap Some own) (said, drops, refl);
+    own = own_one w v p q (disconnect_on id) (outcomes.Disconnected said) (ap Some own) (said, drops, refl);
     quiet = (tt, tt);
-    pushes = one_pushes p.id (happened w (events.Disconnect id) (outcomes.Disconnected said)) (ap Some own);
-    sends = one_sends p.id (happened w (events.Disconnect id) (outcomes.Disconnected said)) (ap Some own);
+    pushes = one_pushes p.id (happened w (disconnect_on id) (outcomes.Disconnected said)) (ap Some own);
+    sends = one_sends p.id (happened w (disconnect_on id) (outcomes.Disconnected said)) (ap Some own);
     closed = same;
     drops = λ opened. subst (λ c. connection c v ≡ None) own (disconnect_drops w v id said drops);
   }

@@ -1,5 +1,5 @@
--- Clients that are done, and clients that are closed before their time.
-use Rattle.std.specs.Prelude.{◌≡◌, ◌⊎◌, List, [], true, false, None}
+-- Clients that are closed before their time.
+use Rattle.std.specs.Prelude.{◌≡◌, List, [], true, false, None}
 use Rattle.doc_hub_answers.specs.Replies.{Renders}
 use Rattle.doc_hub.specs.Runs.{Happened, Runs, sent_on}
 use Rattle.doc_hub.specs.StepLaws.{connection}
@@ -7,10 +7,6 @@ use Rattle.doc_hub.specs.Worlds.{World}
 use Rattle.doc_server_rounds.specs.Served.{AreOf, pushed_on}
 use Rattle.doc_server_listen.specs.Edits.{AreQuiet}
 use Rattle.doc_server_listen.specs.Peers.{Peer}
-
--- it is closed, and nothing is left to hand over, or its stream failed
-abbrev pub IsDone : Peer → Type 0
-IsDone p = (p.is_open ≡ false) × ((p.pending ≡ []) ⊎ (p.failed ≡ true))
 
 -- A client is closed, whatever it was about to do: its connection is dropped, and nothing is read, sent or handed over by that.
 pub record Cuts (render : Renders) (w : World) (p : Peer) (v : World) (q : Peer) : Type 0 where

@@ -1,19 +1,24 @@
 -- The edits of a run, and their lines.
-use Rattle.std.specs.Prelude.{◌≡◌, ⊤, ℕ, List, [], ◌∷◌, ◌++◌, Bool, true, Option, Some, None, option_map, option_to_list}
+use Rattle.std.specs.Prelude.{◌≡◌, ◌≤◌, ⊤, ℕ, ◌+◌, List, [], ◌∷◌, ◌++◌, length, Bool, true, ◌&&◌, nat_le, Option, Some, None, IfSome}
+use Rattle.std.specs.Prelude.{option_map, option_to_list}
 use Rattle.std.specs.FinMap as map
 use Rattle.std.specs.List.{flat_map}
-use Rattle.doc_store.specs.Store.{Edit as SiteEdit, set_page, remove_page}
+use Rattle.doc_store.specs.Store.{set_page, remove_page}
+use Rattle.doc_store.specs.declared.site_edit.SiteEdit.{SiteEdit}
 use Rattle.doc_hub.specs.EditLaws.{Makes}
 use Rattle.doc_hub_answers.specs.Replies.{Renders}
 use Rattle.doc_hub.specs.Runs.{Happened}
 use Rattle.doc_hub.specs.StepEdits.{StepTells}
 use Rattle.doc_hub.specs.Worlds.{World}
-use Rattle.doc_hub.specs.declared.edited.Edited.{Edited}
-use Rattle.doc_hub.specs.declared.edited.Edited.TheVariants as edited
+use Rattle.doc_hub_answers.specs.declared.edit.Edit.{Edit}
+use Rattle.doc_hub_answers.specs.declared.edit.Edit.TheVariants as edits
 use Rattle.doc_hub.specs.declared.event.Event.{Event}
+use Rattle.doc_hub.specs.declared.event.ConnectionEvent.TheVariants as calls
 use Rattle.doc_hub.specs.declared.event.Event.TheVariants as events
 use Rattle.doc_hub.specs.declared.outcome.Outcome.{Outcome}
 use Rattle.doc_hub.specs.declared.outcome.Outcome.TheVariants as outcomes
+use Rattle.doc_server_journal_records.specs.Records.{text_limit}
+use Rattle.doc_server_script.specs.LineLengths.{longest_line}
 use Rattle.doc_server_script.specs.PageLines.{lines_of}
 
 -- the lines of edits, where they are kept, and whether none is missing
@@ -21,15 +26,27 @@ pub record Kept : Type 0 where
   pub lines : Option (List ℕ)
   pub is_whole : Bool
 
+-- where none is missing, a record takes the lines
+abbrev pub FitsRecord : Kept → Type 0
+FitsRecord kept = kept.is_whole ≡ true → IfSome kept.lines (λ lines. length lines ≤ text_limit)
+
+abbrev pub room_beside : Bool → Option (List ℕ) → Bool
+room_beside is_whole None = true
+room_beside is_whole (Some lines) = is_whole && nat_le (length lines + longest_line) text_limit
+
+-- Whether one more edit may be made: where lines are kept none is missing, and a record takes the longest line beside them.
+abbrev pub has_room : Kept → Bool
+has_room kept = room_beside kept.is_whole kept.lines
+
 -- the edit that a step tells, with the page that stands under the path in the world behind it
-abbrev pub edit_at : World → Option Edited → Option SiteEdit
+abbrev pub edit_at : World → Option Edit → Option SiteEdit
 edit_at v None = None
-edit_at v (Some (edited.Put path)) = option_map (set_page path) (map.get v.site.pages path)
-edit_at v (Some (edited.Removed path)) = Some (remove_page path)
+edit_at v (Some (edits.Put path groups)) = option_map (set_page path) (map.get v.site.pages path)
+edit_at v (Some (edits.Remove path)) = Some (remove_page path)
 
 -- the edit that an event makes which leaves this world: a step that which it tells
 abbrev pub MakesIn : Renders → World → Event → Outcome → World → Option SiteEdit → Type 0
-MakesIn render w (events.Step id) (outcomes.Stepped said) v edit = (told : Option Edited) × StepTells render w id.0 told
+MakesIn render w (events.On id calls.Step) (outcomes.Stepped said) v edit = (told : Option Edit) × StepTells render w id.0 told
     × (edit ≡ edit_at v told)
 MakesIn render w event outcome v edit = Makes render w event outcome edit
 
@@ -61,8 +78,8 @@ pub record Records (render : Renders) (run : List Happened) (v : World) (old new
 
 -- an event that makes no edit, whatever comes of it
 abbrev pub IsQuiet : Event → Type 0
-IsQuiet (events.Push id bytes) = ⊤
-IsQuiet (events.Disconnect id) = ⊤
+IsQuiet (events.On id calls.Step) = ⊥
+IsQuiet (events.On id call) = ⊤
 IsQuiet event = ⊥
 
 abbrev pub AreQuiet : List Happened → Type 0

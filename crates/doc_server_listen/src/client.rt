@@ -2,11 +2,12 @@
 
 ghost use Rattle.std.specs.Prelude.{◌≡◌, ◌≤◌, ◌<◌, ◌+◌, [], true, false, length, IfErr, IfOk, IfSome, Ok, Err};
 ghost use Rattle.doc_hub.specs.Runs.{Happens};
+ghost use Rattle.doc_hub.specs.Events.{disconnect_on};
 ghost use Rattle.doc_hub.specs.declared.event.Event.TheVariants as events;
 ghost use Rattle.doc_hub_answers.specs.Replies.{Renders};
 ghost use Rattle.doc_hub.specs.Worlds.{World, disconnected};
-ghost use Rattle.doc_server_listen.specs.Closing.{Cuts, IsDone};
-ghost use Rattle.doc_server_listen.specs.Edits.{AreQuiet, Records};
+ghost use Rattle.doc_server_listen.specs.Closing.{Cuts};
+ghost use Rattle.doc_server_listen.specs.Edits.{AreQuiet, Records, has_room};
 ghost use Rattle.doc_server_listen.specs.Peers.{most_pending};
 ghost use Rattle.doc_server_listen.specs.Served.{HandsOver, Serves};
 
@@ -120,18 +121,6 @@ impl<S: Channel + Drop> Client<S> {
         ensures { result ≡ false → self.now.pending ≡ [] }
     {
         !self.replies.is_empty()
-    }
-
-    /// Whether it is closed and all that can be is handed over, so that nothing is left to do for it.
-    pub fn is_done(&self) -> bool
-        ensures done { result ≡ true → IsDone self.now }
-        ensures failed { self.now.failed ≡ true → result ≡ true }
-    {
-        match self.stage {
-            Stage::Reads | Stage::Steps => false,
-            Stage::Ends => self.replies.is_empty(),
-            Stage::Broken => true,
-        }
     }
 
     /// Closes a client, whatever it was about to do. What is pending may still be handed over.
@@ -270,6 +259,7 @@ impl<S: Channel + Drop> Client<S> {
     fn step<R: Renderer + Drop>(&mut self, hub: &mut Hub<R>, edits: &mut EditLines) -> Option<usize>
         requires open { self.old.is_open ≡ true }
         requires room { length self.old.pending < most_pending }
+        requires further { has_room edits.old ≡ true }
         ensures serves { (s : Serves (R.page hub.old.0) hub.old.1 self.old hub.new.1 self.new)
             × Records (R.page hub.old.0) s.run hub.new.1 edits.old edits.new }
         ensures written { self.new.written ≡ self.old.written }
@@ -312,7 +302,7 @@ impl<S: Channel + Drop> Client<S> {
 /// Drops the connection of a client, which comes to this stage by that.
 fn dropped<R: Renderer + Drop>(hub: &mut Hub<R>, id: ConnId, stage: Stage) -> Stage
     ensures stage { result ≡ stage }
-    ensures world { Happens (R.page hub.old.0) hub.old.1 (events.Disconnect id) hub.new.1
+    ensures world { Happens (R.page hub.old.0) hub.old.1 (disconnect_on id) hub.new.1
         (disconnected hub.old.1 id.0).1 }
     ensures same { R.page hub.new.0 ≡ R.page hub.old.0 }
 {

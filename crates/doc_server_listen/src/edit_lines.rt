@@ -1,33 +1,47 @@
 //! The edits of a turn as lines of a script.
 
-ghost use Rattle.std.specs.Prelude.{◌≡◌, ◌++◌, [], None, Some, true, option_to_list, string_bytes, IfSome, MatchOption, OnOk, OnErr};
-ghost use Rattle.std.specs.Io.{StartsWith};
-ghost use Rattle.doc_store.specs.Store.{set_page};
-ghost use Rattle.doc_hub.specs.Events.{stepping};
+ghost use Rattle.std.specs.Prelude.{◌≡◌, ◌≤◌, ◌++◌, [], None, Some, true, length, option_to_list, string_bytes, IfSome, OnOk};
+ghost use Rattle.doc_hub.specs.Events.{step_on, stepping};
 ghost use Rattle.doc_hub.specs.Runs.{Happens};
-ghost use Rattle.doc_hub.specs.declared.event.Event.TheVariants as events;
-ghost use Rattle.doc_server_script.specs.PageLines.{line_of, lines_of};
-ghost use Rattle.doc_server_listen.specs.Edits.{Adds, MakesIn, edit_at};
+ghost use Rattle.doc_server_journal_records.specs.Records.{text_limit};
+ghost use Rattle.doc_server_script.specs.LineLengths.{IsWithin};
+ghost use Rattle.doc_server_script.specs.PageLines.{lines_of};
+ghost use Rattle.doc_server_listen.specs.Edits.{Adds, MakesIn, edit_at, has_room};
 
-use doc_hub::edited::Edited;
 use doc_hub::event::{ConnId, Step};
 use doc_hub::hub::Hub;
 use doc_hub::refusal::StepError;
+use doc_hub_answers::edit::Edit;
 use doc_page::renderer::Renderer;
 use doc_page_parts::failure::Memory;
 use doc_page_parts::heap::{Heap, String};
-use doc_page_parts::path::Path;
 use doc_server_journal_records::record::TEXT_LIMIT;
-use doc_server_script::edit::push_put;
-use doc_server_script::page_lines::push_remove_line;
-use doc_store::page::Page;
+use doc_server_script::page_lines::{push_put_line, push_remove_line};
 use std::marker::Model;
 
-/// Up to how many bytes a further step is taken: behind so many the line of one more edit ends within a record. The longest has 4,196,166
-/// bytes: a text of 1 MiB and a path of 200 bytes, each byte of both written with 4, 32 names of groups with 32 bytes each, and 38 between.
-const MOST_BYTES: usize = TEXT_LIMIT - 4_200_000;
+/// How many bytes a path may have.
+const PATH_LIMIT: usize = 200;
 
-/// The lines of the edits of a turn, where they are kept. Once memory ran out it isn't whole any more.
+/// How many groups a page may have.
+const GROUP_LIMIT: usize = 32;
+
+/// How many bytes the name of a group may have.
+const NAME_LIMIT: usize = 32;
+
+/// How many bytes the text of a page may have: 1 MiB.
+const PAGE_LIMIT: usize = 1_048_576;
+
+/// The longest line of an edit: `put `, a path, the names of groups and a text, with what stands behind each of them. Each byte of the path
+/// and of the text is written with four.
+const LONGEST_LINE: usize = 4
+    + (4 * PATH_LIMIT + 1)
+    + GROUP_LIMIT * (NAME_LIMIT + 1)
+    + (4 * PAGE_LIMIT + 1);
+
+/// Up to how many bytes a further step is taken: behind so many the line of one more edit ends within a record.
+const MOST_BYTES: usize = TEXT_LIMIT - LONGEST_LINE;
+
+/// The lines of the edits of a turn, where they are kept. Once memory ran out it isn't whole any more; until then a record takes them.
 #[derive(Drop)]
 pub struct EditLines {
     lines: Option<String>,
@@ -36,11 +50,14 @@ pub struct EditLines {
 
 impl Model for EditLines {
     ghost use Rattle.std.specs.Prelude.{option_map, string_bytes};
-    ghost use Rattle.doc_server_listen.specs.Edits.{Kept};
+    ghost use Rattle.doc_server_listen.specs.Edits.{Kept, FitsRecord};
 
     ghost Value = { Kept };
 
     ghost view = { λ e. record { lines = option_map string_bytes e.lines; is_whole = e.whole } };
+
+    ghost invariant = { λ e. FitsRecord
+        (record { lines = option_map string_bytes e.lines; is_whole = e.whole }) };
 }
 
 impl EditLines {
@@ -67,7 +84,8 @@ impl EditLines {
     /// The lines, where they are kept and none is missing.
     pub fn whole_lines(&self) -> Option<&str>
         ensures { IfSome result (λ lines.
-            (self.now.is_whole ≡ true) × (self.now.lines ≡ Some lines.now)) }
+            (self.now.is_whole ≡ true) × (self.now.lines ≡ Some lines.now)
+            × (length lines.now ≤ text_limit)) }
     {
         if !self.whole {
             return None;
@@ -79,7 +97,10 @@ impl EditLines {
     }
 
     /// Whether one more edit may be made: none is missing, and its line has room in the record of the turn.
-    pub fn has_room(&self) -> bool {
+    #[tactic(auto, unfolding(doc_server_journal_records::specs::Records::text_limit, doc_server_script::specs::LineLengths::longest_line, doc_store::specs::Store::text_limit))]
+    pub fn has_room(&self) -> bool
+        ensures { result ≡ has_room self.now }
+    {
         match &self.lines {
             Some(lines) => self.whole && lines.len() <= MOST_BYTES,
             None => true,
@@ -87,7 +108,9 @@ impl EditLines {
     }
 
     /// Adds the line of an edit that a step of the hub made, where it stands now.
-    fn push<R: Renderer + Drop>(&mut self, hub: &Hub<R>, edit: &Option<Edited>)
+    fn push<R: Renderer + Drop>(&mut self, hub: &Hub<R>, edit: &Option<Edit>)
+        requires room { has_room self.old ≡ true }
+        requires within { IfSome (edit_at hub.now.1 edit.now) IsWithin }
         ensures { Adds self.old self.new (option_to_list (edit_at hub.now.1 edit.now)) }
     {
         let Some(lines) = &mut self.lines else {
@@ -100,13 +123,15 @@ impl EditLines {
 }
 
 /// One step of a connection, and the line of its edit right behind it.
-pub fn step_and_keep<R: Renderer + Drop>(
+#[tactic(auto, using(crate::proofs::StepLimits::told_within))]
+pub(crate) fn step_and_keep<R: Renderer + Drop>(
     hub: &mut Hub<R>,
     id: ConnId,
     edits: &mut EditLines,
 ) -> Result<Step, StepError>
-    ensures world { Happens (R.page hub.old.0) hub.old.1 (events.Step id) hub.new.1 result }
-    ensures edit { (edit : _) × MakesIn (R.page hub.old.0) hub.old.1 (events.Step id)
+    requires { has_room edits.old ≡ true }
+    ensures world { Happens (R.page hub.old.0) hub.old.1 (step_on id) hub.new.1 result }
+    ensures edit { (edit : _) × MakesIn (R.page hub.old.0) hub.old.1 (step_on id)
         (stepping result) hub.new.1 edit × Adds edits.old edits.new (option_to_list edit) }
     ensures same { R.page hub.new.0 ≡ R.page hub.old.0 }
 {
@@ -119,27 +144,17 @@ pub fn step_and_keep<R: Renderer + Drop>(
 fn push_edit<R: Renderer + Drop>(
     out: &mut String,
     hub: &Hub<R>,
-    edit: &Option<Edited>,
+    edit: &Option<Edit>,
 ) -> Result<(), Memory>
     ensures { OnOk result (string_bytes out.new ≡ string_bytes out.old
         ++ lines_of (option_to_list (edit_at hub.now.1 edit.now))) }
 {
     match edit {
         None => Ok(()),
-        Some(Edited::Put(path)) => match hub.page(path) {
+        Some(Edit::Put(path, _)) => match hub.page(path) {
             Some(page) => push_put_line(out, path, page),
             None => Ok(()),
         },
-        Some(Edited::Removed(path)) => push_remove_line(out, path),
+        Some(Edit::Remove(path)) => push_remove_line(out, path),
     }
-}
-
-#[tactic(auto, using(doc_page_parts::proofs::BufferSteps::front_same, doc_page_parts::proofs::BufferSteps::front_more))]
-fn push_put_line(out: &mut String, path: &Path, page: &Page) -> Result<(), Memory>
-    ensures { OnOk result (string_bytes out.new
-        ≡ string_bytes out.old ++ line_of (set_page path.now page.now.page)) }
-{
-    push_put(out, path, page.groups(), page.text())?;
-    out.push_str("\n")?;
-    Ok(())
 }

@@ -50,14 +50,8 @@ none_is m e = cc
 
 pub of_peers : (event : Event) (c : ℕ) → served_by event ≡ Some c → IsOfPeers event
 of_peers events.Connect c is = tt
-of_peers (events.Push id bytes) c is = tt
-of_peers (events.Step id) c is = tt
-of_peers (events.Disconnect id) c is = tt
-of_peers (events.Put path groups text) c is = none_is c is
-of_peers (events.Remove path) c is = none_is c is
-of_peers (events.MovePage from to) c is = none_is c is
-of_peers (events.SetReader token reader) c is = none_is c is
-of_peers (events.RemoveReader token) c is = none_is c is
+of_peers (events.On id call) c is = tt
+of_peers event c is = absurd (none_is c is)
 
 abbrev pub leads_served : (render : Renders) (w v : World) (ps qs : List Peer) → ServesAll render w ps v qs → Leads render w v
 leads_served render w v ps qs s = record {

@@ -15,9 +15,7 @@ pub record Serving : Type 0 where
 -- a connect, a push, a step or a disconnect
 abbrev pub IsOfPeers : Event → Type 0
 IsOfPeers events.Connect = ⊤
-IsOfPeers (events.Push id bytes) = ⊤
-IsOfPeers (events.Step id) = ⊤
-IsOfPeers (events.Disconnect id) = ⊤
+IsOfPeers (events.On id call) = ⊤
 IsOfPeers event = ⊥
 
 -- a run of such events leads from one world to the other

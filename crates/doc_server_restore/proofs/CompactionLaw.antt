@@ -3,7 +3,9 @@ use Rattle.std.proofs.Common.{◌≡◌, ℕ, ◌+◌, List, [], ◌∷◌, ◌+
 use Rattle.std.specs.Prelude.{map as mapped, Option, Some, None, option_map, Ok, if◌then◌else◌}
 use Rattle.std.specs.FinMap as map
 use Rattle.std.specs.Option.{ok_or}
-use Rattle.doc_store.specs.Store.{Edit, set_page, remove_page, move_page, StoreState, effect_of}
+use Rattle.doc_store.specs.Store.{set_page, remove_page, move_page, StoreState, effect_of}
+use Rattle.doc_store.specs.declared.site_edit.SiteEdit.{SiteEdit}
+use Rattle.doc_store.specs.declared.site_edit.SiteEdit.TheVariants as site_edits
 use Rattle.doc_server_script.proofs.ReplayLaw.{replay_gives_the_site}
 use Rattle.doc_server_script.specs.Compactions.{compacted}
 use Rattle.doc_server_script.specs.PageLines.{lines_of}
@@ -19,9 +21,9 @@ use Rattle.doc_server_restore.proofs.RecordSteps.{as_onto}
 
 -- ---- stamps decide nothing
 
-made_unstamped : (store : StoreState) (edit : Edit) → made (unstamped store) edit ≡ made store edit
-made_unstamped store (set_page path page) = store_put store path page
-made_unstamped store (remove_page path) = by (map.contains_key store.site.pages path)
+made_unstamped : (store : StoreState) (edit : SiteEdit) → made (unstamped store) edit ≡ made store edit
+made_unstamped store (site_edits.Put path groups text) = store_put store path (record { groups = groups; text = text })
+made_unstamped store (site_edits.Remove path) = by (map.contains_key store.site.pages path)
   where
     by : (b : Bool) → option_map unstamped (if b then Some (if b then (record {
       site = effect_of store.site (remove_page path);
@@ -34,24 +36,24 @@ made_unstamped store (remove_page path) = by (map.contains_key store.site.pages 
     }) else store) else None)
     by true = refl
     by false = refl
-made_unstamped store (move_page from to) = store_moved store from to
+made_unstamped store (site_edits.Move from to) = store_moved store from to
 
 -- ---- edits one after the other
 
-abbrev behind : List Edit → Option StoreState → Option StoreState
+abbrev behind : List SiteEdit → Option StoreState → Option StoreState
 behind edits None = None
 behind edits (Some next) = all_made next edits
 
-as_behind : (edits : List Edit) (mid : Option StoreState)
+as_behind : (edits : List SiteEdit) (mid : Option StoreState)
     → ◌≡◌ {A = Option StoreState} (elim mid [ None ↦ None | Some next ↦ all_made next edits ]) (behind edits mid)
 as_behind edits None = refl
 as_behind edits (Some next) = refl
 
-none_replayed : (edits : List Edit) → replayed None edits ≡ None
+none_replayed : (edits : List SiteEdit) → replayed None edits ≡ None
 none_replayed [] = refl
 none_replayed (edit ∷ edits) = refl
 
-all_replayed : (edits : List Edit) (store : StoreState) → all_made (unstamped store) edits
+all_replayed : (edits : List SiteEdit) (store : StoreState) → all_made (unstamped store) edits
     ≡ option_map unstamped (replayed (Some store) edits)
 all_replayed [] store = refl
 all_replayed (edit ∷ edits) store =
@@ -64,7 +66,7 @@ all_replayed (edit ∷ edits) store =
     by None each = sym (ap (option_map unstamped) (none_replayed edits))
     by (Some next) each = each next
 
-all_joined : (edits more : List Edit) (store : StoreState) → all_made store (edits ++ more) ≡ behind more (all_made store edits)
+all_joined : (edits more : List SiteEdit) (store : StoreState) → all_made store (edits ++ more) ≡ behind more (all_made store edits)
 all_joined [] more store = refl
 all_joined (edit ∷ edits) more store = by (made store edit) (λ next. all_joined edits more next)
   where
@@ -74,7 +76,7 @@ all_joined (edit ∷ edits) more store = by (made store edit) (λ next. all_join
     by None each = refl
     by (Some next) each = each next
 
-edits_apart : (edits more : List Edit) → AreEdits (edits ++ more) → AreEdits edits × AreEdits more
+edits_apart : (edits more : List SiteEdit) → AreEdits (edits ++ more) → AreEdits edits × AreEdits more
 edits_apart [] more are = (tt, are)
 edits_apart (edit ∷ edits) more are =
     let rest = edits_apart edits more are.1 in
@@ -82,7 +84,7 @@ edits_apart (edit ∷ edits) more are =
 
 -- ---- records of whole lines
 
-parts_restored : (parts : List (List Edit)) (n : ℕ) (store last : StoreState) → AreEdits (joined parts)
+parts_restored : (parts : List (List SiteEdit)) (n : ℕ) (store last : StoreState) → AreEdits (joined parts)
     → all_made store (joined parts) ≡ Some last
     → restored_from n store (mapped lines_of parts) ≡ Ok last
 parts_restored [] n store last are is = ap Ok (same_some store last is)
@@ -105,7 +107,7 @@ pub compaction_is_restored : CompactionIsRestored
 compaction_is_restored store site records is_config is_site room are lines =
     by (replayed (Some store) edits) refl (replay_gives_the_site store site is_config is_site room)
   where
-    edits : List Edit
+    edits : List SiteEdit
     edits = compacted store.site site
 
     by : (mid : Option StoreState) → replayed (Some store) edits ≡ mid → option_map (λ after. after.site) mid ≡ Some site

@@ -5,7 +5,9 @@ use Rattle.std.specs.FinMap as map
 use Rattle.std.specs.Option.{ok_or}
 use Rattle.doc_store_readers.specs.Pages.{Page}
 use Rattle.doc_store_readers.specs.Sites.{Site}
-use Rattle.doc_store.specs.Store.{Edit, set_page, remove_page, move_page, StoreState, effect_of, put_by, fits_in, moved_by, may_move}
+use Rattle.doc_store.specs.Store.{set_page, remove_page, move_page, StoreState, effect_of, put_by, fits_in, moved_by, may_move}
+use Rattle.doc_store.specs.declared.site_edit.SiteEdit.{SiteEdit}
+use Rattle.doc_store.specs.declared.site_edit.SiteEdit.TheVariants as site_edits
 use Rattle.doc_store.specs.declared.moving.MoveError.{MoveError}
 use Rattle.doc_store.specs.declared.store.EditError.{EditError}
 use Rattle.doc_hub.specs.declared.event.Event.{Event}
@@ -62,16 +64,16 @@ moved_site : (store next : StoreState) (from to : List ℕ) (said : Result (Unit
 moved_site store next from to (Err e) is = absurd (no_some next is)
 moved_site store next from to (Ok fine) is = sym (ap (λ o. (some_or next o).site) is)
 
-one_site : (store next : StoreState) (edit : Edit) → made store edit ≡ Some next → next.site ≡ effect_of store.site edit
-one_site store next (set_page path page) is =
-    put_site store next path (record { groups = page.groups; text = page.text }) (map.contains_key store.site.pages path)
-    (fits_in store path page.text) is
-one_site store next (remove_page path) is = removed_site store next path (map.contains_key store.site.pages path) is
-one_site store next (move_page from to) is = moved_site store next from to (may_move store from to) is
+one_site : (store next : StoreState) (edit : SiteEdit) → made store edit ≡ Some next → next.site ≡ effect_of store.site edit
+one_site store next (site_edits.Put path groups text) is =
+    put_site store next path (record { groups = groups; text = text }) (map.contains_key store.site.pages path)
+    (fits_in store path text) is
+one_site store next (site_edits.Remove path) is = removed_site store next path (map.contains_key store.site.pages path) is
+one_site store next (site_edits.Move from to) is = moved_site store next from to (may_move store from to) is
 
 -- ---- many edits
 
-site_behind : (store next : StoreState) (edit : Edit) (edits : List Edit) (mid : Option StoreState) → made store edit ≡ mid
+site_behind : (store next : StoreState) (edit : SiteEdit) (edits : List SiteEdit) (mid : Option StoreState) → made store edit ≡ mid
     → ((after : StoreState) → all_made after edits ≡ Some next → next.site ≡ effects after.site edits)
     → ◌≡◌ {A = Option StoreState} (elim mid [ None ↦ None | Some after ↦ all_made after edits ]) (Some next)
     → next.site ≡ effects (effect_of store.site edit) edits
@@ -79,21 +81,21 @@ site_behind store next edit edits None one each more = absurd (no_some next more
 site_behind store next edit edits (Some after) one each more =
     each after more ∙ ap (λ site. effects site edits) (one_site store after edit one)
 
-all_site : (edits : List Edit) (store next : StoreState) → all_made store edits ≡ Some next
+all_site : (edits : List SiteEdit) (store next : StoreState) → all_made store edits ≡ Some next
     → next.site ≡ effects store.site edits
 all_site [] store next is = sym (ap (λ o. (some_or next o).site) is)
 all_site (edit ∷ edits) store next is =
     site_behind store next edit edits (made store edit) refl (λ after. all_site edits after next) is
 
-effects_joined : (site : Site) (edits more : List Edit) → effects site (edits ++ more) ≡ effects (effects site edits) more
+effects_joined : (site : Site) (edits more : List SiteEdit) → effects site (edits ++ more) ≡ effects (effects site edits) more
 effects_joined site [] more = refl
 effects_joined site (edit ∷ edits) more = effects_joined (effect_of site edit) edits more
 
 -- ---- events that are edits
 
-step_of : (found : Option Edit) (rest : Option (List Edit)) (edits : List Edit) (onto : StoreState → Option StoreState)
+step_of : (found : Option SiteEdit) (rest : Option (List SiteEdit)) (edits : List SiteEdit) (onto : StoreState → Option StoreState)
     → in_front found rest ≡ Some edits
-    → ((these : List Edit) → rest ≡ Some these → (s : StoreState) → onto s ≡ all_made s these) → (s : StoreState)
+    → ((these : List SiteEdit) → rest ≡ Some these → (s : StoreState) → onto s ≡ all_made s these) → (s : StoreState)
     → ◌≡◌ {A = Option StoreState} (elim (made_by s found) [ None ↦ None | Some next ↦ onto next ]) (all_made s edits)
 step_of None rest edits onto is behind s = absurd (no_some edits is)
 step_of (Some edit) None edits onto is behind s = absurd (no_some edits is)
@@ -106,7 +108,7 @@ step_of (Some edit) (Some these) edits onto is behind s =
     each None = refl
     each (Some next) = behind these refl next
 
-pub events_made : (events : List Event) (edits : List Edit) → edits_in events ≡ Some edits → (s : StoreState)
+pub events_made : (events : List Event) (edits : List SiteEdit) → edits_in events ≡ Some edits → (s : StoreState)
     → made_of s events ≡ all_made s edits
 events_made [] edits is s = ap (all_made s) (same_some [] edits is)
 events_made (event ∷ events) edits is s =
@@ -118,7 +120,7 @@ events_made (event ∷ events) edits is s =
 abbrev Behind : List (List ℕ) → ℕ → StoreState → Type 0
 Behind texts n next = (after : StoreState) → restored_from n after texts ≡ Ok next → HaveEffect texts after next
 
-second : (text : List ℕ) (texts : List (List ℕ)) (n : ℕ) (store next : StoreState) (edits : List Edit) → Behind texts (n + 1) next
+second : (text : List ℕ) (texts : List (List ℕ)) (n : ℕ) (store next : StoreState) (edits : List SiteEdit) → Behind texts (n + 1) next
     → edits_of text ≡ Some edits → (mid : Option StoreState) → all_made store edits ≡ mid
     → ◌≡◌ {A = Result StoreState RestoreFault} (elim (ok_or mid (faults.Refused n)) [
       | Err fault ↦ Err fault
@@ -135,7 +137,7 @@ second text texts n store next edits behind said (Some after) made_is more =
     }
 
 first : (text : List ℕ) (texts : List (List ℕ)) (n : ℕ) (store next : StoreState) → Behind texts (n + 1) next
-    → (found : Option (List Edit)) → edits_of text ≡ found
+    → (found : Option (List SiteEdit)) → edits_of text ≡ found
     → ◌≡◌ {A = Result StoreState RestoreFault} (elim (after_record store n found) [
       | Err fault ↦ Err fault
       | Ok after ↦ restored_from (n + 1) after texts

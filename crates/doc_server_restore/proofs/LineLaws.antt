@@ -12,7 +12,8 @@ use Rattle.std.proofs.lemmas.Str.Ascii.{IsAscii-from_all, IsAscii-nil}
 use Rattle.std.specs.Str.{IsAscii}
 use Rattle.doc_server_streams.specs.declared.fault.Fault.{Fault}
 use Rattle.doc_server_streams.specs.declared.fault.Fault.TheVariants as faults
-use Rattle.doc_store.specs.Store.{Edit, set_page, remove_page, move_page}
+use Rattle.doc_store.specs.declared.site_edit.SiteEdit.{SiteEdit}
+use Rattle.doc_store.specs.declared.site_edit.SiteEdit.TheVariants as site_edits
 use Rattle.doc_hub.specs.declared.event.Event.{Event}
 use Rattle.doc_hub.specs.declared.event.Event.TheVariants as events
 use Rattle.doc_server_script.specs.Edits.{put_line, remove_line, move_line}
@@ -22,38 +23,27 @@ use Rattle.doc_server_script.proofs.ReadLaws.{edits_are_read, edits_are_lines}
 use Rattle.doc_server.specs.Scripts.{events_from, events_of, lines, onto_first}
 use Rattle.doc_server_script.specs.PageLines.{line_of, lines_of}
 use Rattle.doc_server_restore.specs.Laws.{AreEdits, IsEdit, LinesAreRead}
-use Rattle.doc_server_restore.specs.Restores.{edit_in, edits_in, in_front}
+use Rattle.doc_server_restore.specs.Restores.{edits_in, in_front}
 
--- the event of an edit
-abbrev event_with : Edit → Event
-event_with (set_page path page) = events.Put path page.groups page.text
-event_with (remove_page path) = events.Remove path
-event_with (move_page from to) = events.MovePage from to
+abbrev bare_line : SiteEdit → List ℕ
+bare_line (site_edits.Put path groups text) = put_line path groups text
+bare_line (site_edits.Remove path) = remove_line path
+bare_line (site_edits.Move from to) = move_line from to
 
-abbrev bare_line : Edit → List ℕ
-bare_line (set_page path page) = put_line path page.groups page.text
-bare_line (remove_page path) = remove_line path
-bare_line (move_page from to) = move_line from to
+line_is : (edit : SiteEdit) → line_of edit ≡ bare_line edit ++ 10 ∷ []
+line_is (site_edits.Put path groups text) = refl
+line_is (site_edits.Remove path) = refl
+line_is (site_edits.Move from to) = refl
 
-line_is : (edit : Edit) → line_of edit ≡ bare_line edit ++ 10 ∷ []
-line_is (set_page path page) = refl
-line_is (remove_page path) = refl
-line_is (move_page from to) = refl
+is_read : (edit : SiteEdit) → IsEdit edit → event_of (bare_line edit) ≡ Some (events.Site edit)
+is_read (site_edits.Put path groups text) (good, are, is) = edits_are_read.put path groups text good are is
+is_read (site_edits.Remove path) good = edits_are_read.remove path good
+is_read (site_edits.Move from to) (one, two) = edits_are_read.move from to one two
 
-is_read : (edit : Edit) → IsEdit edit → event_of (bare_line edit) ≡ Some (event_with edit)
-is_read (set_page path page) (good, groups, text) = edits_are_read.put path page.groups page.text good groups text
-is_read (remove_page path) good = edits_are_read.remove path good
-is_read (move_page from to) (one, two) = edits_are_read.move from to one two
-
-is_one_line : (edit : Edit) → IsEdit edit → list_all is_printable (bare_line edit) ≡ true
-is_one_line (set_page path page) (good, groups, text) = edits_are_lines.put path page.groups page.text groups good.text text
-is_one_line (remove_page path) good = edits_are_lines.remove path good.text
-is_one_line (move_page from to) (one, two) = edits_are_lines.move from to one.text two.text
-
-is_edit_with : (edit : Edit) → edit_in (event_with edit) ≡ Some edit
-is_edit_with (set_page path page) = refl
-is_edit_with (remove_page path) = refl
-is_edit_with (move_page from to) = refl
+is_one_line : (edit : SiteEdit) → IsEdit edit → list_all is_printable (bare_line edit) ≡ true
+is_one_line (site_edits.Put path groups text) (good, are, is) = edits_are_lines.put path groups text are good.text is
+is_one_line (site_edits.Remove path) good = edits_are_lines.remove path good.text
+is_one_line (site_edits.Move from to) (one, two) = edits_are_lines.move from to one.text two.text
 
 -- ---- a line of printable bytes, and what follows its LF
 
@@ -72,15 +62,15 @@ first_line (b ∷ line) rest are =
     ap (λ t. cond t ([] ∷ lines (line ++ 10 ∷ rest)) (onto_first b (lines (line ++ 10 ∷ rest)))) (no_lf b parts.0)
     ∙ ap (onto_first b) (first_line line rest parts.1)
 
-lines_with : (edit : Edit) (edits : List Edit) → IsEdit edit → lines (lines_of (edit ∷ edits)) ≡ bare_line edit ∷ lines (lines_of edits)
+lines_with : (edit : SiteEdit) (edits : List SiteEdit) → IsEdit edit → lines (lines_of (edit ∷ edits)) ≡ bare_line edit ∷ lines (lines_of edits)
 lines_with edit edits good =
     ap (λ l. lines (l ++ lines_of edits)) (line_is edit)
     ∙ ap lines (append_assoc (bare_line edit) (10 ∷ []) (lines_of edits))
     ∙ first_line (bare_line edit) (lines_of edits) (is_one_line edit good)
 
-abbrev all_with : List Edit → List Event
+abbrev all_with : List SiteEdit → List Event
 all_with [] = []
-all_with (edit ∷ edits) = event_with edit ∷ all_with edits
+all_with (edit ∷ edits) = events.Site edit ∷ all_with edits
 
 no_line : lines [] ≡ []
 unfolding lines
@@ -103,20 +93,19 @@ as_onto found n line more = each (event_of line)
     each None = refl
     each (Some event) = refl
 
-all_read : (edits : List Edit) (found : List Event) (n : ℕ) → AreEdits edits
+all_read : (edits : List SiteEdit) (found : List Event) (n : ℕ) → AreEdits edits
     → events_from found n (lines (lines_of edits)) ≡ Ok (found ++ all_with edits)
 all_read [] found n are = ap (events_from found n) no_line ∙ ap (λ es. Ok es) (sym (append-nil found))
 all_read (edit ∷ edits) found n are =
     ap (events_from found n) (lines_with edit edits are.0)
     ∙ as_onto found n (bare_line edit) (lines (lines_of edits))
     ∙ ap (onto found n (lines (lines_of edits))) (is_read edit are.0)
-    ∙ all_read edits (found ++ event_with edit ∷ []) (n + 1) are.1
-    ∙ ap (λ es. Ok es) (append_assoc found (event_with edit ∷ []) (all_with edits))
+    ∙ all_read edits (found ++ events.Site edit ∷ []) (n + 1) are.1
+    ∙ ap (λ es. Ok es) (append_assoc found (events.Site edit ∷ []) (all_with edits))
 
-are_those : (edits : List Edit) → edits_in (all_with edits) ≡ Some edits
+are_those : (edits : List SiteEdit) → edits_in (all_with edits) ≡ Some edits
 are_those [] = refl
-are_those (edit ∷ edits) = ap (λ o. in_front o (edits_in (all_with edits))) (is_edit_with edit) ∙ ap
-    (in_front (Some edit)) (are_those edits)
+are_those (edit ∷ edits) = ap (in_front (Some edit)) (are_those edits)
 
 -- ---- printable bytes are UTF-8
 
@@ -137,7 +126,7 @@ lf_is_ascii : IsAscii (10 ∷ [])
 lf_is_ascii =
     IsAscii-from_all (10 ∷ []) (λ k d lt. low (slice_index_or (10 ∷ []) k d) (AllPass-from_list_all is_low (10 ∷ []) refl k d lt))
 
-all_ascii : (edits : List Edit) → AreEdits edits → IsAscii (lines_of edits)
+all_ascii : (edits : List SiteEdit) → AreEdits edits → IsAscii (lines_of edits)
 all_ascii [] are = IsAscii-nil
 all_ascii (edit ∷ edits) are =
     subst (λ l. IsAscii (l ++ lines_of edits)) (sym (line_is edit))

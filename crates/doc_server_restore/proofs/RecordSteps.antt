@@ -11,7 +11,8 @@ use Rattle.std.proofs.lemmas.Str.{IsUtf8-from_is_utf8}
 use Rattle.doc_server.specs.Scripts.{events_of}
 use Rattle.std.proofs.lemmas.Bool.{cases_Bool, true≢false}
 use Rattle.doc_server_streams.specs.declared.fault.Fault.{Fault}
-use Rattle.doc_store.specs.Store.{Edit, StoreState}
+use Rattle.doc_store.specs.Store.{StoreState}
+use Rattle.doc_store.specs.declared.site_edit.SiteEdit.{SiteEdit}
 use Rattle.doc_hub.specs.declared.event.Event.{Event}
 use Rattle.doc_server_restore.specs.declared.fault.RestoreFault.{RestoreFault}
 use Rattle.doc_server_restore.specs.declared.fault.RestoreFault.TheVariants as faults
@@ -51,14 +52,14 @@ last_record all n store left texts text fault so first is =
 
 -- ---- one record
 
-pub record_made : (store next : StoreState) (n : ℕ) (given : Option (List Edit)) (found events : List Event) → Reads given (Some found)
+pub record_made : (store next : StoreState) (n : ℕ) (given : Option (List SiteEdit)) (found events : List Event) → Reads given (Some found)
     → events ≡ found → made_of store events ≡ Some next → after_record store n given ≡ Ok next
 record_made store next n given found events (edits, are, said) same is =
     ap (after_record store n) said
     ∙ ap (λ o. ok_or o (faults.Refused n))
     (sym (events_made found edits are store) ∙ ap (made_of store) (sym same) ∙ is)
 
-pub record_refused : (store : StoreState) (n : ℕ) (given : Option (List Edit)) (found events : List Event) → Reads given (Some found)
+pub record_refused : (store : StoreState) (n : ℕ) (given : Option (List SiteEdit)) (found events : List Event) → Reads given (Some found)
     → events ≡ found → made_of store events ≡ None → after_record store n given ≡ Err (faults.Refused n)
 record_refused store n given found events (edits, are, said) same is =
     ap (after_record store n) said
@@ -87,11 +88,11 @@ next_event all store left events event answer so first is =
 
 -- ---- what a script says
 
-there : (event : Event) (events : List Event) (these : List Edit) → is_edit event ≡ true → edits_in events ≡ Some these
-    → (edits : List Edit) × (edits_in (event ∷ events) ≡ Some edits)
+there : (event : Event) (events : List Event) (these : List SiteEdit) → is_edit event ≡ true → edits_in events ≡ Some these
+    → (edits : List SiteEdit) × (edits_in (event ∷ events) ≡ Some edits)
 there event events these is rest = by (edit_in event) is
   where
-    by : (found : Option Edit) → is_some found ≡ true → (edits : List Edit) × (in_front found (edits_in events) ≡ Some edits)
+    by : (found : Option SiteEdit) → is_some found ≡ true → (edits : List SiteEdit) × (in_front found (edits_in events) ≡ Some edits)
     by None never = absurd (true≢false (sym never))
     by (Some edit) fine = (edit ∷ these, ap (in_front (Some edit)) rest)
 
@@ -99,17 +100,17 @@ both : (a b : Bool) → (a && b) ≡ true → (a ≡ true) × (b ≡ true)
 both true b is = (refl, is)
 both false b is = absurd (true≢false (sym is))
 
-all_there : (events : List Event) → list_all is_edit events ≡ true → (edits : List Edit) × (edits_in events ≡ Some edits)
+all_there : (events : List Event) → list_all is_edit events ≡ true → (edits : List SiteEdit) × (edits_in events ≡ Some edits)
 all_there [] all = ([], refl)
 all_there (event ∷ events) all =
     let parts = both (is_edit event) (list_all is_edit events) all in
     let rest = all_there events parts.1 in there event events rest.0 parts.0 rest.1
 
-none_in_front : (found : Option Edit) (rest : Option (List Edit)) → rest ≡ None → in_front found rest ≡ None
+none_in_front : (found : Option SiteEdit) (rest : Option (List SiteEdit)) → rest ≡ None → in_front found rest ≡ None
 none_in_front None rest is = refl
 none_in_front (Some edit) rest is = ap (in_front (Some edit)) is
 
-one_is_none : (found : Option Edit) (rest : Option (List Edit)) → is_some found ≡ false → in_front found rest ≡ None
+one_is_none : (found : Option SiteEdit) (rest : Option (List SiteEdit)) → is_some found ≡ false → in_front found rest ≡ None
 one_is_none None rest is = refl
 one_is_none (Some edit) rest is = absurd (true≢false is)
 

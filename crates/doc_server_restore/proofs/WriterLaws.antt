@@ -15,7 +15,9 @@ use Rattle.std.proofs.lemmas.Grind.{flat_map-append}
 use Rattle.doc_store_readers.specs.Maps.{TextMap}
 use Rattle.doc_store_readers.specs.Pages.{Page}
 use Rattle.doc_store_readers.specs.Sites.{Site}
-use Rattle.doc_store.specs.Store.{Edit, set_page, remove_page, move_page}
+use Rattle.doc_store.specs.Store.{set_page, remove_page, move_page}
+use Rattle.doc_store.specs.declared.site_edit.SiteEdit.{SiteEdit}
+use Rattle.doc_store.specs.declared.site_edit.SiteEdit.TheVariants as site_edits
 use Rattle.doc_server_journal.specs.Journals.{IsOpen}
 use Rattle.doc_server_journal_records.specs.Records.{text_limit}
 use Rattle.doc_server_script.specs.Compactions.{made, made_along, moves, same_at}
@@ -27,7 +29,7 @@ use Rattle.doc_server_script.specs.Edits.{put_line, remove_line, move_line}
 use Rattle.doc_server_restore.specs.WriterSteps.{HasWritten, IsWriter, Wrote, WroteUpTo, removals, unless_same}
 use Rattle.doc_server_restore.specs.declared.writer.EditWriter.{EditWriter}
 
-more_lines : (records : List (List ℕ)) (first others : List Edit) (text : List ℕ) → AreLines records first → text ≡ lines_of others
+more_lines : (records : List (List ℕ)) (first others : List SiteEdit) (text : List ℕ) → AreLines records first → text ≡ lines_of others
     → AreLines (records ++ text ∷ []) (first ++ others)
 more_lines records first others text are is = record {
   parts = are.parts ++ others ∷ [];
@@ -59,7 +61,7 @@ module _ {D : Type 0} (seen : D → Option (List ℕ)) (may_leave : D → List �
     all = refl;
   }
 
-  pub added : (old new : EditWriter D) (line : List ℕ) (edit : Edit) → new.journal ≡ old.journal
+  pub added : (old new : EditWriter D) (line : List ℕ) (edit : SiteEdit) → new.journal ≡ old.journal
       → string_bytes new.text ≡ string_bytes old.text ++ line → length (string_bytes old.text) + length line ≤ text_limit
       → line ≡ line_of edit
       → Wrote seen may_leave failed old new (edit ∷ [])
@@ -102,16 +104,16 @@ module _ {D : Type 0} (seen : D → Option (List ℕ)) (may_leave : D → List �
   none_made writer page [] none = none_wrote writer
   none_made writer page (name ∷ names) none = absurd (omega (arith, none))
 
-  pub both_wrote : (a b c : EditWriter D) (x y : List Edit) → Wrote seen may_leave failed a b x → Wrote seen may_leave failed b c y
+  pub both_wrote : (a b c : EditWriter D) (x y : List SiteEdit) → Wrote seen may_leave failed a b x → Wrote seen may_leave failed b c y
       → Wrote seen may_leave failed a c (x ++ y)
   both_wrote a b c x y first second = λ edits h.
       subst (HasWritten seen may_leave failed c) (append_assoc edits x y) (second (edits ++ x) (first edits h))
 
-  pub still_writer : (a b : EditWriter D) (x : List Edit) → IsWriter seen may_leave failed a → Wrote seen may_leave failed a b x
+  pub still_writer : (a b : EditWriter D) (x : List SiteEdit) → IsWriter seen may_leave failed a → Wrote seen may_leave failed a b x
       → IsWriter seen may_leave failed b
   still_writer a b x (edits, h) wrote = (edits ++ x, wrote edits h)
 
-  pub then_wrote : {X E : Type 0} (result : Result X E) (a b c : EditWriter D) (x y all : List Edit)
+  pub then_wrote : {X E : Type 0} (result : Result X E) (a b c : EditWriter D) (x y all : List SiteEdit)
       → Wrote seen may_leave failed a b x → OnOk result (Wrote seen may_leave failed b c y) → x ++ y ≡ all
       → OnOk result (Wrote seen may_leave failed a c all)
   then_wrote (Ok done) a b c x y all first second is = subst (Wrote seen may_leave failed a c) is (both_wrote a b c x y first second)
@@ -119,15 +121,15 @@ module _ {D : Type 0} (seen : D → Option (List ℕ)) (may_leave : D → List �
 
   -- ---- edits one after the other
 
-  pub begins : (writer : EditWriter D) (all left : List Edit) → all ≡ left → WroteUpTo seen may_leave failed writer writer all left
+  pub begins : (writer : EditWriter D) (all left : List SiteEdit) → all ≡ left → WroteUpTo seen may_leave failed writer writer all left
   begins writer all left is = ([], none_wrote writer, is)
 
-  pub goes_on : (a b c : EditWriter D) (all more left rest : List Edit) → WroteUpTo seen may_leave failed a b all left
+  pub goes_on : (a b c : EditWriter D) (all more left rest : List SiteEdit) → WroteUpTo seen may_leave failed a b all left
       → Wrote seen may_leave failed b c more → left ≡ more ++ rest → WroteUpTo seen may_leave failed a c all rest
   goes_on a b c all more left rest (done, wrote, is) next split =
       (done ++ more, both_wrote a b c done more wrote next, is ∙ (ap (λ l. done ++ l) split ∙ sym (append_assoc done more rest)))
 
-  pub has_all : (a b : EditWriter D) (all left : List Edit) → WroteUpTo seen may_leave failed a b all left → left ≡ []
+  pub has_all : (a b : EditWriter D) (all left : List SiteEdit) → WroteUpTo seen may_leave failed a b all left → left ≡ []
       → Wrote seen may_leave failed a b all
   has_all a b all left (done, wrote, is) none =
       subst (Wrote seen may_leave failed a b) (sym (is ∙ (ap (λ l. done ++ l) none ∙ append-nil done))) wrote
@@ -145,14 +147,14 @@ ends : (line more : List ℕ) → (line ++ 10 ∷ []) ++ more ≡ [] → ⊥
 ends [] more e = cc
 ends (b ∷ line) more e = cc
 
-no_lines : (edits : List Edit) → lines_of edits ≡ [] → edits ≡ []
+no_lines : (edits : List SiteEdit) → lines_of edits ≡ [] → edits ≡ []
 no_lines [] e = refl
-no_lines (set_page path page ∷ edits) e = absurd (ends (put_line path page.groups page.text) (lines_of edits) e)
-no_lines (remove_page path ∷ edits) e = absurd (ends (remove_line path) (lines_of edits) e)
-no_lines (move_page from to ∷ edits) e = absurd (ends (move_line from to) (lines_of edits) e)
+no_lines (site_edits.Put path groups text ∷ edits) e = absurd (ends (put_line path groups text) (lines_of edits) e)
+no_lines (site_edits.Remove path ∷ edits) e = absurd (ends (remove_line path) (lines_of edits) e)
+no_lines (site_edits.Move from to ∷ edits) e = absurd (ends (move_line from to) (lines_of edits) e)
 
 module _ {D : Type 0} (seen : D → Option (List ℕ)) (may_leave : D → List ℕ → Type 0) (failed : D → Bool) where
-  pub finished : (writer : EditWriter D) (edits : List Edit) → HasWritten seen may_leave failed writer edits
+  pub finished : (writer : EditWriter D) (edits : List SiteEdit) → HasWritten seen may_leave failed writer edits
       → string_bytes writer.text ≡ [] → IsWritten seen may_leave failed writer.journal edits
   finished writer edits h none = record {
     records = h.records;
@@ -163,7 +165,7 @@ module _ {D : Type 0} (seen : D → Option (List ℕ)) (may_leave : D → List �
   }
 
   pub finished_now : (old new : EditWriter D) → Wrote seen may_leave failed old new [] → string_bytes new.text ≡ []
-      → (edits : List Edit) → HasWritten seen may_leave failed old edits → IsWritten seen may_leave failed new.journal edits
+      → (edits : List SiteEdit) → HasWritten seen may_leave failed old edits → IsWritten seen may_leave failed new.journal edits
   finished_now old new wrote none = λ edits h.
       finished new edits (subst (HasWritten seen may_leave failed new) (append-nil edits) (wrote edits h)) none
 
@@ -201,7 +203,7 @@ others_stand pages entry entries stand = λ q there. stand q (later_is_in q entr
 -- ---- the pages that two sites have otherwise, one after the other
 
 -- the removals of those of some pages that the two sites don't have so
-abbrev pub removals_left : Site → Site → Entries → List Edit
+abbrev pub removals_left : Site → Site → Entries → List SiteEdit
 removals_left config site entries = removals (filter (λ e. not (same_at config site e.0)) entries)
 
 pub removals_more : (config site : Site) (entry : List ℕ × Page) (entries : Entries)
@@ -217,7 +219,7 @@ removals_more config site entry entries = by (same_at config site entry.0)
     by false = refl
 
 -- the edits that make those of some pages that the two sites don't have so
-abbrev pub made_left : Site → Site → Entries → List Edit
+abbrev pub made_left : Site → Site → Entries → List SiteEdit
 made_left config site entries = flat_map (made site) (filter (λ e. not (same_at config site e.0)) entries)
 
 pub made_more : (config site : Site) (entry : List ℕ × Page) (entries : Entries)

@@ -2,7 +2,9 @@
 use Rattle.std.specs.Prelude.{◌≡◌, ℕ, List, [], ◌∷◌, ⊤, Some, Ok}
 use Rattle.doc_store_readers.specs.Groups.{IsGroups}
 use Rattle.doc_store_readers.specs.Sites.{Site, IsSite}
-use Rattle.doc_store.specs.Store.{Edit, set_page, remove_page, move_page, StoreState}
+use Rattle.doc_store.specs.Store.{StoreState}
+use Rattle.doc_store.specs.declared.site_edit.SiteEdit.{SiteEdit}
+use Rattle.doc_store.specs.declared.site_edit.SiteEdit.TheVariants as site_edits
 use Rattle.doc_server_script.specs.Laws.{IsText, IsPathText}
 use Rattle.doc_server_script.specs.Compactions.{compacted}
 use Rattle.doc_server_script.specs.PageLines.{lines_of}
@@ -11,18 +13,18 @@ use Rattle.doc_server_restore.specs.Written.{AreLines}
 use Rattle.doc_server_restore.specs.Restores.{edits_of, restored, unstamped}
 
 -- an edit of paths, groups and a text as every call takes them
-abbrev pub IsEdit : Edit → Type 0
-IsEdit (set_page path page) = IsPathText path × IsGroups page.groups × IsText page.text
-IsEdit (remove_page path) = IsPathText path
-IsEdit (move_page from to) = IsPathText from × IsPathText to
+abbrev pub IsEdit : SiteEdit → Type 0
+IsEdit (site_edits.Put path groups text) = IsPathText path × IsGroups groups × IsText text
+IsEdit (site_edits.Remove path) = IsPathText path
+IsEdit (site_edits.Move from to) = IsPathText from × IsPathText to
 
-abbrev pub AreEdits : List Edit → Type 0
+abbrev pub AreEdits : List SiteEdit → Type 0
 AreEdits [] = ⊤
 AreEdits (edit ∷ edits) = IsEdit edit × AreEdits edits
 
 -- what is written of edits, one line for each, reads as these edits
 abbrev pub LinesAreRead : Type 0
-LinesAreRead = (edits : List Edit) → AreEdits edits → edits_of (lines_of edits) ≡ Some edits
+LinesAreRead = (edits : List SiteEdit) → AreEdits edits → edits_of (lines_of edits) ≡ Some edits
 
 -- what a compaction writes, restored on the configuration's site, gives the other site
 abbrev pub CompactionIsRestored : Type 0

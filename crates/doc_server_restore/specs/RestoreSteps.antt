@@ -1,6 +1,7 @@
 -- Words in which the steps of a restoration are stated.
 use Rattle.std.specs.Prelude.{◌≡◌, List, [], ◌∷◌, Bool, true, false, Option, Some, None, is_some}
-use Rattle.doc_store.specs.Store.{Edit, StoreState}
+use Rattle.doc_store.specs.Store.{StoreState}
+use Rattle.doc_store.specs.declared.site_edit.SiteEdit.{SiteEdit}
 use Rattle.doc_hub.specs.declared.event.Event.{Event}
 use Rattle.doc_hub_answers.specs.Replies.{Renders}
 use Rattle.doc_hub.specs.Worlds.{World, store_of, with_store}
@@ -12,7 +13,7 @@ Tells true given new = given ≡ Some new
 Tells false given new = given ≡ None
 
 -- the store after an edit, where there is one and it is accepted
-abbrev pub made_by : StoreState → Option Edit → Option StoreState
+abbrev pub made_by : StoreState → Option SiteEdit → Option StoreState
 made_by store None = None
 made_by store (Some edit) = made store edit
 
@@ -26,9 +27,9 @@ abbrev pub is_edit : Event → Bool
 is_edit event = is_some (edit_in event)
 
 -- events that are all edits of a record, or none where not each line of it is an edit
-abbrev pub Reads : Option (List Edit) → Option (List Event) → Type 0
+abbrev pub Reads : Option (List SiteEdit) → Option (List Event) → Type 0
 Reads given None = given ≡ None
-Reads given (Some events) = (edits : List Edit) × (edits_in events ≡ Some edits) × (given ≡ Some edits)
+Reads given (Some events) = (edits : List SiteEdit) × (edits_in events ≡ Some edits) × (given ≡ Some edits)
 
 -- two hubs with the same renderer's page and the same but for their pages
 pub record AreAlike (render drawn : Renders) (w v : World) : Type 0 where

@@ -5,7 +5,8 @@ use Rattle.std.specs.FinMap as map
 use Rattle.std.specs.Option.{ok_or}
 use Rattle.std.specs.Result.{result_ok}
 use Rattle.std.specs.Str.{is_utf8}
-use Rattle.doc_store.specs.Store.{Edit, set_page, remove_page, move_page, StoreState}
+use Rattle.doc_store.specs.Store.{StoreState}
+use Rattle.doc_store.specs.declared.site_edit.SiteEdit.{SiteEdit}
 use Rattle.doc_hub.specs.declared.event.Event.{Event}
 use Rattle.doc_hub.specs.declared.event.Event.TheVariants as events
 use Rattle.doc_server.specs.Scripts.{events_of}
@@ -17,35 +18,33 @@ use Rattle.doc_server_restore.specs.declared.fault.RestoreFault.TheVariants as f
 -- ---- what a record says
 
 -- the edit of pages that an event is
-abbrev pub edit_in : Event → Option Edit
-edit_in (events.Put path groups text) = Some (set_page path (record { groups = groups; text = text }))
-edit_in (events.Remove path) = Some (remove_page path)
-edit_in (events.MovePage from to) = Some (move_page from to)
+abbrev pub edit_in : Event → Option SiteEdit
+edit_in (events.Site edit) = Some edit
 edit_in event = None
 
 -- an edit in front of others, where there are both
-abbrev pub in_front : Option Edit → Option (List Edit) → Option (List Edit)
+abbrev pub in_front : Option SiteEdit → Option (List SiteEdit) → Option (List SiteEdit)
 in_front None edits = None
 in_front (Some edit) None = None
 in_front (Some edit) (Some edits) = Some (edit ∷ edits)
 
 -- the edits that some events are, where each is one
-abbrev pub edits_in : List Event → Option (List Edit)
+abbrev pub edits_in : List Event → Option (List SiteEdit)
 edits_in [] = Some []
 edits_in (event ∷ events) = in_front (edit_in event) (edits_in events)
 
 -- the edits of a record: a text in UTF-8, each of whose lines is an edit
-abbrev pub edits_of : List ℕ → Option (List Edit)
+abbrev pub edits_of : List ℕ → Option (List SiteEdit)
 edits_of text = if is_utf8 text then option_and_then edits_in (result_ok (events_of text)) else None
 
 -- some edits in front of others, where there are both
-abbrev pub all_in_front : Option (List Edit) → Option (List Edit) → Option (List Edit)
+abbrev pub all_in_front : Option (List SiteEdit) → Option (List SiteEdit) → Option (List SiteEdit)
 all_in_front None more = None
 all_in_front (Some edits) None = None
 all_in_front (Some edits) (Some more) = Some (edits ++ more)
 
 -- the edits of all records
-abbrev pub edits_of_all : List (List ℕ) → Option (List Edit)
+abbrev pub edits_of_all : List (List ℕ) → Option (List SiteEdit)
 edits_of_all [] = Some []
 edits_of_all (text ∷ texts) = all_in_front (edits_of text) (edits_of_all texts)
 
@@ -56,16 +55,16 @@ abbrev pub unstamped : StoreState → StoreState
 unstamped store = record { site = store.site; stamps = map.empty; puts = store.puts }
 
 -- the store after an edit, unless it is refused or removes no page
-abbrev pub made : StoreState → Edit → Option StoreState
+abbrev pub made : StoreState → SiteEdit → Option StoreState
 made store edit = option_map unstamped (edited store edit)
 
 -- the store after some edits, unless one of them is refused
-abbrev pub all_made : StoreState → List Edit → Option StoreState
+abbrev pub all_made : StoreState → List SiteEdit → Option StoreState
 all_made store [] = Some store
 all_made store (edit ∷ edits) = elim (made store edit) [ None ↦ None | Some next ↦ all_made next edits ]
 
 -- the store after the record of number n, or why it isn't restored
-abbrev pub after_record : StoreState → ℕ → Option (List Edit) → Result StoreState RestoreFault
+abbrev pub after_record : StoreState → ℕ → Option (List SiteEdit) → Result StoreState RestoreFault
 after_record store n None = Err (faults.BadRecord n)
 after_record store n (Some edits) = ok_or (all_made store edits) (faults.Refused n)
 
@@ -83,6 +82,6 @@ restored store texts = restored_from 1 store texts
 
 -- the site after the records is what their edits make of the site before, one after the other
 pub record HaveEffect (texts : List (List ℕ)) (old new : StoreState) : Type 0 where
-  pub edits : List Edit
+  pub edits : List SiteEdit
   pub said : edits_of_all texts ≡ Some edits
   pub site : new.site ≡ effects old.site edits

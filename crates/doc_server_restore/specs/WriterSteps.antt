@@ -2,7 +2,8 @@
 use Rattle.std.specs.Prelude.{◌≡◌, ◌++◌, ◌≤◌, ℕ, List, [], length, map as mapped, Bool, Option, string_bytes, if◌then◌else◌}
 use Rattle.doc_store_readers.specs.Pages.{Page}
 use Rattle.doc_store_readers.specs.Sites.{Site}
-use Rattle.doc_store.specs.Store.{Edit, remove_page}
+use Rattle.doc_store.specs.Store.{remove_page}
+use Rattle.doc_store.specs.declared.site_edit.SiteEdit.{SiteEdit}
 use Rattle.doc_server_journal.specs.Journals.{IsOpen}
 use Rattle.doc_server_journal_records.specs.Records.{text_limit}
 use Rattle.doc_server_script.specs.Compactions.{same_at}
@@ -11,19 +12,19 @@ use Rattle.doc_server_script.specs.PageLines.{lines_of}
 use Rattle.doc_server_restore.specs.Written.{AreLines}
 
 -- the removals of some pages
-abbrev pub removals : List (List ℕ × Page) → List Edit
+abbrev pub removals : List (List ℕ × Page) → List SiteEdit
 removals entries = mapped (λ entry. remove_page entry.0) entries
 
 -- some edits, unless two sites have the same page under a path, with the same aliases
-abbrev pub unless_same : Site → Site → List ℕ → List Edit → List Edit
+abbrev pub unless_same : Site → Site → List ℕ → List SiteEdit → List SiteEdit
 unless_same config site path edits = if same_at config site path then [] else edits
 
 -- What was written so far: the first of the edits in records, and the lines of the others.
 pub record HasWritten {D : Type 0} (seen : D → Option (List ℕ)) (may_leave : D → List ℕ → Type 0) (failed : D → Bool)
-    (writer : EditWriter D) (edits : List Edit) : Type 0 where
+    (writer : EditWriter D) (edits : List SiteEdit) : Type 0 where
   pub records : List (List ℕ)
-  pub first : List Edit
-  pub others : List Edit
+  pub first : List SiteEdit
+  pub others : List SiteEdit
   pub is_open : IsOpen seen may_leave failed writer.journal records
   pub lines : AreLines records first
   pub text : string_bytes writer.text ≡ lines_of others
@@ -32,16 +33,16 @@ pub record HasWritten {D : Type 0} (seen : D → Option (List ℕ)) (may_leave :
 
 -- a writer that has written some edits
 abbrev pub IsWriter : {D : Type 0} → (D → Option (List ℕ)) → (D → List ℕ → Type 0) → (D → Bool) → EditWriter D → Type 0
-IsWriter seen may_leave failed writer = (edits : List Edit) × HasWritten seen may_leave failed writer edits
+IsWriter seen may_leave failed writer = (edits : List SiteEdit) × HasWritten seen may_leave failed writer edits
 
 -- a writer, once it has written these edits more
-abbrev pub Wrote : {D : Type 0} → (D → Option (List ℕ)) → (D → List ℕ → Type 0) → (D → Bool) → EditWriter D → EditWriter D → List Edit
+abbrev pub Wrote : {D : Type 0} → (D → Option (List ℕ)) → (D → List ℕ → Type 0) → (D → Bool) → EditWriter D → EditWriter D → List SiteEdit
     → Type 0
 Wrote seen may_leave failed old new more =
-    (edits : List Edit) → HasWritten seen may_leave failed old edits → HasWritten seen may_leave failed new (edits ++ more)
+    (edits : List SiteEdit) → HasWritten seen may_leave failed old edits → HasWritten seen may_leave failed new (edits ++ more)
 
 -- a writer, once it has written all of some edits but those that are left
 abbrev pub WroteUpTo : {D : Type 0} → (D → Option (List ℕ)) → (D → List ℕ → Type 0) → (D → Bool) → EditWriter D → EditWriter D
-    → List Edit → List Edit → Type 0
+    → List SiteEdit → List SiteEdit → Type 0
 WroteUpTo seen may_leave failed old new all left =
-    (done : List Edit) × Wrote seen may_leave failed old new done × (all ≡ done ++ left)
+    (done : List SiteEdit) × Wrote seen may_leave failed old new done × (all ≡ done ++ left)

@@ -6,7 +6,8 @@ ghost use Rattle.std.specs.List.{flat_map};
 ghost use Rattle.doc_server_journal.specs.Journals.{IsOpen};
 ghost use Rattle.doc_store_readers.specs.Groups.{texts_of};
 ghost use Rattle.doc_store.specs.Names.{aliases_of};
-ghost use Rattle.doc_store.specs.Store.{Edit, remove_page};
+ghost use Rattle.doc_store.specs.Store.{remove_page};
+ghost use Rattle.doc_store.specs.declared.site_edit.SiteEdit.{SiteEdit};
 ghost use Rattle.doc_server_script.specs.Compactions.{compacted, made, other_pages, same_at, same_pages, same_texts};
 ghost use Rattle.doc_server_restore.specs.Written.{IsWritten};
 ghost use Rattle.doc_server_restore.specs.WriterSteps.{HasWritten, IsWriter, Wrote, removals, unless_same};
@@ -189,7 +190,7 @@ fn names_of<'a>(site: &'a Store, path: &Path) -> Result<Vec<&'a Path>, Memory>
 /// The journal, with a record of the lines that are in none yet, where there are any.
 fn finish<D: Device + Drop>(heap: Heap, writer: EditWriter<D>) -> Result<Journal<D>, CompactFault>
     requires { IsWriter D.seen D.may_leave D.failed writer }
-    ensures { (edits : List Edit) → HasWritten D.seen D.may_leave D.failed writer edits
+    ensures { (edits : List SiteEdit) → HasWritten D.seen D.may_leave D.failed writer edits
         → IfOk result (λ journal. IsWritten D.seen D.may_leave D.failed journal edits) }
 {
     let mut writer = writer;

@@ -50,8 +50,5 @@ fn are_edits(events: &[Event]) -> bool
 fn is_edit(event: &Event) -> bool
     ensures { result ≡ is_edit event.now }
 {
-    matches!(
-        event,
-        Event::Put(_, _, _) | Event::Remove(_) | Event::MovePage(_, _)
-    )
+    matches!(event, Event::Site(_))
 }

@@ -1,7 +1,7 @@
 //! The edits of a journal happen again.
 
 ghost use Rattle.std.specs.Prelude.{◌≡◌, ◌≢◌, Ok, Err, IfOk, IfErr, OnOk};
-ghost use Rattle.doc_server_restore.specs.Restores.{HaveEffect, after_record, edit_in, edits_of, restored};
+ghost use Rattle.doc_server_restore.specs.Restores.{HaveEffect, after_record, edit_in, edits_of, made, restored};
 ghost use Rattle.doc_server_restore.specs.RestoreSteps.{Tells, made_by, made_of};
 
 use crate::edits::Edits;
@@ -11,6 +11,7 @@ use doc_hub::event::Event;
 use doc_page_parts::bytes::Bytes;
 use doc_page_parts::failure::Memory;
 use doc_page_parts::heap::Heap;
+use doc_store::site_edit::SiteEdit;
 
 /// Makes the edits of a journal's records, in their order. A record is a text of lines, each the edit that doc_server_script reads
 /// of it; none of a record's edits is made where one of its lines is none. The first record that is no such text, and the first of
@@ -86,9 +87,20 @@ fn make<E: Edits>(site: &mut E, event: &Event) -> Result<bool, Memory>
     ensures alike { E.alike site.old site.new }
 {
     match event {
-        Event::Put(path, groups, text) => site.make_put(path, groups, text.get()),
-        Event::Remove(path) => Ok(site.make_remove(path)),
-        Event::MovePage(from, to) => site.make_move(from, to),
+        Event::Site(edit) => make_edit(site, edit),
         _ => Ok(false),
+    }
+}
+
+/// Makes an edit, and answers whether it is accepted.
+fn make_edit<E: Edits>(site: &mut E, edit: &SiteEdit) -> Result<bool, Memory>
+    ensures made { IfOk result (λ accepted. Tells accepted
+        (made (E.store site.old) edit.now) (E.store site.new)) }
+    ensures alike { E.alike site.old site.new }
+{
+    match edit {
+        SiteEdit::Put(path, groups, text) => site.make_put(path, groups, text.get()),
+        SiteEdit::Remove(path) => Ok(site.make_remove(path)),
+        SiteEdit::Move(from, to) => site.make_move(from, to),
     }
 }

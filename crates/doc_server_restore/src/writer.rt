@@ -3,7 +3,8 @@
 ghost use Rattle.std.specs.Prelude.{◌≡◌, ◌≤◌, ◌+◌, [], ◌∷◌, length, string_bytes, OnOk};
 ghost use Rattle.doc_server_journal_records.specs.Records.{text_limit};
 ghost use Rattle.doc_store_readers.specs.Groups.{texts_of};
-ghost use Rattle.doc_store.specs.Store.{Edit, set_page, remove_page, move_page};
+ghost use Rattle.doc_store.specs.Store.{set_page, remove_page, move_page};
+ghost use Rattle.doc_store.specs.declared.site_edit.SiteEdit.{SiteEdit};
 ghost use Rattle.doc_server_script.specs.Compactions.{made_along, moves};
 ghost use Rattle.doc_server_script.specs.PageLines.{line_of};
 ghost use Rattle.doc_server_restore.specs.WriterSteps.{IsWriter, Wrote};
@@ -13,11 +14,9 @@ use doc_page_parts::heap::{Heap, String};
 use doc_page_parts::path::Path;
 use doc_server_journal::device::Device;
 use doc_server_journal::journal::Journal;
+use doc_server_journal_records::record::TEXT_LIMIT;
 use doc_server_script::page_lines::{push_move_line, push_put_line, push_remove_line};
 use doc_store::page::Page;
-
-/// How many bytes the text of a record may have.
-const TEXT_LIMIT: usize = 16_777_216;
 
 /// A journal that edits are written to, and the lines of those that aren't in a record of it yet.
 #[derive(Drop)]
@@ -98,7 +97,7 @@ impl<D: Device> EditWriter<D> {
     #[tactic(auto, unfolding(doc_server_journal_records::specs::Records::text_limit))]
     fn add(&mut self, heap: Heap, line: &str) -> Result<(), CompactFault>
         requires { IsWriter D.seen D.may_leave D.failed self.old }
-        ensures { (edit : Edit) → line.now ≡ line_of edit
+        ensures { (edit : SiteEdit) → line.now ≡ line_of edit
             → OnOk result (Wrote D.seen D.may_leave D.failed self.old self.new (edit ∷ [])) }
     {
         if line.len() > TEXT_LIMIT {

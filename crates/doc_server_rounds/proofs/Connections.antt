@@ -17,7 +17,7 @@ use Rattle.doc_hub.specs.StepLaws.{connection}
 use Rattle.doc_hub.specs.Worlds.{World, answer_in, world_after, with_finished, stepped_by, step_said, Stays, Answers, StepsAt}
 use Rattle.doc_hub.specs.declared.connection.Connection.{Connection}
 use Rattle.doc_hub.specs.declared.event.ConnId.{ConnId}
-use Rattle.doc_hub.specs.declared.event.Event.TheVariants as events
+use Rattle.doc_hub.specs.Events.{disconnect_on, push_on, step_on}
 use Rattle.doc_hub.specs.declared.event.Step.{Step}
 use Rattle.doc_hub.specs.declared.event.Step.TheVariants as steps
 use Rattle.doc_hub.specs.declared.refusal.PushError.{PushError}
@@ -90,14 +90,14 @@ module _ (cs : Connections) (n : ℕ) (bytes : List ℕ) where
   accepted_at (Some c) is = accepted_by c c.closed (is_full c bytes) is
 
 module _ (render : Renders) (w v : World) (id : ConnId) where
-  pub push_refused : (bytes : List ℕ) (e : PushError) → Happens render w (events.Push id bytes) v (Err e) → v ≡ w
+  pub push_refused : (bytes : List ℕ) (e : PushError) → Happens render w (push_on id bytes) v (Err e) → v ≡ w
   push_refused bytes e h = h.1
 
   pub push_finds_shut : (bytes : List ℕ) (e : PushError) → (e ≡ push_errors.Memory → ⊥) → (e ≡ push_errors.Backlog → ⊥)
-      → Happens render w (events.Push id bytes) v (Err e) → IsShut w id.0
+      → Happens render w (push_on id bytes) v (Err e) → IsShut w id.0
   push_finds_shut bytes e other more h = refused_at w.connections id.0 bytes (connection id.0 w) e other more h.0
 
-  pub push_leaves_open : (bytes : List ℕ) → Happens render w (events.Push id bytes) v (Ok tt) → IsShut v id.0 → ⊥
+  pub push_leaves_open : (bytes : List ℕ) → Happens render w (push_on id bytes) v (Ok tt) → IsShut v id.0 → ⊥
   push_leaves_open bytes h =
       let one : World × Result (Unit {0}) PushError → Type 0 = λ r. IsShut r.0 id.0 → ⊥ in
       subst one h (accepted_at w.connections id.0 bytes (connection id.0 w)
@@ -105,7 +105,7 @@ module _ (render : Renders) (w v : World) (id : ConnId) where
 
   -- ---- a disconnect
 
-  pub disconnect_drops : (said : Bool) → Happens render w (events.Disconnect id) v said → connection id.0 v ≡ None
+  pub disconnect_drops : (said : Bool) → Happens render w (disconnect_on id) v said → connection id.0 v ≡ None
   disconnect_drops said h =
       subst (λ (r : World × Bool). connection id.0 r.0 ≡ None) h
       (map.get-remove nat_cmp_total w.connections id.0 id.0
@@ -163,7 +163,7 @@ module _ (render : Renders) (w v : World) (id : ConnId) where
   by_option bytes (Some k) h = by_closed bytes k k.closed h
 
   -- a step that sends a reply takes unread bytes, and the connection stays open
-  pub reply_takes : (bytes : List ℕ) → Happens render w (events.Step id) v (Ok (steps.Sent bytes))
+  pub reply_takes : (bytes : List ℕ) → Happens render w (step_on id) v (Ok (steps.Sent bytes))
       → (unread_len v id.0 < unread_len w id.0) × (IsShut v id.0 → ⊥)
   reply_takes bytes h = by_option bytes (connection id.0 w) h
 
@@ -195,7 +195,7 @@ module _ (render : Renders) (w v : World) (id : ConnId) where
   more_option None (same, is) = same
   more_option (Some k) h = more_closed k k.closed h
 
-  pub more_leaves : Happens render w (events.Step id) v (Ok steps.More) → v ≡ w
+  pub more_leaves : Happens render w (step_on id) v (Ok steps.More) → v ≡ w
   more_leaves h = more_option (connection id.0 w) h
 
   memory_closed : (k : Connection) (shut : Bool)
@@ -208,7 +208,7 @@ module _ (render : Renders) (w v : World) (id : ConnId) where
   memory_option None (same, is) = same
   memory_option (Some k) h = memory_closed k k.closed h
 
-  pub memory_leaves : Happens render w (events.Step id) v (Err step_errors.Memory) → v ≡ w
+  pub memory_leaves : Happens render w (step_on id) v (Err step_errors.Memory) → v ≡ w
   memory_leaves h = memory_option (connection id.0 w) h
 
   -- ---- a step of no open connection
@@ -246,8 +246,8 @@ module _ (render : Renders) (w v : World) (id : ConnId) where
   shut_option None r h said = tt
   shut_option (Some k) r h said = shut_closed k k.closed r h said
 
-  pub step_finds_closed : Happens render w (events.Step id) v (Ok steps.Closed) → IsShut w id.0
+  pub step_finds_closed : Happens render w (step_on id) v (Ok steps.Closed) → IsShut w id.0
   step_finds_closed h = shut_option (connection id.0 w) (Ok steps.Closed) h tt
 
-  pub step_finds_none : Happens render w (events.Step id) v (Err step_errors.NoConnection) → IsShut w id.0
+  pub step_finds_none : Happens render w (step_on id) v (Err step_errors.NoConnection) → IsShut w id.0
   step_finds_none h = shut_option (connection id.0 w) (Err step_errors.NoConnection) h tt

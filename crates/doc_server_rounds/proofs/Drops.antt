@@ -10,7 +10,7 @@ use Rattle.doc_hub.specs.Runs.{Happened, Runs, nothing, first}
 use Rattle.doc_hub.specs.StepLaws.{connection}
 use Rattle.doc_hub.specs.Worlds.{World, disconnected}
 use Rattle.doc_hub.specs.declared.connection.Connection.{Connection}
-use Rattle.doc_hub.specs.declared.event.Event.TheVariants as events
+use Rattle.doc_hub.specs.Events.{disconnect_on}
 use Rattle.doc_hub.specs.declared.outcome.Outcome.TheVariants as outcomes
 use Rattle.doc_server_rounds.specs.Dropped.{dropped_all, is_among}
 use Rattle.doc_server_rounds.specs.Servings.{IsOwn}
@@ -42,7 +42,7 @@ rest_after w (n ∷ ns) = rest_after (disconnected w n).0 ns
 abbrev drop_of : World → ℕ → Happened
 drop_of w n = record {
   world = w;
-  event = events.Disconnect (record { 0 = n });
+  event = disconnect_on (record { 0 = n });
   outcome = outcomes.Disconnected (disconnected w n).1;
 }
 
@@ -54,7 +54,7 @@ pub drops_run : (render : Renders) (w : World) (ns : List ℕ) → Runs render w
 drops_run render w [] = nothing w
 drops_run render w (n ∷ ns) =
     let v = (disconnected w n).0 in
-    first w v (dropped_all v ns) (events.Disconnect (record { 0 = n })) (outcomes.Disconnected (disconnected w n).1) (drops_of v ns)
+    first w v (dropped_all v ns) (disconnect_on (record { 0 = n })) (outcomes.Disconnected (disconnected w n).1) (drops_of v ns)
     ((disconnected w n).1, refl, refl) (drops_run render v ns)
 
 drops_own_in : (ids : List ℕ) (w : World) (ns : List ℕ) → ((n : ℕ) → Contains ns n → Contains ids n) → All (IsOwn ids) (drops_of w ns)

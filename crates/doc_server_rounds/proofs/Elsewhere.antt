@@ -10,11 +10,14 @@ use Rattle.doc_http.specs.declared.request.Next.{Next as Front}
 use Rattle.doc_http.specs.declared.request.Next.TheVariants as nexts
 use Rattle.doc_hub.specs.Connections.{pushed_onto, with_pushed, pushed_at, finished}
 use Rattle.doc_hub_answers.specs.Replies.{Renders}
-use Rattle.doc_hub.specs.Runs.{Happened, Leaves, Runs, nothing, first}
+use Rattle.doc_hub.specs.Runs.{HappensOn, Happened, Leaves, Runs, nothing, first}
 use Rattle.doc_hub.specs.StepLaws.{connection}
 use Rattle.doc_hub.specs.Worlds.{World, Answers, Stays, StepsAt, answer_in, disconnected, stepped_by, world_after, world_pushed}
 use Rattle.doc_hub.specs.declared.connection.Connection.{Connection}
 use Rattle.doc_hub.specs.declared.event.Event.{Event}
+use Rattle.doc_hub.specs.Events.{SaidOn}
+use Rattle.doc_hub.specs.declared.event.ConnectionEvent.{ConnectionEvent}
+use Rattle.doc_hub.specs.declared.event.ConnectionEvent.TheVariants as calls
 use Rattle.doc_hub.specs.declared.event.Event.TheVariants as events
 use Rattle.doc_hub.specs.declared.event.Step.{Step}
 use Rattle.doc_hub.specs.declared.event.Step.TheVariants as steps
@@ -94,20 +97,17 @@ module _ (render : Renders) (c : ℕ) where
       kept_by w v (world_pushed w n bytes) (Ok x) h (pushed_elsewhere w n bytes (connection n w) off)
   push_elsewhere w v n bytes (Err e) off h = same_world w v h.1
 
+  on_elsewhere : (w v : World) (n : ℕ) (call : ConnectionEvent) (said : SaidOn call) → (c == n) ≡ false
+      → HappensOn render w n call v said → Kept w v
+  on_elsewhere w v n (calls.Push bytes) said off h = push_elsewhere w v n bytes said off h
+  on_elsewhere w v n calls.Step said off h = step_elsewhere w v n (connection n w) said off h
+  on_elsewhere w v n calls.Disconnect said off h = kept_by w v (disconnected w n) said h (gone_at w n off)
+
   event_elsewhere : (w v : World) (event : Event) (outcome : Outcome) (n : ℕ) → served_by event ≡ Some n → (c == n) ≡ false
       → Leaves render w event v outcome → Kept w v
-  event_elsewhere w v (events.Push id bytes) outcome n on off (said, h, told) =
-      push_elsewhere w v id.0 bytes said (ap (λ m. c == m) (some_is id.0 n on) ∙ off) h
-  event_elsewhere w v (events.Step id) outcome n on off (said, h, told) =
-      step_elsewhere w v id.0 (connection id.0 w) said (ap (λ m. c == m) (some_is id.0 n on) ∙ off) h
-  event_elsewhere w v (events.Disconnect id) outcome n on off (said, h, told) =
-      kept_by w v (disconnected w id.0) said h (gone_at w id.0 (ap (λ m. c == m) (some_is id.0 n on) ∙ off))
-  event_elsewhere w v events.Connect outcome n on off h = absurd (none_is n on)
-  event_elsewhere w v (events.Put path groups text) outcome n on off h = absurd (none_is n on)
-  event_elsewhere w v (events.Remove path) outcome n on off h = absurd (none_is n on)
-  event_elsewhere w v (events.MovePage from to) outcome n on off h = absurd (none_is n on)
-  event_elsewhere w v (events.SetReader token reader) outcome n on off h = absurd (none_is n on)
-  event_elsewhere w v (events.RemoveReader token) outcome n on off h = absurd (none_is n on)
+  event_elsewhere w v (events.On id call) outcome n on off (said, h, told) =
+      on_elsewhere w v id.0 call said (ap (λ m. c == m) (some_is id.0 n on) ∙ off) h
+  event_elsewhere w v event outcome n on off h = absurd (none_is n on)
 
   pub kept_elsewhere : (w v : World) (run : List Happened) → Runs render w run v → AreElsewhere c run → Kept w v
   kept_elsewhere w v run (nothing x) off = refl

@@ -6,11 +6,14 @@ use Rattle.doc_page_parts.specs.Refusals.{Gives}
 use Rattle.doc_http.specs.declared.request.Next.{Next as Front}
 use Rattle.doc_http.specs.declared.request.Next.TheVariants as nexts
 use Rattle.doc_hub_answers.specs.Replies.{Renders}
-use Rattle.doc_hub.specs.Runs.{Happened, Leaves, Runs, nothing, first}
+use Rattle.doc_hub.specs.Runs.{HappensOn, Happened, Leaves, Runs, nothing, first}
 use Rattle.doc_hub.specs.StepLaws.{connection}
 use Rattle.doc_hub.specs.Worlds.{World, Answers, Stays, StepsAt, disconnected, stepped_by, world_pushed}
 use Rattle.doc_hub.specs.declared.connection.Connection.{Connection}
 use Rattle.doc_hub.specs.declared.event.Event.{Event}
+use Rattle.doc_hub.specs.Events.{SaidOn}
+use Rattle.doc_hub.specs.declared.event.ConnectionEvent.{ConnectionEvent}
+use Rattle.doc_hub.specs.declared.event.ConnectionEvent.TheVariants as calls
 use Rattle.doc_hub.specs.declared.event.Event.TheVariants as events
 use Rattle.doc_hub.specs.declared.event.Step.{Step}
 use Rattle.doc_hub.specs.declared.event.Step.TheVariants as steps
@@ -61,17 +64,15 @@ module _ (render : Renders) where
   push_keeps w v n bytes (Ok x) h = kept_by w v (world_pushed w n bytes) (Ok x) h refl
   push_keeps w v n bytes (Err e) h = ap (λ x. x.given) h.1
 
+  on_keeps : (w v : World) (n : ℕ) (call : ConnectionEvent) (said : SaidOn call) → HappensOn render w n call v said → Kept w v
+  on_keeps w v n (calls.Push bytes) said h = push_keeps w v n bytes said h
+  on_keeps w v n calls.Step said h = step_keeps w v n (connection n w) said h
+  on_keeps w v n calls.Disconnect said h = kept_by w v (disconnected w n) said h refl
+
   event_keeps : (w v : World) (event : Event) (outcome : Outcome) (n : ℕ) → served_by event ≡ Some n → Leaves render w event v outcome
       → Kept w v
-  event_keeps w v (events.Push id bytes) outcome n on (said, h, told) = push_keeps w v id.0 bytes said h
-  event_keeps w v (events.Step id) outcome n on (said, h, told) = step_keeps w v id.0 (connection id.0 w) said h
-  event_keeps w v (events.Disconnect id) outcome n on (said, h, told) = kept_by w v (disconnected w id.0) said h refl
-  event_keeps w v events.Connect outcome n on h = absurd (none_is n on)
-  event_keeps w v (events.Put path groups text) outcome n on h = absurd (none_is n on)
-  event_keeps w v (events.Remove path) outcome n on h = absurd (none_is n on)
-  event_keeps w v (events.MovePage from to) outcome n on h = absurd (none_is n on)
-  event_keeps w v (events.SetReader token reader) outcome n on h = absurd (none_is n on)
-  event_keeps w v (events.RemoveReader token) outcome n on h = absurd (none_is n on)
+  event_keeps w v (events.On id call) outcome n on (said, h, told) = on_keeps w v id.0 call said h
+  event_keeps w v event outcome n on h = absurd (none_is n on)
 
   pub given_kept : (w v : World) (run : List Happened) → Runs render w run v → All IsServed run → Kept w v
   given_kept w v run (nothing x) all = refl

@@ -5,14 +5,13 @@ use Rattle.std.specs.Prelude.{Contains, MatchBool, Option, Some, None, Ok, Err, 
 use Rattle.std.specs.Io.KnownBytes.{Appends, Consumes, IsAtEnd, Keeps}
 use Rattle.std.proofs.KnownBytes.{Appends-nil, Consumes-nil, Consumes-kept}
 use Rattle.std.proofs.lemmas.List.Elements.{All-nil, All-cons, All-append, Contains-push}
-use Rattle.doc_hub.specs.Events.{pushing, stepping}
+use Rattle.doc_hub.specs.Events.{disconnect_on, push_on, pushing, step_on, stepping}
 use Rattle.doc_hub_answers.specs.Replies.{Renders}
 use Rattle.doc_hub.specs.Runs.{Happens, Happened, Leaves, Runs, nothing, first, events_on, sent_by, sent_on}
 use Rattle.doc_hub.specs.StepLaws.{connection}
 use Rattle.doc_hub.specs.Worlds.{World}
 use Rattle.doc_hub.specs.declared.event.ConnId.{ConnId}
 use Rattle.doc_hub.specs.declared.event.Event.{Event}
-use Rattle.doc_hub.specs.declared.event.Event.TheVariants as events
 use Rattle.doc_hub.specs.declared.event.Step.TheVariants as steps
 use Rattle.doc_hub.specs.declared.outcome.Outcome.{Outcome}
 use Rattle.doc_hub.specs.declared.outcome.Outcome.TheVariants as outcomes
@@ -86,11 +85,11 @@ module _ (render : Renders) where
   -- ---- the disconnect, behind a run on the connection
 
   module _ (w v u : World) (p q : Peer) (xs : List Happened) (id : ConnId) (said : Bool) (own : id.0 ≡ p.id)
-      (runs : Runs render w xs v) (all : AreOf p.id xs) (drops : Happens render v (events.Disconnect id) u said) where
+      (runs : Runs render w xs v) (all : AreOf p.id xs) (drops : Happens render v (disconnect_on id) u said) where
     abbrev drop_one : Happened
-    drop_one = happened v (events.Disconnect id) (outcomes.Disconnected said)
+    drop_one = happened v (disconnect_on id) (outcomes.Disconnected said)
 
-    on_own : served_by (events.Disconnect id) ≡ Some p.id
+    on_own : served_by (disconnect_on id) ≡ Some p.id
     on_own = ap Some own
 
     abbrev ys : List Happened
@@ -108,7 +107,7 @@ module _ (render : Renders) where
         → GivesOut p q (sent_on p.id xs) → Closes p.id w xs q → Serves render w p u q
     drops_link opened shut id_same stalls takes gives why = record {
       run = xs ++ ys;
-      runs = runs_join render w v u xs ys runs (first v u u (events.Disconnect id) (outcomes.Disconnected said) [] (said, drops, refl)
+      runs = runs_join render w v u xs ys runs (first v u u (disconnect_on id) (outcomes.Disconnected said) [] (said, drops, refl)
           (nothing u));
       own = All-append (λ h. served_by h.event ≡ Some p.id) xs ys all
           (All-cons (λ h. served_by h.event ≡ Some p.id) drop_one [] on_own (All-nil (λ h. served_by h.event ≡ Some p.id)));
@@ -120,7 +119,7 @@ module _ (render : Renders) where
   -- a link closes behind one event
   module _ (w v u : World) (p q : Peer) (event : Event) (outcome : Outcome) (id : ConnId) (said : Bool) (own : id.0 ≡ p.id)
       (of : served_by event ≡ Some p.id) (leaves : Leaves render w event v outcome)
-      (drops : Happens render v (events.Disconnect id) u said) where
+      (drops : Happens render v (disconnect_on id) u said) where
     abbrev before : List Happened
     before = happened w event outcome ∷ []
 
@@ -151,10 +150,10 @@ module _ (render : Renders) where
 
 module _ (render : Renders) (w v : World) (p q : Peer) (id : ConnId) (own : id.0 ≡ p.id) (opened : p.is_open ≡ true) where
   -- the pending bytes went to the hub
-  pub push_taken : (bytes : List ℕ) → Happens render w (events.Push id bytes) v (Ok tt) → q.is_open ≡ true → q.id ≡ p.id
+  pub push_taken : (bytes : List ℕ) → Happens render w (push_on id bytes) v (Ok tt) → q.is_open ≡ true → q.id ≡ p.id
       → q.stalls ≡ p.stalls → q.unread ≡ p.unread → q.written ≡ p.written → p.pending ≡ bytes → q.pending ≡ [] → Serves render w p v q
   push_taken bytes h stays same stalls unread written all none =
-      one_event render w v p q (events.Push id bytes) outcomes.Pushed (ap Some own) (Ok tt, h, refl) opened stays same stalls (
+      one_event render w v p q (push_on id bytes) outcomes.Pushed (ap Some own) (Ok tt, h, refl) opened stays same stalls (
         [],
         subst (λ l. Consumes p.unread l []) (sym unread) (Consumes-nil p.unread),
         append-nil p.pending ∙ all ∙ sym (append-nil bytes) ∙ ap (λ l. bytes ++ l) (sym none),
@@ -162,55 +161,55 @@ module _ (render : Renders) (w v : World) (p q : Peer) (id : ConnId) (own : id.0
       (nothing_out p q written)
       (λ shut. absurd (push_leaves_open render w v id bytes h (subst (IsShut v) (sym own) shut)))
 
-  none_pushed : (bytes : List ℕ) (e : PushError) → pushed_by (events.Push id bytes) (pushing (Err e)) ≡ []
+  none_pushed : (bytes : List ℕ) (e : PushError) → pushed_by (push_on id bytes) (pushing (Err e)) ≡ []
   none_pushed bytes e = refl
 
   -- they stay pending
-  pub push_kept : (bytes : List ℕ) (e : PushError) → Happens render w (events.Push id bytes) v (Err e) → q.is_open ≡ true → IsAlike p q
+  pub push_kept : (bytes : List ℕ) (e : PushError) → Happens render w (push_on id bytes) v (Err e) → q.is_open ≡ true → IsAlike p q
       → q.written ≡ p.written → Serves render w p v q
   push_kept bytes e h stays same written =
-      one_event render w v p q (events.Push id bytes) (pushing (Err e)) (ap Some own) (Err e, h, refl) opened stays same.id same.stalls
+      one_event render w v p q (push_on id bytes) (pushing (Err e)) (ap Some own) (Err e, h, refl) opened stays same.id same.stalls
       (nothing_in p q same) (nothing_out p q written) (none_shut w v p.id (push_refused render w v id bytes e h))
 
-  pub replied : (bytes : List ℕ) → Happens render w (events.Step id) v (Ok (steps.Sent bytes)) → q.is_open ≡ true → IsAlike p q
+  pub replied : (bytes : List ℕ) → Happens render w (step_on id) v (Ok (steps.Sent bytes)) → q.is_open ≡ true → IsAlike p q
       → Appends p.written q.written bytes → Serves render w p v q
   replied bytes h stays same gives =
-      one_event render w v p q (events.Step id) (outcomes.Stepped (steps.Sent bytes)) (ap Some own) (Ok (steps.Sent bytes), h, refl)
+      one_event render w v p q (step_on id) (outcomes.Stepped (steps.Sent bytes)) (ap Some own) (Ok (steps.Sent bytes), h, refl)
       opened stays same.id same.stalls (nothing_in p q same) gives
       (λ shut. absurd ((reply_takes render w v id bytes h).1 (subst (IsShut v) (sym own) shut)))
 
-  pub found_more : Happens render w (events.Step id) v (Ok steps.More) → q.is_open ≡ true → IsAlike p q → q.written ≡ p.written
+  pub found_more : Happens render w (step_on id) v (Ok steps.More) → q.is_open ≡ true → IsAlike p q → q.written ≡ p.written
       → Serves render w p v q
   found_more h stays same written =
-      one_event render w v p q (events.Step id) (outcomes.Stepped steps.More) (ap Some own) (Ok steps.More, h, refl)
+      one_event render w v p q (step_on id) (outcomes.Stepped steps.More) (ap Some own) (Ok steps.More, h, refl)
       opened stays same.id same.stalls (nothing_in p q same) (nothing_out p q written)
       (none_shut w v p.id (more_leaves render w v id h))
 
-  pub found_no_memory : Happens render w (events.Step id) v (Err step_errors.Memory) → q.is_open ≡ true → IsAlike p q
+  pub found_no_memory : Happens render w (step_on id) v (Err step_errors.Memory) → q.is_open ≡ true → IsAlike p q
       → q.written ≡ p.written → Serves render w p v q
   found_no_memory h stays same written =
-      one_event render w v p q (events.Step id) (stepping (Err step_errors.Memory)) (ap Some own) (Err step_errors.Memory, h, refl)
+      one_event render w v p q (step_on id) (stepping (Err step_errors.Memory)) (ap Some own) (Err step_errors.Memory, h, refl)
       opened stays same.id same.stalls (nothing_in p q same) (nothing_out p q written)
       (none_shut w v p.id (memory_leaves render w v id h))
 
 module _ (render : Renders) (w v u : World) (p q : Peer) (id : ConnId) (said : Bool) (own : id.0 ≡ p.id) (opened : p.is_open ≡ true)
-    (drops : Happens render v (events.Disconnect id) u said) (shut : q.is_open ≡ false) (same : IsAlike p q) where
+    (drops : Happens render v (disconnect_on id) u said) (shut : q.is_open ≡ false) (same : IsAlike p q) where
   pub push_closes : (bytes : List ℕ) (e : PushError) → (e ≡ push_errors.Memory → ⊥) → (e ≡ push_errors.Backlog → ⊥)
-      → Happens render w (events.Push id bytes) v (Err e) → q.written ≡ p.written → Serves render w p u q
+      → Happens render w (push_on id bytes) v (Err e) → q.written ≡ p.written → Serves render w p u q
   push_closes bytes e other more h written =
-      closes_after render w v u p q (events.Push id bytes) (pushing (Err e)) id said own (ap Some own) (Err e, h, refl) drops opened shut
+      closes_after render w v u p q (push_on id bytes) (pushing (Err e)) id said own (ap Some own) (Err e, h, refl) drops opened shut
       same refl (inl (nothing_out p q written))
       (inr (inr (inr (subst (IsShut w) own (push_finds_shut render w v id bytes e other more h)))))
 
-  pub closed_step : Happens render w (events.Step id) v (Ok steps.Closed) → q.written ≡ p.written → Serves render w p u q
+  pub closed_step : Happens render w (step_on id) v (Ok steps.Closed) → q.written ≡ p.written → Serves render w p u q
   closed_step h written =
-      closes_after render w v u p q (events.Step id) (outcomes.Stepped steps.Closed) id said own (ap Some own)
+      closes_after render w v u p q (step_on id) (outcomes.Stepped steps.Closed) id said own (ap Some own)
       (Ok steps.Closed, h, refl) drops opened shut same refl (inl (nothing_out p q written))
       (inr (inr (inr (subst (IsShut w) own (step_finds_closed render w v id h)))))
 
-  pub missing_step : Happens render w (events.Step id) v (Err step_errors.NoConnection) → q.written ≡ p.written → Serves render w p u q
+  pub missing_step : Happens render w (step_on id) v (Err step_errors.NoConnection) → q.written ≡ p.written → Serves render w p u q
   missing_step h written =
-      closes_after render w v u p q (events.Step id) (stepping (Err step_errors.NoConnection)) id said own (ap Some own)
+      closes_after render w v u p q (step_on id) (stepping (Err step_errors.NoConnection)) id said own (ap Some own)
       (Err step_errors.NoConnection, h, refl) drops opened shut same refl (inl (nothing_out p q written))
       (inr (inr (inr (subst (IsShut w) own (step_finds_none render w v id h)))))
 
@@ -220,16 +219,16 @@ module _ (render : Renders) (w v u : World) (p q : Peer) (id : ConnId) (said : B
   end_why (inl dry) = inr (inl (dry, tt))
   end_why (inr stalls) = inl (inr stalls)
 
-  pub ended : (stepped : ConnId) → stepped.0 ≡ p.id → Happens render w (events.Step stepped) v (Ok steps.More) → q.written ≡ p.written
+  pub ended : (stepped : ConnId) → stepped.0 ≡ p.id → Happens render w (step_on stepped) v (Ok steps.More) → q.written ≡ p.written
       → IsDry q.unread q.stalls → Serves render w p u q
   ended stepped of h written dry =
-      closes_after render w v u p q (events.Step stepped) (outcomes.Stepped steps.More) id said own (ap Some of)
+      closes_after render w v u p q (step_on stepped) (outcomes.Stepped steps.More) id said own (ap Some of)
       (Ok steps.More, h, refl) drops opened shut same refl (inl (nothing_out p q written)) (inr (end_why dry))
 
-  pub reply_cut : (bytes : List ℕ) → Happens render w (events.Step id) v (Ok (steps.Sent bytes))
+  pub reply_cut : (bytes : List ℕ) → Happens render w (step_on id) v (Ok (steps.Sent bytes))
       → IsCutOff p.written q.written bytes q.failed q.stalls → Serves render w p u q
   reply_cut bytes h (gives, why) =
-      closes_after render w v u p q (events.Step id) (outcomes.Stepped (steps.Sent bytes)) id said own (ap Some own)
+      closes_after render w v u p q (step_on id) (outcomes.Stepped (steps.Sent bytes)) id said own (ap Some own)
       (Ok (steps.Sent bytes), h, refl) drops opened shut same refl (inr (shut, why, gives)) (inr (inl why))
 
   last_out : (bytes : List ℕ) (sent : Bool)
@@ -238,11 +237,11 @@ module _ (render : Renders) (w v u : World) (p q : Peer) (id : ConnId) (said : B
   last_out bytes true (gives, fine) = inl gives
   last_out bytes false (gives, why) = inr (shut, why, gives)
 
-  pub last_reply : (bytes : List ℕ) (sent : Bool) → Happens render w (events.Step id) v (Ok (steps.Last bytes))
+  pub last_reply : (bytes : List ℕ) (sent : Bool) → Happens render w (step_on id) v (Ok (steps.Last bytes))
       → MatchBool sent (IsSent p.written q.written bytes q.failed) (IsCutOff p.written q.written bytes q.failed q.stalls)
       → Serves render w p u q
   last_reply bytes sent h gives =
-      closes_after render w v u p q (events.Step id) (outcomes.Stepped (steps.Last bytes)) id said own (ap Some own)
+      closes_after render w v u p q (step_on id) (outcomes.Stepped (steps.Last bytes)) id said own (ap Some own)
       (Ok (steps.Last bytes), h, refl) drops opened shut same refl (last_out bytes sent gives) (inl tt)
 
 -- ---- a link that nothing was done to, and reads
@@ -262,7 +261,7 @@ read_some render w p q given opened stays id stalls takes none all same =
 
 -- a read that failed
 pub read_failed : (render : Renders) (w u : World) (p q : Peer) (id : ConnId) (said : Bool) → id.0 ≡ p.id
-    → Happens render w (events.Disconnect id) u said → p.is_open ≡ true → q.is_open ≡ false → q.id ≡ p.id → q.stalls ≡ p.stalls
+    → Happens render w (disconnect_on id) u said → p.is_open ≡ true → q.is_open ≡ false → q.id ≡ p.id → q.stalls ≡ p.stalls
     → Keeps p.unread q.unread → q.pending ≡ p.pending → q.written ≡ p.written → 0 < q.failed → Serves render w p u q
 read_failed render w u p q id said own drops opened shut same stalls keeps pending written failed =
     drops_link render w w u p q [] id said own (nothing w) (All-nil (λ h. served_by h.event ≡ Some p.id)) drops opened shut same stalls (

@@ -80,15 +80,8 @@ none_is : (m : ℕ) → ◌≡◌ {A = Option ℕ} None (Some m) → ⊥
 none_is m e = cc
 
 on_by : (c n : ℕ) (event : Event) (outcome : Outcome) → served_by event ≡ Some n → is_on_by c event outcome ≡ (c == n)
-on_by c n (events.Push id bytes) outcome on = ap (λ m. c == m) (some_is id.0 n on)
-on_by c n (events.Step id) outcome on = ap (λ m. c == m) (some_is id.0 n on)
-on_by c n (events.Disconnect id) outcome on = ap (λ m. c == m) (some_is id.0 n on)
-on_by c n events.Connect outcome on = absurd (none_is n on)
-on_by c n (events.Put path groups text) outcome on = absurd (none_is n on)
-on_by c n (events.Remove path) outcome on = absurd (none_is n on)
-on_by c n (events.MovePage from to) outcome on = absurd (none_is n on)
-on_by c n (events.SetReader token reader) outcome on = absurd (none_is n on)
-on_by c n (events.RemoveReader token) outcome on = absurd (none_is n on)
+on_by c n (events.On id call) outcome on = ap (λ m. c == m) (some_is id.0 n on)
+on_by c n event outcome on = absurd (none_is n on)
 
 abbrev IsApart : ℕ → Happened → Type 0
 IsApart c h = (n : ℕ) × (served_by h.event ≡ Some n) × ((c == n) ≡ false)

@@ -8,6 +8,8 @@ use Rattle.doc_hub.specs.Worlds.{World}
 use Rattle.doc_hub.specs.declared.connection.Connection.{Connection}
 use Rattle.doc_hub.specs.declared.event.ConnId.{ConnId}
 use Rattle.doc_hub.specs.declared.event.Event.{Event}
+use Rattle.doc_hub.specs.declared.event.ConnectionEvent.TheVariants as calls
+use Rattle.doc_hub.specs.Events.{step_on}
 use Rattle.doc_hub.specs.declared.event.Event.TheVariants as events
 use Rattle.doc_hub.specs.declared.event.Step.TheVariants as steps
 use Rattle.doc_hub.specs.declared.outcome.Outcome.{Outcome}
@@ -20,9 +22,7 @@ use Rattle.doc_server_rounds.specs.Sending.{HasFault}
 
 -- the connection of a push, of a step or of a disconnect
 abbrev pub served_by : Event → Option ℕ
-served_by (events.Push id bytes) = Some id.0
-served_by (events.Step id) = Some id.0
-served_by (events.Disconnect id) = Some id.0
+served_by (events.On id call) = Some id.0
 served_by event = None
 
 -- pushes, steps and disconnects of this connection alone
@@ -31,7 +31,7 @@ AreOf c run = All (λ h. served_by h.event ≡ Some c) run
 
 -- the bytes of an accepted push
 abbrev pub pushed_by : Event → Outcome → List ℕ
-pushed_by (events.Push id bytes) outcomes.Pushed = bytes
+pushed_by (events.On id (calls.Push bytes)) outcomes.Pushed = bytes
 pushed_by event outcome = []
 
 -- the bytes that a run's accepted pushes take to a connection
@@ -110,4 +110,4 @@ pub record Serves (render : Renders) (w : World) (p : Peer) (v : World) (q : Pee
 -- what serving a link does behind a step that found no whole request
 abbrev pub ServesOn : Renders → World → Peer → World → Peer → Type 0
 ServesOn render v p u q =
-    (w : World) (id : ConnId) → id.0 ≡ p.id → Happens render w (events.Step id) v (Ok steps.More) → Serves render w p u q
+    (w : World) (id : ConnId) → id.0 ≡ p.id → Happens render w (step_on id) v (Ok steps.More) → Serves render w p u q

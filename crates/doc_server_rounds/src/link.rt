@@ -2,6 +2,7 @@
 
 ghost use Rattle.std.specs.Prelude.{◌≡◌, ◌<◌, true, [], IfErr, IfOk, Ok, Err};
 ghost use Rattle.doc_hub.specs.Runs.{Happens};
+ghost use Rattle.doc_hub.specs.Events.{disconnect_on};
 ghost use Rattle.doc_hub.specs.declared.event.Event.TheVariants as events;
 ghost use Rattle.doc_hub.specs.Worlds.{disconnected};
 ghost use Rattle.doc_server_rounds.specs.Served.{Serves, ServesOn, unread_len};
@@ -230,7 +231,7 @@ impl<S: Stream + Drop> Link<S> {
 /// Drops the connection of a link, which closes by that.
 fn closed<R: Renderer + Drop>(hub: &mut Hub<R>, id: ConnId) -> Phase
     ensures phase { result ≡ Phase.Closed }
-    ensures world { Happens (R.page hub.old.0) hub.old.1 (events.Disconnect id) hub.new.1
+    ensures world { Happens (R.page hub.old.0) hub.old.1 (disconnect_on id) hub.new.1
         (disconnected hub.old.1 id.0).1 }
     ensures same { R.page hub.new.0 ≡ R.page hub.old.0 }
 {

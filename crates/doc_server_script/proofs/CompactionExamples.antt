@@ -8,7 +8,8 @@ use Rattle.std.specs.List.{filter, flat_map}
 use Rattle.std.specs.Ordering.{nat_cmp}
 use Rattle.doc_store_readers.specs.Pages.{Page}
 use Rattle.doc_store_readers.specs.Sites.{Site}
-use Rattle.doc_store.specs.Store.{Edit, set_page, remove_page, move_page}
+use Rattle.doc_store.specs.Store.{set_page, remove_page, move_page}
+use Rattle.doc_store.specs.declared.site_edit.SiteEdit.{SiteEdit}
 use Rattle.doc_server_script.specs.Compactions.{compacted, made_along, same_pages, same_texts}
 
 -- ---- the definition on sites that are given as lists
@@ -26,7 +27,7 @@ abbrev aliases_on : Aliases → List ℕ → List (List ℕ)
 aliases_on aliases path = mapped (λ entry. entry.0) (filter (λ entry. bytes_eq entry.1 path) aliases)
 
 -- the edits, from what stands under paths, the entries of both sites and their aliases
-abbrev compacted_by : (List ℕ → Option Page) → (List ℕ → Option Page) → Pages → Aliases → Pages → Aliases → List Edit
+abbrev compacted_by : (List ℕ → Option Page) → (List ℕ → Option Page) → Pages → Aliases → Pages → Aliases → List SiteEdit
 compacted_by found other pages aliases others names =
     let changed : List ℕ × Page → Bool = λ entry.
     not (same_pages (found entry.0) (other entry.0) && same_texts (aliases_on aliases entry.0) (aliases_on names entry.0)) in

@@ -18,7 +18,8 @@ use Rattle.doc_store_readers.specs.Maps.{TextMap}
 use Rattle.doc_store.specs.Names.{aliases_of}
 use Rattle.doc_store_readers.specs.Pages.{Page}
 use Rattle.doc_store_readers.specs.Sites.{Site, IsSite}
-use Rattle.doc_store.specs.Store.{Edit, effect_of, is_goal}
+use Rattle.doc_store.specs.Store.{effect_of, is_goal}
+use Rattle.doc_store.specs.declared.site_edit.SiteEdit.{SiteEdit}
 use Rattle.doc_server_script.specs.Compactions.{compacted, effects, made, other_pages, same_at, same_pages, same_texts}
 use Rattle.doc_server_script.specs.CompactionLaws.{GivesTheSite}
 use Rattle.doc_server_script.proofs.MadeSteps.{Once, is_in, leads, page_made, site_is}
@@ -27,7 +28,7 @@ use Rattle.doc_server_script.proofs.Without.{paths, removals, site_without, with
 
 -- ---- edits one after the other
 
-pub effects_joined : (site : Site) (edits more : List Edit) → effects site (edits ++ more) ≡ effects (effects site edits) more
+pub effects_joined : (site : Site) (edits more : List SiteEdit) → effects site (edits ++ more) ≡ effects (effects site edits) more
 effects_joined site [] more = refl
 effects_joined site (edit ∷ edits) more = effects_joined (effect_of site edit) edits more
 

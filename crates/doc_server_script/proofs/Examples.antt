@@ -5,7 +5,10 @@ use Rattle.std.specs.Str.{chars, is_utf8}
 use Rattle.std.proofs.Math.Utf8.{encode}
 use Rattle.doc_page_parts.specs.Paths.{is_path}
 use Rattle.doc_store_readers.specs.Groups.{groups_of_names}
+use Rattle.doc_store.specs.declared.site_edit.SiteEdit.TheVariants as site_edits
+use Rattle.doc_hub.specs.Events.{push_on, step_on}
 use Rattle.doc_hub.specs.declared.event.Event.TheVariants as events
+use Rattle.doc_hub.specs.declared.event.ReaderEdit.TheVariants as reader_edits
 use Rattle.doc_hub.specs.declared.event.Step.TheVariants as steps
 use Rattle.doc_hub.specs.declared.outcome.Outcome.TheVariants as outcomes
 use Rattle.doc_hub.specs.declared.refusal.Refusal.TheVariants as refusals
@@ -32,11 +35,11 @@ unfolding event_of
 blank_line = refl
 
 -- bytes with each escape, digits of either case
-pushes : event_of (codes "push 01 a b\\r\\n\\\\\\x00\\xfF") ≡ Some (events.Push (record { 0 = 1 }) (97 ∷ 32 ∷ 98 ∷ 13 ∷ 10 ∷ 92 ∷ 0 ∷ 255 ∷ []))
+pushes : event_of (codes "push 01 a b\\r\\n\\\\\\x00\\xfF") ≡ Some (push_on (record { 0 = 1 }) (97 ∷ 32 ∷ 98 ∷ 13 ∷ 10 ∷ 92 ∷ 0 ∷ 255 ∷ []))
 unfolding event_of unescaped
 pushes = refl
 
-pushes_nothing : event_of (codes "push 1 ") ≡ Some (events.Push (record { 0 = 1 }) [])
+pushes_nothing : event_of (codes "push 1 ") ≡ Some (push_on (record { 0 = 1 }) [])
 unfolding event_of unescaped
 pushes_nothing = refl
 
@@ -57,7 +60,7 @@ unfolding event_of unescaped
 short_number = refl
 
 -- the last number, and one too many
-last_connection : event_of (codes "step 18446744073709551615") ≡ Some (events.Step (record { 0 = 18446744073709551615 }))
+last_connection : event_of (codes "step 18446744073709551615") ≡ Some (step_on (record { 0 = 18446744073709551615 }))
 unfolding event_of
 last_connection = refl
 
@@ -70,11 +73,11 @@ unfolding event_of
 signs_are_no_digits = refl
 
 -- a text may hold spaces; `-` names no groups
-puts_a_page : event_of (codes "put a.md - x  y") ≡ Some (events.Put (codes "a.md") [] (codes "x  y"))
+puts_a_page : event_of (codes "put a.md - x  y") ≡ Some (events.Site (site_edits.Put (codes "a.md") [] (codes "x  y")))
 unfolding event_of unescaped is_path chars is_utf8 encode
 puts_a_page = refl
 
-puts_for_groups : event_of (codes "put a\\x20b.md ops,staff,ops ") ≡ Some (events.Put (codes "a b.md") (codes "ops" ∷ codes "staff" ∷ []) [])
+puts_for_groups : event_of (codes "put a\\x20b.md ops,staff,ops ") ≡ Some (events.Site (site_edits.Put (codes "a b.md") (codes "ops" ∷ codes "staff" ∷ []) []))
 unfolding event_of unescaped is_path chars is_utf8 encode groups_of_names
 puts_for_groups = refl
 
@@ -91,7 +94,7 @@ unfolding event_of unescaped is_path chars is_utf8 encode groups_of_names
 no_group = refl
 
 -- the last path may hold spaces
-removes : event_of (codes "remove a b.md") ≡ Some (events.Remove (codes "a b.md"))
+removes : event_of (codes "remove a b.md") ≡ Some (events.Site (site_edits.Remove (codes "a b.md")))
 unfolding event_of unescaped is_path chars is_utf8 encode
 removes = refl
 
@@ -99,12 +102,12 @@ no_path : event_of (codes "remove ../a.md") ≡ None
 unfolding event_of unescaped is_path chars is_utf8 encode
 no_path = refl
 
-moves : event_of (codes "move a.md b c.md") ≡ Some (events.MovePage (codes "a.md") (codes "b c.md"))
+moves : event_of (codes "move a.md b c.md") ≡ Some (events.Site (site_edits.Move (codes "a.md") (codes "b c.md")))
 unfolding event_of unescaped is_path chars is_utf8 encode
 moves = refl
 
 -- a token is asked nothing
-sets_an_owner : event_of (codes "reader \\t owner -") ≡ Some (events.SetReader (codes "\\t") (record { owner = true; groups = [] }))
+sets_an_owner : event_of (codes "reader \\t owner -") ≡ Some (events.Reader (reader_edits.Set (codes "\\t") (record { owner = true; groups = [] })))
 unfolding event_of
 sets_an_owner = refl
 
@@ -112,7 +115,7 @@ no_such_reader : event_of (codes "reader t other -") ≡ None
 unfolding event_of
 no_such_reader = refl
 
-removes_a_reader : event_of (codes "unreader a b") ≡ Some (events.RemoveReader (codes "a b"))
+removes_a_reader : event_of (codes "unreader a b") ≡ Some (events.Reader (reader_edits.Remove (codes "a b")))
 unfolding event_of
 removes_a_reader = refl
 

@@ -4,6 +4,7 @@ mod EscapeSteps
 mod Examples
 mod FieldSteps
 mod GroupLaws
+pub mod LineLengths
 mod LoopSteps
 pub mod ReadLaws
 mod CompactionExamples

@@ -4,6 +4,7 @@ use Rattle.std.specs.Prelude.{Some, None, option_map, option_and_then}
 use Rattle.std.specs.List.{list_all}
 use Rattle.std.proofs.lemmas.Str.{is_utf8-from_IsUtf8}
 use Rattle.doc_store_readers.specs.Groups.{IsGroups}
+use Rattle.doc_store.specs.declared.site_edit.SiteEdit.TheVariants as site_edits
 use Rattle.doc_hub.specs.declared.event.Event.TheVariants as events
 use Rattle.doc_server_script.specs.Edits.{put_line, remove_line, move_line, groups_text}
 use Rattle.doc_server_script.specs.Escapes.{is_printable, spaceless, escaped}
@@ -26,13 +27,13 @@ path_text_back path is = ap (option_and_then as_text) (spaceless_text_back path 
 pub path_back : (path : List ℕ) → IsPathText path → path_in (spaceless path) ≡ Some path
 path_back path is = ap (option_and_then as_path) (path_text_back path is.text) ∙ rw is.good refl
 
-pub remove_read : (path : List ℕ) → IsPathText path → event_of (remove_line path) ≡ Some (events.Remove path)
+pub remove_read : (path : List ℕ) → IsPathText path → event_of (remove_line path) ≡ Some (events.Site (site_edits.Remove path))
 unfolding event_of
 remove_read path is =
     ap (event_in (remove_line path)) (cut_at (codes "remove") (spaceless path) refl)
-    ∙ ap (option_map events.Remove) (path_back path is)
+    ∙ ap remove_with (path_back path is)
 
-pub move_read : (from to : List ℕ) → IsPathText from → IsPathText to → event_of (move_line from to) ≡ Some (events.MovePage from to)
+pub move_read : (from to : List ℕ) → IsPathText from → IsPathText to → event_of (move_line from to) ≡ Some (events.Site (site_edits.Move from to))
 unfolding event_of
 move_read from to old new =
     ap (event_in (move_line from to)) (cut_at (codes "move") (spaceless from ++ 32 ∷ spaceless to) refl)
@@ -42,7 +43,7 @@ move_read from to old new =
     ∙ ap (move_with (Some from)) (path_back to new)
 
 pub put_read : (path : List ℕ) (groups : List (List ℕ)) (text : List ℕ) → IsPathText path → IsGroups groups → IsText text
-    → event_of (put_line path groups text) ≡ Some (events.Put path groups text)
+    → event_of (put_line path groups text) ≡ Some (events.Site (site_edits.Put path groups text))
 unfolding event_of
 put_read path groups text of_page names is =
     let last = groups_text groups ++ 32 ∷ escaped text in

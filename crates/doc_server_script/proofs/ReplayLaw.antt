@@ -17,7 +17,9 @@ use Rattle.doc_store_readers.specs.Maps.{TextMap}
 use Rattle.doc_store.specs.Names.{aliases_of}
 use Rattle.doc_store_readers.specs.Pages.{Page}
 use Rattle.doc_store_readers.specs.Sites.{Site, IsSite}
-use Rattle.doc_store.specs.Store.{Edit, set_page, remove_page, move_page, effect_of, StoreState, fits, move_fits}
+use Rattle.doc_store.specs.Store.{set_page, remove_page, move_page, effect_of, StoreState, fits, move_fits}
+use Rattle.doc_store.specs.declared.site_edit.SiteEdit.{SiteEdit}
+use Rattle.doc_store.specs.declared.site_edit.SiteEdit.TheVariants as site_edits
 use Rattle.doc_store.specs.Store.{put_by, moved_by, with_page, with_move, without_goal, aliases_after, is_goal, page_limit, alias_limit, text_limit, put_limit}
 use Rattle.doc_server_script.specs.Compactions.{compacted, effects, made, made_along, moves, other_pages}
 use Rattle.doc_server_script.specs.CompactionLaws.{ReplayGivesTheSite}
@@ -29,14 +31,14 @@ use Rattle.doc_server_script.proofs.Without.{AreEntries, Entries, alias_without,
 
 -- ---- edits that fit
 
-abbrev Fits : Site → Edit → Type 0
-Fits site (set_page path page) = (length page.text ≤ text_limit) × (map.len site.pages < page_limit)
-Fits site (remove_page path) = map.contains_key site.pages path ≡ true
-Fits site (move_page from to) =
+abbrev Fits : Site → SiteEdit → Type 0
+Fits site (site_edits.Put path groups text) = (length text ≤ text_limit) × (map.len site.pages < page_limit)
+Fits site (site_edits.Remove path) = map.contains_key site.pages path ≡ true
+Fits site (site_edits.Move from to) =
     (map.contains_key site.pages from ≡ true) × (map.contains_key site.pages to ≡ false)
     × (map.len (aliases_after site.aliases from to) ≤ alias_limit)
 
-abbrev AllFit : Site → List Edit → Type 0
+abbrev AllFit : Site → List SiteEdit → Type 0
 AllFit site [] = ⊤
 AllFit site (edit ∷ edits) = Fits site edit × AllFit (effect_of site edit) edits
 
@@ -69,7 +71,7 @@ move_is_fit stands taken aliases puts there free room left =
 -- ---- edits that fit are not refused
 
 -- an edit is accepted, has its effect and takes a stamp at most
-abbrev Accepts : StoreState → Edit → Type 0
+abbrev Accepts : StoreState → SiteEdit → Type 0
 Accepts store edit = (next : StoreState) × (edited store edit ≡ Some next) × (next.site ≡ effect_of store.site edit)
     × (next.puts ≤ store.puts + 1)
 
@@ -79,22 +81,23 @@ one_more n = omega arith
 no_more : (n : ℕ) → n ≤ n + 1
 no_more n = omega arith
 
-accepts : (store : StoreState) (edit : Edit) → Fits store.site edit → store.puts < put_limit → Accepts store edit
-accepts store (set_page path page) fit left = (
-  with_page store path page,
-  ap (λ said. unless_refused (put_by store path page (map.contains_key store.site.pages path) said).0
-      (put_by store path page (map.contains_key store.site.pages path) said).1)
-      (put_fits (map.len store.site.pages) store.puts (map.contains_key store.site.pages path) page.text fit.0 fit.1 left),
-  refl,
-  one_more store.puts,
-)
-accepts store (remove_page path) stands left = (
+accepts : (store : StoreState) (edit : SiteEdit) → Fits store.site edit → store.puts < put_limit → Accepts store edit
+accepts store (site_edits.Put path groups text) fit left =
+    let page : Page = record { groups = groups; text = text } in (
+      with_page store path page,
+      ap (λ said. unless_refused (put_by store path page (map.contains_key store.site.pages path) said).0
+          (put_by store path page (map.contains_key store.site.pages path) said).1)
+          (put_fits (map.len store.site.pages) store.puts (map.contains_key store.site.pages path) text fit.0 fit.1 left),
+      refl,
+      one_more store.puts,
+    )
+accepts store (site_edits.Remove path) stands left = (
   taken_out store path,
   ap (λ b. if b then Some (if b then taken_out store path else store) else None) stands,
   refl,
   no_more store.puts,
 )
-accepts store (move_page from to) fit left = (
+accepts store (site_edits.Move from to) fit left = (
   with_move store from to,
   ap (λ said. unless_refused (moved_by store from to said).0 (moved_by store from to said).1)
       (move_is_fit (map.contains_key store.site.pages from) (map.contains_key store.site.pages to)
@@ -109,7 +112,7 @@ some_left puts more most room = omega (arith, room)
 less_left : (puts next more most : ℕ) → next ≤ puts + 1 → puts + (more + 1) ≤ most → next + more ≤ most
 less_left puts next more most step room = omega (arith, step, room)
 
-all_accepted : (store : StoreState) (edits : List Edit) → AllFit store.site edits → store.puts + length edits ≤ put_limit
+all_accepted : (store : StoreState) (edits : List SiteEdit) → AllFit store.site edits → store.puts + length edits ≤ put_limit
     → option_map (λ after. after.site) (replayed (Some store) edits) ≡ Some (effects store.site edits)
 all_accepted store [] fit room = refl
 all_accepted store (edit ∷ edits) fit room =
@@ -123,7 +126,7 @@ all_accepted store (edit ∷ edits) fit room =
 
 -- ---- what is removed stands
 
-all_fit_joined : (site : Site) (edits more : List Edit) → AllFit site edits → AllFit (effects site edits) more
+all_fit_joined : (site : Site) (edits more : List SiteEdit) → AllFit site edits → AllFit (effects site edits) more
     → AllFit site (edits ++ more)
 all_fit_joined site [] more fit rest = rest
 all_fit_joined site (edit ∷ edits) more fit rest = (fit.0, all_fit_joined (effect_of site edit) edits more fit.1 rest)

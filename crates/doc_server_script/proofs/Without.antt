@@ -7,7 +7,8 @@ use Rattle.doc_store.proofs.StoreSteps.{get-without_goal}
 use Rattle.doc_store_readers.specs.Maps.{TextMap}
 use Rattle.doc_store_readers.specs.Pages.{Page}
 use Rattle.doc_store_readers.specs.Sites.{Site, IsSite}
-use Rattle.doc_store.specs.Store.{Edit, remove_page, effect_of, is_goal}
+use Rattle.doc_store.specs.Store.{remove_page, effect_of, is_goal}
+use Rattle.doc_store.specs.declared.site_edit.SiteEdit.{SiteEdit}
 use Rattle.doc_server_script.specs.Compactions.{effects}
 use Rattle.doc_server_script.proofs.MadeSteps.{is_in}
 
@@ -17,7 +18,7 @@ Entries = List (List ℕ × Page)
 abbrev pub paths : Entries → List (List ℕ)
 paths entries = mapped (λ entry. entry.0) entries
 
-abbrev pub removals : Entries → List Edit
+abbrev pub removals : Entries → List SiteEdit
 removals entries = mapped (λ entry. remove_page entry.0) entries
 
 -- a site without these pages

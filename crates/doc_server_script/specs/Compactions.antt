@@ -7,10 +7,11 @@ use Rattle.doc_store_readers.specs.Maps.{TextMap}
 use Rattle.doc_store.specs.Names.{aliases_of}
 use Rattle.doc_store_readers.specs.Pages.{Page}
 use Rattle.doc_store_readers.specs.Sites.{Site}
-use Rattle.doc_store.specs.Store.{Edit, set_page, remove_page, move_page, effect_of}
+use Rattle.doc_store.specs.Store.{set_page, remove_page, move_page, effect_of}
+use Rattle.doc_store.specs.declared.site_edit.SiteEdit.{SiteEdit}
 
 -- the site after some edits
-abbrev pub effects : Site → List Edit → Site
+abbrev pub effects : Site → List SiteEdit → Site
 effects site [] = site
 effects site (edit ∷ edits) = effects (effect_of site edit) edits
 
@@ -36,22 +37,22 @@ abbrev pub other_pages : Site → Site → TextMap Page → List (List ℕ × Pa
 other_pages config site pages = filter (λ entry. not (same_at config site entry.0)) (map.entries pages)
 
 -- a move from each name to the next
-abbrev pub moves : List ℕ → List (List ℕ) → List Edit
+abbrev pub moves : List ℕ → List (List ℕ) → List SiteEdit
 moves from [] = []
 moves from (to ∷ names) = move_page from to ∷ moves to names
 
 -- a page is put under the first of its names, and moved along the others
-abbrev pub made_along : Page → List (List ℕ) → List Edit
+abbrev pub made_along : Page → List (List ℕ) → List SiteEdit
 made_along page [] = []
 made_along page (first ∷ names) = set_page first page ∷ moves first names
 
 -- a page is made with its aliases, in the order of their bytes; last comes its path
-abbrev pub made : Site → List ℕ × Page → List Edit
+abbrev pub made : Site → List ℕ × Page → List SiteEdit
 made site entry = made_along entry.1 (aliases_of site.aliases entry.0 ++ entry.0 ∷ [])
 
 -- The edits that lead from a configuration's site to another: each page that the other doesn't have so is
 -- removed, then each page that the configuration doesn't give so is made.
-unfoldable pub compacted : Site → Site → List Edit
+unfoldable pub compacted : Site → Site → List SiteEdit
 compacted config site =
     mapped (λ entry. remove_page entry.0) (other_pages config site config.pages)
     ++ flat_map (made site) (other_pages config site site.pages)

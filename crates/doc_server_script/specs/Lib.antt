@@ -2,6 +2,7 @@ pub mod Edits
 pub mod Escapes
 pub mod Fields
 pub mod Laws
+pub mod LineLengths
 pub mod Lines
 pub mod Outcomes
 pub mod Compactions

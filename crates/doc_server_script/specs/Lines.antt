@@ -1,8 +1,13 @@
 -- The lines of a script, one event each. All of this is this project's choice.
-use Rattle.std.specs.Prelude.{ℕ, List, Bool, bytes_eq, codes, Option, Some, None, option_map, option_and_then, if◌then◌else◌}
+use Rattle.std.specs.Prelude.{ℕ, List, Bool, bytes_eq, codes, Option, Some, None, option_and_then, if◌then◌else◌}
+use Rattle.doc_store.specs.declared.site_edit.SiteEdit.TheVariants as site_edits
+use Rattle.doc_hub.specs.Events.{push_on}
 use Rattle.doc_hub.specs.declared.event.ConnId.{ConnId}
+use Rattle.doc_hub.specs.declared.event.ConnectionEvent.{ConnectionEvent}
+use Rattle.doc_hub.specs.declared.event.ConnectionEvent.TheVariants as calls
 use Rattle.doc_hub.specs.declared.event.Event.{Event}
 use Rattle.doc_hub.specs.declared.event.Event.TheVariants as events
+use Rattle.doc_hub.specs.declared.event.ReaderEdit.TheVariants as reader_edits
 use Rattle.doc_server_script.specs.declared.command.Command.{Command}
 use Rattle.doc_server_script.specs.declared.command.Command.TheVariants as commands
 use Rattle.doc_server_script.specs.Escapes.{unescaped}
@@ -22,26 +27,34 @@ command_of word =
 
 -- ---- events of these parts, where all are good
 
+abbrev pub call_with : ConnectionEvent → Option ConnId → Option Event
+call_with call None = None
+call_with call (Some id) = Some (events.On id call)
+
 abbrev pub push_with : Option ConnId → Option (List ℕ) → Option Event
 push_with None bytes = None
 push_with (Some id) None = None
-push_with (Some id) (Some bytes) = Some (events.Push id bytes)
+push_with (Some id) (Some bytes) = Some (push_on id bytes)
 
 abbrev pub put_with : Option (List ℕ) → Option (List (List ℕ)) → Option (List ℕ) → Option Event
 put_with None groups text = None
 put_with (Some path) None text = None
 put_with (Some path) (Some groups) None = None
-put_with (Some path) (Some groups) (Some text) = Some (events.Put path groups text)
+put_with (Some path) (Some groups) (Some text) = Some (events.Site (site_edits.Put path groups text))
+
+abbrev pub remove_with : Option (List ℕ) → Option Event
+remove_with None = None
+remove_with (Some path) = Some (events.Site (site_edits.Remove path))
 
 abbrev pub move_with : Option (List ℕ) → Option (List ℕ) → Option Event
 move_with None to = None
 move_with (Some from) None = None
-move_with (Some from) (Some to) = Some (events.MovePage from to)
+move_with (Some from) (Some to) = Some (events.Site (site_edits.Move from to))
 
 abbrev pub reader_with : List ℕ → Option Bool → Option (List (List ℕ)) → Option Event
 reader_with token None groups = None
 reader_with token (Some owner) None = None
-reader_with token (Some owner) (Some groups) = Some (events.SetReader token (record { owner = owner; groups = groups }))
+reader_with token (Some owner) (Some groups) = Some (events.Reader (reader_edits.Set token (record { owner = owner; groups = groups })))
 
 -- ---- events of these fields, the last of which may hold spaces
 
@@ -63,10 +76,10 @@ event_of_fields command fields = None
 
 -- the event of a command and what follows its space. A token stands as it is, and may be none.
 abbrev pub event_by : Command → List ℕ → Option Event
-event_by commands.Step rest = option_map events.Step (connection_of rest)
-event_by commands.Disconnect rest = option_map events.Disconnect (connection_of rest)
-event_by commands.Remove rest = option_map events.Remove (path_in rest)
-event_by commands.Unreader rest = Some (events.RemoveReader rest)
+event_by commands.Step rest = call_with calls.Step (connection_of rest)
+event_by commands.Disconnect rest = call_with calls.Disconnect (connection_of rest)
+event_by commands.Remove rest = remove_with (path_in rest)
+event_by commands.Unreader rest = Some (events.Reader (reader_edits.Remove rest))
 event_by command rest = option_and_then (event_of_fields command) (cut rest)
 
 -- the same where the word may name none

@@ -3,7 +3,9 @@ use Rattle.std.specs.Prelude.{◌≡◌, ◌+◌, ◌≤◌, ℕ, List, [], ◌�
 use Rattle.std.specs.FinMap as map
 use Rattle.doc_store_readers.specs.Pages.{Page}
 use Rattle.doc_store_readers.specs.Sites.{Site}
-use Rattle.doc_store.specs.Store.{Edit, set_page, remove_page, move_page, StoreState, put_into, without_page, moved_in}
+use Rattle.doc_store.specs.Store.{StoreState, put_into, without_page, moved_in}
+use Rattle.doc_store.specs.declared.site_edit.SiteEdit.{SiteEdit}
+use Rattle.doc_store.specs.declared.site_edit.SiteEdit.TheVariants as site_edits
 use Rattle.doc_store.specs.Store.{page_limit, alias_limit, text_limit, put_limit}
 use Rattle.doc_server_script.specs.Compactions.{compacted}
 
@@ -13,14 +15,14 @@ unless_refused store (Ok done) = Some store
 unless_refused store (Err e) = None
 
 -- the store after an edit, unless it is refused or removes no page
-abbrev pub edited : StoreState → Edit → Option StoreState
-edited store (set_page path page) =
-    unless_refused (put_into store path page.groups page.text).0 (put_into store path page.groups page.text).1
-edited store (remove_page path) = if map.contains_key store.site.pages path then Some (without_page store path) else None
-edited store (move_page from to) = unless_refused (moved_in store from to).0 (moved_in store from to).1
+abbrev pub edited : StoreState → SiteEdit → Option StoreState
+edited store (site_edits.Put path groups text) =
+    unless_refused (put_into store path groups text).0 (put_into store path groups text).1
+edited store (site_edits.Remove path) = if map.contains_key store.site.pages path then Some (without_page store path) else None
+edited store (site_edits.Move from to) = unless_refused (moved_in store from to).0 (moved_in store from to).1
 
 -- the store after some edits, unless one is refused
-abbrev pub replayed : Option StoreState → List Edit → Option StoreState
+abbrev pub replayed : Option StoreState → List SiteEdit → Option StoreState
 replayed store [] = store
 replayed None (edit ∷ edits) = None
 replayed (Some store) (edit ∷ edits) = replayed (edited store edit) edits

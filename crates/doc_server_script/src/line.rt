@@ -3,18 +3,19 @@
 ghost use Rattle.std.specs.Prelude.{◌≡◌, IfOk};
 ghost use Rattle.doc_server_script.specs.Escapes.{unescaped};
 ghost use Rattle.doc_server_script.specs.Fields.{cut, connection_of, path_in};
-ghost use Rattle.doc_server_script.specs.Lines.{event_by, event_of, event_of_fields, move_with, put_of, push_with, reader_of};
+ghost use Rattle.doc_server_script.specs.Lines.{call_with, event_by, event_of, event_of_fields, move_with, put_of, push_with, reader_of};
 ghost use Rattle.doc_server_script.specs.Reads.{Reads};
 
 use crate::command::{Command, command_of};
 use crate::field_error::FieldError;
 use crate::fields::{connection_of, cut, groups_in, owner_in, path_in, text_of};
 use crate::unescaping::unescape;
-use doc_hub::event::Event;
+use doc_hub::event::{ConnectionEvent, Event, ReaderEdit};
 use doc_page_parts::failure::Memory;
 use doc_page_parts::heap::Heap;
 use doc_page_parts::text::Text;
 use doc_store::reader::Reader;
+use doc_store::site_edit::SiteEdit;
 
 /// The event of a line, which is given without its line feed. `None` says that the line is bad.
 #[tactic(auto, unfolding(crate::specs::Lines::event_of))]
@@ -43,12 +44,10 @@ fn event_by(heap: Heap, command: Command, rest: &str) -> Result<Event, FieldErro
     ensures { Reads (event_by command rest.now) result }
 {
     match command {
-        Command::Step => connection_of(rest).map(Event::Step).ok_or(FieldError::Bad),
-        Command::Disconnect => connection_of(rest)
-            .map(Event::Disconnect)
-            .ok_or(FieldError::Bad),
-        Command::Remove => path_in(heap, rest).map(Event::Remove),
-        Command::Unreader => Ok(Event::RemoveReader(Text::copy_of(heap, rest)?)),
+        Command::Step => call_of(rest, ConnectionEvent::Step),
+        Command::Disconnect => call_of(rest, ConnectionEvent::Disconnect),
+        Command::Remove => Ok(Event::Site(SiteEdit::Remove(path_in(heap, rest)?))),
+        Command::Unreader => Ok(Event::Reader(ReaderEdit::Remove(Text::copy_of(heap, rest)?))),
         _ => match cut(rest) {
             Some((first, more)) => event_of_fields(heap, command, first, more),
             None => Err(FieldError::Bad),
@@ -74,6 +73,16 @@ fn event_of_fields(
     }
 }
 
+/// A call of a connection alone.
+fn call_of(id: &str, call: ConnectionEvent) -> Result<Event, FieldError>
+    ensures { Reads (call_with call (connection_of id.now)) result }
+{
+    match connection_of(id) {
+        Some(id) => Ok(Event::On(id, call)),
+        None => Err(FieldError::Bad),
+    }
+}
+
 fn push_of(heap: Heap, id: &str, bytes: &str) -> Result<Event, FieldError>
     ensures { Reads (push_with (connection_of id.now) (unescaped bytes.now)) result }
 {
@@ -83,7 +92,7 @@ fn push_of(heap: Heap, id: &str, bytes: &str) -> Result<Event, FieldError>
     let Some(bytes) = unescape(heap, bytes)? else {
         return Err(FieldError::Bad);
     };
-    Ok(Event::Push(id, bytes))
+    Ok(Event::On(id, ConnectionEvent::Push(bytes)))
 }
 
 fn put_of(heap: Heap, path: &str, more: &str) -> Result<Event, FieldError>
@@ -95,7 +104,7 @@ fn put_of(heap: Heap, path: &str, more: &str) -> Result<Event, FieldError>
     let path = path_in(heap, path)?;
     let groups = groups_in(heap, groups)?;
     let text = text_of(heap, text)?;
-    Ok(Event::Put(path, groups, text))
+    Ok(Event::Site(SiteEdit::Put(path, groups, text)))
 }
 
 fn move_of(heap: Heap, from: &str, to: &str) -> Result<Event, FieldError>
@@ -103,7 +112,7 @@ fn move_of(heap: Heap, from: &str, to: &str) -> Result<Event, FieldError>
 {
     let from = path_in(heap, from)?;
     let to = path_in(heap, to)?;
-    Ok(Event::MovePage(from, to))
+    Ok(Event::Site(SiteEdit::Move(from, to)))
 }
 
 fn reader_of(heap: Heap, token: &str, more: &str) -> Result<Event, FieldError>
@@ -117,5 +126,5 @@ fn reader_of(heap: Heap, token: &str, more: &str) -> Result<Event, FieldError>
     };
     let groups = groups_in(heap, groups)?;
     let token = Text::copy_of(heap, token)?;
-    Ok(Event::SetReader(token, Reader { owner, groups }))
+    Ok(Event::Reader(ReaderEdit::Set(token, Reader { owner, groups })))
 }

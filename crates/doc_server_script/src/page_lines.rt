@@ -2,10 +2,8 @@
 
 ghost use Rattle.std.specs.Prelude.{◌≡◌, ◌++◌, string_bytes, OnOk, OnErr};
 ghost use Rattle.std.specs.Io.{StartsWith};
-ghost use Rattle.doc_store_readers.specs.Groups.{texts_of};
 ghost use Rattle.doc_store.specs.Store.{set_page, remove_page, move_page};
-ghost use Rattle.doc_server_script.specs.Compactions.{made_along, moves};
-ghost use Rattle.doc_server_script.specs.PageLines.{line_of, lines_of};
+ghost use Rattle.doc_server_script.specs.PageLines.{line_of};
 
 use crate::edit::{push_move, push_put, push_remove};
 use crate::escaping::push_plain;
@@ -13,22 +11,6 @@ use doc_page_parts::failure::Memory;
 use doc_page_parts::heap::String;
 use doc_page_parts::path::Path;
 use doc_store::page::Page;
-
-/// Writes the edits that make a page along its names: a put under the first of them, and a move from each to the next.
-#[tactic(auto, using(doc_page_parts::proofs::BufferSteps::front_same, doc_page_parts::proofs::BufferSteps::front_more))]
-pub fn push_made_along(out: &mut String, page: &Page, names: &[&Path]) -> Result<(), Memory>
-    ensures ok { OnOk result (string_bytes out.new
-        ≡ string_bytes out.old ++ lines_of (made_along page.now.page (texts_of names.now))) }
-    ensures err { OnErr result (StartsWith (string_bytes out.new) (string_bytes out.old)) }
-{
-    match names {
-        [] => Ok(()),
-        [first, others @ ..] => {
-            push_put_line(out, first, page)?;
-            push_moves(out, first, others)
-        }
-    }
-}
 
 /// Writes the edit that puts a page.
 #[tactic(auto, using(doc_page_parts::proofs::BufferSteps::front_same, doc_page_parts::proofs::BufferSteps::front_more))]
@@ -61,19 +43,4 @@ pub fn push_move_line(out: &mut String, from: &Path, to: &Path) -> Result<(), Me
 {
     push_move(out, from, to)?;
     push_plain(out, "\n")
-}
-
-/// Writes a move from each name to the next.
-#[tactic(auto, using(doc_page_parts::proofs::BufferSteps::front_same, doc_page_parts::proofs::BufferSteps::front_more))]
-fn push_moves(out: &mut String, from: &Path, names: &[&Path]) -> Result<(), Memory>
-    ensures ok { OnOk result (string_bytes out.new
-        ≡ string_bytes out.old ++ lines_of (moves from.now (texts_of names.now))) }
-    ensures err { OnErr result (StartsWith (string_bytes out.new) (string_bytes out.old)) }
-{
-    let mut last = from;
-    for name in names {
-        push_move_line(out, last, name)?;
-        last = *name;
-    }
-    Ok(())
 }

@@ -1,7 +1,7 @@
 -- What a turn hands over, and what it writes down.
 use Rattle.std.proofs.Common.{◌≡◌, inl, inr, ℕ, List, [], ◌∷◌, ◌++◌, length, Bool, true, T, sym, ap, ◌∙◌, subst, arith}
 use Rattle.std.specs.Prelude.{Option, Some, None, option_map, IfSome, Result, Ok, Err, IsErr, OnErr, OnOk}
-use Rattle.doc_store.specs.Store.{Edit as SiteEdit}
+use Rattle.doc_store.specs.declared.site_edit.SiteEdit.{SiteEdit}
 use Rattle.doc_server_script.specs.PageLines.{lines_of}
 use Rattle.doc_server_journal.specs.Devices.{LeavesFile, LeavesOnly}
 use Rattle.doc_server_journal.specs.Journals.{IsOpen, IsBeforeOrAfter}

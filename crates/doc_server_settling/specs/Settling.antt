@@ -1,6 +1,6 @@
 -- What a turn does to a journal, and to what was pending before it.
 use Rattle.std.specs.Prelude.{◌≡◌, ◌⊎◌, ⊤, ℕ, List, [], ◌∷◌, ◌++◌, Bool, Option, IfSome, Result, OnOk}
-use Rattle.doc_store.specs.Store.{Edit as SiteEdit}
+use Rattle.doc_store.specs.declared.site_edit.SiteEdit.{SiteEdit}
 use Rattle.doc_hub_answers.specs.Replies.{Renders}
 use Rattle.doc_hub.specs.Runs.{Happened}
 use Rattle.doc_hub.specs.Worlds.{World}

@@ -11,7 +11,6 @@ use doc_page::renderer::Renderer;
 use doc_page_parts::heap::Heap;
 use doc_server_journal::device::Device;
 use doc_server_journal::journal::Journal;
-use doc_server_journal_records::record::TEXT_LIMIT;
 use doc_server_listen::channel::Channel;
 use doc_server_listen::client::Client;
 use doc_server_listen::edit_lines::EditLines;
@@ -47,9 +46,7 @@ pub fn settled_turn<D: Device, R: Renderer + Drop, S: Channel + Drop>(
     Ok(())
 }
 
-/// Adds the lines of edits to the journal, where there are some. More bytes than a record takes never come here, since `EditLines` says in
-/// time that it has no room; the comparison is for the proof.
-#[tactic(auto, unfolding(doc_server_journal_records::specs::Records::text_limit))]
+/// Adds the lines of edits to the journal, where there are some. A record takes them, since `EditLines` says in time that it has no room.
 fn write_down<D: Device>(
     heap: Heap,
     journal: &mut Journal<D>,
@@ -70,9 +67,6 @@ fn write_down<D: Device>(
     };
     if lines.is_empty() {
         return Ok(());
-    }
-    if lines.len() > TEXT_LIMIT {
-        return Err(TurnFault::CannotWrite);
     }
     journal.append(heap, lines.as_bytes())?;
     Ok(())

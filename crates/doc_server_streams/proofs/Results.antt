@@ -1,10 +1,6 @@
 -- Clauses on what a call returned, weakened.
 use Rattle.std.specs.Prelude.{Result, Ok, Err, OnOk, IfErr}
 
-pub then_ok : {X E P Q : Type 0} (r : Result X E) → (P → Q) → OnOk r P → OnOk r Q
-then_ok (Ok x) f p = f p
-then_ok (Err e) f p = tt
-
 pub then_err : {X E : Type 0} (P Q : E → Type 0) (r : Result X E) → ((e : E) → P e → Q e) → IfErr r P → IfErr r Q
 then_err P Q (Ok x) f p = tt
 then_err P Q (Err e) f p = f e p

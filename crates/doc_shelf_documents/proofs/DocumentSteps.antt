@@ -1,5 +1,5 @@
 -- Documents of pages, kept and found.
-use Rattle.std.proofs.Common.{◌≡◌, ℕ, List, Bool, true, false, refl, ap, sym, subst, ◌∙◌}
+use Rattle.std.proofs.Common.{◌≡◌, ◌⊎◌, ℕ, List, Bool, true, false, inl, inr, refl, ap, sym, subst, ◌∙◌}
 use Rattle.std.specs.Prelude.{Option, Some, None, is_some, option_map}
 use Rattle.std.specs.FinMap as map
 use Rattle.std.proofs.lemmas.Bool.{both_ways}
@@ -15,7 +15,8 @@ use Rattle.doc_resolve.proofs.DecisionLaws.{decisions_are_goals}
 use Rattle.doc_resolve.specs.Decisions.{decisions, goals_of}
 use Rattle.doc_resolve.specs.Hrefs.{shown}
 use Rattle.doc_resolve.specs.declared.link_kind.LinkKind.{LinkKind}
-use Rattle.doc_shelf_documents.specs.Documents.{IsServed, document_reply}
+use Rattle.doc_shelf_documents.specs.Documents.{IsServed, document_reply, made_of, made_of_kept}
+use Rattle.doc_shelf_documents.specs.declared.documents.Made.{Made}
 use Rattle.doc_shelf_pages.proofs.Documents.{caches_have_documents, documents_are_found}
 use Rattle.doc_shelf_pages.proofs.KeptEdits.{what_is_kept_is_held}
 use Rattle.doc_shelf_pages.specs.EditLaws.{IsKeyOf, document_of}
@@ -28,6 +29,11 @@ use Rattle.doc_store.specs.Store.{StoreState}
 some_is : {X : Type 0} (x y : X) → Some x ≡ Some y → x ≡ y
 some_is x y e = cc
 
+-- what is one thing where a call answers true, and another where it doesn't, is one of them
+pub kept_or_not : {A B : Type 0} (kept_it : Bool) → (kept_it ≡ true → A) → (kept_it ≡ false → B) → A ⊎ B
+kept_or_not true done dropped = inl (done refl)
+kept_or_not false done dropped = inr (dropped refl)
+
 none_some : {X : Type 0} (x : X) → None ≡ Some x → ⊥
 none_some x e = cc
 
@@ -35,6 +41,15 @@ none_some x e = cc
 bare_document : (path : List ℕ) (how : List ℕ → Shown) (page : Rendered) → body_of path how (without_texts page) ≡ body_of path how page
 unfolding filled
 bare_document path how page = refl
+
+-- the reply and the document of what is kept
+pub making_is : (head_only close : Bool) (kept : Kept) (goals : List ℕ → Option (List ℕ)) (path : List ℕ) (stamp : ℕ) (found : Rendered)
+    (document reply : List ℕ) → Some found ≡ map.get kept.renderings (path, stamp) → document ≡ body_of path (shown goals path) found
+    → reply ≡ document_reply head_only close document
+    → ◌≡◌ {A = Option Made} (Some (record { reply = reply; document = document })) (made_of_kept head_only close kept goals path stamp)
+making_is head_only close kept goals path stamp found document reply is made written =
+    (λ i. Some (record { reply = (written ∙ ap (document_reply head_only close) made) i; document = made i }))
+    ∙ ap (option_map (λ page. made_of head_only close (body_of path (shown goals path) page))) is
 
 module _ (render : Renders) (store : StoreState) (kept : Kept) (cache : Cached) (path : List ℕ) (stamp : ℕ) (page : Page)
     (served : IsServed render store kept cache path stamp page) where
@@ -52,9 +67,6 @@ module _ (render : Renders) (store : StoreState) (kept : Kept) (cache : Cached) 
       (none ∙ ap (λ i. option_map (λ (p : PageLinks). p.links) (map.get i (path, stamp))) same
       ∙ ap (option_map (λ (p : PageLinks). p.links)) links_kept)
 
-  pub rendering_found : None ≡ map.get kept.renderings (path, stamp) → ⊥
-  rendering_found none = none_some (without_texts (render page.text)) (none ∙ rendering_kept)
-
   module _ (goals : List ℕ → Option (List ℕ)) where
     pub decided : (index : PairMap PageLinks) (links : List LinkKind) (all : List (Option (List ℕ))) → index ≡ kept.links
         → Some links ≡ option_map (λ (p : PageLinks). p.links) (map.get index (path, stamp)) → all ≡ goals_of goals links
@@ -66,12 +78,21 @@ module _ (render : Renders) (store : StoreState) (kept : Kept) (cache : Cached) 
         ∙ ap (option_map (λ (p : PageLinks). p.links)) links_kept))
         ∙ sym (decisions_are_goals goals path (render page.text))
 
-    -- the document that is made of what is kept
-    pub document_is : (found : Rendered) → Some found ≡ map.get kept.renderings (path, stamp)
-        → body_of path (shown goals path) found ≡ document_of render goals path page
-    document_is found is =
-        ap (body_of path (shown goals path)) (some_is found (without_texts (render page.text)) (is ∙ rendering_kept))
-        ∙ bare_document path (shown goals path) (render page.text)
+    -- what is made of what is kept is the page's document, and the reply with it
+    pub made_is : (head_only close : Bool) → made_of_kept head_only close kept goals path stamp
+        ≡ Some (made_of head_only close (document_of render goals path page))
+    made_is head_only close =
+        ap (option_map (λ found. made_of head_only close (body_of path (shown goals path) found))) rendering_kept
+        ∙ ap (λ document. Some (made_of head_only close document)) (bare_document path (shown goals path) (render page.text))
+
+    pub making_gives : (head_only close : Bool) (made : Made) → Some made ≡ made_of_kept head_only close kept goals path stamp
+        → made ≡ made_of head_only close (document_of render goals path page)
+    making_gives head_only close made is =
+        some_is made (made_of head_only close (document_of render goals path page)) (is ∙ made_is head_only close)
+
+    pub making_gives_one : (head_only close : Bool) → None ≡ made_of_kept head_only close kept goals path stamp → ⊥
+    making_gives_one head_only close none =
+        none_some (made_of head_only close (document_of render goals path page)) (none ∙ made_is head_only close)
 
     module _ (key : Key) (of : IsKeyOf render goals path stamp page key) where
       found_text : (head_only close : Bool) (text : Option (List ℕ)) → text_under cache key ≡ text
@@ -90,14 +111,14 @@ module _ (render : Renders) (store : StoreState) (kept : Kept) (cache : Cached) 
           is ∙ found_text head_only close (text_under cache key) refl (sym (ap is_some is) ∙ there)
 
       -- and one that is made may be kept
-      pub kept_has : (new : Cached) (kept_it : Bool) (text : List ℕ) → text ≡ document_of render goals path page
-          → (kept_it ≡ true → new ≡ kept_in_cache cache key text) → (kept_it ≡ false → new ≡ cache) → HasDocuments render store new
-      kept_has new true text is done dropped =
-          subst (HasDocuments render store) (sym (done refl))
+      pub kept_has : (new : Cached) (text : List ℕ) → text ≡ document_of render goals path page
+          → (new ≡ kept_in_cache cache key text) ⊎ (new ≡ cache) → HasDocuments render store new
+      kept_has new text is (inl done) =
+          subst (HasDocuments render store) (sym done)
           (caches_have_documents.keeps render store cache key text served.shelf.documents
           (subst (IsDocument render store key) (sym is)
           (documents_are_found.made render store goals path stamp page key served.shelf.is_store served.stands of)))
-      kept_has new false text is done dropped = subst (HasDocuments render store) (sym (dropped refl)) served.shelf.documents
+      kept_has new text is (inr dropped) = subst (HasDocuments render store) (sym dropped) served.shelf.documents
 
   pub looked_has : (new : Cached) (key : Key) → new ≡ looked cache key → HasDocuments render store new
   looked_has new key is =

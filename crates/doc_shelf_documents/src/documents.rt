@@ -1,9 +1,9 @@
 //! Documents of pages: found in the cache, or else made from what is kept of the page.
 
-ghost use Rattle.std.specs.Prelude.{◌≡◌, IfOk, Some, option_map};
-ghost use Rattle.doc_cache.specs.Caches.{looked, text_under};
-ghost use Rattle.doc_shelf_documents.specs.Documents.{IsServed, document_reply};
-ghost use Rattle.doc_shelf_pages.specs.EditLaws.{IsKeyOf, document_of};
+ghost use Rattle.std.specs.Prelude.{◌≡◌, ◌⊎◌, IfOk, Some, option_map};
+ghost use Rattle.doc_cache.specs.Caches.{kept as kept_in_cache, looked, text_under};
+ghost use Rattle.doc_shelf_documents.specs.Documents.{IsServed, document_reply, made_of_kept};
+ghost use Rattle.doc_shelf_pages.specs.EditLaws.{document_of};
 ghost use Rattle.doc_shelf_pages.specs.Shelves.{HasDocuments};
 ghost use Rattle.doc_shelf_pages.specs.Views.{Renders};
 ghost use Rattle.doc_store_readers.specs.Pages.{Page};
@@ -19,6 +19,7 @@ use doc_page_parts::heap::Heap;
 use doc_page_parts::list::List;
 use doc_page_parts::path::Path;
 use doc_page_parts::sight::Sight;
+use doc_page_parts::text::Text;
 use doc_resolve::{SiteLinker, goals_of};
 use doc_shelf_pages::KeptPages;
 
@@ -32,8 +33,15 @@ pub struct Writing {
     pub close: bool,
 }
 
+/// A document, and the reply with it.
+struct Made {
+    reply: Bytes,
+    document: Text,
+}
+
 /// The reply that shows a page, which stands under a path with this stamp, by what its reader sees. There is none where nothing is
-/// kept of the page.
+/// kept of the page. A document that was made is kept last, once its reply is made too, and by a call that can't refuse: where there is
+/// no memory to keep it, the reply is the same.
 pub fn reply_with_page<S: Sight>(
     writing: Writing,
     kept: &KeptPages,
@@ -61,7 +69,10 @@ pub fn reply_with_page<S: Sight>(
     if found.is_some() {
         return Ok(found);
     }
-    made_reply(writing, kept, cache, path, key, sight)
+    let Some(made) = make(writing, kept, path, stamp, sight)? else {
+        return Ok(None);
+    };
+    Ok(Some(keep_made(cache, key, made)))
 }
 
 /// The reply with the document that stands under a key, if one does.
@@ -84,26 +95,19 @@ fn found_reply(writing: Writing, cache: &mut PageCache, key: &Key) -> Result<Opt
     Ok(Some(reply))
 }
 
-/// The reply with the document of a page, which is made anew and kept under a key. Where there is no memory to keep it, the reply is
-/// the same.
-fn made_reply<S: Sight>(
+/// The reply that shows a page, and its document, made of what is kept of the page under a path and a stamp. There is none where
+/// nothing is kept.
+fn make<S: Sight>(
     writing: Writing,
     kept: &KeptPages,
-    cache: &mut PageCache,
     path: &Path,
-    key: Key,
+    stamp: u64,
     sight: &S,
-) -> Result<Option<Bytes>, Memory>
-    ensures reply { (render : Renders) → (store : StoreState) → (page : Page)
-        → IsServed render store kept.now cache.old path.now key.stamp page
-        → IfOk result (λ reply. reply ≡ Some (document_reply writing.head_only writing.close
-        (document_of render (S.goals sight.now) path.now page))) }
-    ensures cache { (render : Renders) → (store : StoreState) → (page : Page)
-        → IsServed render store kept.now cache.old path.now key.stamp page
-        → IsKeyOf render (S.goals sight.now) path.now key.stamp page key
-        → HasDocuments render store cache.new }
+) -> Result<Option<Made>, Memory>
+    ensures { IfOk result (λ made. made ≡ made_of_kept writing.head_only writing.close kept.now
+        (S.goals sight.now) path.now stamp) }
 {
-    let Some(page) = kept.get(path, key.stamp) else {
+    let Some(page) = kept.get(path, stamp) else {
         return Ok(None);
     };
     let document = body(writing.heap, path, page, &SiteLinker::new(path, sight))?;
@@ -115,6 +119,15 @@ fn made_reply<S: Sight>(
         writing.head_only,
         writing.close,
     )?;
+    Ok(Some(Made { reply, document }))
+}
+
+/// Keeps a document that was made, under a key, where there is memory to keep it; the reply that was made with it, either way.
+fn keep_made(cache: &mut PageCache, key: Key, made: Made) -> Bytes
+    ensures reply { result ≡ made.reply }
+    ensures cache { (cache.new ≡ kept_in_cache cache.old key made.document) ⊎ (cache.new ≡ cache.old) }
+{
+    let Made { reply, document } = made;
     cache.keep(key, document);
-    Ok(Some(reply))
+    reply
 }

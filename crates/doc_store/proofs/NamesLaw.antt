@@ -11,9 +11,12 @@ use Rattle.std.proofs.lemmas.Cmp.{nat_list_cmp_total}
 use Rattle.std.proofs.lemmas.Map.Entries.{option_filter}
 use Rattle.std.proofs.lemmas.Map.Keys.{IsDistinct-cons, IsDistinct-from_sorted}
 use Rattle.std.proofs.lemmas.Map.Lookups.{exact_bytes}
-use Rattle.doc_page_parts.proofs.Bools.{clash}
-use Rattle.doc_store_readers.proofs.FilterSteps.{keys_in_order, some_in_order}
-use Rattle.doc_store_readers.proofs.KeySteps.{bytes_eq_is, same_from, some_is}
+use Rattle.std.proofs.lemmas.Option.{same_Some}
+use Rattle.doc_page_parts.proofs.Bools.{clash, or_first, or_second}
+use Rattle.doc_page_parts.proofs.Maps.{is_sorted_keys}
+use Rattle.doc_page_parts.proofs.Texts.{bytes_eq_true}
+use Rattle.doc_store_readers.proofs.FilterSteps.{some_in_order}
+use Rattle.doc_store_readers.proofs.KeySteps.{bytes_eq_is}
 use Rattle.doc_store_readers.proofs.MapSteps.{get_filtered}
 use Rattle.doc_store_readers.proofs.MapValues.{contains-map_values}
 use Rattle.doc_store_readers.proofs.ViewLaw.{get-visible_aliases, get-visible_pages, goals_of_views}
@@ -24,9 +27,6 @@ use Rattle.doc_store.specs.Names.{aliases_of, names_of}
 use Rattle.doc_store_readers.specs.Pages.{Page, StampedPage}
 use Rattle.doc_store_readers.specs.Sites.{Site, IsSite, goal_by, goal_in, goal_of, may_see_at, view_of}
 use Rattle.doc_store.specs.Store.{StoreState, is_goal, state_of}
-
-same_bytes : (x y : List ℕ) → bytes_eq x y ≡ true → x ≡ y
-same_bytes x y e = same_from x y (sym (bytes_eq_is x y) ∙ e)
 
 -- paths among others, by their bytes and by their order
 pub by_bytes : (name : List ℕ) (names : List (List ℕ))
@@ -44,7 +44,7 @@ module _ (aliases : TextMap (List ℕ)) (path : List ℕ) where
   found name =
       sym (map.get-from_entries nat_list_cmp_total leading name)
       ∙ get_filtered nat_list_cmp_total exact_bytes (λ goal. bytes_eq goal path) (map.entries aliases) name
-      (keys_in_order (slice_cmp nat_cmp) (map.entries aliases) (map.entries_sorted aliases))
+      (is_sorted_keys (slice_cmp nat_cmp) (map.entries aliases) (map.entries_sorted aliases))
       ∙ ap (option_filter (λ goal. bytes_eq goal path)) (map.get-from_entries nat_list_cmp_total (map.entries aliases) name
       ∙ sym (map.get-entries aliases name))
 
@@ -67,23 +67,15 @@ module _ (aliases : TextMap (List ℕ)) (path : List ℕ) where
       subst (λ eq. IsDistinct eq (aliases_of aliases path)) (sym ties)
       (IsDistinct-from_sorted (slice_cmp nat_cmp) (keys_of leading)
       (some_in_order (slice_cmp nat_cmp) (λ entry. bytes_eq entry.1 path) (map.entries aliases)
-      (keys_in_order (slice_cmp nat_cmp) (map.entries aliases) (map.entries_sorted aliases))))
+      (is_sorted_keys (slice_cmp nat_cmp) (map.entries aliases) (map.entries_sorted aliases))))
 
 none_passes : (test : List ℕ → Bool) (names : List (List ℕ)) → list_any test names ≡ false → AllByRecursion (λ y. test y ≡ false) names
 none_passes test [] e = tt
 none_passes test (name ∷ rest) e = (
-  first (test name) (list_any test rest) e,
+  or_first (test name) (list_any test rest) e,
   none_passes test rest
-      (others (test name) (list_any test rest) e),
+      (or_second (test name) (list_any test rest) e),
 )
-  where
-    first : (b more : Bool) → (b || more) ≡ false → b ≡ false
-    first true more e = e
-    first false more e = refl
-
-    others : (b more : Bool) → (b || more) ≡ false → more ≡ false
-    others true more e = cc
-    others false more e = e
 
 -- ---- the names of a page
 
@@ -102,7 +94,7 @@ module _ (site : Site) (is : IsSite site) (path : List ℕ) where
   -- a path without a page is not that of a page
   differs : (name : List ℕ) (b : Bool) → bytes_eq name path ≡ b → stands ≡ true → map.get site.pages name ≡ None → b ≡ false
   differs name true e there none =
-      absurd (clash stands there (ap (map.contains_key site.pages) (sym (same_bytes name path e)) ∙ ap is_some none))
+      absurd (clash stands there (ap (map.contains_key site.pages) (sym (bytes_eq_true name path e)) ∙ ap is_some none))
   differs name false e there none = refl
 
   lead_there : (name : List ℕ) (page : Option Page) → stands ≡ true → map.get site.pages name ≡ page
@@ -120,13 +112,13 @@ module _ (site : Site) (is : IsSite site) (path : List ℕ) where
   nothing_leads name (Some page) goal none e f = by (bytes_eq name path) refl
     where
       by : (b : Bool) → bytes_eq name path ≡ b → false ≡ b
-      by true same = absurd (clash stands (ap (map.contains_key site.pages) (sym (same_bytes name path same)) ∙ ap is_some e) none)
+      by true same = absurd (clash stands (ap (map.contains_key site.pages) (sym (bytes_eq_true name path same)) ∙ ap is_some e) none)
       by false same = refl
   nothing_leads name None None none e f = refl
   nothing_leads name None (Some goal) none e f = by (bytes_eq goal path) refl
     where
       by : (b : Bool) → bytes_eq goal path ≡ b → false ≡ b
-      by true same = absurd (clash stands (ap (map.contains_key site.pages) (sym (same_bytes goal path same)) ∙ is.lead name goal f) none)
+      by true same = absurd (clash stands (ap (map.contains_key site.pages) (sym (bytes_eq_true goal path same)) ∙ is.lead name goal f) none)
       by false same = refl
 
   all_in_site : (name : List ℕ) → list_any (bytes_eq name) (names_of site path) ≡ is_goal path (goal_of site name)
@@ -163,7 +155,7 @@ module _ (site : Site) (is : IsSite site) (path : List ℕ) where
             → same ≡ is_goal path (cond can (Some goal) None)
         by_goal true same c s = sym s
         by_goal false true c s = absurd (clash (may_see_at reader (map.get site.pages path)) sees
-            (ap (λ p. may_see_at reader (map.get site.pages p)) (sym (same_bytes goal path s)) ∙ c))
+            (ap (λ p. may_see_at reader (map.get site.pages p)) (sym (bytes_eq_true goal path s)) ∙ c))
         by_goal false false c s = refl
     led name (Some page) goal e f = by (may_see_at reader (Some page)) (bytes_eq name path) refl refl
       where
@@ -176,7 +168,7 @@ module _ (site : Site) (is : IsSite site) (path : List ℕ) where
             (cond (may_see_at reader (option_and_then (map.get site.pages) goal)) goal None))
         by true same c s = sym s
         by false true c s = absurd (clash (may_see_at reader (map.get site.pages path)) sees
-            (ap (λ p. may_see_at reader (map.get site.pages p)) (sym (same_bytes name path s)) ∙ ap (may_see_at reader) e ∙ c))
+            (ap (λ p. may_see_at reader (map.get site.pages p)) (sym (bytes_eq_true name path s)) ∙ ap (may_see_at reader) e ∙ c))
         by false false c s = sym (hidden (may_see_at reader (option_and_then (map.get site.pages) goal)))
 
     all_in_view : (name : List ℕ) → list_any (bytes_eq name) (names_of site path) ≡ is_goal path (goal_in (view_of site reader) name)
@@ -213,5 +205,5 @@ module _ (pages : TextMap StampedPage) (aliases : TextMap (List ℕ)) (puts : �
   pub names_of_page : (name : List ℕ) (page : StampedPage) → Some name ≡ option_map (λ _. path) (map.get pages path)
       → Some page ≡ map.get pages path → name ∷ aliases_of aliases name ≡ names_of old.site path
   names_of_page name page is there =
-      ap (λ p. p ∷ aliases_of aliases p) (some_is name path (is ∙ ap (option_map (λ _. path)) (sym there)))
+      ap (λ p. p ∷ aliases_of aliases p) (same_Some name path (is ∙ ap (option_map (λ _. path)) (sym there)))
       ∙ names_by true (ap is_some (sym there))

@@ -12,9 +12,9 @@ use Rattle.std.specs.declared.cmp.Ordering.TheVariants.{Equal}
 use Rattle.std.proofs.lemmas.Cmp.{nat_list_cmp_total}
 use Rattle.std.proofs.lemmas.Map.Entries.{option_filter}
 use Rattle.std.proofs.lemmas.Map.Lookups.{exact_bytes}
-use Rattle.doc_page_parts.proofs.Maps.{entries_in_order, len-sorted}
+use Rattle.doc_page_parts.proofs.Maps.{entries_in_order, len-sorted, is_sorted_keys}
 use Rattle.doc_page_parts.specs.Sights.{leads_to_itself, seen}
-use Rattle.doc_store_readers.proofs.FilterSteps.{keys_in_order, some_in_order}
+use Rattle.doc_store_readers.proofs.FilterSteps.{some_in_order}
 use Rattle.doc_store_readers.proofs.MapSteps.{get_filtered}
 use Rattle.doc_store_readers.proofs.MapValues.{get-map_values, len-map_values}
 use Rattle.doc_store.proofs.SightSteps.{itself_is}
@@ -126,7 +126,7 @@ pub count_of_seen : (reader : Option Reader) (pages : TextMap StampedPage) (alia
 count_of_seen reader pages aliases =
     let some : List (List ℕ × StampedPage) = filter (λ entry. may_see reader entry.1.page) (map.entries pages) in
     let sorted : IsStrictlySortedBy (slice_cmp nat_cmp) (keys_of (map.entries pages))
-    = keys_in_order (slice_cmp nat_cmp) (map.entries pages) (map.entries_sorted pages) in
+    = is_sorted_keys (slice_cmp nat_cmp) (map.entries pages) (map.entries_sorted pages) in
     values_kept (λ page. may_see reader page.page) (map.entries pages)
     ∙ len-sorted nat_list_cmp_total exact_bytes some
     (some_in_order (slice_cmp nat_cmp) (λ entry. may_see reader entry.1.page) (map.entries pages) sorted)

@@ -10,10 +10,11 @@ use Rattle.std.specs.Cmp.Lexicographic.{slice_cmp}
 use Rattle.std.specs.Ordering.{nat_cmp, eq_by_cmp}
 use Rattle.std.proofs.lemmas.Cmp.{nat_list_cmp_total}
 use Rattle.std.proofs.lemmas.Map.Lookups.{exact_bytes}
+use Rattle.std.proofs.lemmas.Option.{same_Some}
 use Rattle.doc_page_parts.proofs.Bools.{clash}
-use Rattle.doc_page_parts.proofs.Maps.{entries_in_order}
-use Rattle.doc_store_readers.proofs.FilterSteps.{keys_in_order, some_in_order}
-use Rattle.doc_store_readers.proofs.KeySteps.{same_key, same_from, same_itself, bytes_eq_is, some_is, get_set, get_taken, contains_set, contains_taken}
+use Rattle.doc_page_parts.proofs.Maps.{entries_in_order, is_sorted_keys}
+use Rattle.doc_store_readers.proofs.FilterSteps.{some_in_order}
+use Rattle.doc_store_readers.proofs.KeySteps.{same_key, same_from, same_itself, bytes_eq_is, get_set, get_taken, contains_set, contains_taken}
 use Rattle.doc_store_readers.proofs.MapValues.{get-map_values}
 use Rattle.doc_store.proofs.NamesLaw.{alias_leads, by_bytes}
 use Rattle.doc_store.proofs.StoreSteps.{get-without_goal, get-aliases_after}
@@ -441,9 +442,9 @@ module _ (goals : TextMap (List ℕ)) (sets : TextMap TextSet) (are : AreSets go
 
   aliases_found : (path : List ℕ) → map.keys (set_at (map.get sets path)) ≡ aliases_of goals path
   aliases_found path = same_keys (map.keys (set_at (map.get sets path))) (aliases_of goals path)
-      (keys_in_order (slice_cmp nat_cmp) (map.entries (set_at (map.get sets path))) (map.entries_sorted (set_at (map.get sets path))))
+      (is_sorted_keys (slice_cmp nat_cmp) (map.entries (set_at (map.get sets path))) (map.entries_sorted (set_at (map.get sets path))))
       (some_in_order (slice_cmp nat_cmp) (λ entry. bytes_eq entry.1 path) (map.entries goals)
-      (keys_in_order (slice_cmp nat_cmp) (map.entries goals) (map.entries_sorted goals)))
+      (is_sorted_keys (slice_cmp nat_cmp) (map.entries goals) (map.entries_sorted goals)))
       (λ q. among_set path q ∙ sym (alias_leads goals path q) ∙ by_bytes q (aliases_of goals path))
 
   pub names_kept : (path : List ℕ) (kept : TextSet) → Some kept ≡ map.get sets path → path ∷ map.keys kept ≡ path ∷ aliases_of goals path
@@ -462,7 +463,7 @@ module _ (goals : TextMap (List ℕ)) (from to : List ℕ) (named : map.get goal
   still_free free alias e = by (same_key alias from) (sym (get_set goals from from alias) ∙ e)
     where
       by : (b : Bool) → cond b (Some from) (map.get goals alias) ≡ Some to → ⊥
-      by true e = apart (some_is from to e)
+      by true e = apart (same_Some from to e)
       by false e = free alias e
 
   pub followed : map.remove (map_values (goal_after from to) ready) to ≡ aliases_after goals from to

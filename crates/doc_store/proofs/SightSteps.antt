@@ -13,10 +13,6 @@ use Rattle.doc_store_readers.specs.Sites.{Site, IsSite, View, may_see, may_see_a
 use Rattle.doc_store.specs.Store.{site_with}
 use Rattle.doc_page_parts.proofs.Bools.{clash}
 
-nothing : {X : Type 0} (b : Bool) → ◌≡◌ {A = Option X} (cond b None None) None
-nothing true = refl
-nothing false = refl
-
 module _ (site : Site) (is : IsSite site) (reader : Reader) where
   abbrev view : View
   view = view_of site (Some reader)

@@ -12,6 +12,7 @@ use Rattle.doc_store.specs.declared.moving.MoveError.{MoveError}
 use Rattle.doc_store.specs.declared.moving.MoveError.TheVariants as move_errors
 use Rattle.doc_store.specs.declared.store.EditError.{EditError}
 use Rattle.doc_store.specs.declared.store.Put.{Put}
+use Rattle.doc_page_parts.proofs.Results.{err_not_ok}
 
 not_itself : (n : ℕ) → n < n → ⊥
 not_itself n h = omega (arith, h)
@@ -22,13 +23,10 @@ no_stamp_to_come store is other e = not_itself store.puts (is.below other store.
 stamp_set : (stamps : TextMap ℕ) (path : List ℕ) (n : ℕ) → map.get (map.insert stamps path n) path ≡ Some n
 stamp_set stamps path n = get_set stamps path n path ∙ ap (λ b. cond b (Some n) (map.get stamps path)) (same_itself path)
 
-not_accepted : {X E : Type 0} (e : E) (x : X) → ◌≡◌ {A = Result X E} (Err e) (Ok x) → ⊥
-not_accepted e x is = cc
-
 put_takes : (store : StoreState) (path : List ℕ) (page : Page) (stands : Bool) (said : Result (Unit {0}) EditError) (done : Put)
     → IsStore store
     → (put_by store path page stands said).1 ≡ Ok done → TakesStamp store path (put_by store path page stands said).0
-put_takes store path page stands (Err e) done is ok = absurd (not_accepted e done ok)
+put_takes store path page stands (Err e) done is ok = absurd (err_not_ok e done ok)
 put_takes store path page stands (Ok fine) done is ok = record {
   taken = stamp_set store.stamps path store.puts;
   fresh = no_stamp_to_come store is;
@@ -37,7 +35,7 @@ put_takes store path page stands (Ok fine) done is ok = record {
 }
 
 refused : {A : Type 0} (e : MoveError) → ◌≡◌ {A = Result (Unit {0}) MoveError} (Err e) (Ok tt) → A
-refused e is = absurd (not_accepted e tt is)
+refused e is = absurd (err_not_ok e tt is)
 
 -- where a move is not refused a page stands under the old path, and none under the new one
 pub move_needs : (stands taken : Bool) (aliases puts : ℕ) → move_fits stands taken aliases puts ≡ Ok tt → (stands ≡ true) × (taken ≡ false)

@@ -19,6 +19,7 @@ use Rattle.doc_store_readers.specs.Pages.{Page, StampedPage, without_stamps}
 use Rattle.doc_store.specs.Store.{StoreState, IsStore, empty_store, state_of, with_page, put_by, fits, fits_in, without_goal, without_page}
 use Rattle.doc_store.specs.Store.{text_limit, page_limit, put_limit, aliases_after, may_move, move_fits, with_key_at, with_move, moved_by, moved_in}
 use Rattle.doc_page_parts.proofs.Bools.{clash}
+use Rattle.doc_page_parts.proofs.Options.{is_some_false, is_some_true}
 
 -- ---- a new store
 
@@ -167,14 +168,6 @@ stamp_got {A = A} pages aliases puts old path view found view_is got =
 
 -- ---- a page is moved
 
-standing : {X : Type 0} (o : Option X) → is_some o ≡ true → (x : X) × (o ≡ Some x)
-standing None e = cc
-standing (Some x) e = (x, refl)
-
-absent : {X : Type 0} (o : Option X) → is_some o ≡ false → o ≡ None
-absent None e = refl
-absent (Some x) e = cc
-
 changed : {X : Type 0} (f : StampedPage → X) (pages pages' : TextMap StampedPage) (from to : List ℕ) (page : StampedPage)
     → pages' ≡ map.insert (map.remove pages from) to page
     → map_values f pages' ≡ map.insert (map.remove (map_values f pages) from) to (f page)
@@ -187,7 +180,7 @@ module _ (pages pages' : TextMap StampedPage) (aliases aliases' : TextMap (List 
     (pages_are : pages' ≡ with_stamped pages from to puts) (aliases_are : aliases' ≡ aliases_after aliases from to) where
   moved_state : state_of pages' aliases' (puts + 1) ≡ with_move (state_of pages aliases puts) from to
   moved_state =
-      let found = standing (map.get pages from) stands in
+      let found = is_some_true (map.get pages from) stands in
       let page = found.0 in
       let set : pages' ≡ map.insert (map.remove pages from) to (restamped puts page) = pages_are
       ∙ ap (with_stamped_at pages from to puts) found.1 in
@@ -227,7 +220,7 @@ module _ (pages : TextMap StampedPage) (aliases : TextMap (List ℕ)) (puts : �
   move_stands = is_true (map.contains_key pages from) from_stands
 
   pub move_free : map.get pages to ≡ None
-  move_free = absent (map.get pages to) (stands_in pages aliases puts old to view_is ∙ needs.1)
+  move_free = is_some_false (map.get pages to) (stands_in pages aliases puts old to view_is ∙ needs.1)
 
   pub move_unled : IsStore (state_of pages aliases puts) → (alias : List ℕ) → map.get aliases alias ≡ Some to → ⊥
   move_unled is alias e = clash (map.contains_key (map_values (λ p. p.page) pages) to) (is.site.lead alias to e)

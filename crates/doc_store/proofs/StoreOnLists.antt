@@ -99,10 +99,6 @@ module _ (pages : Entries Page) (aliases : Entries (List ℕ)) (stamps : Entries
   abbrev before : StoreState
   before = store_of pages aliases stamps puts
 
-  abbrev said : List ℕ → List ℕ → Result (Unit {0}) MoveError
-  said from to = move_fits (map.contains_key (made pages) from) (map.contains_key (made pages) to)
-      (map.len (aliases_after (made aliases) from to)) puts
-
   pub no_page_on : (from to : List ℕ) → has from pages ≡ false
       → ◌≡◌ {A = StoreState × Result (Unit {0}) MoveError} (moved_in before from to) (before, Err move_errors.NoPage)
   no_page_on from to none = ap (λ b. moved_by before from to

@@ -6,7 +6,8 @@ use Rattle.std.specs.FinMap as map
 use Rattle.std.specs.Cmp.Lexicographic.{slice_cmp}
 use Rattle.std.specs.Ordering.{nat_cmp}
 use Rattle.std.proofs.lemmas.Cmp.{nat_list_cmp_total}
-use Rattle.doc_store_readers.proofs.KeySteps.{same_key, same_from, same_itself, bytes_eq_is, not_none, some_is, get_set, get_taken, stood}
+use Rattle.std.proofs.lemmas.Option.{none-some, same_Some}
+use Rattle.doc_store_readers.proofs.KeySteps.{same_key, same_from, same_itself, bytes_eq_is, get_set, get_taken, stood}
 use Rattle.doc_store_readers.proofs.KeySteps.{set_or_stood, contains_set, contains_taken}
 use Rattle.doc_store_readers.proofs.MapValues.{get-map_values}
 use Rattle.doc_store_readers.specs.Maps.{TextMap, map_values}
@@ -15,6 +16,7 @@ use Rattle.doc_store_readers.specs.Sites.{Site, IsSite}
 use Rattle.doc_store.specs.Store.{StoreState, IsStore, empty_store, is_goal, without_goal, goal_after, aliases_after, with_page, with_move}
 use Rattle.doc_store.specs.Store.{with_key_at}
 use Rattle.doc_page_parts.proofs.Bools.{clash}
+use Rattle.doc_page_parts.proofs.Options.{is_some_true}
 
 -- ---- stamps
 
@@ -104,11 +106,11 @@ left aliases path alias goal e = by (map.get aliases alias) (sym (get-without_go
   where
     by_goal : (b : Bool) (old : List ℕ) → bytes_eq old path ≡ b → cond (not b) (Some old) None ≡ Some goal
         → ◌≡◌ {A = Option (List ℕ)} (Some old) (Some goal) × (same_key goal path ≡ false)
-    by_goal true old is e = absurd (not_none goal e)
-    by_goal false old is e = (e, ap (λ g. same_key g path) (sym (some_is old goal e)) ∙ sym (bytes_eq_is old path) ∙ is)
+    by_goal true old is e = absurd (none-some goal e)
+    by_goal false old is e = (e, ap (λ g. same_key g path) (sym (same_Some old goal e)) ∙ sym (bytes_eq_is old path) ∙ is)
 
     by : (old : Option (List ℕ)) → cond (not (is_goal path old)) old None ≡ Some goal → (old ≡ Some goal) × (same_key goal path ≡ false)
-    by None e = absurd (not_none goal e)
+    by None e = absurd (none-some goal e)
     by (Some old) e = by_goal (bytes_eq old path) old refl e
 
 still_there : (X : Type 0) (m : TextMap X) (k q : List ℕ) → same_key q k ≡ false → map.contains_key m q ≡ true
@@ -167,16 +169,16 @@ alias_after aliases from to alias goal e = by (same_key alias from) (sym (get-al
 
     by_old : (o : Option (List ℕ)) → map.get aliases alias ≡ o → same_key alias to ≡ false → option_map (goal_after from to) o ≡ Some goal
         → Old
-    by_old None is apart e = absurd (not_none goal e)
-    by_old (Some old) is apart e = (old, apart, is, some_is _ goal e)
+    by_old None is apart e = absurd (none-some goal e)
+    by_old (Some old) is apart e = (old, apart, is, same_Some _ goal e)
 
     by_to : (b : Bool) → same_key alias to ≡ b → option_map (goal_after from to) (cond b None (map.get aliases alias)) ≡ Some goal → Old
-    by_to true is e = absurd (not_none goal e)
+    by_to true is e = absurd (none-some goal e)
     by_to false is e = by_old (map.get aliases alias) refl is e
 
     by : (b : Bool) → cond b (Some to) (option_map (goal_after from to) (cond (same_key alias to) None (map.get aliases alias))) ≡ Some goal
         → ((b ≡ true) × (to ≡ goal)) ⊎ Old
-    by true e = inl (refl, some_is to goal e)
+    by true e = inl (refl, same_Some to goal e)
     by false e = inr (by_to (same_key alias to) refl e)
 
 -- the pages and the stamps under other paths
@@ -235,14 +237,10 @@ module _ (site : Site) (from to : List ℕ) (page : Page) (is : IsSite site) (st
         (is.lead alias old.0 old.2)) (alias_after site.aliases from to alias goal e);
   }
 
-standing : (X : Type 0) (o : Option X) → is_some o ≡ true → (x : X) × (o ≡ Some x)
-standing X None e = cc
-standing X (Some x) e = (x, refl)
-
 pub move_stays : (store : StoreState) (from to : List ℕ) → IsStore store → map.contains_key store.site.pages from ≡ true
     → map.contains_key store.site.pages to ≡ false → IsStore (with_move store from to)
 move_stays store from to is stands free =
-    let found = standing Page (map.get store.site.pages from) stands in
+    let found = is_some_true (map.get store.site.pages from) stands in
     let page = found.0 in
     let stamps = stamps_set (map.remove store.stamps from) store.puts to (stamps_taken store.stamps store.puts from (stamps_of store is)) in
     let pages : with_key_at store.site.pages from to (map.get store.site.pages from)
@@ -262,9 +260,9 @@ move_stays store from to is stands free =
 pub empty_is_store : IsStore empty_store
 empty_is_store =
     let no_alias : (alias goal : List ℕ) → map.get (map.empty {X = List ℕ} {R = slice_cmp nat_cmp}) alias ≡ Some goal
-    → ⊥ = λ alias goal e. not_none goal (sym (map.get-empty (slice_cmp nat_cmp) alias) ∙ e) in
+    → ⊥ = λ alias goal e. none-some goal (sym (map.get-empty (slice_cmp nat_cmp) alias) ∙ e) in
     let no_stamp : (path : List ℕ) (stamp : ℕ) → map.get (map.empty {X = ℕ} {R = slice_cmp nat_cmp}) path ≡ Some stamp
-    → ⊥ = λ path stamp e. not_none stamp (sym (map.get-empty (slice_cmp nat_cmp) path) ∙ e) in
+    → ⊥ = λ path stamp e. none-some stamp (sym (map.get-empty (slice_cmp nat_cmp) path) ∙ e) in
     record {
       site = record { apart = λ alias goal e. absurd (no_alias alias goal e); lead = λ alias goal e. absurd (no_alias alias goal e) };
       stamped = λ path. ap is_some (map.get-empty (slice_cmp nat_cmp) path)

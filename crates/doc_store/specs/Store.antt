@@ -5,6 +5,8 @@ use Rattle.std.specs.Coded.{Coded, code_by, coded×, coded_list, coded_ℕ}
 use Rattle.std.specs.FinMap as map
 use Rattle.doc_store.specs.declared.moving.MoveError.{MoveError}
 use Rattle.doc_store.specs.declared.moving.MoveError.TheVariants as move_errors
+use Rattle.doc_store.specs.declared.site_edit.SiteEdit.{SiteEdit}
+use Rattle.doc_store.specs.declared.site_edit.SiteEdit.TheVariants as site_edits
 use Rattle.doc_store.specs.declared.store.EditError.{EditError}
 use Rattle.doc_store.specs.declared.store.EditError.TheVariants.{TooLong, StoreFull}
 use Rattle.doc_store.specs.declared.store.Put.{Put}
@@ -83,11 +85,15 @@ goal_after from to goal = if bytes_eq goal from then to else goal
 unfoldable pub aliases_after : TextMap (List ℕ) → List ℕ → List ℕ → TextMap (List ℕ)
 aliases_after aliases from to = map.insert (map_values (goal_after from to) (map.remove aliases to)) from to
 
--- an edit of a site
-pub data Edit : Type 0 where
-  set_page : List ℕ → Page → Edit
-  remove_page : List ℕ → Edit
-  move_page : List ℕ → List ℕ → Edit
+-- the edits of a site, with a page in place of its parts
+abbrev pub set_page : List ℕ → Page → SiteEdit
+set_page path page = site_edits.Put path page.groups page.text
+
+abbrev pub remove_page : List ℕ → SiteEdit
+remove_page path = site_edits.Remove path
+
+abbrev pub move_page : List ℕ → List ℕ → SiteEdit
+move_page from to = site_edits.Move from to
 
 -- a map with what stands under one key under another, if anything does
 abbrev pub with_key_at : {X : Type 0} → TextMap X → List ℕ → List ℕ → Option X → TextMap X
@@ -99,10 +105,11 @@ with_key values from to = with_key_at values from to (map.get values from)
 
 -- the site after an edit: a page that is set under an alias takes it from its page, a page that is
 -- removed takes its aliases with it, and one that is moved keeps them and leaves one more
-abbrev pub effect_of : Site → Edit → Site
-effect_of site (set_page path page) = record { pages = map.insert site.pages path page; aliases = map.remove site.aliases path }
-effect_of site (remove_page path) = record { pages = map.remove site.pages path; aliases = without_goal site.aliases path }
-effect_of site (move_page from to) = record { pages = with_key site.pages from to; aliases = aliases_after site.aliases from to }
+abbrev pub effect_of : Site → SiteEdit → Site
+effect_of site (site_edits.Put path groups text) =
+    record { pages = map.insert site.pages path (record { groups = groups; text = text }); aliases = map.remove site.aliases path }
+effect_of site (site_edits.Remove path) = record { pages = map.remove site.pages path; aliases = without_goal site.aliases path }
+effect_of site (site_edits.Move from to) = record { pages = with_key site.pages from to; aliases = aliases_after site.aliases from to }
 
 -- whether a put of a text is refused, from how many pages stand, whether one stands under its path, and how many puts and moves were
 -- accepted

@@ -10,6 +10,7 @@ pub mod laws;
 pub mod moving;
 mod pages;
 mod path_set;
+pub mod site_edit;
 pub mod site_sight;
 pub mod store;
 

@@ -1,30 +1,14 @@
 -- Steps of the collection of groups.
 use Rattle.std.proofs.Common.{◌≡◌, ℕ, ◌<◌, ◌≤◌, ◌+◌, List, [], ◌∷◌, ◌++◌, length, map, take, drop, get_or, Bool, true, false, Less, Equal}
 use Rattle.std.proofs.Common.{Greater, Ordering, refl, sym, ap, ◌∙◌, ◌==◌, arith}
-use Rattle.std.specs.Prelude.{Option, Some, None, Ok, Err, nat_lt, if◌then◌else◌}
+use Rattle.std.specs.Prelude.{Ok, Err, nat_lt, if◌then◌else◌}
 use Rattle.std.specs.Cmp.Lexicographic.{slice_cmp}
 use Rattle.std.specs.List.{list_all}
 use Rattle.std.specs.Ordering.{nat_cmp}
 use Rattle.std.proofs.lemmas.Bool.Decides.{nat_tests}
-use Rattle.std.proofs.lemmas.Iterator.{YieldsList}
 use Rattle.std.proofs.lemmas.List.{drop_more, length-map, map-append, take-append-drop}
 use Rattle.doc_store_readers.specs.declared.groups.GroupsError.TheVariants.{TooMany}
 use Rattle.doc_store_readers.specs.Groups.{is_group, with_name, with_names, groups_of, groups_of_names, group_limit, parts_of}
-
--- a step of an iterator takes the first of the items that it yields
-pub next_item : {S A B : Type 0} (steps : S → Option A → S → Type 0) (v : A → B) (s t : S) (x : A) (items : List B)
-    → YieldsList steps v s items → steps s (Some x) t
-    → (rest : List B) × (items ≡ v x ∷ rest) × YieldsList steps v t rest
-next_item steps v s t x [] yields step = absurd (yields.runs x t step)
-next_item steps v s t x (y ∷ items) yields step =
-    let next = yields.runs.1 x t step in
-    (items, ap (λ z. z ∷ items) (sym next.0), record { runs = next.1 })
-
--- where an iterator ends, it yields nothing
-pub no_item : {S A B : Type 0} (steps : S → Option A → S → Type 0) (v : A → B) (s t : S) (items : List B) → YieldsList steps v s items
-    → steps s None t → items ≡ []
-no_item steps v s t [] yields step = refl
-no_item steps v s t (y ∷ items) yields step = absurd (yields.runs.0 t step)
 
 -- the place of a name
 module _ {A : Type 0} (f : A → List ℕ) (name : List ℕ) (xs : List A) (i : ℕ) (d : A) (here : i < length xs)

@@ -6,23 +6,19 @@ use Rattle.std.specs.Cmp.{tied_itself}
 use Rattle.std.specs.Cmp.Lexicographic.{slice_cmp, texts_ties}
 use Rattle.std.specs.FinMap as map
 use Rattle.std.specs.Ordering.{nat_cmp, eq_by_cmp, is_eq}
-use Rattle.std.specs.declared.cmp.Ordering.{Ordering}
-use Rattle.std.specs.declared.cmp.Ordering.TheVariants.{Less, Equal, Greater}
+use Rattle.std.specs.declared.cmp.Ordering.TheVariants.{Equal}
 use Rattle.std.proofs.lemmas.Cmp.{nat_list_cmp_total}
 use Rattle.std.proofs.lemmas.Map.Lookups.{exact_bytes}
+use Rattle.std.proofs.lemmas.Option.{none-some, same_Some}
 use Rattle.doc_store_readers.specs.Maps.{TextMap}
+use Rattle.doc_page_parts.proofs.Orders.{is_eq_true}
 
 -- whether two paths are the same key
 abbrev pub same_key : List ℕ → List ℕ → Bool
 same_key q k = eq_by_cmp (slice_cmp nat_cmp) q k
 
-equal_from : (r : Ordering) → is_eq r ≡ true → r ≡ Equal
-equal_from Less e = cc
-equal_from Equal e = refl
-equal_from Greater e = cc
-
 pub same_from : (q k : List ℕ) → same_key q k ≡ true → q ≡ k
-same_from q k e = exact_bytes q k (equal_from (slice_cmp nat_cmp q k) e)
+same_from q k e = exact_bytes q k (is_eq_true (slice_cmp nat_cmp q k) e)
 
 pub same_itself : (q : List ℕ) → same_key q q ≡ true
 same_itself q = ap is_eq (tied_itself nat_list_cmp_total q)
@@ -48,7 +44,7 @@ module _ {X : Type 0} (m : TextMap X) where
   stood k q v e = by (same_key q k) (sym (get_taken k q) ∙ e)
     where
       by : (b : Bool) → cond b None (map.get m q) ≡ Some v → (b ≡ false) × (map.get m q ≡ Some v)
-      by true e = absurd (not_none v e)
+      by true e = absurd (none-some v e)
       by false e = (refl, e)
 
   -- what stands after a key was set is the new value under that key, or stood before under another
@@ -57,7 +53,7 @@ module _ {X : Type 0} (m : TextMap X) where
   set_or_stood k w q v e = by (same_key q k) (sym (get_set k w q) ∙ e)
     where
       by : (b : Bool) → cond b (Some w) (map.get m q) ≡ Some v → ((b ≡ true) × (w ≡ v)) ⊎ ((b ≡ false) × (map.get m q ≡ Some v))
-      by true e = inl (refl, some_is w v e)
+      by true e = inl (refl, same_Some w v e)
       by false e = inr (refl, e)
 
   pub contains_set : (k : List ℕ) (v : X) (q : List ℕ) → map.contains_key (map.insert m k v) q

@@ -34,10 +34,6 @@ meet_no_names [] [] none = refl
 meet_no_names (our ∷ ours) [] none = meet_no_names ours [] none
 meet_no_names ours (their ∷ theirs) none = absurd (omega arith)
 
-pub no_names_meet : (ours theirs : List (List ℕ)) → length ours ≡ 0 → false ≡ meet ours theirs
-no_names_meet [] theirs none = refl
-no_names_meet (our ∷ ours) theirs none = absurd (omega arith)
-
 -- the first names of both, compared
 pub our_first_passes : (a b : List ℕ) (ours theirs : List (List ℕ)) → IsStrictlySortedBy (slice_cmp nat_cmp) (b ∷ theirs)
     → slice_cmp nat_cmp a b ≡ Less → meet (a ∷ ours) (b ∷ theirs) ≡ meet ours (b ∷ theirs)

@@ -11,14 +11,11 @@ use Rattle.doc_store_readers.specs.declared.entries.Entry.{Entry}
 use Rattle.doc_store_readers.specs.declared.reader.Reader.{Reader}
 use Rattle.doc_store_readers.specs.declared.readers.ReadersError.TheVariants.{Twice}
 use Rattle.doc_store_readers.specs.Readers.{ReaderTable, readers_from}
+use Rattle.doc_page_parts.proofs.Options.{is_some_false}
 
 pub is_some-copied : {X : Type 0} (o : Option (Bor X)) → is_some (option_copied o) ≡ is_some o
 is_some-copied None = refl
 is_some-copied (Some x) = refl
-
-none_from : {X : Type 0} (o : Option X) → is_some o ≡ false → o ≡ None
-none_from None e = refl
-none_from (Some x) e = cc
 
 -- a table is that of the readers before; the first of the entries that are left is this one
 module _ (all items rest : List Entry) (before : List (List ℕ × Reader)) (n : ℕ) (table : ReaderTable) (entry : Entry) (token : List ℕ)
@@ -41,7 +38,7 @@ module _ (all items rest : List Entry) (before : List (List ℕ × Reader)) (n :
   one_added new reader reader_is e inserted fits = (
     before ++ (entry.token, entry.reader) ∷ [],
     inserted ∙ (λ i. map.insert (table_is i) (token_is i) (reader_is i))
-        ∙ sym (map.from_entries_push nat_list_cmp_total exact_bytes before entry.token entry.reader (none_from _ (stands false e))),
+        ∙ sym (map.from_entries_push nat_list_cmp_total exact_bytes before entry.token entry.reader (is_some_false _ (stands false e))),
     so_far ∙ ap (readers_from before (n + 1)) step ∙ rw (stands false e) refl,
     omega (arith, ap length step),
   )

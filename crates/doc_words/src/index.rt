@@ -16,7 +16,7 @@ use doc_page_parts::rendered::Rendered;
 use doc_page_parts::sight::Sight;
 use doc_words_search::hit::Hit;
 use doc_words_search::marking::slots_for;
-use doc_words_search::search::{search_among, search_in, seen_among};
+use doc_words_search::search::{search_in, seen_among};
 use doc_words_search::word::Word;
 use doc_words_search::words::counted;
 use std::marker::Model;
@@ -99,7 +99,8 @@ impl WordIndex {
 
     /// Searches the held pages that are seen for those that have each word: the first 100 by score
     /// falling, then by path. The list may be empty, and a word may stand in it twice. The sight is
-    /// asked once a page.
+    /// asked once a page, which counts those that are seen; the rest is `search_among`, by which the
+    /// product serves.
     pub fn search<S: Sight>(
         &self,
         heap: Heap,
@@ -109,9 +110,18 @@ impl WordIndex {
         ensures { IfOk result (λ hits. hits
             ≡ search (seen (S.goals sight.now) (pages_of self.now)) words.now) }
     {
+        let count = self.count_seen(heap, sight)?;
+        self.search_among(heap, words, sight, count)
+    }
+
+    /// How many of the held pages are seen.
+    fn count_seen<S: Sight>(&self, heap: Heap, sight: &S) -> Result<u64, Memory>
+        ensures { IfOk result (λ count. count
+            ≡ length (seen (S.goals sight.now) (pages_of self.now))) }
+    {
         let slots = self.pages.in_order(heap)?;
         let seen = seen_among(heap, &self.pages, &slots, sight)?;
-        search_among(heap, &self.pages, &seen, words)
+        Ok(seen.len() as u64)
     }
 
     /// As `search`, told how many of the held pages are seen. It looks at the pages that have one of

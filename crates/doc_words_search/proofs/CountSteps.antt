@@ -1,6 +1,6 @@
 -- Counts of words, one word after another.
 use Rattle.std.proofs.Common.{◌≡◌, ℕ, ◌+◌, ◌^◌, ◌-◌, min, List, [], ◌∷◌, ◌++◌, Bool, true, false, cond, ◌||◌, refl, ap, ap₂, sym, ◌∙◌, arith}
-use Rattle.std.proofs.Common.{◌<◌, append-nil, append_assoc, bytes_eq, count_by, get_or, length, take, unwrap_or}
+use Rattle.std.proofs.Common.{◌<◌, append-nil, append_assoc, bytes_eq, count_by, get_or, length, take, unwrap_or, add-zero}
 use Rattle.std.specs.Prelude.{Option, Some, None, map as mapped}
 use Rattle.std.specs.Cmp.Lexicographic.{slice_cmp}
 use Rattle.std.specs.FinMap as map
@@ -13,21 +13,12 @@ use Rattle.std.proofs.lemmas.List.Folds.{list_any-append}
 use Rattle.std.proofs.lemmas.List.Sums.{sum_by_push, sum_by-cons}
 use Rattle.std.proofs.lemmas.Map.Lookups.{exact_bytes}
 use Rattle.std.proofs.lemmas.Map.Text.{is_eq-slice_cmp}
-use Rattle.std.proofs.lemmas.Slice.Eq.{bytes_eq-Decides}
+use Rattle.std.proofs.Math.Bool.{or-false}
 use Rattle.doc_index_tables.specs.Maps.{TextMap}
 use Rattle.doc_page_parts.proofs.Bools.{clash, or_true}
+use Rattle.doc_page_parts.proofs.Texts.{bytes_eq_true, bytes_eq_itself}
 use Rattle.doc_words_search.specs.Words.{capped, count, counts_of, words_of}
 use Rattle.doc_words_search.specs.WordSteps.{counted, one_more}
-
-pub bytes_are : (q w : List ℕ) → bytes_eq q w ≡ true → q ≡ w
-bytes_are q w e = (bytes_eq-Decides q w).0 e
-
-pub bytes_itself : (q : List ℕ) → bytes_eq q q ≡ true
-bytes_itself q = (bytes_eq-Decides q q).1 refl
-
-or_false : (a : Bool) → (a || false) ≡ a
-or_false true = refl
-or_false false = refl
 
 -- what a list of words has of a word
 abbrev word_at : (List ℕ → ℕ) → List (List ℕ) → List ℕ → Option ℕ
@@ -42,7 +33,7 @@ found f (w ∷ words) q =
     ∙ by (bytes_eq q w) refl
   where
     by : (b : Bool) → bytes_eq q w ≡ b → cond b (Some (f w)) (word_at f words q) ≡ cond (b || list_any (bytes_eq q) words) (Some (f q)) None
-    by true e = ap (λ v. Some (f v)) (sym (bytes_are q w e))
+    by true e = ap (λ v. Some (f v)) (sym (bytes_eq_true q w e))
     by false e = refl
 
 pub at_word : (words : List (List ℕ)) (q : List ℕ) → map.get (counts_of words) q ≡ word_at (count words) words q
@@ -64,9 +55,6 @@ plain : (any : Bool) (n : ℕ) → (any ≡ false → n ≡ 0) → capped (unwra
 plain true n h = one_past (2 ^ 64 - 1) n
 plain false n h = ap (λ k. capped (k + 1)) (sym (h refl))
 
-none_more : (n : ℕ) → n + 0 ≡ n
-none_more n = omega arith
-
 -- one more of a word is the count with that word behind the others
 pub counted_word : (words : List (List ℕ)) (w : List ℕ) → one_more (counts_of words) w ≡ counts_of (words ++ w ∷ [])
 counted_word words w = map.same_map nat_list_cmp_total exact_bytes (one_more (counts_of words) w) (counts_of (words ++ w ∷ [])) (λ q.
@@ -87,14 +75,14 @@ counted_word words w = map.same_map nat_list_cmp_total exact_bytes (one_more (co
         ≡ word_at (count (words ++ w ∷ [])) (words ++ w ∷ []) q
     by q true e =
         ap Some (plain (list_any (bytes_eq w) words) (count_by (bytes_eq w) words) (no_count (bytes_eq w) words)
-        ∙ ap capped (sym (pushed (bytes_eq w) true (bytes_itself w))))
+        ∙ ap capped (sym (pushed (bytes_eq w) true (bytes_eq_itself w))))
         ∙ ap (λ b. cond b (Some (count (words ++ w ∷ []) w)) None)
-        (sym (any (bytes_eq w) true (bytes_itself w) ∙ or_true (list_any (bytes_eq w) words)))
-        ∙ ap (word_at (count (words ++ w ∷ [])) (words ++ w ∷ [])) (sym (bytes_are q w e))
+        (sym (any (bytes_eq w) true (bytes_eq_itself w) ∙ or_true (list_any (bytes_eq w) words)))
+        ∙ ap (word_at (count (words ++ w ∷ [])) (words ++ w ∷ [])) (sym (bytes_eq_true q w e))
     by q false e =
         sym (ap₂ (λ b n. cond b (Some (capped n)) None)
-        (any (bytes_eq q) false e ∙ or_false (list_any (bytes_eq q) words))
-        (pushed (bytes_eq q) false e ∙ none_more (count_by (bytes_eq q) words)))
+        (any (bytes_eq q) false e ∙ or-false (list_any (bytes_eq q) words))
+        (pushed (bytes_eq q) false e ∙ add-zero (count_by (bytes_eq q) words)))
 
 counted_behind : (words more : List (List ℕ)) → counted (counts_of words) more ≡ counts_of (words ++ more)
 counted_behind words [] = ap counts_of (sym (append-nil words))

@@ -1,10 +1,11 @@
 -- The words that are held, by what is held.
-use Rattle.std.proofs.Common.{◌≡◌, ℕ, List, [], ◌∷◌, Bool, true, false, cond, length, refl, ap, sym, ◌∙◌, arith}
+use Rattle.std.proofs.Common.{◌≡◌, ℕ, List, [], ◌∷◌, Bool, true, false, cond, refl, ap, sym, ◌∙◌}
 use Rattle.std.proofs.Common.{Ordering, Less, Equal, Greater, is_some}
 use Rattle.std.specs.Prelude.{Option, Some, None, option_map, map as mapped}
 use Rattle.std.specs.FinMap as map
 use Rattle.std.specs.FinMap.Entries.{by_order}
 use Rattle.std.specs.Ordering.{eq_by_cmp}
+use Rattle.std.proofs.lemmas.List.{nil_from_length}
 use Rattle.doc_index.specs.declared.held.Held.{Held}
 use Rattle.doc_index.specs.Held.{Known, counts_of, entries_of, held, slot_at}
 use Rattle.doc_index_tables.specs.Maps.{TextMap, pair_cmp}
@@ -13,13 +14,9 @@ use Rattle.doc_words_search.specs.Held.{counts_or_none, words_held}
 use Rattle.doc_words_search.specs.Searches.{pages_of}
 use Rattle.doc_words_search.specs.SearchSteps.{onto_page, pages_at}
 
-nothing : {X : Type 0} (es : List X) → length es ≡ 0 → es ≡ []
-nothing [] e = refl
-nothing (x ∷ es) e = absurd (omega arith)
-
 pub no_entries : (X : Type 0) → map.entries (map.empty {X = X} {R = pair_cmp}) ≡ []
 no_entries X =
-    nothing (map.entries (map.empty {X = X} {R = pair_cmp}))
+    nil_from_length (map.entries (map.empty {X = X} {R = pair_cmp}))
     (sym (map.len-entries (map.empty {X = X} {R = pair_cmp})) ∙ map.len-empty pair_cmp X)
 
 abbrev pub page_of : (List ℕ × ℕ) × TextMap ℕ → List ℕ × TextMap ℕ

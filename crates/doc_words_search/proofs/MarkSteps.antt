@@ -4,17 +4,16 @@ use Rattle.std.proofs.Common.{refl, ap, ap₂, sym, ◌∙◌, is_some, subst, s
 use Rattle.std.specs.Prelude.{Option, Some, None, map as mapped}
 use Rattle.std.specs.FinMap as map
 use Rattle.std.specs.FinMap.Entries.{by_order}
-use Rattle.std.specs.Ordering.{eq_by_cmp, is_eq, nat_cmp}
+use Rattle.std.specs.Ordering.{is_eq, nat_cmp}
 use Rattle.std.specs.declared.cmp.Ordering.{Ordering}
 use Rattle.std.specs.declared.cmp.Ordering.TheVariants.{Less, Equal, Greater}
 use Rattle.std.proofs.lemmas.Bool.{both_ways, cases_lt}
 use Rattle.std.proofs.lemmas.List.{take_more}
 use Rattle.std.proofs.lemmas.List.Sums.{sum_by_push, sum_by-cons}
+use Rattle.std.proofs.lemmas.Option.{none-some}
 use Rattle.doc_index.specs.declared.held.Held.{Held}
 use Rattle.doc_index.specs.Held.{AreApart, count_in, entries_of, slot_at}
 use Rattle.doc_index_tables.specs.Maps.{TextMap, pair_cmp}
-use Rattle.doc_index_tables.proofs.CountSteps.{number_is}
-use Rattle.doc_index.proofs.HeldSteps.{not_some}
 use Rattle.doc_index_tables.proofs.PairSteps.{pair_is, pairs_total, same_pair}
 use Rattle.doc_words_search.specs.Held.{words_held}
 use Rattle.doc_words_search.specs.Searches.{pages_of}
@@ -59,18 +58,6 @@ pub one_marked : (marks : List Bool) (places : List ℕ) (k : ℕ) → k < lengt
 one_marked marks places k low off are f =
     sum_by_push f places k ∙ ap (λ n. n + f k) (are f) ∙ sym (more_marked marks k f low off)
 
-pub stay_set : (marks : List Bool) (k : ℕ) → StayMarked marks (set marks k true)
-stay_set [] k i is = is
-stay_set (mark ∷ marks) zero zero is = refl
-stay_set (mark ∷ marks) zero (suc i) is = is
-stay_set (mark ∷ marks) (suc k) zero is = is
-stay_set (mark ∷ marks) (suc k) (suc i) is = stay_set marks k i is
-
-pub set_is : (marks : List Bool) (k : ℕ) → k < length marks → marked_at (set marks k true) k ≡ true
-set_is [] k low = absurd (omega (arith, low))
-set_is (mark ∷ marks) zero low = refl
-set_is (mark ∷ marks) (suc k) low = set_is marks k (omega (arith, low))
-
 abbrev Entry : Type 0
 Entry = (List ℕ × ℕ) × TextMap ℕ
 
@@ -91,7 +78,7 @@ put_sum g k v (e ∷ es) none = by (pair_cmp k e.0) refl none (put_sum g k v es)
         → (map.find pair_cmp k es ≡ None → sum_by g (map.put pair_cmp k v es) ≡ g (k, v) + sum_by g es)
         → sum_by g (by_order o ((k, v) ∷ e ∷ es) ((e.0, v) ∷ es) (e ∷ map.put pair_cmp k v es)) ≡ g (k, v) + sum_by g (e ∷ es)
     by Less is off ih = sum_by-cons g (k, v) (e ∷ es)
-    by Equal is off ih = absurd (not_some e.1 (sym off))
+    by Equal is off ih = absurd (none-some e.1 (sym off))
     by Greater is off ih =
         let a : sum_by g (e ∷ map.put pair_cmp k v es) ≡ g e + sum_by g (map.put pair_cmp k v es)
         = sum_by-cons g e (map.put pair_cmp k v es) in
@@ -216,17 +203,6 @@ MarkedBut left marks bound row =
 pub none_left_out : (row : map.FinMap nat_cmp ℕ) (marks : List Bool) (bound : ℕ) → MarkedBut (map.entries row) marks bound row
 none_left_out row marks bound slot low there not_left =
     absurd (both_ways true (sym there ∙ ap is_some (map.get-entries row slot) ∙ not_left) refl)
-
-pub next_left : (row : map.FinMap nat_cmp ℕ) (old new : List Bool) (bound : ℕ) (e : ℕ × ℕ) (left : List (ℕ × ℕ))
-    → MarkedBut (e ∷ left) old bound row → StayMarked old new → (e.0 < bound → marked_at new e.0 ≡ true) → MarkedBut left new bound row
-next_left row old new bound e left but stay one slot low there not_left = by (eq_by_cmp nat_cmp slot e.0) refl
-  where
-    by : (b : Bool) → eq_by_cmp nat_cmp slot e.0 ≡ b → marked_at new slot ≡ true
-    by true is =
-        let same : slot ≡ e.0 = number_is slot e.0 is in
-        ap (marked_at new) same ∙ one (subst (λ n. n < bound) same low)
-    by false is =
-        stay slot (but slot low there (ap (λ b. is_some (cond b (Some e.1) (map.find nat_cmp slot left))) is ∙ not_left))
 
 module _ {T : Type 0} (slots : List (Option (Held T))) where
   -- the slots that have a word are those of its row, none of which is past the last

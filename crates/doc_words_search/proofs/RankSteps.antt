@@ -1,5 +1,5 @@
 -- Hits in their order, whatever order they came in.
-use Rattle.std.proofs.Common.{◌≡◌, ℕ, suc, zero, ◌+◌, ◌<◌, ◌≤◌, List, [], ◌∷◌, ◌++◌, length, take, Bool, true, false, cond, if◌then◌else◌, arith}
+use Rattle.std.proofs.Common.{◌≡◌, ℕ, suc, ◌+◌, ◌<◌, ◌≤◌, List, [], ◌∷◌, ◌++◌, length, take, Bool, true, false, cond, if◌then◌else◌, arith}
 use Rattle.std.proofs.Common.{refl, ap, ap₂, sym, subst, ◌∙◌, Ordering, Less, Equal, Greater, is_eq, is_lt, nat_cmp, sum_by, zero-le}
 use Rattle.std.specs.Prelude.{map as mapped, slice_index_or}
 use Rattle.std.specs.Cmp.{IsTotalOrder}
@@ -12,9 +12,9 @@ use Rattle.std.proofs.Math.Seq.{take-append_seam}
 use Rattle.std.proofs.lemmas.List.{length-map, map-append, take_all}
 use Rattle.std.proofs.lemmas.List.Sorted.{sum_by-IsPermutation}
 use Rattle.std.proofs.lemmas.List.Sums.{sum_by-append, sum_by-cons}
-use Rattle.doc_index_tables.proofs.TableSteps.{equal_from}
 use Rattle.doc_words_search.specs.declared.hit.Hit.{Hit}
 use Rattle.doc_words_search.specs.Searches.{placed, rank_cmp, ranked}
+use Rattle.doc_page_parts.proofs.Orders.{is_eq_true, is_lt_true}
 
 rank_total : IsTotalOrder rank_cmp
 rank_total = then_total (on_total (λ (h : Hit). h.score) (back_total nat_cmp_total)) (on_total (λ (h : Hit). h.path) nat_list_cmp_total)
@@ -35,21 +35,11 @@ rank_exact a b e = by (nat_cmp b.score a.score) refl e
 abbrev before : Hit → Hit → Bool
 before a b = is_lt (rank_cmp a b)
 
-not_before : (o : Ordering) → is_lt o ≡ false → is_lt (ordering_reverse o) ≡ false → o ≡ Equal
-not_before Less p q = cc
-not_before Equal p q = refl
-not_before Greater p q = cc
-
-less_from : (o : Ordering) → is_lt o ≡ true → o ≡ Less
-less_from Less e = refl
-less_from Equal e = cc
-less_from Greater e = cc
-
 trans_before : (a b c : Hit) → before a b ≡ true → before b c ≡ true → before a c ≡ true
-trans_before a b c p q = ap is_lt (rank_total.trans a b c (less_from (rank_cmp a b) p) (less_from (rank_cmp b c) q))
+trans_before a b c p q = ap is_lt (rank_total.trans a b c (is_lt_true (rank_cmp a b) p) (is_lt_true (rank_cmp b c) q))
 
 not_back : (a b : Hit) → before a b ≡ true → before b a ≡ false
-not_back a b p = ap is_lt (rank_total.antisymm b a ∙ ap ordering_reverse (less_from (rank_cmp a b) p))
+not_back a b p = ap is_lt (rank_total.antisymm b a ∙ ap ordering_reverse (is_lt_true (rank_cmp a b) p))
 
 -- where a hit goes, by its test against the first
 goes_behind : (h o : Hit) (hits : List Hit) → before o h ≡ true → placed h (o ∷ hits) ≡ o ∷ placed h hits
@@ -107,7 +97,7 @@ part h (x ∷ hits) n e = by (is_eq (rank_cmp h x)) refl (sym (sum_by-cons (one 
     by true p q ih = record {
       front = [];
       back = hits;
-      is = ap (λ y. y ∷ hits) (sym (rank_exact h x (equal_from (rank_cmp h x) p)));
+      is = ap (λ y. y ∷ hits) (sym (rank_exact h x (is_eq_true (rank_cmp h x) p)));
     }
     by false p q ih =
         let none : one h x ≡ 0 = ap (λ b. cond b 1 0) p in
@@ -191,7 +181,8 @@ length_placed h (z ∷ hits) = by (length_placed h hits) (before z h) refl
     by ih true p = ap length (goes_behind h z hits p) ∙ ap suc ih
     by ih false p = ap length (goes_first h z hits p)
 
-length_ranked : (hits : List Hit) → length (ranked hits) ≡ length hits
+-- ranking keeps how many there are
+pub length_ranked : (hits : List Hit) → length (ranked hits) ≡ length hits
 length_ranked [] = refl
 length_ranked (h ∷ hits) = length_placed h (ranked hits) ∙ ap suc (length_ranked hits)
 
@@ -234,11 +225,6 @@ module _ {X : Type 0} (f : X → Hit) where
       ∙ same_ranked (mapped f new) (mapped f old) (record {
         sums = λ g. sum_mapped g new ∙ sum_by-IsPermutation (λ x. g (f x)) old new same ∙ sym (sum_mapped g old);
       })
-
-  pub first_mapped : (n : ℕ) (xs : List X) → mapped f (take n xs) ≡ take n (mapped f xs)
-  first_mapped zero xs = refl
-  first_mapped (suc n) [] = refl
-  first_mapped (suc n) (x ∷ xs) = ap (λ hs. f x ∷ hs) (first_mapped n xs)
 
   none_from : (a : Hit) (x : X) (back : List X) → before (f x) a ≡ false
       → ((k : ℕ) (d : X) → k < length back → before (f (slice_index_or back k d)) (f x) ≡ false) → NoneBefore a (mapped f back)

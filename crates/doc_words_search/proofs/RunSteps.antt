@@ -3,15 +3,15 @@ use Rattle.std.proofs.Common.{◌≡◌, ℕ, List, [], ◌∷◌, ◌++◌, Boo
 use Rattle.std.proofs.Common.{◌==◌, append-nil, append_assoc, arith, chars, encode_utf8_all, length}
 use Rattle.std.proofs.lemmas.Bool.Decides.{nat_tests}
 use Rattle.std.specs.Prelude.{map as mapped}
-use Rattle.std.specs.Char.{encode_utf8, IsScalar}
 use Rattle.std.specs.List.{filter, onto_first, slice_split}
 use Rattle.std.specs.Str.{IsUtf8}
-use Rattle.std.proofs.lemmas.Str.{chars-append, encodes-chars, IsUtf8-encode, chars_past_char, chars-nil}
+use Rattle.std.proofs.lemmas.Str.{encodes-chars, chars-nil}
+use Rattle.std.proofs.lemmas.List.{nil_from_length}
 use Rattle.doc_index_tables.specs.Maps.{TextMap}
 use Rattle.doc_page_parts.specs.Pages.{is_empty}
+use Rattle.doc_page_parts.proofs.Numbers.{zero_test_true}
 use Rattle.doc_words_search.specs.Words.{folded, is_word_char, words_of}
 use Rattle.doc_words_search.specs.WordSteps.{counted, one_more, word_if, words_after}
-use Rattle.doc_words_search.proofs.CountSteps.{counted_append}
 
 abbrev pieces : List ℕ → List (List ℕ)
 pieces cs = slice_split (λ c. not (is_word_char c)) cs
@@ -58,35 +58,9 @@ after run (c ∷ cs) = by (is_word_char c) (after (run ++ c ∷ []) cs) (after [
 pub from_start : (text : List ℕ) → words_after [] (chars text) ≡ words_of text
 from_start text = after [] (chars text) ∙ ap words_in (onto_none (pieces (chars text)))
 
--- a character that ends a run, or goes on with it
-pub goes_on : (counts : TextMap ℕ) (run rest : List ℕ) (c : ℕ) → is_word_char c ≡ true
-    → counted counts (words_after (run ++ c ∷ []) rest) ≡ counted counts (words_after run (c ∷ rest))
-goes_on counts run rest c e =
-    sym (ap (λ b. counted counts (if b then words_after (run ++ c ∷ []) rest else word_if run ++ words_after [] rest)) e)
-
-pub ends : (counts : TextMap ℕ) (run rest : List ℕ) (c : ℕ) → is_word_char c ≡ false
-    → counted (counted counts (word_if run)) (words_after [] rest) ≡ counted counts (words_after run (c ∷ rest))
-ends counts run rest c e =
-    sym (ap (λ b. counted counts (if b then words_after (run ++ c ∷ []) rest else word_if run ++ words_after [] rest)) e
-    ∙ counted_append counts (word_if run) (words_after [] rest))
-
-chars_of_char : (c : ℕ) → IsScalar c → chars (encode_utf8 c) ≡ c ∷ []
-chars_of_char c s = chars_past_char (encode_utf8 c) [] c (IsUtf8-encode c s) (sym (append-nil (encode_utf8 c)))
-    ∙ ap (λ more. c ∷ more) chars-nil
-
-pub chars_pushed : (bytes : List ℕ) (c : ℕ) → IsUtf8 bytes → IsScalar c → chars (bytes ++ encode_utf8 c) ≡ chars bytes ++ (c ∷ [])
-chars_pushed bytes c u s = chars-append bytes (encode_utf8 c) u ∙ ap (λ more. chars bytes ++ more) (chars_of_char c s)
-
-none_from : (test : Bool) (n : ℕ) → test ≡ (n == 0) → test ≡ true → n ≡ 0
-none_from test n e h = let zero : (n == 0) ≡ true = sym e ∙ h in grind (arith, nat_tests)
-
-no_bytes : (bytes : List ℕ) → length bytes ≡ 0 → bytes ≡ []
-no_bytes [] e = refl
-no_bytes (b ∷ bytes) e = absurd (omega arith)
-
 -- a run without bytes has no characters, and no word
 pub no_chars : (bytes : List ℕ) (test : Bool) → test ≡ (length bytes == 0) → test ≡ true → chars bytes ≡ []
-no_chars bytes test e h = ap chars (no_bytes bytes (none_from test (length bytes) e h)) ∙ chars-nil
+no_chars bytes test e h = ap chars (nil_from_length bytes (zero_test_true test (length bytes) e h)) ∙ chars-nil
 
 pub no_run : (counts : TextMap ℕ) (bytes : List ℕ) (test : Bool) → test ≡ (length bytes == 0) → test ≡ true
     → counts ≡ counted counts (word_if (chars bytes))

@@ -1,9 +1,9 @@
 //! A search among pages in slots.
 
-ghost use Rattle.std.specs.Prelude.{◌≡◌, ◌∷◌, ◌++◌, [], IfOk, OnOk, if◌then◌else◌, length, map as mapped, take};
+ghost use Rattle.std.specs.Prelude.{◌≡◌, ◌∷◌, ◌++◌, [], IfOk, OnOk, if◌then◌else◌, map as mapped, take};
 ghost use Rattle.std.specs.List.{filter, flat_map};
 ghost use Rattle.doc_index.specs.Held.{slot_at};
-ghost use Rattle.doc_words_search.specs.Searches.{ranked, search};
+ghost use Rattle.doc_words_search.specs.Searches.{ranked};
 ghost use Rattle.doc_words_search.specs.SearchSteps.{hit_at, hit_in, hit_of, pages_at, search_by, sees_at};
 
 use crate::hit::Hit;
@@ -83,19 +83,6 @@ pub fn search_in(
     let weighed = weigh_all(heap, pages, seen, count, words)?;
     let found = found_among(heap, pages, seen, &weighed)?;
     best(heap, found)
-}
-
-/// The search among the pages in these slots, which are all that are seen.
-pub fn search_among(
-    heap: Heap,
-    pages: &Index<()>,
-    seen: &[u64],
-    words: &[Word],
-) -> Result<List<Hit>, Memory>
-    requires full { length (pages_at pages.now seen.now) ≡ length seen.now }
-    ensures { IfOk result (λ hits. hits ≡ search (pages_at pages.now seen.now) words.now) }
-{
-    search_in(heap, pages, seen, seen.len() as u64, words)
 }
 
 /// The pages in these slots that have each word.

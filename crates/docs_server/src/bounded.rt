@@ -3,13 +3,14 @@
 ghost use Rattle.std.specs.Prelude.{◌≡◌};
 ghost use Rattle.docs_server.specs.Listening.{row_of};
 
-use crate::files::{Pages, Site, config_of, read_file, site_of};
+use crate::files::{Pages, Site, config_of, document_of, read_file, site_of};
 use crate::listen_fault::ListenFault;
 use doc_page_parts::failure::Memory;
 use doc_page_parts::heap::{Heap, Vec};
 use doc_page_parts::list::List;
 use doc_server_config::bounds::Bounds;
 use doc_server_config::config::SiteConfig;
+use doc_server_config::document::Document;
 use doc_server_config::folder::Folder;
 use doc_server_config::folder_pages::{FolderPage, read_folder};
 use doc_server_config::listening::{Listening, ListeningError};
@@ -30,22 +31,20 @@ pub fn read_bounded<R: AllocGlobal + Files + Clone + Drop>(
 ) -> Result<Bounded, ListenFault> {
     let heap = rt.alloc();
     let text = read_file(rt, heap, name)?;
-    let config = config_of(heap, &text)?;
-    let listening = listening_of(heap, &text)?;
+    let document = document_of(heap, &text)?;
+    let config = config_of(heap, &document)?;
+    let Listening { bounds, folders } = listening_of(heap, &document)?;
     let Site { pages, entities } = site_of(rt, heap, config)?;
-    let pages = with_folders(rt, heap, pages, listening.folders.get())?;
+    let pages = with_folders(rt, heap, pages, folders.get())?;
     Ok(Bounded {
         site: Site { pages, entities },
-        bounds: Bounds {
-            connections: listening.connections,
-            idle_seconds: listening.idle_seconds,
-        },
+        bounds,
     })
 }
 
-/// What a server that runs goes by, of a configuration with this text.
-fn listening_of(heap: Heap, text: &str) -> Result<Listening, ListenFault> {
-    match Listening::from_toml(heap, text) {
+/// What a server that runs goes by, of a configuration's document.
+fn listening_of(heap: Heap, document: &Document) -> Result<Listening, ListenFault> {
+    match document.listening(heap) {
         Ok(listening) => Ok(listening),
         Err(ListeningError::Memory) => Err(ListenFault::Command(Fault::Memory)),
         Err(e) => Err(ListenFault::Listening(e)),

@@ -7,6 +7,7 @@ use doc_page_parts::list::List;
 use doc_page_parts::text::Text;
 use doc_server::entity_table::entities_of;
 use doc_server_config::config::{ConfigError, SiteConfig};
+use doc_server_config::document::Document;
 use doc_server_config::page_row::{PageRow, Source};
 use doc_server_streams::fault::Fault;
 use doc_server_streams::read_from::ReadFrom;
@@ -33,7 +34,7 @@ pub struct Pages {
 pub fn read_site<R: AllocGlobal + Files>(rt: &R, name: &str) -> Result<Site, Fault> {
     let heap = rt.alloc();
     let text = read_file(rt, heap, name)?;
-    let config = config_of(heap, &text)?;
+    let config = config_of(heap, &document_of(heap, &text)?)?;
     site_of(rt, heap, config)
 }
 
@@ -65,12 +66,26 @@ pub fn read_file<R: Files>(rt: &R, heap: Heap, name: &str) -> Result<String, Fau
     read_text(heap, name, &mut input)
 }
 
-/// The configuration that a text is.
-pub fn config_of(heap: Heap, text: &str) -> Result<SiteConfig, Fault> {
-    match SiteConfig::from_toml(heap, text) {
+/// The document that the text of a configuration is.
+pub fn document_of(heap: Heap, text: &str) -> Result<Document, Fault> {
+    match Document::of(heap, text) {
+        Ok(document) => Ok(document),
+        Err(e) => Err(fault_of(e)),
+    }
+}
+
+/// The configuration that a document is.
+pub fn config_of(heap: Heap, document: &Document) -> Result<SiteConfig, Fault> {
+    match document.config(heap) {
         Ok(config) => Ok(config),
-        Err(ConfigError::Memory) => Err(Fault::Memory),
-        Err(_) => Err(Fault::Config),
+        Err(e) => Err(fault_of(e)),
+    }
+}
+
+fn fault_of(e: ConfigError) -> Fault {
+    match e {
+        ConfigError::Memory => Fault::Memory,
+        _ => Fault::Config,
     }
 }
 

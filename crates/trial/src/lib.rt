@@ -8,7 +8,7 @@
 //!   no `}`, and so neither a `\u{85}` nor another repetition.
 //! - An answer is printed as the value that it is in Rust, in the form `{:?}`, where a program does not say otherwise. A line that is no
 //!   call gives `no call`.
-//! - Memory may run out for a line. `scripts/refusals.sh` lets that happen, growth by growth: the line then tells of it, and the next
+//! - Memory may run out for a line. `scripts/site/refusals.sh` lets that happen, growth by growth: the line then tells of it, and the next
 //!   lines show what the call has changed.
 #![tactic(auto)]
 

@@ -3,10 +3,11 @@
 
 use crate::given::{both, connection, groups_of, id_and_bytes, path_of, reader_of, text_of, two};
 use crate::stop::Stop;
-use doc_hub::event::Event;
+use doc_hub::event::{ConnectionEvent, Event, ReaderEdit};
 use doc_page_parts::bytes::Bytes;
 use doc_page_parts::heap::{Heap, Vec};
 use doc_page_parts::path::Path;
+use doc_store::site_edit::SiteEdit;
 
 /// Events with ` ; ` between two.
 pub fn events_of(heap: Heap, given: &str) -> Result<Vec<Event>, Stop> {
@@ -35,8 +36,8 @@ pub fn event_of(heap: Heap, name: &str, given: &str) -> Result<Event, Stop> {
     match name {
         "connect" => Ok(Event::Connect),
         "push" => push(heap, given),
-        "step" => Ok(Event::Step(connection(given)?)),
-        "disconnect" => Ok(Event::Disconnect(connection(given)?)),
+        "step" => Ok(Event::On(connection(given)?, ConnectionEvent::Step)),
+        "disconnect" => Ok(Event::On(connection(given)?, ConnectionEvent::Disconnect)),
         _ => edit_of(heap, name, given),
     }
 }
@@ -45,17 +46,17 @@ pub fn event_of(heap: Heap, name: &str, given: &str) -> Result<Event, Stop> {
 fn edit_of(heap: Heap, name: &str, given: &str) -> Result<Event, Stop> {
     match name {
         "put" => put(heap, given),
-        "remove" => Ok(Event::Remove(path_of(heap, given)?)),
+        "remove" => Ok(Event::Site(SiteEdit::Remove(path_of(heap, given)?))),
         "move" => move_page(heap, given),
         "reader" => set_reader(heap, given),
-        "unreader" => Ok(Event::RemoveReader(text_of(heap, given)?)),
+        "unreader" => Ok(Event::Reader(ReaderEdit::Remove(text_of(heap, given)?))),
         _ => Err(Stop::NoCall),
     }
 }
 
 fn push(heap: Heap, given: &str) -> Result<Event, Stop> {
     let (id, bytes) = id_and_bytes(heap, given)?;
-    Ok(Event::Push(id, Bytes::new(bytes)))
+    Ok(Event::On(id, ConnectionEvent::Push(Bytes::new(bytes))))
 }
 
 fn put(heap: Heap, given: &str) -> Result<Event, Stop> {
@@ -66,17 +67,17 @@ fn put(heap: Heap, given: &str) -> Result<Event, Stop> {
 
 fn put_at(heap: Heap, path: Path, groups: &str, text: &str) -> Result<Event, Stop> {
     let (groups, text) = both(groups_of(heap, groups), text_of(heap, text))?;
-    Ok(Event::Put(path, groups, text))
+    Ok(Event::Site(SiteEdit::Put(path, groups, text)))
 }
 
 fn move_page(heap: Heap, given: &str) -> Result<Event, Stop> {
     let (from, to) = two(given)?;
     let (from, to) = both(path_of(heap, from), path_of(heap, to))?;
-    Ok(Event::MovePage(from, to))
+    Ok(Event::Site(SiteEdit::Move(from, to)))
 }
 
 fn set_reader(heap: Heap, given: &str) -> Result<Event, Stop> {
     let (token, reader) = two(given)?;
     let (token, reader) = both(text_of(heap, token), reader_of(heap, reader))?;
-    Ok(Event::SetReader(token, reader))
+    Ok(Event::Reader(ReaderEdit::Set(token, reader)))
 }

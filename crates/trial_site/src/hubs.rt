@@ -6,7 +6,7 @@ use crate::outcomes::{push_all, push_outcome};
 use crate::stop::Stop;
 use crate::world::World;
 use crate::written::{push, push_after};
-use doc_hub::event::{ConnId, Event};
+use doc_hub::event::ConnId;
 use doc_hub::hub::Hub;
 use doc_hub::outcome::Outcome;
 use doc_page::renderer::Renderer;
@@ -27,7 +27,7 @@ pub fn called<R: Renderer + Drop>(
         "run" => run(out, *heap, hub, given),
         _ => {
             let event = event_of(*heap, name, given)?;
-            let outcome = happened(hub, &event);
+            let outcome = hub.happen(&event);
             drop(event);
             told(out, outcome)
         }
@@ -39,21 +39,6 @@ fn told(out: &mut String, outcome: Outcome) -> Result<(), Stop> {
     let pushed = push_outcome(out, &outcome);
     drop(outcome);
     Ok(pushed?)
-}
-
-/// What comes of the call of an event.
-fn happened<R: Renderer + Drop>(hub: &mut Hub<R>, event: &Event) -> Outcome {
-    match event {
-        Event::Connect => Outcome::from(hub.connect()),
-        Event::Push(id, bytes) => Outcome::from(hub.push(*id, bytes.get())),
-        Event::Step(id) => Outcome::from(hub.step(*id)),
-        Event::Disconnect(id) => Outcome::Disconnected(hub.disconnect(*id)),
-        Event::Put(path, groups, text) => Outcome::from(hub.put_page(path, groups, text.get())),
-        Event::Remove(path) => Outcome::Removed(hub.remove_page(path)),
-        Event::MovePage(from, to) => Outcome::from(hub.move_page(from, to)),
-        Event::SetReader(token, reader) => Outcome::from(hub.set_reader(token.get(), reader)),
-        Event::RemoveReader(token) => Outcome::ReaderRemoved(hub.remove_reader(token.get())),
-    }
 }
 
 /// `ID BYTES`: a push and a step.

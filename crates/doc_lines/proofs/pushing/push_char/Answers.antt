@@ -1,9 +1,9 @@
 use Rattle.std.proofs.Common.{rules, string_bytes}
 use Rattle.std.proofs.lemmas.Str.{IsUtf8-string_bytes}
-use Rattle.doc_lines.proofs.Pushes.{chars_pushed}
 use Rattle.doc_lines.proofs.pushing.push_char.Goals as goal
+use Rattle.doc_page_parts.proofs.Texts.{chars_append_encode}
 
 pub returns-clause-ok : goal.returns-clause-ok
 returns-clause-ok c =
-    let pushed : _ = chars_pushed (string_bytes c.args.out.now) c.args.c (IsUtf8-string_bytes c.args.out.now) c.ranges.c.0 in
+    let pushed : _ = chars_append_encode (string_bytes c.args.out.now) c.args.c (IsUtf8-string_bytes c.args.out.now) c.ranges.c.0 in
     search rules

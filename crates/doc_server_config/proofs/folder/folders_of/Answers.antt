@@ -1,7 +1,8 @@
 use Rattle.std.proofs.Common.{◌+◌, Ok, ap, sym, ◌∙◌}
-use Rattle.doc_server_config.proofs.RowSteps.{folder_bad, folder_more, row_more, rows_done}
+use Rattle.doc_server_config.proofs.RowSteps.{folder_bad, folder_more}
 use Rattle.doc_server_config.specs.Folders.{folders_from}
 use Rattle.doc_server_config.proofs.folder.folders_of.Goals as goal
+use Rattle.doc_store_readers.proofs.EntrySteps.{row_more, rows_done}
 
 pub loop-index-preserved : goal.loop-index-preserved
 loop-index-preserved c =

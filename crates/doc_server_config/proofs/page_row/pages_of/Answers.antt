@@ -1,7 +1,8 @@
 use Rattle.std.proofs.Common.{◌+◌, Ok, ap, sym, ◌∙◌}
-use Rattle.doc_server_config.proofs.RowSteps.{page_bad, page_more, row_more, rows_done}
+use Rattle.doc_server_config.proofs.RowSteps.{page_bad, page_more}
 use Rattle.doc_server_config.specs.PageRows.{pages_from}
 use Rattle.doc_server_config.proofs.page_row.pages_of.Goals as goal
+use Rattle.doc_store_readers.proofs.EntrySteps.{row_more, rows_done}
 
 pub loop-index-preserved : goal.loop-index-preserved
 loop-index-preserved c =

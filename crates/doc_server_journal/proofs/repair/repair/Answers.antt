@@ -1,8 +1,8 @@
 use Rattle.std.proofs.Common.{[], ◌+◌, ◌∷◌, ◌++◌, take, drop, sym, ◌∙◌, arith}
 use Rattle.doc_server_journal.specs.Devices.{Torn, Shortened}
 use Rattle.doc_server_journal.proofs.RepairLemmas.{on_ok, begun_done, begun_torn, room, cut_done, cut_reads, only_synced, place, filled, changed}
-use Rattle.doc_server_journal.proofs.Moments.{no_ok}
 use Rattle.doc_server_journal.proofs.repair.repair.Goals as goal
+use Rattle.doc_page_parts.proofs.Results.{is_err_on_ok}
 
 pub returns-in_err-sync-clause-any_moment : goal.returns-in_err-sync-clause-any_moment
 returns-in_err-sync-clause-any_moment g c =
@@ -10,10 +10,10 @@ returns-in_err-sync-clause-any_moment g c =
     c.args.found.now.texts c.sync.ensures.any_moment
 
 pub returns-in_err-sync-clause-file : goal.returns-in_err-sync-clause-file
-returns-in_err-sync-clause-file g c = no_ok c.from_residual.result _ c.from_residual.ensures.0
+returns-in_err-sync-clause-file g c = is_err_on_ok c.from_residual.result _ c.from_residual.ensures.0
 
 pub returns-in_err-sync-clause-durable : goal.returns-in_err-sync-clause-durable
-returns-in_err-sync-clause-durable g c = no_ok c.from_residual.result _ c.from_residual.ensures.0
+returns-in_err-sync-clause-durable g c = is_err_on_ok c.from_residual.result _ c.from_residual.ensures.0
 
 pub returns-in_err-sync-clause-cause : goal.returns-in_err-sync-clause-cause
 returns-in_err-sync-clause-cause g c = c.in_err-sync.ensures.cause ∙ sym c.from_residual.ensures.0

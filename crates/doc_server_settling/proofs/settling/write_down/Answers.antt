@@ -10,8 +10,3 @@ pub returns-then-is_empty-clause-any_moment : goal.returns-then-is_empty-clause-
 returns-then-is_empty-clause-any_moment g c =
     λ lines told. safe_at_rest g.D.Device.seen g.D.Device.may_leave g.D.Device.failed g.D.Device.moment g.D.Device.left_since
     c.args.journal.now lines (g.met.D.Device.only_now c.args.journal.now.device)
-
-pub returns-then-lines-gt-TEXT_LIMIT-clause-any_moment : goal.returns-then-lines-gt-TEXT_LIMIT-clause-any_moment
-returns-then-lines-gt-TEXT_LIMIT-clause-any_moment g c =
-    λ lines told. safe_at_rest g.D.Device.seen g.D.Device.may_leave g.D.Device.failed g.D.Device.moment g.D.Device.left_since
-    c.args.journal.now lines (g.met.D.Device.only_now c.args.journal.now.device)

@@ -1,5 +1,6 @@
-use Rattle.std.proofs.Common.{refl, sym, ◌∙◌}
-use Rattle.doc_shelf_documents.proofs.DocumentSteps.{decided, found_is, looked_has, looked_served}
+use Rattle.std.proofs.Common.{ap, refl, sym, ◌∙◌}
+use Rattle.std.specs.Prelude.{Some}
+use Rattle.doc_shelf_documents.proofs.DocumentSteps.{decided, found_is, kept_has, looked_has, looked_served, making_gives, making_gives_one}
 use Rattle.doc_shelf_documents.proofs.documents.reply_with_page.Goals as goal
 
 pub returns-in_err-found-clause-cache : goal.returns-in_err-found-clause-cache
@@ -23,19 +24,36 @@ returns-then-is_some-clause-cache g c render store page served =
     looked_has render store c.args.kept.now c.args.cache.now c.args.path.now c.args.stamp page served c.found_reply.new.cache _
     c.in_ok-found.ensures.cache
 
+pub returns-in_err-made-clause-cache : goal.returns-in_err-made-clause-cache
+returns-in_err-made-clause-cache g c render store page served =
+    looked_has render store c.args.kept.now c.args.cache.now c.args.path.now c.args.stamp page served c.found_reply.new.cache _
+    c.in_ok-found.ensures.cache
+
+pub returns-else-clause-reply : goal.returns-else-clause-reply
+returns-else-clause-reply g c render store page served =
+    let goals = g.S.Sight.goals c.args.sight.now in
+    absurd (making_gives_one render store c.args.kept.now c.args.cache.now c.args.path.now c.args.stamp page served goals
+    c.args.writing.head_only c.args.writing.close c.make.ensures)
+
 pub returns-clause-reply : goal.returns-clause-reply
 returns-clause-reply g c render store page served =
-    c.made_reply.ensures.reply render store page
-    (looked_served render store c.args.kept.now c.args.cache.now c.args.path.now c.args.stamp page served c.found_reply.new.cache _
-    c.in_ok-found.ensures.cache)
+    let goals = g.S.Sight.goals c.args.sight.now in
+    ap Some (c.keep_made.ensures.reply
+    ∙ ap (λ made. made.reply) (making_gives render store c.args.kept.now c.args.cache.now c.args.path.now c.args.stamp page served goals
+    c.args.writing.head_only c.args.writing.close c.in-Some.made c.make.ensures))
 
 pub returns-clause-cache : goal.returns-clause-cache
 returns-clause-cache g c render store page served =
     let goals = g.S.Sight.goals c.args.sight.now in
-    c.made_reply.ensures.cache render store page
+    kept_has render store c.args.kept.now c.found_reply.new.cache c.args.path.now c.args.stamp page
     (looked_served render store c.args.kept.now c.args.cache.now c.args.path.now c.args.stamp page served c.found_reply.new.cache _
-    c.in_ok-found.ensures.cache) (
+    c.in_ok-found.ensures.cache)
+    goals _ (
       refl,
       decided render store c.args.kept.now c.args.cache.now c.args.path.now c.args.stamp page served goals c.links.result.now
           c.in-Some.links.now c.new.result c.links.ensures c.in-Some.ensures (c.new.ensures ∙ c.in_ok-goals_of.ensures),
     )
+    c.keep_made.new.cache c.in-Some.made.document
+    (ap (λ made. made.document) (making_gives render store c.args.kept.now c.args.cache.now c.args.path.now c.args.stamp page served goals
+    c.args.writing.head_only c.args.writing.close c.in-Some.made c.make.ensures))
+    c.keep_made.ensures.cache

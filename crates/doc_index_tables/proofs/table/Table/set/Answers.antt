@@ -1,8 +1,9 @@
 use Rattle.std.proofs.Common.{◌≡◌, ◌∙◌, ap, sym, refl}
 use Rattle.std.specs.Prelude.{Some}
 use Rattle.std.specs.FinMap as map
+use Rattle.std.proofs.lemmas.Result.{on_ok_weaker, on_err_weaker}
 use Rattle.doc_index_tables.specs.Maps.{text_map}
-use Rattle.doc_index_tables.proofs.TableSteps.{inserted_text, looked_up_text, number_set, on_err, on_ok, set_again}
+use Rattle.doc_index_tables.proofs.TableSteps.{inserted_text, looked_up_text, number_set, set_again}
 use Rattle.doc_index_tables.proofs.table.Table.set.Goals as goal
 
 pub returns-clause-ok : goal.returns-clause-ok
@@ -11,7 +12,7 @@ returns-clause-ok c =
     let stands : map.get c.args.self.now c.args.text.now ≡ Some c.in-Some.row.now =
     sym (found ∙ looked_up_text c.self.inside.rows.entries c.args.text.now ∙ ap (λ m. map.get m c.args.text.now) c.self.view_is) in
     let updates = (c.get_mut.follows.holds c.set.new.self).3 in
-    on_ok c.set.result (λ set.
+    on_ok_weaker c.set.result (λ set.
     inserted_text c.self.inside.rows (c.get_mut.follows.lender c.set.new.self) c.args.text.now c.set.new.self (updates (rw (← found) refl))
     ∙ ap (λ m. map.insert m c.args.text.now c.set.new.self) c.self.view_is
     ∙ ap (map.insert c.args.self.now c.args.text.now) set
@@ -23,7 +24,7 @@ returns-clause-err c =
     let stands : map.get c.args.self.now c.args.text.now ≡ Some c.in-Some.row.now =
     sym (found ∙ looked_up_text c.self.inside.rows.entries c.args.text.now ∙ ap (λ m. map.get m c.args.text.now) c.self.view_is) in
     let updates = (c.get_mut.follows.holds c.set.new.self).3 in
-    on_err c.set.result (λ same.
+    on_err_weaker c.set.result (λ same.
     inserted_text c.self.inside.rows (c.get_mut.follows.lender c.set.new.self) c.args.text.now c.set.new.self (updates (rw (← found) refl))
     ∙ ap (λ m. map.insert m c.args.text.now c.set.new.self) c.self.view_is
     ∙ ap (map.insert c.args.self.now c.args.text.now) same

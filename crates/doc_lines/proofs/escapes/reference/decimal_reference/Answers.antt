@@ -4,8 +4,9 @@ use Rattle.std.specs.Char.{is_ascii_digit}
 use Rattle.doc_rules.specs.Escapes.{number, code_point}
 use Rattle.doc_lines.specs.MeaningSteps.{behind_of}
 use Rattle.doc_rules.proofs.ParserLaws.{is_rest_again}
-use Rattle.doc_lines.proofs.Digits.{decimal_is, digits_before, number_is_inside, rest_behind}
+use Rattle.doc_lines.proofs.Digits.{decimal_is, digits_before, number_is_inside}
 use Rattle.doc_lines.proofs.escapes.reference.decimal_reference.Goals as goal
+use Rattle.doc_lines.proofs.Rests.{is_rest}
 
 pub front-requires : goal.front-requires
 front-requires c = is_rest_again _ _ _ c.at_most-end.ensures.end c.in_ok-second.ensures.end
@@ -34,5 +35,5 @@ returns-clause-value c =
 
 pub returns-clause-end : goal.returns-clause-end
 returns-clause-end c =
-    is_rest_again _ _ _ (is_rest_again _ _ _ (rest_behind 59 _ _ c.in_ok-rest.ensures)
-    (is_rest_again _ _ _ c.at_most-end.ensures.end c.in_ok-second.ensures.end)) (rest_behind 35 _ _ c.in_ok-digits.ensures)
+    is_rest_again _ _ _ (is_rest_again _ _ _ (is_rest 59 _ _ c.in_ok-rest.ensures)
+    (is_rest_again _ _ _ c.at_most-end.ensures.end c.in_ok-second.ensures.end)) (is_rest 35 _ _ c.in_ok-digits.ensures)

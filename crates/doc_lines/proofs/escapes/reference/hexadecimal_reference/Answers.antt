@@ -5,8 +5,9 @@ use Rattle.doc_rules.specs.Characters.{one_of}
 use Rattle.doc_rules.specs.Escapes.{number, code_point}
 use Rattle.doc_lines.specs.MeaningSteps.{behind_of}
 use Rattle.doc_rules.proofs.ParserLaws.{is_rest_again}
-use Rattle.doc_lines.proofs.Digits.{hexadecimal_is, digits_before, number_is_inside_mark, rest_behind}
+use Rattle.doc_lines.proofs.Digits.{hexadecimal_is, digits_before, number_is_inside_mark}
 use Rattle.doc_lines.proofs.escapes.reference.hexadecimal_reference.Goals as goal
+use Rattle.doc_lines.proofs.Rests.{is_rest}
 
 pub front-requires : goal.front-requires
 front-requires c = is_rest_again _ _ _ c.at_most-end.ensures.end c.in_ok-second.ensures.end
@@ -39,6 +40,6 @@ returns-clause-value c =
 
 pub returns-clause-end : goal.returns-clause-end
 returns-clause-end c =
-    is_rest_again _ _ _ (is_rest_again _ _ _ (is_rest_again _ _ _ (rest_behind 59 _ _ c.in_ok-rest.ensures)
+    is_rest_again _ _ _ (is_rest_again _ _ _ (is_rest_again _ _ _ (is_rest 59 _ _ c.in_ok-rest.ensures)
     (is_rest_again _ _ _ c.at_most-end.ensures.end c.in_ok-second.ensures.end)) c.in_ok-digits.ensures.end)
-    (rest_behind 35 _ _ c.in_ok-mark.ensures)
+    (is_rest 35 _ _ c.in_ok-mark.ensures)

@@ -1,8 +1,9 @@
 use Rattle.std.proofs.Common.{◌≢◌, [], ◌∙◌}
 use Rattle.doc_server_journal.specs.declared.fault.AppendError.TheVariants.{Memory, Full, Failed}
 use Rattle.doc_server_journal.proofs.AppendLemmas.{nothing, first_place, after_first, after_second, place, acknowledged}
-use Rattle.doc_server_journal.proofs.Moments.{no_ok, other_error}
+use Rattle.doc_server_journal.proofs.Moments.{other_error}
 use Rattle.doc_server_journal.proofs.journal.Journal.append.Goals as goal
+use Rattle.doc_page_parts.proofs.Results.{is_err_on_ok}
 
 -- the reasons differ
 full_not_memory : Full ≢ Memory
@@ -28,7 +29,7 @@ returns-in_err-record-clause-any_moment g c = λ texts is.
     c.args.self.now.device c.args.self.now.end c.args.self.now.digest texts c.args.text.now [] c.requires.within is
 
 pub returns-in_err-record-clause-acknowledged : goal.returns-in_err-record-clause-acknowledged
-returns-in_err-record-clause-acknowledged g c = λ texts is. no_ok c.from_residual.result _ c.from_residual.ensures.0
+returns-in_err-record-clause-acknowledged g c = λ texts is. is_err_on_ok c.from_residual.result _ c.from_residual.ensures.0
 
 pub returns-in_err-record-clause-full : goal.returns-in_err-record-clause-full
 returns-in_err-record-clause-full g c =
@@ -52,7 +53,7 @@ returns-in_err-write_and_sync-clause-any_moment g c = λ texts is.
 
 pub returns-in_err-write_and_sync-clause-acknowledged : goal.returns-in_err-write_and_sync-clause-acknowledged
 returns-in_err-write_and_sync-clause-acknowledged g c = λ texts is.
-    no_ok c.from_residual-in_err-write_and_sync.result _ c.from_residual-in_err-write_and_sync.ensures.0
+    is_err_on_ok c.from_residual-in_err-write_and_sync.result _ c.from_residual-in_err-write_and_sync.ensures.0
 
 pub returns-in_err-write_and_sync-clause-memory : goal.returns-in_err-write_and_sync-clause-memory
 returns-in_err-write_and_sync-clause-memory g c =
@@ -80,7 +81,7 @@ returns-in_err-write_and_sync-2-clause-any_moment g c = λ texts is.
 
 pub returns-in_err-write_and_sync-2-clause-acknowledged : goal.returns-in_err-write_and_sync-2-clause-acknowledged
 returns-in_err-write_and_sync-2-clause-acknowledged g c = λ texts is.
-    no_ok c.from_residual-in_err-write_and_sync-2.result _ c.from_residual-in_err-write_and_sync-2.ensures.0
+    is_err_on_ok c.from_residual-in_err-write_and_sync-2.result _ c.from_residual-in_err-write_and_sync-2.ensures.0
 
 pub returns-in_err-write_and_sync-2-clause-memory : goal.returns-in_err-write_and_sync-2-clause-memory
 returns-in_err-write_and_sync-2-clause-memory g c =

@@ -1,8 +1,7 @@
 use Rattle.std.proofs.Common.{refl, ap, ◌∙◌, sym, subst, take, append-nil, inl, inr}
 use Rattle.std.specs.Prelude.{Ok, Err}
 use Rattle.std.specs.Io.KnownBytes.{Consumes}
-use Rattle.doc_hub.specs.Events.{pushing}
-use Rattle.doc_hub.specs.declared.event.Event.TheVariants as events
+use Rattle.doc_hub.specs.Events.{push_on, pushing}
 use Rattle.doc_hub.specs.declared.outcome.Outcome.TheVariants as outcomes
 use Rattle.doc_server_listen.specs.Channels.{came_len}
 use Rattle.doc_server_listen.specs.Peers.{Peer, left_of}
@@ -20,7 +19,7 @@ returns-in-Ok-clause-serves g c =
     (take (came_len (Ok x)) c.read.new.buf)) c.in-Ok-Bytes.field-0-is c.in-Ok-Bytes.ensures.bytes in
     rw (← c.self.view_is) (
       stepped_on (g.R.Renderer.page c.args.hub.now.0) c.args.hub.now.1 c.push.new.self.1 _ _
-          (events.Push c.self.inside.id (take c.in-Ok-Bytes.count c.read.new.buf)) outcomes.Pushed refl
+          (push_on c.self.inside.id (take c.in-Ok-Bytes.count c.read.new.buf)) outcomes.Pushed refl
           (Ok tt, c.in-Ok.ensures.world, refl) refl
           opened refl refl came c.in-Ok-Bytes.ensures.written refl
           (fine_first c.self.inside.stage (g.S.Channel.failed c.self.inside.stream) (g.S.Channel.failed c.read.new.self) c.self.invariant.1
@@ -35,7 +34,7 @@ returns-in-Err-push-clause-serves g c =
     (take (came_len (Ok x)) c.read.new.buf)) c.in-Ok-Bytes.field-0-is c.in-Ok-Bytes.ensures.bytes in
     rw (c.dropped-self-inside.ensures.stage, ← c.self.view_is) (
       drops_after (g.R.Renderer.page c.args.hub.now.0) c.args.hub.now.1
-          c.push.new.self.1 c.dropped-self-inside.new.hub.1 _ _ (events.Push c.self.inside.id (take c.in-Ok-Bytes.count c.read.new.buf))
+          c.push.new.self.1 c.dropped-self-inside.new.hub.1 _ _ (push_on c.self.inside.id (take c.in-Ok-Bytes.count c.read.new.buf))
           (pushing (Err c.in-Err-push.field-0)) c.self.inside.id _ refl refl (Err c.in-Err-push.field-0, c.in-Err-push.ensures.world, refl)
           c.dropped-self-inside.ensures.world opened refl refl (take c.in-Ok-Bytes.count c.read.new.buf, came) c.in-Ok-Bytes.ensures.written
           (sym (append-nil (left_of c.self.inside.sent c.self.inside.replies.items))) (inr refl)

@@ -1,9 +1,8 @@
 use Rattle.std.proofs.Common.{◌<◌, ◌++◌, [], ◌∷◌, refl, ap, ◌∙◌, sym, subst, append-nil, inl, inr, length}
 use Rattle.std.specs.Prelude.{Ok, Err}
 use Rattle.std.proofs.KnownBytes.{Consumes-nil}
-use Rattle.doc_hub.specs.Events.{stepping}
+use Rattle.doc_hub.specs.Events.{step_on, stepping}
 use Rattle.doc_hub.specs.Runs.{Happens}
-use Rattle.doc_hub.specs.declared.event.Event.TheVariants as events
 use Rattle.doc_hub.specs.declared.event.Step.TheVariants as steps
 use Rattle.doc_hub.specs.declared.outcome.Outcome.TheVariants as outcomes
 use Rattle.doc_hub.specs.declared.refusal.StepError.TheVariants as step_errors
@@ -25,7 +24,7 @@ returns-then-is_err-clause-serves g c =
 pub returns-in-Ok-Sent-clause-serves : goal.returns-in-Ok-Sent-clause-serves
 returns-in-Ok-Sent-clause-serves g c =
     let opened = ap (λ (p : Peer). p.is_open) c.self.view_is ∙ c.requires.open in
-    let h = subst (λ s. Happens (g.R.Renderer.page c.args.hub.now.0) c.args.hub.now.1 (events.Step c.self.inside.id)
+    let h = subst (λ s. Happens (g.R.Renderer.page c.args.hub.now.0) c.args.hub.now.1 (step_on c.self.inside.id)
     c.step_and_keep.new.hub.1
     (Ok s))
     c.in-Ok-Sent.field-0-is c.in-Ok-Sent.ensures.world in
@@ -46,7 +45,7 @@ returns-in-Ok-Sent-clause-serves g c =
 pub returns-in-Ok-Last-clause-serves : goal.returns-in-Ok-Last-clause-serves
 returns-in-Ok-Last-clause-serves g c =
     let opened = ap (λ (p : Peer). p.is_open) c.self.view_is ∙ c.requires.open in
-    let h = subst (λ s. Happens (g.R.Renderer.page c.args.hub.now.0) c.args.hub.now.1 (events.Step c.self.inside.id)
+    let h = subst (λ s. Happens (g.R.Renderer.page c.args.hub.now.0) c.args.hub.now.1 (step_on c.self.inside.id)
     c.step_and_keep.new.hub.1
     (Ok s))
     c.in-Ok-Last.field-0-is c.in-Ok-Last.ensures.world in
@@ -56,7 +55,7 @@ returns-in-Ok-Last-clause-serves g c =
     let room = subst (λ (p : Peer). length p.pending < most_pending) (sym c.self.view_is) c.requires.room in
     rw (c.dropped-self-inside.ensures.stage, ← c.self.view_is) (
       drops_after (g.R.Renderer.page c.args.hub.now.0) c.args.hub.now.1
-          c.step_and_keep.new.hub.1 c.dropped-self-inside.new.hub.1 _ _ (events.Step c.self.inside.id)
+          c.step_and_keep.new.hub.1 c.dropped-self-inside.new.hub.1 _ _ (step_on c.self.inside.id)
           (outcomes.Stepped (steps.Last c.in-Ok-Last.reply))
           c.self.inside.id _ refl refl (Ok (steps.Last c.in-Ok-Last.reply), h, refl) c.dropped-self-inside.ensures.world opened refl refl
           ([], Consumes-nil (g.S.Channel.unread c.self.inside.stream)) refl waits (inl room) (λ f. f) tt,
@@ -70,13 +69,13 @@ returns-in-Ok-Last-clause-serves g c =
 pub returns-in-Ok-More-clause-serves : goal.returns-in-Ok-More-clause-serves
 returns-in-Ok-More-clause-serves g c =
     let opened = ap (λ (p : Peer). p.is_open) c.self.view_is ∙ c.requires.open in
-    let h = subst (λ s. Happens (g.R.Renderer.page c.args.hub.now.0) c.args.hub.now.1 (events.Step c.self.inside.id)
+    let h = subst (λ s. Happens (g.R.Renderer.page c.args.hub.now.0) c.args.hub.now.1 (step_on c.self.inside.id)
     c.step_and_keep.new.hub.1
     (Ok s))
     c.in-Ok-More.field-0-is c.in-Ok-More.ensures.world in
     rw (← c.self.view_is) (
       stepped_on (g.R.Renderer.page c.args.hub.now.0) c.args.hub.now.1 c.step_and_keep.new.hub.1 _ _
-          (events.Step c.self.inside.id) (outcomes.Stepped steps.More) refl (Ok steps.More, h, refl) refl opened refl refl
+          (step_on c.self.inside.id) (outcomes.Stepped steps.More) refl (Ok steps.More, h, refl) refl opened refl refl
           (Consumes-nil (g.S.Channel.unread c.self.inside.stream)) refl (ap (left_of c.self.inside.sent) c.reserve.ensures.items) (λ f. f),
       step_records (g.R.Renderer.page c.args.hub.now.0) c.args.hub.now.1 c.step_and_keep.new.hub.1 c.self.inside.id (Ok steps.More)
           c.args.edits.now c.step_and_keep.new.edits
@@ -88,7 +87,7 @@ returns-in-Ok-More-clause-serves g c =
 pub returns-in-Ok-Closed-clause-serves : goal.returns-in-Ok-Closed-clause-serves
 returns-in-Ok-Closed-clause-serves g c =
     let opened = ap (λ (p : Peer). p.is_open) c.self.view_is ∙ c.requires.open in
-    let h = subst (λ s. Happens (g.R.Renderer.page c.args.hub.now.0) c.args.hub.now.1 (events.Step c.self.inside.id)
+    let h = subst (λ s. Happens (g.R.Renderer.page c.args.hub.now.0) c.args.hub.now.1 (step_on c.self.inside.id)
     c.step_and_keep.new.hub.1
     (Ok s))
     c.in-Ok-Closed.field-0-is c.in-Ok-Closed.ensures.world in
@@ -96,7 +95,7 @@ returns-in-Ok-Closed-clause-serves g c =
     ∙ sym (append-nil (left_of c.self.inside.sent c.self.inside.replies.items)) in
     rw (c.dropped-self-inside-in-Ok-Closed.ensures.stage, ← c.self.view_is) (
       drops_after (g.R.Renderer.page c.args.hub.now.0)
-          c.args.hub.now.1 c.step_and_keep.new.hub.1 c.dropped-self-inside-in-Ok-Closed.new.hub.1 _ _ (events.Step c.self.inside.id)
+          c.args.hub.now.1 c.step_and_keep.new.hub.1 c.dropped-self-inside-in-Ok-Closed.new.hub.1 _ _ (step_on c.self.inside.id)
           (outcomes.Stepped steps.Closed) c.self.inside.id _ refl refl (Ok steps.Closed, h, refl)
           c.dropped-self-inside-in-Ok-Closed.ensures.world
           opened refl refl ([], Consumes-nil (g.S.Channel.unread c.self.inside.stream)) refl waits (inr refl) (λ f. f) tt,
@@ -111,7 +110,7 @@ returns-in-Ok-Closed-clause-serves g c =
 pub returns-in-Err-NoConnection-clause-serves : goal.returns-in-Err-NoConnection-clause-serves
 returns-in-Err-NoConnection-clause-serves g c =
     let opened = ap (λ (p : Peer). p.is_open) c.self.view_is ∙ c.requires.open in
-    let h = subst (λ s. Happens (g.R.Renderer.page c.args.hub.now.0) c.args.hub.now.1 (events.Step c.self.inside.id)
+    let h = subst (λ s. Happens (g.R.Renderer.page c.args.hub.now.0) c.args.hub.now.1 (step_on c.self.inside.id)
     c.step_and_keep.new.hub.1
     (Err s))
     c.in-Err-NoConnection.field-0-is c.in-Err-NoConnection.ensures.world in
@@ -119,7 +118,7 @@ returns-in-Err-NoConnection-clause-serves g c =
     ∙ sym (append-nil (left_of c.self.inside.sent c.self.inside.replies.items)) in
     rw (c.dropped-self-inside-in-Err-NoConnection.ensures.stage, ← c.self.view_is) (
       drops_after (g.R.Renderer.page c.args.hub.now.0)
-          c.args.hub.now.1 c.step_and_keep.new.hub.1 c.dropped-self-inside-in-Err-NoConnection.new.hub.1 _ _ (events.Step c.self.inside.id)
+          c.args.hub.now.1 c.step_and_keep.new.hub.1 c.dropped-self-inside-in-Err-NoConnection.new.hub.1 _ _ (step_on c.self.inside.id)
           (stepping (Err step_errors.NoConnection)) c.self.inside.id _ refl refl (Err step_errors.NoConnection, h, refl)
           c.dropped-self-inside-in-Err-NoConnection.ensures.world opened refl refl
           ([], Consumes-nil (g.S.Channel.unread c.self.inside.stream)) refl waits (inr refl) (λ f. f) tt,
@@ -134,13 +133,13 @@ returns-in-Err-NoConnection-clause-serves g c =
 pub returns-in-Err-Memory-clause-serves : goal.returns-in-Err-Memory-clause-serves
 returns-in-Err-Memory-clause-serves g c =
     let opened = ap (λ (p : Peer). p.is_open) c.self.view_is ∙ c.requires.open in
-    let h = subst (λ s. Happens (g.R.Renderer.page c.args.hub.now.0) c.args.hub.now.1 (events.Step c.self.inside.id)
+    let h = subst (λ s. Happens (g.R.Renderer.page c.args.hub.now.0) c.args.hub.now.1 (step_on c.self.inside.id)
     c.step_and_keep.new.hub.1
     (Err s))
     c.in-Err-Memory.field-0-is c.in-Err-Memory.ensures.world in
     rw (← c.self.view_is) (
       stepped_on (g.R.Renderer.page c.args.hub.now.0) c.args.hub.now.1 c.step_and_keep.new.hub.1 _ _
-          (events.Step c.self.inside.id) (stepping (Err step_errors.Memory)) refl (Err step_errors.Memory, h, refl) refl opened opened refl
+          (step_on c.self.inside.id) (stepping (Err step_errors.Memory)) refl (Err step_errors.Memory, h, refl) refl opened opened refl
           (Consumes-nil (g.S.Channel.unread c.self.inside.stream)) refl (ap (left_of c.self.inside.sent) c.reserve.ensures.items) (λ f. f),
       step_records (g.R.Renderer.page c.args.hub.now.0) c.args.hub.now.1 c.step_and_keep.new.hub.1 c.self.inside.id
           (Err step_errors.Memory) c.args.edits.now c.step_and_keep.new.edits

@@ -3,9 +3,10 @@ use Rattle.std.specs.List.{list_all}
 use Rattle.std.proofs.lemmas.Iterator.Splits.{YieldsList-from_str_split}
 use Rattle.std.proofs.lemmas.Result.{err_from_is_err_and}
 use Rattle.doc_store_readers.specs.Groups.{is_group, parts_of, with_names}
-use Rattle.doc_store_readers.proofs.GroupSteps.{next_item, no_item, all_added, not_added, of_text, length-shown}
+use Rattle.doc_store_readers.proofs.GroupSteps.{all_added, not_added, of_text, length-shown}
 use Rattle.doc_store_readers.proofs.SortedSteps.{collected_in_slice}
 use Rattle.doc_store_readers.proofs.groups.Groups.new.Goals as goal
+use Rattle.doc_page_parts.proofs.Lists.{yields_some, yields_none}
 
 pub loop-name-init : goal.loop-name-init
 loop-name-init c = (
@@ -18,7 +19,7 @@ loop-name-init c = (
 
 pub loop-name-preserved : goal.loop-name-preserved
 loop-name-preserved c =
-    let next = next_item _ _ c.loop-name.name-iterator c.next.new.self c.in-Some.name c.loop-name.invariant.0 c.loop-name.invariant.1
+    let next = yields_some _ _ c.loop-name.name-iterator c.next.new.self c.in-Some.name c.loop-name.invariant.0 c.loop-name.invariant.1
     c.in-Some.ensures.steps in (
       next.0,
       next.2,
@@ -30,7 +31,7 @@ pub returns-in_err-add_name : goal.returns-in_err-add_name
 returns-in_err-add_name c =
     let full : (length c.args.text.now == 0) ≡ false = sym c.is_empty.ensures ∙ c.if-is_empty.false in
     let good : list_all is_group (parts_of c.args.text.now) ≡ true = sym c.are_groups_in_text.ensures ∙ c.if-not-are_groups_in_text.false in
-    let next = next_item _ _ c.loop-name.name-iterator c.next.new.self c.in-Some.name c.loop-name.invariant.0 c.loop-name.invariant.1
+    let next = yields_some _ _ c.loop-name.name-iterator c.next.new.self c.in-Some.name c.loop-name.invariant.0 c.loop-name.invariant.1
     c.in-Some.ensures.steps in
     let refused = c.in_err-add_name.ensures.err in
     let same = c.loop-name.invariant.2 ∙ ap (with_names (map (λ name. name.now) c.loop-name.names.items)) next.1 in
@@ -43,7 +44,7 @@ pub returns-in_err-copies_of : goal.returns-in_err-copies_of
 returns-in_err-copies_of c =
     let full : (length c.args.text.now == 0) ≡ false = sym c.is_empty.ensures ∙ c.if-is_empty.false in
     let good : list_all is_group (parts_of c.args.text.now) ≡ true = sym c.are_groups_in_text.ensures ∙ c.if-not-are_groups_in_text.false in
-    let ended = no_item _ _ c.loop-name.name-iterator c.next.new.self c.loop-name.invariant.0 c.loop-name.invariant.1
+    let ended = yields_none _ _ c.loop-name.name-iterator c.next.new.self c.loop-name.invariant.0 c.loop-name.invariant.1
     c.in-None.ensures.steps in
     let same : with_names [] (parts_of c.args.text.now) ≡ map (λ name. name.now) c.loop-name.names.items = c.loop-name.invariant.2
     ∙ ap (with_names (map (λ name. name.now) c.loop-name.names.items)) ended in
@@ -60,7 +61,7 @@ pub returns : goal.returns
 returns c =
     let full : (length c.args.text.now == 0) ≡ false = sym c.is_empty.ensures ∙ c.if-is_empty.false in
     let good : list_all is_group (parts_of c.args.text.now) ≡ true = sym c.are_groups_in_text.ensures ∙ c.if-not-are_groups_in_text.false in
-    let ended = no_item _ _ c.loop-name.name-iterator c.next.new.self c.loop-name.invariant.0 c.loop-name.invariant.1
+    let ended = yields_none _ _ c.loop-name.name-iterator c.next.new.self c.loop-name.invariant.0 c.loop-name.invariant.1
     c.in-None.ensures.steps in
     let same : with_names [] (parts_of c.args.text.now) ≡ map (λ name. name.now) c.loop-name.names.items = c.loop-name.invariant.2
     ∙ ap (with_names (map (λ name. name.now) c.loop-name.names.items)) ended in
@@ -74,7 +75,7 @@ returns c =
 pub copies_of-requires : goal.copies_of-requires
 copies_of-requires c =
     let good : list_all is_group (parts_of c.args.text.now) ≡ true = sym c.are_groups_in_text.ensures ∙ c.if-not-are_groups_in_text.false in
-    let ended = no_item _ _ c.loop-name.name-iterator c.next.new.self c.loop-name.invariant.0 c.loop-name.invariant.1
+    let ended = yields_none _ _ c.loop-name.name-iterator c.next.new.self c.loop-name.invariant.0 c.loop-name.invariant.1
     c.in-None.ensures.steps in
     let same : with_names [] (parts_of c.args.text.now) ≡ map (λ name. name.now) c.loop-name.names.items = c.loop-name.invariant.2
     ∙ ap (with_names (map (λ name. name.now) c.loop-name.names.items)) ended in

@@ -1,0 +1,49 @@
+-- A page that a reader doesn't see is to them as one that doesn't exist, and a link to it as a link to none.
+use Rattle.std.specs.Prelude.{◌≡◌, ℕ, List, false, Option, Ok}
+use Rattle.std.specs.FinMap as map
+use Rattle.doc_page_parts.specs.declared.rendered.Rendered.{Rendered}
+use Rattle.doc_store_readers.specs.declared.reader.Reader.{Reader}
+use Rattle.doc_store_readers.specs.Sites.{Site, may_see_at, view_of}
+use Rattle.doc_store.specs.Store.{effect_of, remove_page}
+use Rattle.doc_shelf_pages.specs.Templates.{body_of}
+use Rattle.doc_http.specs.declared.request.Request.{Request}
+use Rattle.doc_http.specs.declared.request.Next.TheVariants as nexts
+use Rattle.doc_hub_answers.specs.Replies.{Renders, link_shown}
+use Rattle.doc_hub.specs.declared.event.ConnId.{ConnId}
+use Rattle.doc_hub.specs.Events.{step_on}
+use Rattle.doc_hub.specs.declared.event.Step.{Step}
+use Rattle.doc_hub.specs.Runs.{Happens}
+use Rattle.doc_hub.specs.StepLaws.{Begins}
+use Rattle.doc_hub.specs.Worlds.{World, answer_in, reader_of}
+
+-- a reader sees no page that stands under a path
+abbrev pub IsHidden : Site → Option Reader → List ℕ → Type 0
+IsHidden site reader path = may_see_at reader (map.get site.pages path) ≡ false
+
+-- a site in which that page doesn't exist: it was removed, and the aliases that led to it with it
+abbrev pub site_without : Site → List ℕ → Site
+site_without site path = effect_of site (remove_page path)
+
+-- a world in whose site it doesn't exist, and all else is the same
+abbrev pub world_without : World → List ℕ → World
+world_without w path = record w { site = site_without w.site path }
+
+-- A hidden page is answered as one that doesn't exist: whether it stands or not, each request of a reader who doesn't see it has one
+-- answer, byte for byte, and asks for one edit; and steps of an open connection whose unread bytes begin with that request send equal
+-- bytes and do the same, where both are answered.
+pub record HiddenAsNone : Type 0 where
+  pub answers : (render : Renders) (w : World) (request : Request) (path : List ℕ) → IsHidden w.site (reader_of w request) path
+      → answer_in render w request ≡ answer_in render (world_without w path) request
+  pub steps : (render : Renders) (w w' v' : World) (c : ConnId) (used : ℕ) (request : Request) (path : List ℕ) (said told : Step)
+      → IsHidden w.site (reader_of w request) path → Begins w c (nexts.Request used request)
+      → Happens render w (step_on c) w' (Ok said) → Happens render (world_without w path) (step_on c) v' (Ok told)
+      → said ≡ told
+
+-- A link to a hidden page is shown as a link to one that doesn't exist: whether the hidden page stands or not, each link of each page
+-- is shown alike to a reader who doesn't see it, and so is the page with its links, byte for byte.
+pub record LinksToHiddenAsToNone : Type 0 where
+  pub links : (site : Site) (reader : Option Reader) (hidden page dest : List ℕ) → IsHidden site reader hidden
+      → link_shown (view_of site reader) page dest ≡ link_shown (view_of (site_without site hidden) reader) page dest
+  pub pages : (site : Site) (reader : Option Reader) (hidden page : List ℕ) (rendered : Rendered) → IsHidden site reader hidden
+      → body_of page (link_shown (view_of site reader) page) rendered
+      ≡ body_of page (link_shown (view_of (site_without site hidden) reader) page) rendered

@@ -1,0 +1,68 @@
+//! A configuration's document, which is read once for all that is asked of it.
+
+ghost use Rattle.std.specs.Prelude.{◌≡◌, ◌≢◌, Ok, Err, Some, None, IfOk, IfErr};
+ghost use Rattle.toml.specs.Parse.{parse_document};
+ghost use Rattle.doc_server_config.specs.Configurations.{config_of_document};
+ghost use Rattle.doc_server_config.specs.Listenings.{listening_of_document};
+
+use crate::config::{ConfigError, SiteConfig};
+use crate::listening::{Listening, ListeningError};
+use doc_page_parts::heap::Heap;
+use doc_store::readers::ReadersError;
+use doc_store_readers::tables::document_of;
+use std::marker::Model;
+use toml::Table;
+
+/// A TOML 1.1 document. Contracts see its members.
+pub struct Document {
+    table: Table,
+}
+
+/// Written out, so that it is proved here once: what a derived drop does is proved wherever a value is let go.
+impl Drop for Document {
+    fn drop(self) {
+        let Document { table: _ } = self;
+    }
+}
+
+impl Model for Document {
+    ghost use Rattle.toml.specs.Data.{Members};
+    ghost use Rattle.toml.specs.View.{table_view};
+
+    ghost Value = { Members };
+
+    ghost view = { λ d. table_view d.table };
+}
+
+impl Document {
+    /// The document that a text is; `BadToml` says that it is none.
+    pub fn of(heap: Heap, text: &str) -> Result<Document, ConfigError>
+        ensures read { IfOk result (λ document. parse_document text.now ≡ Some document) }
+        ensures refused { IfErr result (λ e. e ≢ ConfigError.Memory
+            → (e ≡ ConfigError.BadToml) × (parse_document text.now ≡ None)) }
+    {
+        match document_of(heap, text) {
+            Ok(table) => Ok(Document { table }),
+            Err(ReadersError::Memory) => Err(ConfigError::Memory),
+            Err(_) => Err(ConfigError::BadToml),
+        }
+    }
+
+    /// The configuration of a site that it is, as [`SiteConfig::from_toml`].
+    pub fn config(&self, heap: Heap) -> Result<SiteConfig, ConfigError>
+        ensures read { IfOk result (λ config. config_of_document self.now ≡ Ok config) }
+        ensures refused { IfErr result
+            (λ e. e ≢ ConfigError.Memory → config_of_document self.now ≡ Err e) }
+    {
+        SiteConfig::from_document(heap, &self.table)
+    }
+
+    /// What `listen` goes by, as [`Listening::from_toml`].
+    pub fn listening(&self, heap: Heap) -> Result<Listening, ListeningError>
+        ensures read { IfOk result (λ listening. listening_of_document self.now ≡ Ok listening) }
+        ensures refused { IfErr result
+            (λ e. e ≢ ListeningError.Memory → listening_of_document self.now ≡ Err e) }
+    {
+        Listening::from_document(heap, &self.table)
+    }
+}

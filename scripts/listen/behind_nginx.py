@@ -1,0 +1,192 @@
+"""Serves the handbook in site/ by `listen` behind stock nginx, set up by site/nginx.conf.template: TLS, a login at the proxy, a bearer
+token behind. curl, wget and chromium read it through nginx:
+
+- each page of site/config.toml is there for the readers who may see it, with the bytes that the server sends, and for the others it is
+  answered with the very bytes of a page that doesn't exist;
+- wget and chromium follow the links, and find what curl finds;
+- a PUT and a DELETE by the owner are seen by another reader at the next GET;
+- nobody gets in without the login, and a token of one's own doesn't go through;
+- the server ends in order when the pipe on its standard input is closed.
+
+    python3 scripts/listen/behind_nginx.py PROGRAM
+
+Builds nothing. Needs python3, openssl, and nginx, curl, wget and chromium, which it has installed where they lack. Half a minute.
+"""
+import os, re, subprocess, sys, tomllib, urllib.parse
+sys.path.insert(1, os.path.dirname(__file__) + "/../lib")
+from scene import HOST, Client, Scene, free_port, put, start, stop, until
+
+scene = Scene(seconds=300, needs=["nginx=nginx-light", "curl", "wget", "chromium", "openssl"], at_top=True)
+LOGINS = {"owner": "tok-owner", "ann": "tok-ann", "bob": "tok-bob", "eve": ""}
+LINK = re.compile(r'href="(/page/[^"#]*)')
+
+
+def run(*words, seconds=60):
+    return subprocess.run(words, stdin=subprocess.DEVNULL, capture_output=True, timeout=seconds, cwd=scene.scratch)
+
+
+def keys():
+    """A certificate, the logins and the tokens, as files in the scratch folder."""
+    run("openssl", "req", "-x509", "-newkey", "rsa:2048", "-nodes", "-keyout", "key", "-out", "cert", "-days", "2", "-subj", "/CN=docs",
+        "-addext", f"subjectAltName=IP:{HOST},DNS:localhost")
+    hashed = {who: run("openssl", "passwd", "-apr1", f"secret-{who}").stdout.decode().strip() for who in LOGINS}
+    put(f"{scene.scratch}/users", "".join(f"{who}:{hashed[who]}\n" for who in LOGINS))
+    put(f"{scene.scratch}/tokens", "".join(f"{who} {token};\n" for who, token in LOGINS.items() if token))
+    os.chmod(f"{scene.scratch}/tokens", 0o600)
+
+
+def configured(port, backend):
+    """nginx's configuration: the template in the least of a frame."""
+    scratch = scene.scratch
+    with open("site/nginx.conf.template") as template:
+        text = template.read()
+    words = {word: f"{scratch}/{word.lower()}" for word in ("CERT", "KEY", "USERS", "TOKENS")}
+    for word, value in {**words, "LISTEN": f"{HOST}:{port}", "NAME": HOST, "BACKEND": f"{HOST}:{backend}"}.items():
+        text = text.replace(f"@{word}@", value)
+    put(f"{scratch}/site.conf", text)
+    paths = "".join(f"{name}_temp_path {scratch}/{name};" for name in ("client_body", "proxy", "fastcgi", "uwsgi", "scgi"))
+    put(f"{scratch}/nginx.conf", f"daemon off; pid {scratch}/pid; error_log stderr crit; worker_processes 1; events {{}}\n"
+        f"http {{ access_log off; {paths} include {scratch}/site.conf; }}\n")
+    return f"{scratch}/nginx.conf"
+
+
+class Proxy:
+    """nginx in front of a server, and what is read through it."""
+
+    def __init__(self, backend):
+        self.port = free_port()
+        self.base = f"https://{HOST}:{self.port}"
+        self.nginx = start(["nginx", "-p", scene.scratch, "-c", configured(self.port, backend)])
+
+    def begins(self):
+        return until(lambda: self.curl("", "/")[0] or self.nginx.poll() is not None, 10) and self.nginx.poll() is None
+
+    def curl(self, who, target, *words):
+        """A reply: its code, its fields but for nginx's own date, its body."""
+        login = ("--user", f"{who}:secret-{who}") if who else ()
+        done = run("curl", "--silent", "--show-error", "--max-time", "20", "--path-as-is", "--cacert", "cert", "--include", *login, *words,
+                   self.base + target)
+        head, _, body = done.stdout.partition(b"\r\n\r\n")
+        lines = [line for line in head.decode().split("\r\n") if not line.lower().startswith("date:")]
+        return int((lines[0].split() + ["0", "0"])[1]), lines, body
+
+    def browsed(self, who, target):
+        """The document as chromium has it, once it is loaded."""
+        address = self.base.replace("https://", f"https://{who}:secret-{who}@") + target
+        done = run("chromium", "--headless=new", "--no-sandbox", "--disable-gpu", "--disable-dev-shm-usage", "--ignore-certificate-errors",
+                   "--no-first-run", "--disable-background-networking", "--disable-component-update",
+                   f"--user-data-dir={scene.scratch}/profile", "--virtual-time-budget=2000", "--dump-dom", address, seconds=60)
+        return done.stdout.decode(errors="replace")
+
+    def wget(self, who, target):
+        """One document by wget."""
+        return run("wget", "-q", "-O", "-", "--ca-certificate=cert", f"--user={who}", f"--password=secret-{who}", self.base + target).stdout
+
+    def copied(self, who, target):
+        """All that wget finds behind a page: a folder, and the targets of its files."""
+        folder = f"{scene.scratch}/wget-{who}"
+        run("wget", "--quiet", "--recursive", "--level=inf", "--execute", "robots=off", "--ca-certificate=cert", "--auth-no-challenge",
+            f"--user={who}", f"--password=secret-{who}", "--no-host-directories", f"--directory-prefix={folder}", self.base + target)
+        return folder, {"/" + os.path.relpath(os.path.join(at, name), folder) for at, _, names in os.walk(folder) for name in names}
+
+
+def reached(fetch, links_of):
+    """The pages that links lead to from the first one."""
+    found, left = set(), ["/page/index.md"]
+    while left:
+        target = left.pop()
+        if target not in found:
+            found.add(target)
+            left += links_of(fetch(target))
+    return found
+
+
+def pages_seen(proxy, reader, pages, direct):
+    """Every page that the reader may see, and none else; those that they may."""
+    who, groups, seen = reader["token"].removeprefix("tok-"), reader.get("groups", []), set()
+    absent = proxy.curl(who, "/page/never.md"), direct.ask("/page/never.md")
+    for page in pages:
+        target = "/page/" + urllib.parse.quote(page["path"])
+        code, lines, body = proxy.curl(who, target)
+        there = direct.ask(target)
+        if who == "owner" or set(groups) & set(page["groups"]):
+            seen.add(target)
+            scene.check(f"{who} {target}", code == 200 and body == there[2] and body.startswith(b"<!DOCTYPE html>"), code)
+        else:
+            scene.check(f"{who} {target} is as if absent", 404 == code and (code, lines, body) == absent[0] and there == absent[1])
+    return seen
+
+
+def pages_walked(proxy, who, seen, direct):
+    """The pages that links lead to, by curl and by wget."""
+    walked = reached(lambda target: proxy.curl(who, target)[2].decode(), LINK.findall)
+    scene.check(f"{who}: links lead to pages that they see", walked <= seen, walked - seen)
+    folder, copied = proxy.copied(who, "/page/index.md")
+    scene.check(f"{who}: wget follows the links", copied == walked, copied ^ walked)
+    for target in copied & walked:
+        with open(folder + target, "rb") as file:
+            scene.check(f"{who} {target} by wget", file.read() == direct.ask(target)[2])
+    return walked
+
+
+def check_browser(proxy, who, walked):
+    """The browser follows the links too: the three pages that it goes to from the first one."""
+    first = proxy.browsed(who, "/page/index.md")
+    links = sorted(set(LINK.findall(first)))
+    scene.check(f"{who}: chromium has the links of the first page", links and set(links) <= walked, links)
+    for target in links[:3]:
+        title = re.search(r"<title>(.*?)</title>", proxy.curl(who, target)[2].decode())[1]
+        scene.check(f"{who}: chromium at {target}", f"<title>{title}</title>" in proxy.browsed(who, target))
+
+
+def check_edits(proxy):
+    """What the owner writes the others see at their next GET."""
+    curl, text = proxy.curl, "# Fresh\n\nBy the owner, with a [link](index.md).\n"
+    code = curl("owner", "/page/fresh.md?groups=ops", "--request", "PUT", "--data-binary", text)[0]
+    scene.check("a PUT by the owner", code == 201, code)
+    body = curl("bob", "/page/fresh.md")[2]
+    wanted = b'<h1 id="fresh">Fresh</h1>\n<p>By the owner, with a <a href="/page/index.md">link</a>.</p>\n'
+    scene.check("the other reader sees it", body.endswith(wanted), body)
+    scene.check("wget sees it", proxy.wget("bob", "/page/fresh.md") == body)
+    scene.check("chromium sees it", '<h1 id="fresh">Fresh</h1>' in proxy.browsed("bob", "/page/fresh.md"))
+    scene.check("one of another group doesn't", curl("ann", "/page/fresh.md") == curl("ann", "/page/never.md"))
+    scene.check("a PUT by a reader is refused", curl("bob", "/page/fresh.md", "--request", "PUT", "--data-binary", "x")[0] == 403)
+    scene.check("a second PUT", curl("owner", "/page/fresh.md?groups=ops", "--request", "PUT", "--data-binary", "Second.\n")[0] == 204)
+    scene.check("is seen", b"<p>Second.</p>" in curl("bob", "/page/fresh.md")[2])
+    scene.check("a DELETE", curl("owner", "/page/fresh.md", "--request", "DELETE")[0] == 204)
+    scene.check("is seen too", curl("bob", "/page/fresh.md") == curl("bob", "/page/never.md"))
+    put(f"{scene.scratch}/large", "a" * 2_097_152)
+    scene.check("2 MiB are refused", curl("owner", "/page/large.md", "--request", "PUT", "--data-binary", "@large")[0] == 413)
+
+
+def check_logins(curl):
+    scene.check("without a login", curl("", "/page/index.md")[0] == 401)
+    scene.check("with a wrong one", curl("", "/page/index.md", "--user", "ann:wrong")[0] == 401)
+    scene.check("with a token of one's own", curl("", "/page/index.md", "--header", "Authorization: Bearer tok-owner")[0] == 401)
+    scene.check("a login without a token", curl("eve", "/page/index.md")[0] == 401)
+    scene.check("the first page", curl("ann", "/")[0] == 302)
+
+
+def main():
+    os.chmod(scene.scratch, 0o755)
+    keys()
+    with open("site/config.toml", "rb") as file:
+        config = tomllib.load(file)
+    server = scene.listen("site/config.toml")
+    proxy = Proxy(server.port)
+    try:
+        if not proxy.begins():
+            sys.exit("nginx doesn't listen")
+        check_logins(proxy.curl)
+        for reader in config["reader"]:
+            who, direct = reader["token"].removeprefix("tok-"), Client(server.port, reader["token"])
+            seen = pages_seen(proxy, reader, config["page"], direct)
+            check_browser(proxy, who, pages_walked(proxy, who, seen, direct))
+            direct.close()
+        check_edits(proxy)
+    finally:
+        stop(proxy.nginx)
+    scene.ends(server, "the pipe closed")
+
+
+scene.run(main)

@@ -1,0 +1,120 @@
+"""Tries what stops `listen` and `compact` before they do anything, by the line and the status that they end with: each fault alone, and
+with the next ones, of which the earlier one is told. No fault changes a journal. What is wanted is worked out from docs/RUNNING.md; what
+stops all commands alike is tried by scripts/site/faults.py, and each way to damage a journal by scripts/listen/damage.py.
+
+    python3 scripts/listen/faults.py PROGRAM
+
+Builds nothing. Needs python3. Some seconds.
+"""
+import fcntl, os, resource, socket, subprocess, sys
+sys.path.insert(1, os.path.dirname(__file__) + "/../lib")
+from scene import HOST, OWNER, Scene, got, put
+from journals import written
+
+scene = Scene(seconds=200)
+PAGE = '[[page]]\npath = "a.md"\n'
+SITES = {"good": 'text = "A"\n', "absent": 'file = "absent.md"\n', "long": 'file = "long.md"\n',
+         "bounds": 'text = "A"\n[listen]\nconnections = 0\n', "folder": 'text = "A"\n[[folder]]\npath = "nowhere"\n',
+         "both": 'file = "absent.md"\n[listen]\nidle_seconds = -1\n'}
+DIFFER = {"good": [b"put b.md - B\n"], "no_edit": [b"put b.md - B\n", b"connect\n"], "refused": [b"remove b.md\n"],
+          "long_path": [b"put " + b"a" * 201 + b" - B\n"], "empty_line": [b"\n"], "no_text": [b"put b.md -\n"],
+          "latin": [b"put b.md - \xff\n"]}
+USAGES = (["listen"], ["listen", "good.toml"], ["listen", "good.toml", f"{HOST}:0", "--journal"], ["compact"],
+          ["compact", "good.toml"], ["listen", "good.toml", f"{HOST}:0", "good"],
+          ["listen", "good.toml", f"{HOST}:0", "--Journal", "good"], ["compact", "good.toml", "good"],
+          ["listen", "good.toml", f"{HOST}:0", "--journal", "good", "x"], ["compact", "good.toml", "--journal"],
+          ["compact", "good.toml", "--journal", "good", "x"], ["compact", "good.toml", "--log", "good"])
+NO_ADDRESSES = ("", HOST, "localhost:80", ":80", f"{HOST}:", f"{HOST}:65536", "256.0.0.1:80", "::1:80")
+
+
+def stops(words, line, stdout=subprocess.DEVNULL, limit=None):
+    """It ends with status 2 and this line, and prints nothing else."""
+    try:
+        done = subprocess.run([scene.program, *words], stdin=subprocess.DEVNULL, stdout=stdout, stderr=subprocess.PIPE, timeout=20,
+                              preexec_fn=limit)
+    except subprocess.TimeoutExpired:
+        return scene.check(" ".join(words), False, f"it goes on, and isn't stopped as {line}")
+    found = done.returncode, done.stderr.decode()
+    return scene.check(" ".join(words), found == (2, f"docs_server: {line}\n"), f"{found}, wanted {line}")
+
+
+def files():
+    """Configurations and journals, good ones and bad ones."""
+    for name, text in SITES.items():
+        put(f"{name}.toml", OWNER + PAGE + text)
+    put("no.toml", "x =\n")
+    put("long.md", "a" * 1_048_577)
+    for name, texts in DIFFER.items():
+        put(name, written(texts))
+    put("damaged", "no journal at all")
+    os.mkdir("place")
+
+
+def usage(full):
+    for words in USAGES:
+        stops(words, "usage")
+    for address in NO_ADDRESSES:
+        stops(["listen", "absent.toml", address], "usage", stdout=full)
+
+
+class Later:
+    """What is found behind a site: an address that is taken, and an output that is full."""
+
+    def __init__(self, taken, full):
+        self.taken, self.full = taken, full
+
+    def both(self, config, journal, line):
+        """`listen` and `compact` are stopped alike, and so is `listen` with what is found later."""
+        stops(["listen", config, f"{HOST}:0", "--journal", journal], line)
+        stops(["compact", config, "--journal", journal], line)
+        stops(["listen", config, self.taken, "--journal", journal], line, stdout=self.full)
+
+    def sites(self):
+        """The configuration, the files that it names, its folders; then the journal."""
+        for journal in ("good", "damaged"):
+            self.both("nowhere.toml", journal, "cannot read nowhere.toml")
+            self.both("no.toml", journal, "config")
+            self.both("bounds.toml", journal, "config: `connections` is bad")
+            self.both("both.toml", journal, "config: `idle_seconds` is bad")
+            self.both("absent.toml", journal, "cannot read absent.md")
+            self.both("folder.toml", journal, "cannot read nowhere")
+        stops(["listen", "long.toml", self.taken, "--journal", "damaged"], "refused", stdout=self.full)
+
+    def journals(self):
+        for name in ("place", "/dev/null", "/dev/full", "nowhere/journal"):
+            self.both("good.toml", name, "cannot open journal")
+        self.both("good.toml", "damaged", "journal record 1")
+        for name in ("no_edit", "long_path", "empty_line", "no_text", "latin"):
+            self.both("good.toml", name, f"bad journal record {len(DIFFER[name])}")
+        self.both("good.toml", "refused", "journal record 1 refused")
+        with open("damaged", "rb+") as file:
+            fcntl.flock(file, fcntl.LOCK_EX)
+            self.both("good.toml", "damaged", "journal in use")
+            self.both("absent.toml", "damaged", "cannot read absent.md")
+
+    def addresses(self):
+        """The address, and then the output."""
+        for address in (self.taken, "192.0.2.1:80"):
+            stops(["listen", "good.toml", address], "socket", stdout=self.full)
+            stops(["listen", "good.toml", address, "--journal", "good"], "socket", stdout=self.full)
+        stops(["listen", "good.toml", f"{HOST}:0", "--journal", "good"], "cannot write", stdout=self.full)
+        stops(["listen", "good.toml", "[::1]:0"], "cannot write", stdout=self.full)
+        stops(["listen", "good.toml", f"{HOST}:0"], "socket", limit=lambda: resource.setrlimit(resource.RLIMIT_NOFILE, (6, 6)))
+
+
+def main():
+    files()
+    full = os.open("/dev/full", os.O_WRONLY)
+    usage(full)
+    with socket.create_server((HOST, 0)) as taken:
+        later = Later(f"{HOST}:{taken.getsockname()[1]}", full)
+        later.sites()
+        later.journals()
+        later.addresses()
+    for name, texts in DIFFER.items():
+        scene.check(f"the journal {name} is as it was", got(name) == written(texts))
+    scene.check("the damaged one is too", got("damaged") == b"no journal at all")
+    scene.check("no file is left", not [name for name in os.listdir(".") if name.endswith(".compacting")], os.listdir("."))
+
+
+scene.run(main)
