@@ -14,8 +14,9 @@ use Rattle.std.proofs.lemmas.Cmp.{nat_list_cmp_total}
 use Rattle.std.proofs.lemmas.List.Sums.{sum_by-cons}
 use Rattle.std.proofs.lemmas.Map.Lookups.{exact_bytes}
 use Rattle.std.proofs.lemmas.Map.Text.{is_eq-slice_cmp}
+use Rattle.doc_page_parts.proofs.Texts.{bytes_eq_itself, bytes_eq_true}
 use Rattle.doc_store_readers.proofs.FilterSteps.{keys_in_order}
-use Rattle.doc_words_search.proofs.CountSteps.{at_word, bytes_are, bytes_itself}
+use Rattle.doc_words_search.proofs.CountSteps.{at_word}
 use Rattle.doc_words_search.specs.Words.{capped, count, counts_of, page_words}
 use Rattle.doc_people.proofs.KeyLaws.{cmp, not_greater}
 use Rattle.doc_people.proofs.QuerySteps.{entries_are, puts}
@@ -33,7 +34,7 @@ isnt_less k less = not_greater (sym (ap ordering_reverse less) ∙ sym (nat_list
 
 differ : (w k : List ℕ) → bytes_eq w k ≡ false → bytes_eq k w ≡ false
 differ w k e =
-    false_from_ne_true (bytes_eq k w) (λ same. true≢false (sym (bytes_itself w) ∙ ap (bytes_eq w) (sym (bytes_are k w same)) ∙ e))
+    false_from_ne_true (bytes_eq k w) (λ same. true≢false (sym (bytes_eq_itself w) ∙ ap (bytes_eq w) (sym (bytes_eq_true k w same)) ∙ e))
 
 miss : (p : List ℕ → Bool) (w k : List ℕ) → bytes_eq k w ≡ false → hit p w k ≡ 0
 miss p w k e = ap (λ b. cond (p k) (cond b 1 0) 0) e ∙ cond_both (p k) 0 0 (λ n. n ≡ 0) (λ _. refl) (λ _. refl)
@@ -43,19 +44,19 @@ module _ (p : List ℕ → Bool) (w : List ℕ) where
   none_behind [] behind = refl
   none_behind (k ∷ ks) behind =
       let isnt : bytes_eq k w ≡ false
-      = false_from_ne_true (bytes_eq k w) (λ same. isnt_less w (subst (λ z. cmp w z ≡ Less) (bytes_are k w same) behind.0)) in
+      = false_from_ne_true (bytes_eq k w) (λ same. isnt_less w (subst (λ z. cmp w z ≡ Less) (bytes_eq_true k w same) behind.0)) in
       let first = miss p w k isnt in
       let rest = none_behind ks behind.1 in
       sum_by-cons (hit p w) k ks ∙ omega (arith, first, rest)
 
   at_itself : hit p w w ≡ cond (p w) 1 0
-  at_itself = ap (λ b. cond (p w) (cond b 1 0) 0) (bytes_itself w)
+  at_itself = ap (λ b. cond (p w) (cond b 1 0) 0) (bytes_eq_itself w)
 
   once_at : (k : List ℕ) (ks : List (List ℕ)) → AllByRecursion (λ y. cmp k y ≡ Less) ks
       → (list_any (bytes_eq w) ks ≡ true → sum_by (hit p w) ks ≡ cond (p w) 1 0)
       → (b : Bool) → bytes_eq w k ≡ b → (b || list_any (bytes_eq w) ks) ≡ true → sum_by (hit p w) (k ∷ ks) ≡ cond (p w) 1 0
   once_at k ks behind more true e has =
-      let same = bytes_are w k e in
+      let same = bytes_eq_true w k e in
       let first : hit p w k ≡ cond (p w) 1 0 = ap (hit p w) (sym same) ∙ at_itself in
       let rest = none_behind ks (subst (λ z. AllByRecursion (λ y. cmp z y ≡ Less) ks) (sym same) behind) in
       sum_by-cons (hit p w) k ks ∙ omega (arith, first, rest)
@@ -151,7 +152,7 @@ module _ (words : List (List ℕ)) where
       → AllByRecursion (λ w. list_any (bytes_eq w) (map.keys (counts_of words)) ≡ true) some
   are_keys [] among = tt
   are_keys (w ∷ some) among = (
-    is_key w (among w (or_left (bytes_eq w w) (list_any (bytes_eq w) some) (bytes_itself w))),
+    is_key w (among w (or_left (bytes_eq w w) (list_any (bytes_eq w) some) (bytes_eq_itself w))),
     are_keys some (λ v has. among v (or_right (bytes_eq v w) (list_any (bytes_eq v) some) has)),
   )
 
