@@ -3,17 +3,13 @@ use Rattle.std.proofs.Common.{◌≡◌, ℕ, List, [], ◌∷◌, ◌++◌, Boo
 use Rattle.std.specs.Char.{eq_ignore_ascii_case}
 use Rattle.std.specs.List.{list_all}
 use Rattle.std.proofs.lemmas.Bool.{and_from, and_left, and_parts, cond_both, false_from_ne_true, or_from, or_parts}
-use Rattle.std.proofs.lemmas.Bool.{cond-false, true≢false}
+use Rattle.std.proofs.lemmas.Bool.{cond-false, not-true, true≢false}
 use Rattle.doc_people.specs.Inert.{begins_in_any_case, begins_form_or_frame, disarmed, ending_line, has_apostrophe}
 use Rattle.doc_people.specs.Laws.{InertHtmlHasNoForms, InertHtmlHasNoFrames, InertHtmlStays, holds_in_any_case}
 
 -- a byte of a tag's name: neither `<` nor `&`
 abbrev is_plain : ℕ → Bool
 is_plain w = not (eq_ignore_ascii_case 60 w) && not (eq_ignore_ascii_case 38 w)
-
-isnt : (x : Bool) → not x ≡ true → x ≡ false
-isnt true e = sym e
-isnt false e = refl
 
 -- a name never begins in a text with this front
 abbrev Bars : List ℕ → Type 0
@@ -25,7 +21,7 @@ bars_nothing w word plain = refl
 bars_line : Bars ending_line
 bars_line w word plain =
     let parts = and_parts (not (eq_ignore_ascii_case 60 w)) (not (eq_ignore_ascii_case 38 w)) plain in
-    and_left (eq_ignore_ascii_case 60 w) _ (isnt (eq_ignore_ascii_case 60 w) parts.0)
+    and_left (eq_ignore_ascii_case 60 w) _ (not-true (eq_ignore_ascii_case 60 w) parts.0)
 
 -- ---- what stands at the front of disarmed text
 
@@ -42,7 +38,7 @@ module _ (tail : List ℕ) (bars : Bars tail) where
       cond_both (begins_form_or_frame (b ∷ rest)) (codes "&lt;") (b ∷ [])
       (λ front. begins_in_any_case (w ∷ word) ((front ++ disarmed rest) ++ tail) ≡ true → begins_in_any_case (w ∷ word) (b ∷ rest) ≡ true)
       (λ starts at_front.
-      let ampersand = isnt (eq_ignore_ascii_case 38 w)
+      let ampersand = not-true (eq_ignore_ascii_case 38 w)
       (and_parts (not (eq_ignore_ascii_case 60 w)) (not (eq_ignore_ascii_case 38 w)) parts.0).1 in
       absurd (true≢false (sym at_front ∙ and_left (eq_ignore_ascii_case 38 w) _ ampersand)))
       (λ starts at_front.

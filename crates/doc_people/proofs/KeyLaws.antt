@@ -1,7 +1,7 @@
 -- Laws of what stands in a folder.
 use Rattle.std.proofs.Common.{◌≡◌, ℕ, List, [], ◌∷◌, Bool, true, false, ◌⊎◌, inl, inr, refl, ap, sym, subst, ◌∙◌, arith}
 use Rattle.std.specs.Prelude.{⊤, ◌==◌, bytes_eq, filter, map as mapped, if◌then◌else◌}
-use Rattle.std.specs.Cmp.{nat_cmp_is, ranked}
+use Rattle.std.specs.Cmp.{nat_cmp_is}
 use Rattle.std.specs.Cmp.Lexicographic.{slice_cmp}
 use Rattle.std.specs.List.{AllByRecursion, dedup, dedup_from}
 use Rattle.std.specs.FinMap as map
@@ -11,9 +11,11 @@ use Rattle.std.specs.declared.cmp.Ordering.{Ordering}
 use Rattle.std.specs.declared.cmp.Ordering.TheVariants.{Less, Equal, Greater}
 use Rattle.std.proofs.lemmas.Bool.{and_parts, cond_both, eqb-true, true≢false}
 use Rattle.std.proofs.lemmas.Cmp.{nat_list_cmp_total}
+use Rattle.std.proofs.lemmas.Map.Lookups.{exact_unsigned}
 use Rattle.std.proofs.lemmas.Slice.Eq.{bytes_eq-Decides}
 use Rattle.doc_store_readers.specs.Sites.{visible_to}
 use Rattle.doc_store_readers.proofs.FilterSteps.{keys_in_order}
+use Rattle.doc_page_parts.proofs.Bools.{clash}
 use Rattle.doc_people.specs.Folders.{is_below, is_slash, key, keys, through_slash}
 use Rattle.doc_people.specs.Laws.{KeysRise, PathsRise}
 use Rattle.doc_people.specs.Views.{paths}
@@ -30,9 +32,6 @@ not_greater e = true≢false (sym (ap is_lt e))
 
 tied : (x y : ℕ) → x ≡ y → nat_cmp x y ≡ Equal
 tied x y e = sym (nat_cmp_is x y Equal e)
-
-same_number : (x y : ℕ) → nat_cmp x y ≡ Equal → x ≡ y
-same_number x y e = ranked x y Equal (sym e)
 
 -- one byte before both
 onto : (x : ℕ) (r s : List ℕ) → AtMost r s → AtMost (x ∷ r) (x ∷ s)
@@ -52,7 +51,7 @@ by_first : (x y : ℕ) (r s : List ℕ) → (cmp r s ≡ Less → AtMost (throug
     → (o : Ordering) → nat_cmp x y ≡ o → ordering_then o (cmp r s) ≡ Less → AtMost (x ∷ behind x r) (y ∷ behind y s)
 by_first x y r s more Less first less = inl (ap (λ o. ordering_then o (cmp (behind x r) (behind y s))) first)
 by_first x y r s more Equal first less =
-    subst (λ z. AtMost (x ∷ behind x r) (z ∷ behind z s)) (same_number x y first)
+    subst (λ z. AtMost (x ∷ behind x r) (z ∷ behind z s)) (exact_unsigned x y first)
     (from_behind (is_slash x) x (through_slash r) (through_slash s) (more less))
 by_first x y r s more Greater first less = absurd (not_greater less)
 
@@ -125,7 +124,7 @@ less_than_kept j k (x ∷ xs) less all =
 strictly : (k x : List ℕ) → AtMost k x → bytes_eq x k ≡ false → cmp k x ≡ Less
 strictly k x (inl less) differs = less
 strictly k x (inr same) differs =
-    absurd (true≢false (sym ((bytes_eq-Decides x k).1 (sym same)) ∙ differs))
+    absurd (clash (bytes_eq x k) ((bytes_eq-Decides x k).1 (sym same)) differs)
 
 kept_rise : (k : List ℕ) (xs : List (List ℕ)) → AllByRecursion (AtMost k) xs → IsRising xs
     → IsStrictlySortedBy cmp (dedup_from bytes_eq k xs)

@@ -14,7 +14,7 @@ use Rattle.doc_people.specs.Views.{Renders}
 
 -- ---- the folders that lead to a place
 
--- the folders that end in a text behind another
+-- each folder that ends in a text, which stands behind another
 abbrev pub folders_behind : List ℕ → List ℕ → List (List ℕ)
 folders_behind before [] = []
 folders_behind before (b ∷ rest) =

@@ -48,7 +48,7 @@ article view path page =
 
 -- ---- what stands beside: the headings of the page
 
--- the first one is the page's title where it is of level 1
+-- headings without the first one, where that is of level 1 and so the page's title
 abbrev pub behind_title : List Heading → List Heading
 behind_title [] = []
 behind_title (heading ∷ rest) = if heading.level == 1 then rest else heading ∷ rest
