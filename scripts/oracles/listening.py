@@ -77,9 +77,13 @@ class Server:
 
     def open(self):
         self.peers += 1
-        self.owed[self.peers] = ""
+        self.owed[self.peers] = []
         self.call("open", str(self.peers))
         return self.peers
+
+    def owe(self, peer, *requests):
+        """The peer has still to hear the replies to these requests."""
+        self.owed[peer] += [(request[1], self.answer(*request)) for request in requests]
 
     def answer(self, token, method, target, body=""):
         """The reply to a request, and its edit is noted."""
@@ -93,12 +97,19 @@ class Server:
     def ask(self, peer, *requests, call="send"):
         """Requests by one write or byte by byte, and then their replies."""
         self.call(f"{call} {peer} " + given("".join(bytes_of(*request) for request in requests)))
-        self.owed[peer] += "".join(self.answer(*request) for request in requests)
+        self.owe(peer, *requests)
         self.hear(peer)
 
     def hear(self, peer):
-        owed, self.owed[peer] = self.owed[peer].encode(), ""
-        self.call(f"hear {peer} {len(owed)}", told(owed))
+        """All replies that it has still to hear. Where the last one is to HEAD, they are waited for by the number of their heads."""
+        owed, self.owed[peer] = self.owed[peer], []
+        text = "".join(reply for _, reply in owed)
+        assert "HEAD" not in [method for method, _ in owed[:-1]] and text.count("\r\n\r\n") == len(owed)
+        self.call(f"{'heads' if owed[-1][0] == 'HEAD' else 'hear'} {peer} {len(owed)}", told(text.encode()))
+
+    def hear_nothing(self, peer):
+        """What has come is heard, without a turn."""
+        self.call(f"hear {peer} 0", told(b""))
 
     def last(self, peer, text, reply):
         """What ends the stream, with the last reply."""
@@ -196,9 +207,9 @@ def half_way(s, ann):
     request = bytes_of(ANN, "GET", "/page/b.md")
     s.call(f"send {half} " + given(request[:40]))
     s.ask(ann, (ANN, "GET", "/page/b.md"))
-    s.call(f"hear {half} 0", told(b""))
+    s.hear_nothing(half)
     s.call(f"send {half} " + given(request[40:]))
-    s.owed[half] += s.answer(ANN, "GET", "/page/b.md")
+    s.owe(half, (ANN, "GET", "/page/b.md"))
     s.hear(half)
     return half
 
@@ -236,16 +247,16 @@ def bound():
     peers = [s.open() for _ in range(4)]
     for peer in peers:
         s.call(f"send {peer} " + given(bytes_of(OWNER, "GET", "/nothing")))
-        s.owed[peer] = s.answer(OWNER, "GET", "/nothing")
+        s.owe(peer, (OWNER, "GET", "/nothing"))
     s.hear(peers[0])
     s.hear(peers[1])
     s.call("turns 2")
-    s.call(f"hear {peers[2]} 0", told(b""))
-    s.call(f"hear {peers[3]} 0", told(b""))
+    s.hear_nothing(peers[2])
+    s.hear_nothing(peers[3])
     s.call(f"close {peers[0]}")
     s.hear(peers[2])
     s.call("turns 2")
-    s.call(f"hear {peers[3]} 0", told(b""))
+    s.hear_nothing(peers[3])
     s.last(peers[1], "GET /nothing HTTP/1.1\r\n\r\n", fault(400))
     s.hear(peers[3])
     s.ask(peers[2], (OWNER, "GET", "/nothing"))
@@ -257,17 +268,17 @@ def slow():
     slow, other = s.open(), s.open()
     text, get = "x" * 65_536, bytes_of(OWNER, "GET", "/page/x.md")
     s.call(f"send {slow} " + given(bytes_of(OWNER, "PUT", "/page/x.md?groups=ops", text)).replace(text, "\\{65536 x}"))
-    s.owed[slow] += s.answer(OWNER, "PUT", "/page/x.md?groups=ops", text)
+    s.owe(slow, (OWNER, "PUT", "/page/x.md?groups=ops", text))
     s.hear(slow)
     s.call(f"send {slow} \\{{100 {given(get)}}}")
-    s.owed[slow] += 100 * s.answer(OWNER, "GET", "/page/x.md")
+    s.owe(slow, *100 * [(OWNER, "GET", "/page/x.md")])
     s.ask(other, (OWNER, "HEAD", "/page/x.md"))
     s.ask(other, (OWNER, "PUT", "/page/y.md?groups=ops", "Meanwhile"))
     s.ask(other, (BOB, "GET", "/page/y.md"))
     s.hear(slow)
     s.note("More requests by one write than a turn answers.")
     s.call(f"send {other} \\{{300 {given(bytes_of(ANN, 'GET', '/page/x.md'))}}}")
-    s.owed[other] += 300 * s.answer(ANN, "GET", "/page/x.md")
+    s.owe(other, *300 * [(ANN, "GET", "/page/x.md")])
     s.hear(other)
     s.journal()
     return s.lines

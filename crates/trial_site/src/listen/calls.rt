@@ -2,13 +2,14 @@
 //!
 //! - `open`: a peer connects. The answer is its number, from 1.
 //! - `send N BYTES`: peer N writes these bytes; `drip N BYTES`: one by one, with a turn behind each. `close N`: it goes away.
-//! - `hear N COUNT`: turns until peer N has heard so many bytes since it was asked last. The answer is what it heard. `end N`: the same
-//!   until the server has ended its stream, and ` end` behind it where it has.
+//! - `hear N COUNT`: turns until peer N has heard so many whole replies since it was asked last. The answer is what it heard. `heads N
+//!   COUNT`: the same until it has heard so many heads; a reply to HEAD is no more. `end N`: the same until the server has ended its
+//!   stream, and ` end` behind it where it has.
 //! - `turns COUNT`: so many turns. `fault`: why no more are made.
 //! - `file`, `records`, `flips` and `cuts` are of the journal (`journals`).
 
 use crate::listen::journals::journal_called;
-use crate::listen::peer::Peer;
+use crate::listen::peer::{Ending, Peer};
 use crate::listen::scene::{Awaited, Scene};
 use crate::listen::told::push_told;
 use doc_page::renderer::Renderer;
@@ -28,7 +29,9 @@ pub fn answer<R: Renderer + Drop, P: Clock + Net>(
     match name {
         "open" => shown_if(scene.heap, scene.open(rt)),
         "fault" => shown(scene.heap, scene.served.fault()),
-        "send" | "drip" | "hear" | "end" | "close" | "turns" => numbered(rt, scene, name, given),
+        "send" | "drip" | "hear" | "heads" | "end" | "close" | "turns" => {
+            numbered(rt, scene, name, given)
+        }
         _ => journal_called(scene.heap, scene.served.journal_bytes(), name),
     }
 }
@@ -46,10 +49,8 @@ fn numbered<R: Renderer + Drop, P: Clock>(
     };
     let place = number.wrapping_sub(1);
     match name {
-        "hear" => match rest.parse::<usize>() {
-            Ok(count) => heard(rt, scene, place, Awaited::Bytes(count)),
-            Err(_) => no_call(scene.heap),
-        },
+        "hear" => replies_heard(rt, scene, place, rest, Ending::Content),
+        "heads" => replies_heard(rt, scene, place, rest, Ending::Head),
         "end" => heard(rt, scene, place, Awaited::End),
         _ => {
             act(rt, scene, name, number, rest.as_bytes());
@@ -76,6 +77,20 @@ fn act<R: Renderer + Drop, P: Clock>(
                 peer.leave();
             }
         }
+    }
+}
+
+/// What a peer heard once so many replies, a number in digits, have come.
+fn replies_heard<R: Renderer + Drop, P: Clock>(
+    rt: &P,
+    scene: &mut Scene<R>,
+    place: usize,
+    digits: &str,
+    ending: Ending,
+) -> Result<String, Memory> {
+    match digits.parse::<usize>() {
+        Ok(count) => heard(rt, scene, place, Awaited::Replies(count, ending)),
+        Err(_) => no_call(scene.heap),
     }
 }
 

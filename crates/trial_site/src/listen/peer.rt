@@ -1,9 +1,10 @@
-//! A peer of the server.
+//! A peer of the server, and the whole replies among what it has heard.
 
 use doc_page_parts::heap::{Heap, Vec};
 use mio::net::TcpStream;
 use std::io::{ErrorKind, Read, Write};
 use std::net::{Net, SocketAddr};
+use std::str::from_utf8;
 
 /// How many bytes a read gives at most.
 const PIECE: usize = 16_384;
@@ -11,12 +12,34 @@ const PIECE: usize = 16_384;
 /// More reads than what the system holds for a stream takes.
 const READS: u32 = 100_000;
 
+/// The end of a head's last line, and the empty line behind it.
+const HEAD_END: &[u8] = b"\r\n\r\n";
+
+/// How replies end.
+#[derive(Clone, Copy, PartialEq, Eq)]
+pub enum Ending {
+    /// Behind as many bytes as the head's Content-Length says, or none without one.
+    Content,
+    /// With their head, as those to HEAD do. What is in front of the next head, as a content without an empty line, counts with it.
+    Head,
+}
+
+/// Whole replies in front of what was heard.
+#[derive(Clone, Copy)]
+struct Whole {
+    count: usize,
+    /// Where the last one ends.
+    end: usize,
+}
+
 /// A peer's stream, and what was heard of it.
 #[derive(Drop)]
 pub struct Peer {
     /// None: the peer has gone away.
     stream: Option<TcpStream>,
     heard: Vec<u8>,
+    /// The replies that were counted so far, which aren't read again.
+    whole: Whole,
     has_ended: bool,
 }
 
@@ -29,6 +52,7 @@ impl Peer {
         Some(Peer {
             stream: Some(stream),
             heard: Vec::new(heap),
+            whole: no_replies(),
             has_ended: false,
         })
     }
@@ -43,9 +67,27 @@ impl Peer {
         self.has_ended
     }
 
-    /// How many bytes were heard since they were forgotten.
-    pub fn count(&self) -> usize {
-        self.heard.len()
+    /// Whether so many whole replies, which end like this, were heard since they were forgotten.
+    pub fn has_heard(&mut self, count: usize, ending: Ending) -> bool {
+        for _ in self.whole.count..count {
+            if !self.count_reply(ending) {
+                return false;
+            }
+        }
+        true
+    }
+
+    /// Counts the next reply, and answers whether it is whole.
+    fn count_reply(&mut self, ending: Ending) -> bool {
+        let rest = self.heard.get(self.whole.end..).unwrap_or(&[]);
+        let Some(len) = reply_len(rest, ending) else {
+            return false;
+        };
+        self.whole = Whole {
+            count: self.whole.count.saturating_add(1),
+            end: self.whole.end.saturating_add(len),
+        };
+        true
     }
 
     /// What was heard.
@@ -56,6 +98,7 @@ impl Peer {
     /// Forgets what was heard.
     pub fn forget(&mut self) {
         self.heard.clear();
+        self.whole = no_replies();
     }
 
     /// Writes once, and answers the bytes that weren't taken.
@@ -103,4 +146,35 @@ impl Peer {
     fn hear(&mut self, bytes: &[u8]) -> bool {
         self.heard.extend_from_slice(bytes).is_ok()
     }
+}
+
+fn no_replies() -> Whole {
+    Whole { count: 0, end: 0 }
+}
+
+/// How many bytes the reply has that these begin with, where it is whole.
+fn reply_len(bytes: &[u8], ending: Ending) -> Option<usize> {
+    let head = head_of(bytes)?;
+    let content = match ending {
+        Ending::Content => content_length(head).unwrap_or(0),
+        Ending::Head => 0,
+    };
+    let len = head.len().checked_add(content)?;
+    if len <= bytes.len() { Some(len) } else { None }
+}
+
+/// What these bytes begin with, up to the first empty line.
+fn head_of(bytes: &[u8]) -> Option<&[u8]> {
+    let at = bytes
+        .windows(HEAD_END.len())
+        .position(|four| four == HEAD_END)?;
+    bytes.get(..at.saturating_add(HEAD_END.len()))
+}
+
+/// What the Content-Length of a head says.
+fn content_length(head: &[u8]) -> Option<usize> {
+    let text = from_utf8(head).ok()?;
+    let (_, rest) = text.split_once("\r\nContent-Length: ")?;
+    let (digits, _) = rest.split_once("\r\n")?;
+    digits.parse::<usize>().ok()
 }

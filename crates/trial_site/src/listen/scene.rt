@@ -1,6 +1,6 @@
 //! A server and its peers.
 
-use crate::listen::peer::Peer;
+use crate::listen::peer::{Ending, Peer};
 use crate::listen::served::{Bounds, Served};
 use doc_hub::hub::Hub;
 use doc_page::renderer::Renderer;
@@ -41,8 +41,8 @@ pub struct Scene<R: Renderer + Drop> {
 /// What is waited for of a peer.
 #[derive(Clone, Copy, PartialEq, Eq)]
 pub enum Awaited {
-    /// So many bytes, or the end of the stream.
-    Bytes(usize),
+    /// So many whole replies, which end like this, or the end of the stream.
+    Replies(usize, Ending),
     /// The end of the stream.
     End,
 }
@@ -145,7 +145,7 @@ impl<R: Renderer + Drop> Scene<R> {
         };
         peer.read();
         match awaited {
-            Awaited::Bytes(count) => peer.count() >= count || peer.has_ended(),
+            Awaited::Replies(count, ending) => peer.has_heard(count, ending) || peer.has_ended(),
             Awaited::End => peer.has_ended(),
         }
     }
