@@ -1,0 +1,175 @@
+-- Examples: parts of pages and lists where they differ from those of the whole pages.
+use Rattle.std.proofs.Common.{◌≡◌, ℕ, List, [], ◌∷◌, ◌++◌, length, map as mapped, refl}
+use Rattle.std.specs.Prelude.{Some, None, codes, decimal}
+use Rattle.std.specs.List.{flat_map, range_with_len}
+use Rattle.doc_page_parts.specs.declared.rendered.Heading.{Heading}
+use Rattle.doc_page_parts.specs.declared.rendered.Piece.{Piece}
+use Rattle.doc_page_parts.specs.declared.rendered.Piece.TheVariants.{Link}
+use Rattle.doc_store_readers.specs.Sites.{View}
+use Rattle.doc_people.specs.BrokenLinks.{broken_from, broken_main}
+use Rattle.doc_people.specs.Lists.{backlinks_main, contents_from, contents_main, pager, sources_from}
+use Rattle.doc_people.specs.Pages.{heading_line, linked_from, listed_headings, on_this_page, source_item}
+use Rattle.doc_people.specs.Sources.{broken_links, sources_of}
+use Rattle.doc_people.specs.Statuses.{notice}
+use Rattle.doc_people.specs.Views.{Renders}
+use Rattle.doc_people.proofs.Computing.{page_words}
+use Rattle.doc_people.proofs.Sites.{demo, for_ann, for_owner, titled, view_of_paths}
+
+-- ---- headings
+
+abbrev heading : ℕ → List ℕ → Heading
+heading level text = record { level = level; anchor = text; text = text }
+
+-- the page's own heading of level 1, one for those who hear the page, and its path
+heading_lines :
+    (heading_line (codes "a&b.md") (heading 2 (codes "B") ∷ heading 1 (codes "A & B") ∷ []) ≡ [])
+    × (heading_line (codes "a&b.md") (heading 1 [] ∷ heading 2 (codes "A & B") ∷ []) ≡ codes "<h1 class=\"sr\">A &amp; B</h1>\n")
+    × (heading_line (codes "a&b.md") (heading 1 [] ∷ []) ≡ codes "<h1>a&amp;b.md</h1>\n")
+unfolding page_words
+heading_lines = (refl, refl, refl)
+
+-- the first one is left out where it is of level 1, and no other
+listed :
+    (listed_headings (heading 1 [] ∷ heading 1 (codes "A") ∷ heading 1 (codes "B") ∷ heading 4 (codes "C") ∷ heading 3 (codes "D") ∷ [])
+    ≡ heading 1 (codes "B") ∷ heading 3 (codes "D") ∷ [])
+    × (listed_headings (heading 2 (codes "A") ∷ heading 1 (codes "B") ∷ []) ≡ heading 2 (codes "A") ∷ heading 1 (codes "B") ∷ [])
+    × (listed_headings (heading 1 (codes "A") ∷ []) ≡ [])
+    × (length (listed_headings (mapped (λ n. heading 2 (n ∷ [])) (range_with_len 1 120))) ≡ 100)
+unfolding page_words
+listed = (refl, refl, refl, refl)
+
+headings_beside : on_this_page (heading 2 (codes "a b") ∷ heading 3 (codes "<") ∷ [])
+    ≡ codes "<h2>On this page</h2>\n<ul>\n<li class=\"h2\"><a href=\"#a%20b\">a b</a></li>\n"
+    ++ codes "<li class=\"h3\"><a href=\"#%3C\">&lt;</a></li>\n</ul>\n"
+unfolding page_words
+headings_beside = refl
+
+-- ---- pages that link to one
+
+-- 20 are listed
+abbrev sources : ℕ → List (List ℕ × ℕ)
+sources n = mapped (λ b. (b ∷ [], 1)) (range_with_len 65 n)
+
+sources_beside :
+    (linked_from titled (view_of_paths []) (codes "e/a b.md") (sources 20)
+    ≡ codes "<h2>Linked from</h2>\n<ul>\n" ++ flat_map (source_item titled (view_of_paths [])) (sources 20) ++ codes "</ul>\n")
+    × (linked_from titled (view_of_paths []) (codes "e/a b.md") (sources 21)
+    ≡ codes "<h2>Linked from</h2>\n<ul>\n" ++ flat_map (source_item titled (view_of_paths [])) (sources 20) ++ codes "</ul>\n"
+    ++ codes "<p><a href=\"/backlinks/e/a%20b.md\">All that link here</a></p>\n")
+    × (linked_from titled (view_of_paths []) (codes "e/a b.md") [] ≡ [])
+unfolding page_words
+sources_beside = (refl, refl, refl)
+
+-- links are counted, and a page that links to itself isn't listed
+backlinks_of_a_page : backlinks_main demo for_owner (codes "b.md") [] (sources_of demo for_owner (codes "b.md"))
+    ≡ codes "<h1>Pages that link to <a href=\"/page/b.md\">b.md</a></h1>\n<ul class=\"list\">\n"
+    ++ codes "<li><a href=\"/page/c.md\">c.md</a> <span class=\"path\">c.md</span> 2 links</li>\n</ul>\n"
+unfolding page_words
+backlinks_of_a_page = refl
+
+one_link : backlinks_main demo for_owner (codes "c.md") [] (sources_of demo for_owner (codes "c.md"))
+    ≡ codes "<h1>Pages that link to <a href=\"/page/c.md\">c.md</a></h1>\n<ul class=\"list\">\n"
+    ++ codes "<li><a href=\"/page/b.md\">b.md</a> <span class=\"path\">b.md</span> 1 link</li>\n</ul>\n"
+unfolding page_words
+one_link = refl
+
+no_more_backlinks : backlinks_main demo for_owner (codes "c.md") (codes "c") (sources_from demo for_owner (codes "c.md") (codes "c"))
+    ≡ codes "<h1>Pages that link to <a href=\"/page/c.md\">c.md</a></h1>\n<p>Nothing follows.</p>\n"
+    ++ codes "<nav class=\"pager\" aria-label=\"Parts of this list\">\n<a href=\"/backlinks/c.md\">From the start</a>\n</nav>\n"
+unfolding page_words
+no_more_backlinks = refl
+
+-- ---- parts of lists
+
+pagers :
+    (pager (codes "/contents") [] None ≡ [])
+    × (pager (codes "/contents") [] (Some (codes "e/c d.md"))
+    ≡ codes "<nav class=\"pager\" aria-label=\"Parts of this list\">\n"
+    ++ codes "<a href=\"/contents?from=e%2Fc%20d.md\" rel=\"next\">More</a>\n</nav>\n")
+    × (pager (codes "/contents") (codes "<b") (Some (codes "c"))
+    ≡ codes "<nav class=\"pager\" aria-label=\"Parts of this list\">\n<a href=\"/contents\">From the start</a>\n"
+    ++ codes "<a href=\"/contents?from=c\" rel=\"next\">More</a>\n</nav>\n")
+unfolding page_words
+pagers = (refl, refl, refl)
+
+contents_from_b : contents_main demo for_ann [] (codes "b") (contents_from for_ann [] (codes "b"))
+    ≡ codes "<h1>Contents</h1>\n<ul class=\"list\">\n<li><a href=\"/page/b.md\">b.md</a> <span class=\"path\">b.md</span></li>\n</ul>\n"
+    ++ codes "<nav class=\"pager\" aria-label=\"Parts of this list\">\n<a href=\"/contents\">From the start</a>\n</nav>\n"
+unfolding page_words
+contents_from_b = refl
+
+contents_of_nothing : contents_main demo (view_of_paths []) [] [] (contents_from (view_of_paths []) [] [])
+    ≡ codes "<h1>Contents</h1>\n<p>There is no page that you may read.</p>\n"
+unfolding page_words
+contents_of_nothing = refl
+
+-- a folder has the title of the page that stands for it, and leads to its own contents
+contents_with_folders : contents_main titled (view_of_paths (codes "e/f/index.md" ∷ codes "e/g.md" ∷ [])) (codes "e/") []
+    (contents_from (view_of_paths (codes "e/f/index.md" ∷ codes "e/g.md" ∷ [])) (codes "e/") [])
+    ≡ codes "<h1>e</h1>\n<ul class=\"list\">\n"
+    ++ codes "<li class=\"dir\"><a href=\"/contents/e/f/\">F &amp; co</a> <span class=\"path\">e/f/</span></li>\n"
+    ++ codes "<li><a href=\"/page/e/g.md\">g.md</a> <span class=\"path\">e/g.md</span></li>\n</ul>\n"
+unfolding page_words
+contents_with_folders = refl
+
+-- 200 entries, and the way to the one behind them
+abbrev numbers : ℕ → ℕ → List (List ℕ)
+numbers first n = mapped decimal (range_with_len first n)
+
+abbrev many : View
+many = view_of_paths (numbers 1000 202)
+
+abbrev number_line : List ℕ → List ℕ
+number_line number =
+    codes "<li><a href=\"/page/" ++ number ++ codes "\">" ++ number ++ codes "</a> <span class=\"path\">" ++ number
+    ++ codes "</span></li>\n"
+
+long_contents : contents_main titled many [] (codes "1001") (contents_from many [] (codes "1001"))
+    ≡ codes "<h1>Contents</h1>\n<ul class=\"list\">\n" ++ flat_map number_line (numbers 1001 200) ++ codes "</ul>\n"
+    ++ codes "<nav class=\"pager\" aria-label=\"Parts of this list\">\n<a href=\"/contents\">From the start</a>\n"
+    ++ codes "<a href=\"/contents?from=1201\" rel=\"next\">More</a>\n</nav>\n"
+unfolding page_words
+long_contents = refl
+
+-- ---- broken links
+
+abbrev to : List ℕ → Piece
+to dest = Link (record { dest = dest; title = None })
+
+-- links to a heading that isn't there, to one that is, to no path, and out of the site
+abbrev linking : Renders
+linking text = record {
+  pieces = to (codes "b.md#caf%C3%A9 <") ∷ to (codes "b.md#Top") ∷ to (codes "a%2Fb.md") ∷ to (codes "https://h/x") ∷ [];
+  headings = heading 1 (codes "Top") ∷ [];
+  texts = [];
+}
+
+abbrev linked_pages : View
+linked_pages = view_of_paths (codes "b.md" ∷ [])
+
+reasons : broken_main linking linked_pages [] (broken_links linking linked_pages) (broken_from [] (broken_links linking linked_pages))
+    ≡ codes "<h1>Broken links</h1>\n<p>A page that you may not read counts as none.</p>\n<table class=\"broken\">\n<thead>\n"
+    ++ codes "<tr><th scope=\"col\">Link</th><th scope=\"col\">Leads to</th><th scope=\"col\">What is wrong</th></tr>\n</thead>\n"
+    ++ codes "<tbody>\n<tr><th colspan=\"3\" scope=\"rowgroup\"><a href=\"/page/b.md\">Top</a> <span class=\"path\">b.md</span></th></tr>\n"
+    ++ codes "<tr><td>1</td><td><a href=\"/page/b.md\"><code>b.md#caf" ++ (0xC3 ∷ 0xA9 ∷ [])
+    ++ codes " &lt;</code></a></td><td>no such heading</td></tr>\n<tr><td>3</td><td>" ++ (0xE2 ∷ 0x80 ∷ 0x93 ∷ [])
+    ++ codes "</td><td>no path of a page</td></tr>\n</tbody>\n</table>\n"
+unfolding page_words
+reasons = refl
+
+no_broken_links : broken_main demo (view_of_paths []) [] (broken_links demo (view_of_paths [])) (broken_from [] [])
+    ≡ codes "<h1>Broken links</h1>\n<p>A page that you may not read counts as none.</p>\n"
+    ++ codes "<p>No link is broken on the pages that you may read.</p>\n"
+unfolding page_words
+no_broken_links = refl
+
+-- ---- statuses
+
+not_allowed : notice 403 [] ≡ codes "<h1>Not allowed</h1>\n<p>Only those who write these pages may do this.</p>\n"
+unfolding page_words
+not_allowed = refl
+
+no_room : notice 507 []
+    ≡ codes "<h1>No room</h1>\n<p>The page wasn't kept: its text is too long, or there are as many pages as can be.</p>\n"
+unfolding page_words
+no_room = refl

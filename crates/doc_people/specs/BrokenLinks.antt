@@ -1,0 +1,122 @@
+-- The page for people that lists broken links, source by source. All of this is this project's choice.
+use Rattle.std.specs.Prelude.{ℕ, ◌-◌, List, [], ◌∷◌, ◌++◌, length, take, map as mapped, filter, Bool, nat_lt, bytes_eq, codes, decimal, None}
+use Rattle.std.specs.Prelude.{◌==◌, slice_get, unwrap_or, if◌then◌else◌}
+use Rattle.std.specs.List.{after_first, before_first, dedup, flat_map}
+use Rattle.percent_encoding.specs.Percent.{percent_decode}
+use Rattle.doc_links_pages.specs.declared.answers.Broken.{Broken}
+use Rattle.doc_links_pages.specs.declared.answers.Reason.{Reason}
+use Rattle.doc_links_pages.specs.declared.answers.Reason.TheVariants as reasons
+use Rattle.doc_page_parts.specs.Escaping.{escaped}
+use Rattle.doc_store_readers.specs.Sites.{View, goal_in}
+use Rattle.doc_people.specs.Folders.{page_href, short}
+use Rattle.doc_people.specs.Limits.{link_limit, source_limit}
+use Rattle.doc_people.specs.Lists.{from_on, note_from, page_and_path, pager}
+use Rattle.doc_people.specs.Shell.{shell}
+use Rattle.doc_people.specs.Sources.{broken_links}
+use Rattle.doc_people.specs.Views.{Renders}
+use Rattle.doc_people.specs.declared.settings.Browse.{Browse}
+
+-- ---- a broken link
+
+-- the byte before an anchor
+abbrev pub is_hash : ℕ → Bool
+is_hash b = b == 35
+
+-- the path that a link writes
+abbrev pub written_path : List ℕ → List ℕ
+written_path target = before_first is_hash target
+
+-- and the anchor behind its `#`, decoded
+abbrev pub written_anchor : List ℕ → List ℕ
+written_anchor target = percent_decode (after_first is_hash target)
+
+-- the page that a path leads to
+abbrev pub goal_href : View → List ℕ → List ℕ
+goal_href view path = page_href (unwrap_or (goal_in view path) path)
+
+-- U+2013, where a link writes no path
+abbrev pub dash : List ℕ
+dash = 0xE2 ∷ 0x80 ∷ 0x93 ∷ []
+
+-- a heading that isn't there, and a link to the page that it isn't in
+abbrev pub missing_heading : View → List ℕ → List ℕ → List ℕ
+missing_heading view path anchor =
+    codes "<a href=\"" ++ goal_href view path ++ codes "\"><code>" ++ escaped path ++ codes "#" ++ escaped (short anchor)
+    ++ codes "</code></a>"
+
+-- what the link leads to, by the reason that it is broken for
+abbrev pub goal_cell : View → Reason → List ℕ → List ℕ
+goal_cell view reasons.Page target = codes "<code>" ++ escaped target ++ codes "</code>"
+goal_cell view reasons.Anchor target = missing_heading view (written_path target) (written_anchor target)
+goal_cell view reasons.Path target = dash
+
+-- why the link is broken
+abbrev pub reason_text : Reason → List ℕ
+reason_text reasons.Page = codes "no such page"
+reason_text reasons.Anchor = codes "no such heading"
+reason_text reasons.Path = codes "no path of a page"
+
+-- a broken link: its place on its page, what it leads to, and why it is broken
+abbrev pub broken_row : View → Broken → List ℕ
+broken_row view link =
+    codes "<tr><td>" ++ decimal link.place ++ codes "</td><td>" ++ goal_cell view link.reason link.target ++ codes "</td><td>"
+    ++ reason_text link.reason ++ codes "</td></tr>\n"
+
+-- ---- a page with broken links
+
+-- the broken links of a page
+abbrev pub broken_of : List ℕ → List Broken → List Broken
+broken_of source links = filter (λ link. bytes_eq link.source source) links
+
+-- how many there are behind those that are shown
+abbrev pub more_row : List Broken → List ℕ
+more_row links =
+    if nat_lt link_limit (length links)
+    then codes "<tr><td colspan=\"3\">and " ++ decimal (length links - link_limit) ++ codes " more</td></tr>\n" else []
+
+-- the page that has the links
+abbrev pub source_row : Renders → View → List ℕ → List ℕ
+source_row render view source =
+    codes "<tr><th colspan=\"3\" scope=\"rowgroup\">" ++ page_and_path render view source ++ codes "</th></tr>\n"
+
+-- a page and its broken links
+abbrev pub broken_group : Renders → View → List ℕ → List Broken → List ℕ
+broken_group render view source links =
+    codes "<tbody>\n" ++ source_row render view source ++ flat_map (broken_row view) (take link_limit links) ++ more_row links
+    ++ codes "</tbody>\n"
+
+-- ---- the list
+
+-- the pages with broken links, in order, each once
+abbrev pub broken_sources : List Broken → List (List ℕ)
+broken_sources links = dedup bytes_eq (mapped (λ link. link.source) links)
+
+-- what stands before the first page
+abbrev pub broken_head : List ℕ
+broken_head =
+    codes "<table class=\"broken\">\n<thead>\n<tr><th scope=\"col\">Link</th><th scope=\"col\">Leads to</th>"
+    ++ codes "<th scope=\"col\">What is wrong</th></tr>\n</thead>\n"
+
+-- the table of these pages, or in its place that there are none
+abbrev pub table_or_note : Renders → View → List ℕ → List Broken → List (List ℕ) → List ℕ
+table_or_note render view note links [] = note
+table_or_note render view note links (source ∷ rest) =
+    broken_head ++ flat_map (λ page. broken_group render view page (broken_of page links)) (source ∷ rest) ++ codes "</table>\n"
+
+-- the main part, of the broken links of a view and of the pages that have some
+abbrev pub broken_main : Renders → View → List ℕ → List Broken → List (List ℕ) → List ℕ
+broken_main render view from links sources =
+    codes "<h1>Broken links</h1>\n<p>A page that you may not read counts as none.</p>\n"
+    ++ table_or_note render view (note_from from (codes "No link is broken on the pages that you may read.")) links
+    (take source_limit sources)
+    ++ pager (codes "/broken") from (slice_get sources source_limit)
+
+-- the sources from a text on
+abbrev pub broken_from : List ℕ → List Broken → List (List ℕ)
+broken_from from links = from_on (λ source. source) from (broken_sources links)
+
+-- the broken links of a view, from a source on
+unfoldable pub broken_body : Renders → Browse → View → List ℕ → List ℕ
+broken_body render settings view from =
+    shell render settings view (codes "Broken links") None
+    (broken_main render view from (broken_links render view) (broken_from from (broken_links render view))) []

@@ -1,0 +1,26 @@
+-- Which pages of a view link to which. All of this is this project's choice.
+use Rattle.std.specs.Prelude.{ℕ, List, map as mapped, filter, not, bytes_eq}
+use Rattle.doc_links_pages.specs.Links.{backlinks, broken}
+use Rattle.doc_links_pages.specs.PageLinks.{page_links}
+use Rattle.doc_links_pages.specs.declared.answers.Broken.{Broken}
+use Rattle.doc_links_pages.specs.declared.page_links.PageLinks.{PageLinks}
+use Rattle.doc_page_parts.specs.declared.rendered.Rendered.{Rendered}
+use Rattle.doc_store_readers.specs.Sites.{View, goal_in}
+use Rattle.doc_people.specs.Views.{Renders, rendered_pages}
+
+-- what a page at a path links to, and its headings
+abbrev pub links_in : List ℕ × Rendered → List ℕ × PageLinks
+links_in page = (page.0, page_links page.0 page.1.pieces page.1.headings)
+
+-- the pages of a view with these, in the order of their paths
+abbrev pub linked_pages : Renders → View → List (List ℕ × PageLinks)
+linked_pages render view = mapped links_in (rendered_pages render view)
+
+-- the other pages that link to a page, by its path or by an alias, each with the number of its links
+abbrev pub sources_of : Renders → View → List ℕ → List (List ℕ × ℕ)
+sources_of render view path =
+    filter (λ source. not (bytes_eq source.0 path)) (backlinks (goal_in view) (linked_pages render view) path)
+
+-- the links that are broken, page by page
+abbrev pub broken_links : Renders → View → List Broken
+broken_links render view = broken (goal_in view) (linked_pages render view)
