@@ -151,7 +151,8 @@ module _ (render : Renders) where
   -- ---- edits beside requests
 
   put_edits : (w v : World) (path : List ℕ) (groups : List (List ℕ)) (text : List ℕ) (r : Result Put EditError)
-      → Gives edit_errors.Memory (world_put w path groups text) w v r → Edits render w v (events.Site (site_edits.Put path groups text)) (putting r)
+      → Gives edit_errors.Memory (world_put w path groups text) w v r
+      → Edits render w v (events.Site (site_edits.Put path groups text)) (putting r)
   put_edits w v path groups text (Ok done) gives =
       let page : Page = record { groups = groups; text = text } in (
         Some (set_page path page),

@@ -341,7 +341,8 @@ impl<R: Renderer + Drop> Hub<R> {
 
     /// The call of an event on a connection.
     fn happen_on(&mut self, id: ConnId, call: &ConnectionEvent) -> Outcome
-        ensures world { Leaves (R.page self.old.0) self.old.1 (Event.On id call.now) self.new.1 result }
+        ensures world { Leaves (R.page self.old.0) self.old.1
+            (Event.On id call.now) self.new.1 result }
         ensures same { R.page self.new.0 ≡ R.page self.old.0 }
         ensures counted { Counted (R.count self.old.0) self.old.1
             (R.count self.new.0) self.new.1 result }
@@ -355,7 +356,8 @@ impl<R: Renderer + Drop> Hub<R> {
 
     /// The call of an edit of the site.
     fn edit_site(&mut self, edit: &SiteEdit) -> Outcome
-        ensures world { Leaves (R.page self.old.0) self.old.1 (Event.Site edit.now) self.new.1 result }
+        ensures world { Leaves (R.page self.old.0) self.old.1
+            (Event.Site edit.now) self.new.1 result }
         ensures same { R.page self.new.0 ≡ R.page self.old.0 }
         ensures counted { Counted (R.count self.old.0) self.old.1
             (R.count self.new.0) self.new.1 result }
@@ -371,7 +373,8 @@ impl<R: Renderer + Drop> Hub<R> {
 
     /// The call of an edit of the readers.
     fn edit_reader(&mut self, edit: &ReaderEdit) -> Outcome
-        ensures world { Leaves (R.page self.old.0) self.old.1 (Event.Reader edit.now) self.new.1 result }
+        ensures world { Leaves (R.page self.old.0) self.old.1
+            (Event.Reader edit.now) self.new.1 result }
         ensures same { R.page self.new.0 ≡ R.page self.old.0 }
         ensures counted { Counted (R.count self.old.0) self.old.1
             (R.count self.new.0) self.new.1 result }

@@ -155,7 +155,8 @@ module _ {T : Type 0} {last : ℕ} (slots : List (Option (Held T))) (places post
         by_other : (i : ℕ) (other : Held T) → i ≢ v → slot_at slots i ≡ Some other → (b : Bool) → same_pair (pair_of other) p ≡ b
             → cond b None (number_at places other.path other.stamp) ≡ Some i
         by_other i other apart at true e =
-            absurd (apart (same_Some i v (sym (ap (λ r. number_at places r.0 r.1) (sym (pair_is (pair_of other) p e)) ∙ is.placed i other at)
+            absurd (apart (same_Some i v (sym (ap (λ r. number_at places r.0 r.1) (sym (pair_is (pair_of other) p e))
+            ∙ is.placed i other at)
             ∙ leads)))
         by_other i other apart at false e = is.placed i other at
 

@@ -58,7 +58,8 @@ pub sorted_flat : (es : List (List ℕ × NumberMap ℕ)) → IsStrictlySortedBy
 unfolding IsStrictlySortedBy
 sorted_flat [] sorted = tt
 sorted_flat (e ∷ es) sorted =
-    sorted_tagged e.0 (map.entries e.1) es (is_sorted_keys nat_cmp (map.entries e.1) (map.entries_sorted e.1)) sorted.0 (sorted_flat es sorted.1)
+    sorted_tagged e.0 (map.entries e.1) es (is_sorted_keys nat_cmp (map.entries e.1) (map.entries_sorted e.1)) sorted.0
+    (sorted_flat es sorted.1)
 
 abbrev pub found : List ℕ × ℕ → List ((List ℕ × ℕ) × ℕ) → Option ℕ
 found q es = map.find pair_cmp q es

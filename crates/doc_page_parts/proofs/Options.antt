@@ -1,4 +1,5 @@
--- An `Option` whose variant is known: what a test of it tells, and that its variants are apart. `same_Some` and `none-some` are the library's.
+-- An `Option` whose variant is known: what a test of it tells, and that its variants are apart. `same_Some` and `none-some` are
+-- the library's.
 use Rattle.std.proofs.Common.{◌≡◌, true, false, is_some, refl}
 use Rattle.std.specs.Prelude.{Option, Some, None}
 

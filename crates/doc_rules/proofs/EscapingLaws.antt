@@ -73,7 +73,11 @@ unfolding escaped_char encode_utf8
 quotation_mark = refl
 
 bytes_stay : (c : ℕ) → Stays c → AllByRecursion Stays (encode_utf8 c)
-bytes_stay c h = elim (cases_lt c 128) [ inl l ↦ subst (AllByRecursion Stays) (sym (encode_ascii c l)) (h, tt) | inr g ↦ high_bytes_stay c g ]
+bytes_stay c h = elim (cases_lt c 128) [
+  | inl l ↦ subst (AllByRecursion Stays) (sym (encode_ascii c l)) (h, tt)
+  | inr g ↦
+      high_bytes_stay c g
+]
 
 abbrev escaped_at : ℕ → Bool → Bool → Bool → Bool → Text
 escaped_at c a b d e =

@@ -28,7 +28,8 @@ impl Drop for Document {
 impl Document {
     /// The document that a text is; `BadToml` says that it is none.
     pub fn of(heap: Heap, text: &str) -> Result<Document, ConfigError>
-        ensures read { IfOk result (λ document. parse_document text.now ≡ Some (table_view document.table)) }
+        ensures read { IfOk result (λ document.
+            parse_document text.now ≡ Some (table_view document.table)) }
         ensures refused { IfErr result (λ e. e ≢ ConfigError.Memory
             → (e ≡ ConfigError.BadToml) × (parse_document text.now ≡ None)) }
     {
@@ -41,7 +42,8 @@ impl Document {
 
     /// The configuration of a site that it is, as [`SiteConfig::from_toml`].
     pub fn config(&self, heap: Heap) -> Result<SiteConfig, ConfigError>
-        ensures read { IfOk result (λ config. config_of_document (table_view self.now.table) ≡ Ok config) }
+        ensures read { IfOk result (λ config.
+            config_of_document (table_view self.now.table) ≡ Ok config) }
         ensures refused { IfErr result
             (λ e. e ≢ ConfigError.Memory → config_of_document (table_view self.now.table) ≡ Err e) }
     {
@@ -50,9 +52,11 @@ impl Document {
 
     /// What `listen` goes by, as [`Listening::from_toml`].
     pub fn listening(&self, heap: Heap) -> Result<Listening, ListeningError>
-        ensures read { IfOk result (λ listening. listening_of_document (table_view self.now.table) ≡ Ok listening) }
+        ensures read { IfOk result (λ listening.
+            listening_of_document (table_view self.now.table) ≡ Ok listening) }
         ensures refused { IfErr result
-            (λ e. e ≢ ListeningError.Memory → listening_of_document (table_view self.now.table) ≡ Err e) }
+            (λ e. e ≢ ListeningError.Memory
+            → listening_of_document (table_view self.now.table) ≡ Err e) }
     {
         Listening::from_document(heap, &self.table)
     }

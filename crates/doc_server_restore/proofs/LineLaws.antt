@@ -62,7 +62,8 @@ first_line (b ∷ line) rest are =
     ap (λ t. cond t ([] ∷ lines (line ++ 10 ∷ rest)) (onto_first b (lines (line ++ 10 ∷ rest)))) (no_lf b parts.0)
     ∙ ap (onto_first b) (first_line line rest parts.1)
 
-lines_with : (edit : SiteEdit) (edits : List SiteEdit) → IsEdit edit → lines (lines_of (edit ∷ edits)) ≡ bare_line edit ∷ lines (lines_of edits)
+lines_with : (edit : SiteEdit) (edits : List SiteEdit) → IsEdit edit
+    → lines (lines_of (edit ∷ edits)) ≡ bare_line edit ∷ lines (lines_of edits)
 lines_with edit edits good =
     ap (λ l. lines (l ++ lines_of edits)) (line_is edit)
     ∙ ap lines (append_assoc (bare_line edit) (10 ∷ []) (lines_of edits))

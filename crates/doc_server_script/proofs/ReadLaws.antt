@@ -33,7 +33,8 @@ remove_read path is =
     ap (event_in (remove_line path)) (cut_at (codes "remove") (spaceless path) refl)
     ∙ ap remove_with (path_back path is)
 
-pub move_read : (from to : List ℕ) → IsPathText from → IsPathText to → event_of (move_line from to) ≡ Some (events.Site (site_edits.Move from to))
+pub move_read : (from to : List ℕ) → IsPathText from → IsPathText to
+    → event_of (move_line from to) ≡ Some (events.Site (site_edits.Move from to))
 unfolding event_of
 move_read from to old new =
     ap (event_in (move_line from to)) (cut_at (codes "move") (spaceless from ++ 32 ∷ spaceless to) refl)

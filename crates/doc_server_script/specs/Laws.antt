@@ -24,7 +24,8 @@ pub record EditsAreRead : Type 0 where
   pub put : (path : List ℕ) (groups : List (List ℕ)) (text : List ℕ) → IsPathText path → IsGroups groups → IsText text
       → event_of (put_line path groups text) ≡ Some (events.Site (site_edits.Put path groups text))
   pub remove : (path : List ℕ) → IsPathText path → event_of (remove_line path) ≡ Some (events.Site (site_edits.Remove path))
-  pub move : (from to : List ℕ) → IsPathText from → IsPathText to → event_of (move_line from to) ≡ Some (events.Site (site_edits.Move from to))
+  pub move : (from to : List ℕ) → IsPathText from → IsPathText to
+      → event_of (move_line from to) ≡ Some (events.Site (site_edits.Move from to))
 
 -- an edit's line is of printable ASCII, so no line feed stands in it
 pub record EditsAreLines : Type 0 where

@@ -125,7 +125,8 @@ fn make<S: Sight>(
 /// Keeps a document that was made, under a key, where there is memory to keep it; the reply that was made with it, either way.
 fn keep_made(cache: &mut PageCache, key: Key, made: Made) -> Bytes
     ensures reply { result ≡ made.reply }
-    ensures cache { (cache.new ≡ kept_in_cache cache.old key made.document) ⊎ (cache.new ≡ cache.old) }
+    ensures cache { (cache.new ≡ kept_in_cache cache.old key made.document)
+        ⊎ (cache.new ≡ cache.old) }
 {
     let Made { reply, document } = made;
     cache.keep(key, document);

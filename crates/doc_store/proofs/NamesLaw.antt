@@ -118,7 +118,8 @@ module _ (site : Site) (is : IsSite site) (path : List ℕ) where
   nothing_leads name None (Some goal) none e f = by (bytes_eq goal path) refl
     where
       by : (b : Bool) → bytes_eq goal path ≡ b → false ≡ b
-      by true same = absurd (clash stands (ap (map.contains_key site.pages) (sym (bytes_eq_true goal path same)) ∙ is.lead name goal f) none)
+      by true same = absurd (clash stands (ap (map.contains_key site.pages) (sym (bytes_eq_true goal path same))
+          ∙ is.lead name goal f) none)
       by false same = refl
 
   all_in_site : (name : List ℕ) → list_any (bytes_eq name) (names_of site path) ≡ is_goal path (goal_of site name)

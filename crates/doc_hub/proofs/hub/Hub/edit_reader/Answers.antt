@@ -7,13 +7,17 @@ use Rattle.doc_hub.proofs.hub.Hub.edit_reader.Goals as goal
 
 pub returns-in-Set-clause-world : goal.returns-in-Set-clause-world
 returns-in-Set-clause-world g c =
-    leaves_so (g.R.Renderer.page c.args.self.now.0) c.args.self.now.1 (events.Reader c.args.edit.now) (events.Reader (reader_edits.Set c.get.result.now c.in-Set.reader))
-    c.set_reader.new.self.1 _ c.set_reader.result (ap (events.Reader) (c.in-Set.is ∙ ap (λ token. reader_edits.Set token c.in-Set.reader) (sym c.get.ensures))) c.set_reader.ensures.world c.from.ensures
+    leaves_so (g.R.Renderer.page c.args.self.now.0) c.args.self.now.1 (events.Reader c.args.edit.now) (events.Reader
+    (reader_edits.Set c.get.result.now c.in-Set.reader))
+    c.set_reader.new.self.1 _ c.set_reader.result (ap (events.Reader) (c.in-Set.is
+    ∙ ap (λ token. reader_edits.Set token c.in-Set.reader) (sym c.get.ensures))) c.set_reader.ensures.world c.from.ensures
 
 pub returns-in-Remove-clause-world : goal.returns-in-Remove-clause-world
 returns-in-Remove-clause-world g c =
-    leaves_so (g.R.Renderer.page c.args.self.now.0) c.args.self.now.1 (events.Reader c.args.edit.now) (events.Reader (reader_edits.Remove c.get-in-Remove.result.now))
-    c.remove_reader.new.self.1 _ c.remove_reader.result (ap (events.Reader) (c.in-Remove.is ∙ ap reader_edits.Remove (sym c.get-in-Remove.ensures))) c.remove_reader.ensures.world refl
+    leaves_so (g.R.Renderer.page c.args.self.now.0) c.args.self.now.1 (events.Reader c.args.edit.now) (events.Reader
+    (reader_edits.Remove c.get-in-Remove.result.now))
+    c.remove_reader.new.self.1 _ c.remove_reader.result (ap (events.Reader) (c.in-Remove.is
+    ∙ ap reader_edits.Remove (sym c.get-in-Remove.ensures))) c.remove_reader.ensures.world refl
 
 pub returns-in-Set-clause-counted : goal.returns-in-Set-clause-counted
 returns-in-Set-clause-counted g c =

@@ -7,8 +7,10 @@ use Rattle.doc_hub.proofs.hub.Hub.happen_on.Goals as goal
 
 pub returns-in-Push-clause-world : goal.returns-in-Push-clause-world
 returns-in-Push-clause-world g c =
-    leaves_so (g.R.Renderer.page c.args.self.now.0) c.args.self.now.1 (events.On c.args.id c.args.call.now) (events.On c.args.id (calls.Push c.get.result.now))
-    c.push.new.self.1 _ c.push.result (ap (events.On c.args.id) (c.in-Push.is ∙ ap calls.Push (sym c.get.ensures))) c.push.ensures.world c.from.ensures
+    leaves_so (g.R.Renderer.page c.args.self.now.0) c.args.self.now.1 (events.On c.args.id c.args.call.now) (events.On c.args.id
+    (calls.Push c.get.result.now))
+    c.push.new.self.1 _ c.push.result (ap (events.On c.args.id) (c.in-Push.is
+    ∙ ap calls.Push (sym c.get.ensures))) c.push.ensures.world c.from.ensures
 
 pub returns-in-Step-clause-world : goal.returns-in-Step-clause-world
 returns-in-Step-clause-world g c =
@@ -17,7 +19,8 @@ returns-in-Step-clause-world g c =
 
 pub returns-in-Disconnect-clause-world : goal.returns-in-Disconnect-clause-world
 returns-in-Disconnect-clause-world g c =
-    leaves_so (g.R.Renderer.page c.args.self.now.0) c.args.self.now.1 (events.On c.args.id c.args.call.now) (events.On c.args.id calls.Disconnect)
+    leaves_so (g.R.Renderer.page c.args.self.now.0) c.args.self.now.1 (events.On c.args.id c.args.call.now) (events.On c.args.id
+    calls.Disconnect)
     c.disconnect.new.self.1 _ c.disconnect.result (ap (events.On c.args.id) (c.in-Disconnect.is)) c.disconnect.ensures.world refl
 
 pub returns-in-Push-clause-counted : goal.returns-in-Push-clause-counted
