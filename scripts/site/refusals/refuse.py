@@ -11,8 +11,9 @@ LINES has scenes: a line `## scene: NAME`, and behind it a whole standard input 
     # refuse as WORD    the same, but an answer that isn't as with ample memory has WORD in it
     # refuse each       the same, and a growth that is refused alone never leaves the answer as with ample memory
     # refuse, at most N growths     the same, and the call takes no more than N
+    # refuse, N change nothing      the same, and of the growths that are refused alone just N leave all as with ample memory
 
-`each`, `as WORD` and `, at most N growths` can stand together, in this order. With ample memory no answer may be `no call`, or speak
+`each`, `as WORD`, `, at most N growths` and `, N change nothing` can stand together, in this order. With ample memory no answer may be `no call`, or speak
 of memory where that word is looked for. Where the answer is `no memory for the line` the trial itself had none, before the call or
 behind it, and the other lines may be either.
 """
@@ -24,7 +25,7 @@ SECONDS = 60
 SHOWN, SHOWN_OF_ONE = 30, 3
 OWN = b"no memory for the line"
 NO_CALL = b"no call"
-MARK = re.compile(r"# refuse(?P<each> each)?(?: as (?P<word>.+?))?(?:, at most (?P<most>\d+) growths?)?")
+MARK = re.compile(r"# refuse(?P<each> each)?(?: as (?P<word>.+?))?(?:, at most (?P<most>\d+) growths?)?(?:, (?P<idle>\d+) changes? nothing)?")
 
 
 class Mark:
@@ -34,6 +35,7 @@ class Mark:
         self.at, self.text, self.is_each = at, text.encode(), given["each"] is not None
         self.word = given["word"].encode() if given["word"] else None
         self.most = None if given["most"] is None else int(given["most"])
+        self.idle = None if given["idle"] is None else int(given["idle"])
 
     def is_want(self, answer):
         return re.search(rb"[mM]emory", answer) is not None if self.word is None else self.word in answer
@@ -180,8 +182,9 @@ class Scene:
             refused = {"REFUSE_MARK": str(k), "REFUSE_GROWTH": str(growth), "REFUSE_REST": str(int(rest))}
             return self.judged(mark, k, rest, self.run(text, refused), ample, without)
 
-        want = right = wrong = 0
+        want = right = wrong = idle = 0
         for (growth, rest), outcome in zip(ways, pool.map(tried, ways)):
+            idle += outcome == "right" and not rest
             want += outcome == "want"
             right += outcome == "right"
             if outcome not in ("want", "right"):
@@ -190,6 +193,8 @@ class Scene:
                     self.faults.append(f"{head}\n    growth {growth} refused, {'with the rest' if rest else 'alone'}: {outcome}")
         if wrong > SHOWN_OF_ONE:
             self.faults.append(f"{head}\n    and {wrong - SHOWN_OF_ONE} more runs of this line")
+        if mark.idle is not None and idle != mark.idle:
+            self.faults.append(f"{head}\n    {idle} growths change nothing, and not {mark.idle}")
         self.told.append(f"{head}: {growths} growths, {want} want of memory, {right} right" + (f", {wrong} wrong" if wrong else ""))
         self.growths, self.want, self.right = self.growths + growths, self.want + want, self.right + right
         self.runs += len(ways)
