@@ -1,4 +1,4 @@
-//! Replies of HTTP/1.1 as bytes (RFC 9112): a reply by its fields, and by one of the four forms that it has, each of which can be
+//! Replies of HTTP/1.1 as bytes (RFC 9112): a reply by its fields, a content, or one of the three forms without one, each of which can be
 //! written. The bytes are made of borrowed parts, so that a content is copied once.
 #![tactic(auto)]
 

@@ -182,7 +182,7 @@ impl<R: Renderer + Drop> Hub<R> {
 
     /// The same step, and beside it the edit that its request asked for and that it made, if any: so that a
     /// server can write it down before the next step. The text of a page that was put stands under its path
-    /// then, and is copied nowhere. It takes no more memory than `step`.
+    /// then, and is copied nowhere. It takes no more memory than `step`, which no clause says.
     pub fn step_edited(&mut self, id: ConnId) -> Result<(Step, Option<Edit>), StepError>
         ensures world { Happens (R.page self.old.0) self.old.1
             (step_on id) self.new.1 (step_in result) }

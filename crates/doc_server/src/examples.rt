@@ -20,7 +20,8 @@ use doc_server_streams::whole_input::read_text;
 use doc_server_streams::whole_output::{flush, send};
 
 /// Shows each example of the file's text, writes which differ from what they should be, and then how many passed and failed. The
-/// answer is the status to end with. A fault calls the file by this name.
+/// answer is the status to end with. A fault calls the file by this name. By clause `CannotRead` may be answered wherever the
+/// bytes of the file aren't known.
 pub fn examples<I: Input, O: Output>(
     heap: Heap,
     name: &str,

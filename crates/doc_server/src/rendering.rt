@@ -15,6 +15,7 @@ use doc_server_streams::whole_input::read_text;
 use doc_server_streams::whole_output::{flush, send};
 
 /// Writes the HTML of the whole input, which is called `-`. Nothing is written before all of it is made.
+/// By clause `CannotRead` may be answered wherever the bytes of the input aren't known.
 pub fn render<I: Input, O: Output>(heap: Heap, input: &mut I, output: &mut O) -> Result<(), Fault>
     ensures sent { OnOk result (Renders (I.unread input.old)
         (O.written output.old) (O.written output.new)) }

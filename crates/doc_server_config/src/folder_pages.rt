@@ -35,7 +35,7 @@ pub struct FolderPage {
 
 /// The pages of a folder, in the order of their paths: each regular file in it and below whose name ends in `.md`. Names that begin
 /// with `.`, and links, are passed over. `CannotRead` names a folder that can't be read, or a file that can't, whose text isn't UTF-8
-/// or too long for a page, or whose name makes no path of one.
+/// or too long for a page, or whose name makes no path of one. Which files a folder has no clause says, and of a refusal nothing.
 pub fn read_folder<R: AllocGlobal + Files + Clone + Drop>(
     rt: &R,
     heap: Heap,

@@ -9,7 +9,7 @@ use std::rt::Files;
 /// What is put behind the name of a file for that of the new one beside it.
 const NEW: &str = ".compacting";
 
-/// The name of a file, and of a new one beside it that is to take its name.
+/// The name of a file, and of a new one beside it that is to take its name. What becomes of names no clause says.
 #[derive(Drop)]
 pub struct Replacement {
     name: String,

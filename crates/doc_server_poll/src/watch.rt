@@ -12,7 +12,8 @@ pub struct Handed {
     pub bytes: usize,
 }
 
-/// Who is told, behind each turn, what passed between a server and its peers. It has no say in what the server does.
+/// Who is told, behind each turn, what passed between a server and its peers. It has no say in what the server does. That
+/// it is told the truth no clause says.
 pub trait Watch {
     /// Whether it is to be told of the connections that are accepted from now on.
     fn is_watching(&self) -> bool;

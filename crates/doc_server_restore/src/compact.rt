@@ -24,7 +24,7 @@ use doc_store::page::Page;
 use doc_store::store::Store;
 
 /// Writes a journal to an empty device: records of whole lines, one line for each edit that leads from a configuration's site to
-/// another. At `Ok` all of it is on the device.
+/// another. At `Ok` all of it is on the device. Why it was refused no clause says.
 pub fn compact<D: Device + Drop>(
     heap: Heap,
     config: &Store,

@@ -20,7 +20,7 @@ pub struct Round {
 }
 
 /// Passes over the open links in their order, until none is open, and at most so many. A link that fails is closed, and no other.
-/// `Memory` says that there was no room to tell the faults: then nothing was done.
+/// `Memory` says that there was no room to tell the faults: then nothing was done. That a pass reads at all no clause says.
 pub fn serve_round<R: Renderer + Drop, S: Stream + Drop>(
     heap: Heap,
     hub: &mut Hub<R>,

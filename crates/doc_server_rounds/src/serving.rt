@@ -16,7 +16,8 @@ use std::net::TcpListener;
 
 /// Accepts the connections of so many peers, serves them in one round of at most so many passes, and drops them. No peer is
 /// answered before all are accepted. Before it returns, also where it is refused, each connection that it made is dropped; the
-/// numbers stay given. It waits for peers: for each connection, and at each read and write.
+/// numbers stay given. It waits for peers: for each connection, and at each read and write. That a peer is ever answered no
+/// clause says.
 ///
 /// Refusals come in the order of [`ServeFault`], but that `Memory` may be answered before another one is found.
 pub fn serve_on<R: Renderer + Drop>(

@@ -55,7 +55,8 @@ pub record IsDocument (render : Renders) (store : StoreState) (key : Key) (text 
       → decisions goals path (render page.text) ≡ key.decisions
       → text ≡ body_of path (shown goals path) (render page.text)
 
--- each text of a cache may stand under its key
+-- Each text of a cache may stand under its key. Of a key whose stamp no page has, or whose decisions no reader has for that page, nothing
+-- is said: no reader's look-up finds it.
 abbrev pub HasDocuments : Renders → StoreState → Cached → Type 0
 HasDocuments render store cache = (pair : Key × List ℕ) → Contains cache.entries pair → IsDocument render store pair.0 pair.1
 
