@@ -4,11 +4,11 @@ use Rattle.doc_people.specs.BrokenLinks.{broken_body}
 use Rattle.doc_people.specs.Lists.{backlinks_body, contents_body}
 use Rattle.doc_people.proofs.Bodies.{bar, front}
 use Rattle.doc_people.proofs.Computing.{page_words}
-use Rattle.doc_people.proofs.Sites.{defaults, demo, for_ann, for_bob_later, for_bob_moved, for_owner_moved}
+use Rattle.doc_people.proofs.Sites.{defaults, no_offers, demo, for_ann, for_bob_later, for_bob_moved, for_owner_moved}
 
 -- contents
 contents_of_all :
-    contents_body demo defaults for_ann [] []
+    contents_body demo defaults no_offers for_ann [] []
     ≡
     front (codes "Contents") ++ bar ++ codes "<div class=\"over\">\n<nav class=\"crumbs\" aria-label=\"Folders\">\n<ol>\n"
     ++ codes "<li><a href=\"/contents\" aria-current=\"page\">Home</a></li>\n</ol>\n</nav>\n</div>\n<main id=\".main\">\n"
@@ -23,7 +23,7 @@ contents_of_all = refl
 
 -- a folder
 contents_of_a_folder :
-    contents_body demo defaults for_bob_moved (codes "e/") []
+    contents_body demo defaults no_offers for_bob_moved (codes "e/") []
     ≡
     front (codes "e") ++ bar ++ codes "<div class=\"over\">\n<nav class=\"crumbs\" aria-label=\"Folders\">\n<ol>\n"
     ++ codes "<li><a href=\"/contents\">Home</a></li>\n<li><a href=\"/contents/e/\" aria-current=\"page\">e</a></li>\n</ol>\n"
@@ -37,7 +37,7 @@ contents_of_a_folder = refl
 
 -- broken links
 broken_links :
-    broken_body demo defaults for_owner_moved []
+    broken_body demo defaults no_offers for_owner_moved []
     ≡
     front (codes "Broken links") ++ bar
     ++ codes "<main id=\".main\">\n<h1>Broken links</h1>\n<p>A page that you may not read counts as none.</p>\n"
@@ -56,7 +56,7 @@ broken_links = refl
 
 -- pages that link to one
 no_backlinks :
-    backlinks_body demo defaults for_bob_later (codes "b.md") []
+    backlinks_body demo defaults no_offers for_bob_later (codes "b.md") []
     ≡
     front (codes "Pages that link to b.md") ++ bar
     ++ codes "<div class=\"over\">\n<nav class=\"crumbs\" aria-label=\"Folders\">\n<ol>\n"

@@ -3,11 +3,11 @@ use Rattle.std.proofs.Common.{◌≡◌, ◌++◌, codes, refl}
 use Rattle.doc_people.specs.Pages.{page_body}
 use Rattle.doc_people.proofs.Bodies.{bar, front}
 use Rattle.doc_people.proofs.Computing.{page_words}
-use Rattle.doc_people.proofs.Sites.{defaults, demo, for_ann, for_ann_later, for_owner, guide, two_links}
+use Rattle.doc_people.proofs.Sites.{defaults, no_offers, demo, for_ann, for_ann_later, for_owner, guide, two_links}
 
 -- a page, with links that lead nowhere for its reader
 links_that_lead_nowhere :
-    page_body demo defaults for_ann (codes "b.md") (demo two_links)
+    page_body demo defaults no_offers for_ann (codes "b.md") (demo two_links)
     ≡
     front (codes "b.md") ++ bar ++ codes "<div class=\"over\">\n<nav class=\"crumbs\" aria-label=\"Folders\">\n<ol>\n"
     ++ codes "<li><a href=\"/contents\">Home</a></li>\n</ol>\n</nav>\n</div>\n<main id=\".main\">\n<article>\n<h1>b.md</h1>\n"
@@ -20,7 +20,7 @@ links_that_lead_nowhere = refl
 
 -- the same by an owner, who sees where one leads
 a_link_that_leads_to_a_page :
-    page_body demo defaults for_owner (codes "b.md") (demo two_links)
+    page_body demo defaults no_offers for_owner (codes "b.md") (demo two_links)
     ≡
     front (codes "b.md") ++ bar ++ codes "<div class=\"over\">\n<nav class=\"crumbs\" aria-label=\"Folders\">\n<ol>\n"
     ++ codes "<li><a href=\"/contents\">Home</a></li>\n</ol>\n</nav>\n</div>\n<main id=\".main\">\n<article>\n<h1>b.md</h1>\n"
@@ -35,7 +35,7 @@ a_link_that_leads_to_a_page = refl
 
 -- a page in a folder, with headings, with a link to it, and with HTML of its own
 a_page_in_a_folder :
-    page_body demo defaults for_ann_later (codes "g/guide.md") (demo guide)
+    page_body demo defaults no_offers for_ann_later (codes "g/guide.md") (demo guide)
     ≡
     front (codes "The guide") ++ bar ++ codes "<div class=\"over\">\n<nav class=\"crumbs\" aria-label=\"Folders\">\n<ol>\n"
     ++ codes "<li><a href=\"/contents\">Home</a></li>\n<li><a href=\"/contents/g/\">g</a></li>\n</ol>\n</nav>\n</div>\n"

@@ -7,27 +7,29 @@ use Rattle.doc_words_search.specs.declared.query.QueryError.{QueryError}
 use Rattle.doc_words_search.specs.declared.query.QueryError.TheVariants.{NoWords}
 use Rattle.doc_people.specs.Search.{ask, asks_nothing, best_of_them, code_by, found_by, pages_found, search_body, search_code}
 use Rattle.doc_people.specs.Shell.{shell}
-use Rattle.doc_people.specs.Terms.{Term, Exact, Prefix, terms_of}
+use Rattle.doc_people.specs.Terms.{terms_of}
+use Rattle.doc_people.specs.declared.term.Term.{Term}
+use Rattle.doc_people.specs.declared.term.Term.TheVariants.{Exact, Prefix}
 use Rattle.doc_people.proofs.Bodies.{bar, front}
 use Rattle.doc_people.proofs.Computing.{search_words}
 use Rattle.doc_people.proofs.QuerySteps.{exact_are, queried}
-use Rattle.doc_people.proofs.Sites.{defaults, demo, for_ann, for_ann_later}
+use Rattle.doc_people.proofs.Sites.{defaults, no_offers, demo, for_ann, for_ann_later}
 
 -- the page of a query by its terms and its words
 abbrev page_with : View → List ℕ → List Term → Result (List (List ℕ)) QueryError → List ℕ
 page_with view query terms words =
-    shell demo defaults view (codes "Search") None
+    shell demo defaults no_offers view (codes "Search") None
     (codes "<h1>Search</h1>\n" ++ ask query ++ (if asks_nothing query then [] else found_by demo view terms words)) []
 
 searched : (view : View) (query : List ℕ) (terms : List Term) (words : Result (List (List ℕ)) QueryError)
-    → terms_of query ≡ terms → query_of query ≡ words → search_body demo defaults view query ≡ page_with view query terms words
+    → terms_of query ≡ terms → query_of query ≡ words → search_body demo defaults no_offers view query ≡ page_with view query terms words
 unfolding search_body
 searched view query terms words terms_are words_are =
     ap (λ t. page_with view query t (query_of query)) terms_are ∙ ap (page_with view query terms) words_are
 
 -- a search for the front of a word
 front_of_a_word :
-    search_body demo defaults for_ann (codes "hel")
+    search_body demo defaults no_offers for_ann (codes "hel")
     ≡
     front (codes "Search") ++ bar ++ codes "<main id=\".main\">\n<h1>Search</h1>\n"
     ++ codes "<form class=\"ask\" role=\"search\" action=\"/search\" aria-label=\"Search all pages\">\n"
@@ -44,7 +46,7 @@ front_of_a_word =
 
 -- a search without words
 no_words :
-    search_body demo defaults for_ann (codes "!")
+    search_body demo defaults no_offers for_ann (codes "!")
     ≡
     front (codes "Search") ++ bar ++ codes "<main id=\".main\">\n<h1>Search</h1>\n"
     ++ codes "<form class=\"ask\" role=\"search\" action=\"/search\" aria-label=\"Search all pages\">\n"
@@ -60,7 +62,7 @@ no_words =
 
 -- a search, with a snippet
 with_a_snippet :
-    search_body demo defaults for_ann_later (codes "on kiw")
+    search_body demo defaults no_offers for_ann_later (codes "on kiw")
     ≡
     front (codes "Search") ++ bar ++ codes "<main id=\".main\">\n<h1>Search</h1>\n"
     ++ codes "<form class=\"ask\" role=\"search\" action=\"/search\" aria-label=\"Search all pages\">\n"
@@ -78,7 +80,7 @@ with_a_snippet =
 
 -- a search that finds nothing
 nothing_found :
-    search_body demo defaults for_ann_later (codes "pear")
+    search_body demo defaults no_offers for_ann_later (codes "pear")
     ≡
     front (codes "Search") ++ bar ++ codes "<main id=\".main\">\n<h1>Search</h1>\n"
     ++ codes "<form class=\"ask\" role=\"search\" action=\"/search\" aria-label=\"Search all pages\">\n"

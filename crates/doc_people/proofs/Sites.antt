@@ -1,6 +1,6 @@
 -- Views and renderers of the examples.
 use Rattle.std.proofs.Common.{ℕ, List, [], ◌∷◌, codes}
-use Rattle.std.specs.Prelude.{None, bytes_eq, if◌then◌else◌, map as mapped}
+use Rattle.std.specs.Prelude.{None, false, bytes_eq, if◌then◌else◌, map as mapped}
 use Rattle.doc_page_parts.specs.declared.rendered.Piece.{Piece}
 use Rattle.doc_page_parts.specs.declared.rendered.Piece.TheVariants.{Html, Link}
 use Rattle.doc_page_parts.specs.declared.rendered.Rendered.{Rendered}
@@ -8,10 +8,16 @@ use Rattle.doc_store_readers.specs.Pages.{Page}
 use Rattle.doc_store_readers.specs.Sites.{View}
 use Rattle.doc_people.specs.Views.{Renders}
 use Rattle.doc_people.specs.declared.settings.Browse.{Browse}
+use Rattle.doc_people.specs.declared.settings.Offers.{Offers}
 
 -- the settings where none is given
 abbrev pub defaults : Browse
-defaults = record { title = codes "Handbook"; language = codes "en"; home = codes "index.md" }
+defaults =
+    record { title = codes "Handbook"; language = codes "en"; home = codes "index.md"; guest = None; login = false }
+
+-- what readers are offered
+abbrev pub no_offers : Offers
+no_offers = record { sign_in = false }
 
 -- ---- pages that have their paths as their texts
 

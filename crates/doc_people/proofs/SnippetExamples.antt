@@ -5,7 +5,9 @@ use Rattle.std.specs.List.{repeat}
 use Rattle.doc_page_parts.specs.declared.rendered.Rendered.{Rendered}
 use Rattle.doc_people.specs.Hits.{hits, rarity}
 use Rattle.doc_people.specs.Snippets.{best_text, parts, snippet, snippet_of, texts_read, within}
-use Rattle.doc_people.specs.Terms.{Term, Exact, Prefix, meets, terms_of}
+use Rattle.doc_people.specs.Terms.{meets, terms_of}
+use Rattle.doc_people.specs.declared.term.Term.{Term}
+use Rattle.doc_people.specs.declared.term.Term.TheVariants.{Exact, Prefix}
 use Rattle.doc_people.proofs.Computing.{search_words}
 use Rattle.doc_people.proofs.QuerySteps.{exact_are}
 use Rattle.doc_people.proofs.Sites.{demo, guide}

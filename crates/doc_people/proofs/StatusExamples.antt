@@ -3,7 +3,7 @@ use Rattle.std.proofs.Common.{◌≡◌, ◌++◌, codes, refl}
 use Rattle.doc_people.specs.Statuses.{moved_body, not_found_body, not_signed_in_body}
 use Rattle.doc_people.proofs.Bodies.{bar, front}
 use Rattle.doc_people.proofs.Computing.{shell_words}
-use Rattle.doc_people.proofs.Sites.{defaults, demo, for_ann}
+use Rattle.doc_people.proofs.Sites.{defaults, no_offers, demo, for_ann}
 
 -- the front: the home page isn't there, so to the contents
 moved_to_contents :
@@ -37,7 +37,7 @@ not_signed_in = refl
 
 -- no page, or a folder that isn't seen
 not_found :
-    not_found_body demo defaults for_ann
+    not_found_body demo defaults no_offers for_ann
     ≡
     front (codes "Not found") ++ bar
     ++ codes "<main id=\".main\">\n<h1>Not found</h1>\n<p>There is no page here that you may read.</p>\n"

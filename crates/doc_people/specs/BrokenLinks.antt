@@ -15,6 +15,7 @@ use Rattle.doc_people.specs.Shell.{shell}
 use Rattle.doc_people.specs.Sources.{broken_links}
 use Rattle.doc_people.specs.Views.{Renders}
 use Rattle.doc_people.specs.declared.settings.Browse.{Browse}
+use Rattle.doc_people.specs.declared.settings.Offers.{Offers}
 
 -- ---- a broken link
 
@@ -116,7 +117,7 @@ abbrev pub broken_from : List ℕ → List Broken → List (List ℕ)
 broken_from from links = from_on (λ source. source) from (broken_sources links)
 
 -- the broken links of a view, from a source on
-unfoldable pub broken_body : Renders → Browse → View → List ℕ → List ℕ
-broken_body render settings view from =
-    shell render settings view (codes "Broken links") None
+unfoldable pub broken_body : Renders → Browse → Offers → View → List ℕ → List ℕ
+broken_body render settings offers view from =
+    shell render settings offers view (codes "Broken links") None
     (broken_main render view from (broken_links render view) (broken_from from (broken_links render view))) []

@@ -7,7 +7,8 @@ use Rattle.doc_words_search.specs.Searches.{ranked}
 use Rattle.doc_words_search.specs.Words.{capped, page_words, words_of}
 use Rattle.doc_words_search.specs.declared.hit.Hit.{Hit}
 use Rattle.doc_people.specs.Folders.{first_text, title_by}
-use Rattle.doc_people.specs.Terms.{Term, meets}
+use Rattle.doc_people.specs.Terms.{meets}
+use Rattle.doc_people.specs.declared.term.Term.{Term}
 
 -- how many words of a page a term meets
 abbrev pub count_of : Rendered → Term → ℕ

@@ -14,7 +14,8 @@ use Rattle.doc_people.specs.BrokenLinks.{is_hash, written_anchor, written_path}
 use Rattle.doc_people.specs.Folders.{keys}
 use Rattle.doc_people.specs.Hits.{count_of}
 use Rattle.doc_people.specs.Inert.{begins_in_any_case, has_apostrophe, inert}
-use Rattle.doc_people.specs.Terms.{Term, meets}
+use Rattle.doc_people.specs.Terms.{meets}
+use Rattle.doc_people.specs.declared.term.Term.{Term}
 use Rattle.doc_people.specs.Views.{paths}
 
 -- the word stands somewhere in the text, in any case of ASCII letters

@@ -16,6 +16,7 @@ use Rattle.doc_people.specs.Shell.{shell}
 use Rattle.doc_people.specs.Sources.{sources_of}
 use Rattle.doc_people.specs.Views.{Renders}
 use Rattle.doc_people.specs.declared.settings.Browse.{Browse}
+use Rattle.doc_people.specs.declared.settings.Offers.{Offers}
 
 -- ---- lines, and the parts of a list
 
@@ -91,9 +92,9 @@ contents_main render view folder from keys =
     ++ pager (contents_href folder) from (slice_get keys list_limit)
 
 -- the contents of a folder from a text on
-unfoldable pub contents_body : Renders → Browse → View → List ℕ → List ℕ → List ℕ
-contents_body render settings view folder from =
-    shell render settings view (contents_title render view folder) (Some folder)
+unfoldable pub contents_body : Renders → Browse → Offers → View → List ℕ → List ℕ → List ℕ
+contents_body render settings offers view folder from =
+    shell render settings offers view (contents_title render view folder) (Some folder)
     (contents_main render view folder from (contents_from view folder from)) []
 
 -- ---- the pages that link to one
@@ -118,7 +119,7 @@ backlinks_main render view path from sources =
     ++ pager (backlinks_href path) from (option_map (λ source. source.0) (slice_get sources list_limit))
 
 -- the pages that link to the page at this path, from a text on
-unfoldable pub backlinks_body : Renders → Browse → View → List ℕ → List ℕ → List ℕ
-backlinks_body render settings view path from =
-    shell render settings view (codes "Pages that link to " ++ label render view path) (Some (folder_of path))
+unfoldable pub backlinks_body : Renders → Browse → Offers → View → List ℕ → List ℕ → List ℕ
+backlinks_body render settings offers view path from =
+    shell render settings offers view (codes "Pages that link to " ++ label render view path) (Some (folder_of path))
     (backlinks_main render view path from (sources_from render view path from)) []

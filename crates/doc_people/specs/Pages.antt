@@ -17,6 +17,7 @@ use Rattle.doc_people.specs.Shell.{shell}
 use Rattle.doc_people.specs.Sources.{sources_of}
 use Rattle.doc_people.specs.Views.{Renders}
 use Rattle.doc_people.specs.declared.settings.Browse.{Browse}
+use Rattle.doc_people.specs.declared.settings.Offers.{Offers}
 
 -- ---- the main part
 
@@ -100,7 +101,7 @@ beside render view path page =
 -- ---- the page
 
 -- the page at this path, of which the renderer makes this
-unfoldable pub page_body : Renders → Browse → View → List ℕ → Rendered → List ℕ
-page_body render settings view path page =
-    shell render settings view (short (title_by path (first_text page.headings))) (Some path)
+unfoldable pub page_body : Renders → Browse → Offers → View → List ℕ → Rendered → List ℕ
+page_body render settings offers view path page =
+    shell render settings offers view (short (title_by path (first_text page.headings))) (Some path)
     (article view path page) (beside render view path page)

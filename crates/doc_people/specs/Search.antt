@@ -15,9 +15,11 @@ use Rattle.doc_people.specs.Lines.{item}
 use Rattle.doc_people.specs.Lists.{page_and_path}
 use Rattle.doc_people.specs.Shell.{shell}
 use Rattle.doc_people.specs.Snippets.{snippet}
-use Rattle.doc_people.specs.Terms.{Term, terms_of}
+use Rattle.doc_people.specs.Terms.{terms_of}
+use Rattle.doc_people.specs.declared.term.Term.{Term}
 use Rattle.doc_people.specs.Views.{Renders, rendered_at, rendered_pages}
 use Rattle.doc_people.specs.declared.settings.Browse.{Browse}
+use Rattle.doc_people.specs.declared.settings.Offers.{Offers}
 
 -- ---- what is found
 
@@ -79,9 +81,9 @@ abbrev pub search_main : Renders → View → List ℕ → List ℕ
 search_main render view query = codes "<h1>Search</h1>\n" ++ ask query ++ found render view query
 
 -- what a query finds
-unfoldable pub search_body : Renders → Browse → View → List ℕ → List ℕ
-search_body render settings view query =
-    shell render settings view (codes "Search") None (search_main render view query) []
+unfoldable pub search_body : Renders → Browse → Offers → View → List ℕ → List ℕ
+search_body render settings offers view query =
+    shell render settings offers view (codes "Search") None (search_main render view query) []
 
 -- the code of the reply to a query, by its words
 abbrev pub code_by : Result (List (List ℕ)) QueryError → ℕ

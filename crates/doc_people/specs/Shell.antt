@@ -1,10 +1,11 @@
 -- The templates that the pages for people stand in. All of this is this project's choice.
-use Rattle.std.specs.Prelude.{ℕ, List, [], ◌∷◌, ◌++◌, codes, Option, Some, None}
+use Rattle.std.specs.Prelude.{ℕ, Bool, true, false, List, [], ◌∷◌, ◌++◌, codes, Option, Some, None}
 use Rattle.doc_page_parts.specs.Escaping.{escaped}
 use Rattle.doc_store_readers.specs.Sites.{View}
 use Rattle.doc_people.specs.Navigation.{crumbs, tree}
 use Rattle.doc_people.specs.Views.{Renders}
 use Rattle.doc_people.specs.declared.settings.Browse.{Browse}
+use Rattle.doc_people.specs.declared.settings.Offers.{Offers}
 
 -- a space, U+00B7 and a space, between a page's title and the site's
 abbrev pub middle_dot : List ℕ
@@ -62,16 +63,22 @@ search_form =
     ++ codes "<input type=\"search\" name=\"q\" aria-label=\"Search\" placeholder=\"Search\">\n"
     ++ codes "<button>Search</button>\n</form>\n"
 
--- the links to lists of the whole site
-abbrev pub site_links : List ℕ
-site_links =
-    codes "<nav aria-label=\"Site\">\n<a href=\"/contents\">Contents</a>\n<a href=\"/broken\">Broken links</a>\n</nav>\n"
+-- the link to sign in, where it is offered
+abbrev pub sign_in_link : Bool → List ℕ
+sign_in_link false = []
+sign_in_link true = codes "<a href=\"/sign-in\">Sign in</a>\n"
+
+-- the links to lists of the whole site, and to sign in
+abbrev pub site_links : Offers → List ℕ
+site_links offers =
+    codes "<nav aria-label=\"Site\">\n<a href=\"/contents\">Contents</a>\n<a href=\"/broken\">Broken links</a>\n"
+    ++ sign_in_link offers.sign_in ++ codes "</nav>\n"
 
 -- the bar at the top
-abbrev pub bar : Browse → List ℕ
-bar settings =
+abbrev pub bar : Browse → Offers → List ℕ
+bar settings offers =
     bar_start ++ escaped settings.title ++ codes "</a>\n<a class=\"menu\" href=\"#.pages\">Pages</a>\n"
-    ++ search_form ++ site_links ++ codes "</header>\n"
+    ++ search_form ++ site_links offers ++ codes "</header>\n"
 
 -- the folders that lead to the place, above the page; nothing at none
 abbrev pub over : Renders → View → Option (List ℕ) → List ℕ
@@ -92,8 +99,8 @@ foot (Some []) = []
 foot (Some (b ∷ place)) = codes "<footer>\n<p><code>" ++ escaped (b ∷ place) ++ codes "</code></p>\n</footer>\n"
 
 -- a page by its title, the place that it stands at, its main part and what stands beside
-unfoldable pub shell : Renders → Browse → View → List ℕ → Option (List ℕ) → List ℕ → List ℕ → List ℕ
-shell render settings view title at main aside =
-    head settings title ++ bar settings ++ codes "<div class=\"frame\">\n"
+unfoldable pub shell : Renders → Browse → Offers → View → List ℕ → Option (List ℕ) → List ℕ → List ℕ → List ℕ
+shell render settings offers view title at main aside =
+    head settings title ++ bar settings offers ++ codes "<div class=\"frame\">\n"
     ++ over render view at ++ main_part main ++ aside_part aside ++ tree render view at
     ++ codes "</div>\n" ++ foot at ++ foot_end

@@ -10,7 +10,8 @@ use Rattle.doc_rules.specs.Characters.{is_white}
 use Rattle.doc_words_search.specs.Words.{folded, is_word_char}
 use Rattle.doc_people.specs.Folders.{ellipsis, first_text, title_by}
 use Rattle.doc_people.specs.Limits.{lead_limit, read_limit, snippet_limit}
-use Rattle.doc_people.specs.Terms.{Term, meets, meets_in}
+use Rattle.doc_people.specs.Terms.{meets, meets_in}
+use Rattle.doc_people.specs.declared.term.Term.{Term}
 
 -- ---- which text
 

@@ -6,6 +6,7 @@ use Rattle.doc_people.specs.Lines.{link}
 use Rattle.doc_people.specs.Shell.{bare, shell}
 use Rattle.doc_people.specs.Views.{Renders}
 use Rattle.doc_people.specs.declared.settings.Browse.{Browse}
+use Rattle.doc_people.specs.declared.settings.Offers.{Offers}
 
 -- what a code is called, in the title of its page and in its heading
 abbrev pub status_title : ℕ → List ℕ
@@ -45,11 +46,11 @@ unfoldable pub not_signed_in_body : Browse → List ℕ
 not_signed_in_body settings = bare settings (status_title 401) (notice 401 [])
 
 -- 404
-unfoldable pub not_found_body : Renders → Browse → View → List ℕ
-not_found_body render settings view =
-    shell render settings view (status_title 404) None
+unfoldable pub not_found_body : Renders → Browse → Offers → View → List ℕ
+not_found_body render settings offers view =
+    shell render settings offers view (status_title 404) None
     (notice 404 (codes "<p>" ++ link (codes "/contents") (codes "Contents") ++ codes "</p>\n")) []
 
 -- 400, 403, 405 and 507
-unfoldable pub refused_body : Renders → Browse → View → ℕ → List ℕ
-refused_body render settings view code = shell render settings view (status_title code) None (notice code []) []
+unfoldable pub refused_body : Renders → Browse → Offers → View → ℕ → List ℕ
+refused_body render settings offers view code = shell render settings offers view (status_title code) None (notice code []) []

@@ -3,11 +3,8 @@ use Rattle.std.specs.Prelude.{ℕ, List, [], ◌∷◌, ◌++◌, length, map as
 use Rattle.std.specs.List.{list_any, starts_with}
 use Rattle.doc_words_search.specs.Words.{different, words_of}
 use Rattle.doc_people.specs.Limits.{prefix_least}
-
--- a term stands for one word, or for all that begin with it
-pub data Term : Type 0 where
-  Exact : List ℕ → Term
-  Prefix : List ℕ → Term
+use Rattle.doc_people.specs.declared.term.Term.{Term}
+use Rattle.doc_people.specs.declared.term.Term.TheVariants.{Exact, Prefix}
 
 -- a term meets a word that it stands for
 abbrev pub meets : Term → List ℕ → Bool

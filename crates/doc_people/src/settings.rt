@@ -2,6 +2,7 @@
 
 use doc_page_parts::path::Path;
 use doc_page_parts::text::Text;
+use doc_store_readers::groups::Groups;
 
 /// What whoever runs the site says of the pages for people.
 #[derive(Drop)]
@@ -12,4 +13,15 @@ pub struct Browse {
     pub language: Text,
     /// The path of the page at the front, which need not stand.
     pub home: Path,
+    /// The groups of those who come without signing in. Without them nobody is a guest; guests of no group see no page.
+    pub guest: Option<Groups>,
+    /// Whether readers may sign in as browsers do (RFC 7617).
+    pub login: bool,
+}
+
+/// What the pages offer whoever asks, beside what they show.
+#[derive(Clone, Copy)]
+pub struct Offers {
+    /// A link to sign in.
+    pub sign_in: bool,
 }
