@@ -19,6 +19,15 @@ pub struct Browse {
     pub login: bool,
 }
 
+/// What is set for a server that runs. No event changes it.
+#[derive(Drop)]
+pub struct Settings {
+    /// Whether connections are kept after a reply.
+    pub keep_alive: bool,
+    /// The pages for people, where there are some.
+    pub browse: Option<Browse>,
+}
+
 /// What the pages offer whoever asks, beside what they show.
 #[derive(Clone, Copy)]
 pub struct Offers {

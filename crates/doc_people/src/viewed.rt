@@ -68,7 +68,12 @@ pub trait Viewed {
             (filter (λ key. is_before key before.now) (keys (view self.now) folder.now))) };
 
     /// The other pages that link to a page that is seen, from a text on, in order, each with the number of its links: the first so many.
-    fn sources_from(&self, path: &Path, from: &str, most: usize) -> Result<List<(Path, u64)>, Memory>
+    fn sources_from(
+        &self,
+        path: &Path,
+        from: &str,
+        most: usize,
+    ) -> Result<List<(Path, u64)>, Memory>
         ensures { (page : Page) → page_at (view self.now).pages path.now ≡ Some page
             → IfOk result (λ found. found ≡ take most
             (sources_from (render self.now) (view self.now) path.now from.now)) };
