@@ -41,6 +41,10 @@ pub trait Viewed {
     fn sees(&self, path: &str) -> Result<bool, Memory>
         ensures { IfOk result (λ seen. seen ≡ sees (view self.now) path.now) };
 
+    /// The path of the page that a path leads to, where one is seen there.
+    fn goal(&self, path: &Path) -> Result<Option<Path>, Memory>
+        ensures { IfOk result (λ goal. goal ≡ goal_in (view self.now) path.now) };
+
     /// The headings of the page at a path, where one is seen there.
     fn headings(&self, path: &str) -> Result<Option<&[Heading]>, Memory>
         ensures { IfOk result (λ headings. option_copied headings ≡ option_map
