@@ -7,15 +7,17 @@ use Rattle.doc_http_bodies.specs.Framings.{framing_of, body_limit}
 use Rattle.doc_http_bodies.specs.Readings.{encoded_limit, reading_of}
 use Rattle.doc_http.specs.declared.head.HeadSpan.TheVariants.{Unfinished, At}
 use Rattle.doc_http.specs.declared.request.Next.TheVariants as next
+use Rattle.doc_http.specs.Accepts.{names_html}
 use Rattle.doc_http.specs.Bearers.{bearer_in}
 use Rattle.doc_http.specs.Fields.{lists_close}
 use Rattle.doc_http.specs.Heads.{head_limit, head_span_of, has_bare_line_feed}
 use Rattle.doc_http.specs.Requests.{next_behind, request_of}
+use Rattle.doc_page_parts.specs.Lines.{stripped}
 use Rattle.doc_page_parts.specs.Tokens.{is_token}
 
 -- one name to unfold where an example computes
 unfoldable computing : Unit {0}
-unfolding trim_ows head_limit head_span_of next_behind framing_of body_limit encoded_limit extent_in data_in reading_of is_token
+unfolding names_html stripped trim_ows head_limit head_span_of next_behind framing_of body_limit encoded_limit extent_in data_in reading_of is_token
 computing = tt
 
 -- ---- heads
@@ -66,6 +68,7 @@ a_request : request_of (codes "GET /page/a.md HTTP/1.1\r\nHost: docs\r\nAuthoriz
       target = codes "/page/a.md";
       authorization = Some (codes "Bearer tok-ann");
       close = false;
+      html = false;
       body = [];
     })
 unfolding computing
@@ -87,6 +90,7 @@ a_request_and_more : request_of (codes "GET /page/a.md HTTP/1.1\r\nHost: docs\r\
       target = codes "/page/a.md";
       authorization = Some (codes "Bearer tok-ann");
       close = false;
+      html = false;
       body = [];
     })
 unfolding computing
@@ -102,7 +106,7 @@ without_authorization : request_of (codes "GET /page/a.md HTTP/1.1\r\nHost: docs
       fields = record { name = codes "Host"; raw = codes " docs"; end = crlf } ∷ [];
       last = crlf;
     }))
-    ≡ next.Request 39 (record { method = codes "GET"; target = codes "/page/a.md"; authorization = None; close = false; body = [] })
+    ≡ next.Request 39 (record { method = codes "GET"; target = codes "/page/a.md"; authorization = None; close = false; html = false; body = [] })
 unfolding computing
 without_authorization = refl
 
@@ -164,6 +168,7 @@ the_older_version : request_of (codes "GET /page/a.md HTTP/1.0\r\nAuthorization:
       target = codes "/page/a.md";
       authorization = Some (codes "Bearer tok-ann");
       close = true;
+      html = false;
       body = [];
     })
 unfolding computing
@@ -180,9 +185,41 @@ close_asked : request_of (codes "GET / HTTP/1.1\r\nHost: docs\r\nCONNECTION: kee
           record { name = codes "CONNECTION"; raw = codes " keep-alive,\tClose "; end = crlf } ∷ [];
       last = crlf;
     }))
-    ≡ next.Request 62 (record { method = codes "GET"; target = codes "/"; authorization = None; close = true; body = [] })
+    ≡ next.Request 62 (record { method = codes "GET"; target = codes "/"; authorization = None; close = true; html = false; body = [] })
 unfolding computing
 close_asked = refl
+
+html_asked : request_of (codes "GET / HTTP/1.1\r\nHost: docs\r\nACCEPT: */*\r\nAccept: text/plain;q=1,\tTEXT/html ;q=0\r\n\r\n")
+    (Some (record {
+      blank = [];
+      method = codes "GET";
+      target = codes "/";
+      minor = 1;
+      line_end = crlf;
+      fields = record { name = codes "Host"; raw = codes " docs"; end = crlf } ∷
+          record { name = codes "ACCEPT"; raw = codes " */*"; end = crlf } ∷
+          record { name = codes "Accept"; raw = codes " text/plain;q=1,\tTEXT/html ;q=0"; end = crlf } ∷ [];
+      last = crlf;
+    }))
+    ≡ next.Request 83 (record { method = codes "GET"; target = codes "/"; authorization = None; close = false; html = true; body = [] })
+unfolding computing
+html_asked = refl
+
+html_in_another_field : request_of (codes "GET / HTTP/1.1\r\nHost: docs\r\nAccept: */*\r\nContent-Type: text/html\r\n\r\n")
+    (Some (record {
+      blank = [];
+      method = codes "GET";
+      target = codes "/";
+      minor = 1;
+      line_end = crlf;
+      fields = record { name = codes "Host"; raw = codes " docs"; end = crlf } ∷
+          record { name = codes "Accept"; raw = codes " */*"; end = crlf } ∷
+          record { name = codes "Content-Type"; raw = codes " text/html"; end = crlf } ∷ [];
+      last = crlf;
+    }))
+    ≡ next.Request 68 (record { method = codes "GET"; target = codes "/"; authorization = None; close = false; html = false; body = [] })
+unfolding computing
+html_in_another_field = refl
 
 a_length : request_of (codes "PUT /page/a.md HTTP/1.1\r\nHost: docs\r\nContent-Length: 1\r\n\r\nxGET")
     (Some (record {
@@ -195,7 +232,7 @@ a_length : request_of (codes "PUT /page/a.md HTTP/1.1\r\nHost: docs\r\nContent-L
           record { name = codes "Content-Length"; raw = codes " 1"; end = crlf } ∷ [];
       last = crlf;
     }))
-    ≡ next.Request 59 (record { method = codes "PUT"; target = codes "/page/a.md"; authorization = None; close = false; body = codes "x" })
+    ≡ next.Request 59 (record { method = codes "PUT"; target = codes "/page/a.md"; authorization = None; close = false; html = false; body = codes "x" })
 unfolding computing
 a_length = refl
 
@@ -266,7 +303,7 @@ chunks : request_of (codes "PUT /page/a.md HTTP/1.1\r\nHost: docs\r\nTransfer-En
           record { name = codes "Transfer-Encoding"; raw = codes " Chunked"; end = crlf } ∷ [];
       last = crlf;
     }))
-    ≡ next.Request 84 (record { method = codes "PUT"; target = codes "/page/a.md"; authorization = None; close = false; body = codes "hi" })
+    ≡ next.Request 84 (record { method = codes "PUT"; target = codes "/page/a.md"; authorization = None; close = false; html = false; body = codes "hi" })
 unfolding computing
 chunks = refl
 
@@ -390,6 +427,23 @@ no_head = refl
 no_end : request_of (codes "GET / HTTP/1.1\r\n") None ≡ next.More
 unfolding computing
 no_end = refl
+
+-- ---- Accept fields
+
+accepts :
+    (names_html (codes "text/html" ∷ []) ≡ true)
+    × (names_html (codes "text/html;q=0" ∷ []) ≡ true)
+    × (names_html (codes "text/plain, \tTEXT/Html ;q=0.9,*/*" ∷ []) ≡ true)
+    × (names_html (codes "text/plain" ∷ codes "text/html" ∷ []) ≡ true)
+    × (names_html (codes "*/*" ∷ []) ≡ false)
+    × (names_html (codes "text/*" ∷ []) ≡ false)
+    × (names_html (codes "text/htmlx" ∷ []) ≡ false)
+    × (names_html (codes "text/plain;text/html" ∷ []) ≡ false)
+    × (names_html (codes "text / html" ∷ []) ≡ false)
+    × (names_html ([] ∷ []) ≡ false)
+    × (names_html [] ≡ false)
+unfolding computing
+accepts = (refl, refl, refl, refl, refl, refl, refl, refl, refl, refl, refl)
 
 -- ---- tokens
 

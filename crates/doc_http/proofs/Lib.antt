@@ -2,6 +2,8 @@ mod Examples
 pub mod FaultLemmas
 mod HeadLemmas
 pub mod LawLemmas
+mod PasswordExamples
+pub mod PasswordLemmas
 mod ProgressLemmas
 mod ReadLemmas
 mod SkipLemmas

@@ -6,6 +6,7 @@ use Rattle.std.proofs.lemmas.List.{reverse-append, reverse-reverse, length-rever
 use Rattle.std.proofs.lemmas.List.Sums.{prefix_len-le-length}
 use Rattle.std.specs.List.{prefix_len}
 use Rattle.httparse.specs.Grammar.{is_ows, skip_ows, trim_ows}
+use Rattle.doc_page_parts.specs.Lines.{stripped}
 
 skip_ows_is : (bytes : List ℕ) → drop (prefix_len is_ows bytes) bytes ≡ skip_ows bytes
 skip_ows_is [] = refl
@@ -38,3 +39,8 @@ trimmed bytes =
     (arith, prefix_len-le-length is_ows (reverse front), length-reverse front) in
     sym (without_last front (prefix_len is_ows (reverse front)) within) ∙ ap reverse (skip_ows_is (reverse front))
     ∙ ap (λ t. reverse (skip_ows (reverse t))) (skip_ows_is bytes)
+
+-- white space of fields is that of lines
+pub trimmed_is_stripped : (bytes : List ℕ) → trim_ows bytes ≡ stripped bytes
+unfolding stripped
+trimmed_is_stripped bytes = sym (trimmed bytes)

@@ -1,8 +1,12 @@
--- Laws of requests.
-use Rattle.std.specs.Prelude.{IsTrue, Bool, ◌≡◌, ℕ, ◌≤◌, List, [], ◌++◌, length}
+-- Laws of requests, and of the tokens that they carry.
+use Rattle.std.specs.Prelude.{IsTrue, Bool, false, ◌≡◌, ℕ, ◌≤◌, List, [], ◌++◌, length, Option, Some}
+use Rattle.base64.specs.Engines.{standard}
+use Rattle.base64.specs.GeneralPurpose.{IsBytes, decoded_of}
 use Rattle.doc_http.specs.declared.request.Request.{Request}
 use Rattle.doc_http.specs.declared.request.Next.{Next}
 use Rattle.doc_http.specs.declared.request.Next.TheVariants as next
+use Rattle.doc_http.specs.Bearers.{bearer_in, bearer_of}
+use Rattle.doc_http.specs.Passwords.{token_asking, token_in}
 use Rattle.doc_http.specs.Requests.{IsNext}
 use Rattle.doc_http_replies.specs.Replies.{is_fault_code}
 
@@ -29,3 +33,16 @@ EmptyIsUndecided = (a : Next) → IsNext [] a → a ≡ next.More
 -- a fault has one of these codes
 abbrev pub FaultsHaveCodes : Type 0
 FaultsHaveCodes = (bytes : List ℕ) (code : ℕ) (bare : Bool) → IsNext bytes (next.Fault code bare) → IsTrue (is_fault_code code)
+
+-- two texts of the same login's bytes are equal
+abbrev pub HasOneSpelling : Type 0
+HasOneSpelling =
+    (a b bytes : List ℕ) → IsBytes a → IsBytes b → decoded_of standard a ≡ Some bytes → decoded_of standard b ≡ Some bytes → a ≡ b
+
+-- where a value has a bearer's token, it is the value's token, with logins and without them
+abbrev pub BearerStays : Type 0
+BearerStays = (login : Bool) (value : Option (List ℕ)) (token : List ℕ) → bearer_in value ≡ Some token → token_in login value ≡ Some token
+
+-- without logins a request's token is its bearer's token
+abbrev pub BearersAreAlone : Type 0
+BearersAreAlone = (request : Request) → token_asking false request ≡ bearer_of request

@@ -1,8 +1,10 @@
+pub mod Accepts
 pub mod Bearers
 pub mod BuildingSteps
 pub mod Fields
 pub mod Heads
 pub mod KnowledgeSteps
 pub mod Laws
+pub mod Passwords
 pub mod ProgressSteps
 pub mod Requests

@@ -7,7 +7,7 @@ use Rattle.doc_http_bodies.specs.declared.framing.Framing.{Framing}
 use Rattle.doc_http_bodies.specs.declared.reader.Reading.{Reading}
 use Rattle.doc_http_bodies.specs.declared.reader.Reading.TheVariants.{More, Fault, Whole}
 use Rattle.doc_http_bodies.specs.Faults.{code_of}
-use Rattle.doc_http_bodies.specs.Fields.{Fields}
+use Rattle.doc_http_bodies.specs.Fields.{Fields, values_named}
 use Rattle.doc_http_bodies.specs.Framings.{framing_of}
 use Rattle.doc_http_bodies.specs.Readings.{reading_of}
 use Rattle.doc_http.specs.declared.head.HeadSpan.{HeadSpan}
@@ -15,6 +15,7 @@ use Rattle.doc_http.specs.declared.head.HeadSpan.TheVariants.{Unfinished, TooLon
 use Rattle.doc_http.specs.declared.request.Request.{Request}
 use Rattle.doc_http.specs.declared.request.Next.{Next}
 use Rattle.doc_http.specs.declared.request.Next.TheVariants as next
+use Rattle.doc_http.specs.Accepts.{names_html}
 use Rattle.doc_http.specs.Fields.{fields_of, value_named, has_good_counts, asks_close}
 use Rattle.doc_http.specs.Heads.{head_span_of, IsRead, has_bare_line_feed}
 
@@ -29,6 +30,7 @@ request_with method target minor fields body = record {
   target = target;
   authorization = value_named (codes "authorization") fields;
   close = asks_close minor fields;
+  html = names_html (values_named (codes "accept") fields);
   body = body;
 }
 

@@ -53,7 +53,7 @@ fn is_bearer(scheme: &[u8]) -> bool
 }
 
 /// A token as text.
-fn text_of(token: &[u8]) -> &str
+pub(crate) fn text_of(token: &[u8]) -> &str
     requires { IsTrue (token_test token.now) }
     ensures { result.now ≡ token.now }
 {
@@ -64,14 +64,14 @@ fn text_of(token: &[u8]) -> &str
 }
 
 /// The place of the first space.
-fn first_space(bytes: &[u8]) -> Option<usize>
+pub(crate) fn first_space(bytes: &[u8]) -> Option<usize>
     ensures { result ≡ position (λ b. b == 32) bytes.now }
 {
     bytes.iter().position(|byte| *byte == b' ')
 }
 
 /// The bytes from the first that is no space.
-fn skip_spaces(bytes: &[u8]) -> &[u8]
+pub(crate) fn skip_spaces(bytes: &[u8]) -> &[u8]
     ensures { result.now ≡ without_spaces bytes.now }
 {
     &bytes[count_spaces(bytes)..]

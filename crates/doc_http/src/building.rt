@@ -6,6 +6,7 @@ ghost use Rattle.doc_http_bodies.specs.Framings.{framing_of as framing_by};
 ghost use Rattle.doc_http.specs.Requests.{is_bare as bare_test, IsRequest};
 ghost use Rattle.doc_http.specs.BuildingSteps.{EndsWithin, request_at_spans, next_at_spans};
 
+use crate::accept::asks_html;
 use crate::fields::{asks_close, value_named};
 use crate::request::{Next, Request};
 use doc_http_bodies::fault::Fault;
@@ -102,6 +103,7 @@ fn request_of(
         target,
         authorization,
         close: asks_close(text, headers, spans.version),
+        html: asks_html(text, headers),
         body,
     })
 }

@@ -79,7 +79,7 @@ fn is_close(part: &[u8]) -> bool
 }
 
 /// The text without the spaces and tabs at both ends.
-fn trim_blanks(text: &[u8]) -> &[u8]
+pub fn trim_blanks(text: &[u8]) -> &[u8]
     ensures { result.now ≡ trim_ows text.now }
 {
     let text = &text[blanks_at_front(text)..];

@@ -1,6 +1,6 @@
-//! Laws of what unread bytes begin with. A call of one does nothing; its contract is the law.
+//! Laws of what unread bytes begin with, and of the token that a request carries. A call of one does nothing; its contract is the law.
 
-ghost use Rattle.doc_http.specs.Laws.{IsReadInOneWay, StaysDecided, IsDecidedWithin, TakesBytes, EmptyIsUndecided, FaultsHaveCodes};
+ghost use Rattle.doc_http.specs.Laws.{IsReadInOneWay, StaysDecided, IsDecidedWithin, TakesBytes, EmptyIsUndecided, FaultsHaveCodes, HasOneSpelling, BearerStays, BearersAreAlone};
 
 /// Bytes begin with one thing.
 pub fn bytes_are_read_in_one_way()
@@ -30,4 +30,19 @@ pub fn no_bytes_are_undecided()
 /// A fault has the code 400, 413, 431 or 501.
 pub fn a_fault_has_its_code()
     ensures { FaultsHaveCodes }
+{}
+
+/// The bytes of a login are written as a text in one way.
+pub fn one_spelling()
+    ensures { HasOneSpelling }
+{}
+
+/// A value that has a bearer's token has that one, also where logins are understood.
+pub fn bearer_stays()
+    ensures { BearerStays }
+{}
+
+/// Where no logins are understood, there are no tokens but those of bearers.
+pub fn bearers_are_alone_without_logins()
+    ensures { BearersAreAlone }
 {}

@@ -2,13 +2,15 @@
 //! that a request carries. Under this one name also replies and their bytes, from `doc_http_replies`.
 #![tactic(auto)]
 
+mod accept;
 pub mod bearer;
 mod building;
 mod fields;
 mod head;
 pub mod laws;
+pub mod password;
 mod progress;
 pub mod request;
 pub mod unread;
 
-pub use doc_http_replies::{reply, reply_form, status};
+pub use doc_http_replies::{manner, people_reply, reply, reply_form, status, style_sheet};

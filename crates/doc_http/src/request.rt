@@ -21,6 +21,9 @@ pub struct Request {
     /// Whether the connection ends after the reply: in HTTP/1.0, or where a Connection field lists
     /// `close` in any case (RFC 9112, section 9.3).
     pub close: bool,
+    /// Whether some Accept field has a part that names `text/html` in any case, with any parameters (RFC
+    /// 9110, section 12.5.1). `*/*` and `text/*` don't.
+    pub html: bool,
     /// Decoded: of a chunked body the data of its chunks.
     pub body: Bytes,
 }

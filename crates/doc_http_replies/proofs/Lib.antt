@@ -1,2 +1,4 @@
 mod Examples
+mod HeadExamples
+mod HeadLaws
 mod ReplyLemmas

@@ -49,3 +49,13 @@ pub content_lines_after : (reply : Reply) (start typed kind : List ℕ) (len : �
 content_lines_after reply start typed kind len other kind_is typed_is len_is =
     let test : (reply.code == 204) ≡ false = grind (arith, nat_tests) in
     rw (test, typed_is, kind_is, len_is, append_assoc) refl
+
+-- ---- texts that were written, one behind the other
+
+pub two_written : (old first second a b : List ℕ) → first ≡ old ++ a → second ≡ first ++ b → second ≡ old ++ (a ++ b)
+two_written old first second a b one two = rw (two, one, append_assoc) refl
+
+pub five_written : (old first second third fourth fifth a b c d e : List ℕ) → first ≡ old ++ a → second ≡ first ++ b → third ≡ second ++ c
+    → fourth ≡ third ++ d → fifth ≡ fourth ++ e → fifth ≡ old ++ (a ++ b ++ c ++ (d ++ e))
+five_written old first second third fourth fifth a b c d e one two three four five =
+    five ∙ ap (λ t. t ++ e) (four ∙ ap (λ t. t ++ d) (three ∙ ap (λ t. t ++ c) (two ∙ ap (λ t. t ++ b) one))) ∙ simp append_assoc

@@ -1,6 +1,7 @@
 -- Replies as bytes.
 use Rattle.std.specs.Prelude.{ℕ, ◌==◌, ◌&&◌, ◌||◌, not, Bool, List, [], ◌∷◌, ◌++◌, Option, Some, None, length, codes, decimal, if◌then◌else◌}
 use Rattle.std.specs.List.{list_any}
+use Rattle.doc_http_replies.specs.Challenges.{bearer_challenge}
 use Rattle.doc_http_replies.specs.declared.reply.Reply.{Reply}
 use Rattle.doc_http_replies.specs.declared.reply.Allow.{Allow}
 use Rattle.doc_http_replies.specs.declared.reply.Allow.TheVariants.{Page, Read}
@@ -66,9 +67,9 @@ abbrev pub allow_line : Option Allow → List ℕ
 allow_line None = []
 allow_line (Some allow) = field_line (codes "Allow") (allowed_methods allow)
 
--- how to ask again after 401 (RFC 9110, section 11.6.1; RFC 6750, section 3); the realm is this project's choice
+-- how to ask again after 401 (RFC 9110, section 11.6.1)
 abbrev pub challenge_line : ℕ → List ℕ
-challenge_line code = where_true (code == 401) (field_line (codes "WWW-Authenticate") (codes "Bearer realm=\"docs\""))
+challenge_line code = where_true (code == 401) (field_line (codes "WWW-Authenticate") bearer_challenge)
 
 -- that no further request is read (RFC 9112, section 9.6)
 abbrev pub close_line : Bool → List ℕ

@@ -4,7 +4,10 @@ ghost use Rattle.std.specs.Prelude.{◌≡◌, ◌≢◌, ◌==◌, [], false, i
 ghost use Rattle.doc_http_replies.specs.Replies.{reply_bytes, is_reply_code, allowed_methods};
 ghost use Rattle.doc_http_replies.specs.ReplyForms.{content_reply};
 ghost use Rattle.doc_http_replies.specs.ReplySteps.{reply_with};
+ghost use Rattle.doc_http_replies.specs.Heads.{dressed_bytes};
+ghost use Rattle.doc_http_replies.specs.Manners.{dress_of};
 
+use crate::manner::Manner;
 use crate::reply_parts::ReplyParts;
 use doc_page_parts::bytes::Bytes;
 use doc_page_parts::failure::Memory;
@@ -47,7 +50,7 @@ impl Reply {
         requires content { self.now.code ≢ 200 → (self.now.body ≡ []) × (self.now.html ≡ false) }
         ensures { IfOk result (λ bytes. bytes ≡ reply_bytes self.now head_only close) }
     {
-        self.parts().write(heap, head_only, close)
+        self.parts().write(heap, Manner::plain(head_only, close))
     }
 
     /// The parts, borrowed.
@@ -79,16 +82,15 @@ impl Allow {
     }
 }
 
-/// The bytes of a reply of status 200 round this content, which is copied once, and not at all with `head_only`.
+/// The bytes of a reply of status 200 round this content, which is copied once, and not at all where the manner is the head alone.
 pub fn write_content(
     heap: Heap,
     html: bool,
     content: &[u8],
-    head_only: bool,
-    close: bool,
+    manner: Manner,
 ) -> Result<Bytes, Memory>
-    ensures { IfOk result
-        (λ bytes. bytes ≡ reply_bytes (content_reply html content.now) head_only close) }
+    ensures { IfOk result (λ bytes. bytes ≡ dressed_bytes (dress_of manner.entry)
+        (content_reply html content.now) manner.entry.head_only manner.entry.close) }
 {
-    ReplyParts::of_content(html, content).write(heap, head_only, close)
+    ReplyParts::of_content(html, content).write(heap, manner)
 }

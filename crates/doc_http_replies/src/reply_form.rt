@@ -1,10 +1,13 @@
 //! Replies without a body of their own, by the forms that they have, each of which can be written.
 
 ghost use Rattle.std.specs.Prelude.{◌≡◌, IsTrue, IfOk};
-ghost use Rattle.doc_http_replies.specs.Replies.{reply_bytes, is_reply_code};
+ghost use Rattle.doc_http_replies.specs.Heads.{dressed_bytes};
+ghost use Rattle.doc_http_replies.specs.Manners.{dress_of};
+ghost use Rattle.doc_http_replies.specs.Replies.{is_reply_code};
 ghost use Rattle.doc_http_replies.specs.ReplyForms.{reply_of};
 ghost use Rattle.doc_http_replies.specs.ReplySteps.{reply_with};
 
+use crate::manner::Manner;
 use crate::reply::Allow;
 use crate::reply_parts::ReplyParts;
 use crate::status::Status;
@@ -25,11 +28,12 @@ pub enum ReplyForm {
 }
 
 impl ReplyForm {
-    /// The bytes of the reply, as `Reply::write` has them.
-    pub fn write(&self, heap: Heap, head_only: bool, close: bool) -> Result<Bytes, Memory>
-        ensures { IfOk result (λ bytes. bytes ≡ reply_bytes (reply_of self.now) head_only close) }
+    /// The bytes of the reply, as `Reply::write` has them, with what the manner adds.
+    pub fn write(&self, heap: Heap, manner: Manner) -> Result<Bytes, Memory>
+        ensures { IfOk result (λ bytes. bytes ≡ dressed_bytes (dress_of manner.entry)
+            (reply_of self.now) manner.entry.head_only manner.entry.close) }
     {
-        self.parts().write(heap, head_only, close)
+        self.parts().write(heap, manner)
     }
 
     /// The reply's parts, borrowed.

@@ -1,18 +1,23 @@
 //! A reply whose parts are borrowed, as bytes.
 
-ghost use Rattle.std.specs.Prelude.{◌≡◌, ◌++◌, length, IsTrue, IfOk, OnOk, string_bytes, codes, decimal, option_copied};
-ghost use Rattle.doc_http_replies.specs.Replies.{reply_bytes, reply_head, is_reply_code, reason_of, status_of, content_of, content_lines, field_lines, field_line, location_line, allow_line, challenge_line, close_line, content_type as type_of};
+ghost use Rattle.std.specs.Prelude.{◌≡◌, ◌++◌, length, IsTrue, IfOk, OnOk, string_bytes, option_copied};
+ghost use Rattle.doc_http_replies.specs.Heads.{dressed_bytes, dressed_head, dressed_lines, is_html};
+ghost use Rattle.doc_http_replies.specs.Manners.{dress_of};
+ghost use Rattle.doc_http_replies.specs.Replies.{is_reply_code, content_of, content_lines, allow_line, content_type as type_of};
 ghost use Rattle.doc_http_replies.specs.ReplyForms.{content_reply, plain_reply};
 ghost use Rattle.doc_http_replies.specs.ReplySteps.{reply_with};
 
+use crate::challenges::{challenge_room, push_challenges};
+use crate::ending::with_content;
+use crate::lines::{
+    GUARD_ROOM, HEAD_ROOM, PRIVATE_ROOM, push_close, push_field, push_guards, push_length,
+    push_location, push_status, push_status_line, reason,
+};
+use crate::manner::Manner;
 use crate::reply::Allow;
 use doc_page_parts::bytes::Bytes;
 use doc_page_parts::failure::Memory;
 use doc_page_parts::heap::{Heap, String};
-use std::fmt::Write;
-
-/// Room for the head of a reply, and for a content of one line.
-const HEAD_ROOM: usize = 256;
 
 /// The bytes of a line of content round the reason: three digits, a space and a line feed.
 const CODE_ROOM: usize = 5;
@@ -56,16 +61,16 @@ impl<'a> ReplyParts<'a> {
         }
     }
 
-    /// The bytes of the reply, as `Reply::write` has them.
-    #[tactic(auto, unfolding(crate::specs::Replies::reply_bytes))]
-    pub fn write(&self, heap: Heap, head_only: bool, close: bool) -> Result<Bytes, Memory>
+    /// The bytes of the reply, as `Reply::write` has them, with what the manner adds.
+    #[tactic(auto, unfolding(crate::specs::Heads::dressed_bytes))]
+    pub fn write(&self, heap: Heap, manner: Manner) -> Result<Bytes, Memory>
         requires { IsTrue (is_reply_code self.now.code) }
-        ensures { IfOk result
-            (λ bytes. bytes ≡ reply_bytes (reply_with self.now) head_only close) }
+        ensures { IfOk result (λ bytes. bytes ≡ dressed_bytes (dress_of manner.entry)
+            (reply_with self.now) manner.entry.head_only manner.entry.close) }
     {
-        let mut out = String::with_capacity(heap, self.room(head_only))?;
-        self.push_head(&mut out, close)?;
-        if head_only || self.code == 204 {
+        let mut out = String::with_capacity(heap, self.room(manner))?;
+        self.push_head(&mut out, manner)?;
+        if manner.head_only || self.code == 204 {
             return Ok(Bytes::new(out.into_bytes()));
         }
         if self.code != 200 {
@@ -73,46 +78,62 @@ impl<'a> ReplyParts<'a> {
             out.push_str("\n")?;
             return Ok(Bytes::new(out.into_bytes()));
         }
-        let mut out = out.into_bytes();
-        out.extend_from_slice(self.body)?;
-        Ok(Bytes::new(out))
+        with_content(out, self.body, false)
     }
 
     /// Room for the reply, for which no growth is needed as it is written.
-    fn room(&self, head_only: bool) -> usize {
-        let content = if head_only { 0 } else { self.body.len() };
+    fn room(&self, manner: Manner) -> usize {
+        let content = if manner.head_only { 0 } else { self.body.len() };
         let location = self.location.map_or(0, |location| location.len());
-        HEAD_ROOM.saturating_add(location).saturating_add(content)
+        HEAD_ROOM
+            .saturating_add(location)
+            .saturating_add(challenge_room(self.code, manner.realm))
+            .saturating_add(self.guard_room(manner))
+            .saturating_add(content)
+    }
+
+    fn guard_room(&self, manner: Manner) -> usize {
+        if manner.guarded && self.is_html() {
+            GUARD_ROOM
+        } else if manner.private {
+            PRIVATE_ROOM
+        } else {
+            0
+        }
+    }
+
+    /// Whether the reply is a page of HTML.
+    fn is_html(&self) -> bool
+        ensures { result ≡ is_html (reply_with self.now) }
+    {
+        self.code == 200 && self.html
     }
 
     /// Adds the head, with the empty line that ends it.
-    #[tactic(auto, unfolding(crate::specs::Replies::reply_head))]
-    fn push_head(&self, out: &mut String, close: bool) -> Result<(), Memory>
+    #[tactic(auto, unfolding(crate::specs::Heads::dressed_head))]
+    fn push_head(&self, out: &mut String, manner: Manner) -> Result<(), Memory>
         requires { IsTrue (is_reply_code self.now.code) }
-        ensures { OnOk result
-            (string_bytes out.new
-            ≡ string_bytes out.old ++ reply_head (reply_with self.now) close) }
+        ensures { OnOk result (string_bytes out.new ≡ string_bytes out.old
+            ++ dressed_head (dress_of manner.entry) (reply_with self.now) manner.entry.close) }
     {
-        out.push_str("HTTP/1.1 ")?;
-        push_status(out, self.code)?;
-        out.push_str("\r\n")?;
-        self.push_field_lines(out, close)?;
+        push_status_line(out, self.code)?;
+        self.push_field_lines(out, manner)?;
         out.push_str("\r\n")?;
         Ok(())
     }
 
     /// Adds the field lines.
-    fn push_field_lines(&self, out: &mut String, close: bool) -> Result<(), Memory>
+    fn push_field_lines(&self, out: &mut String, manner: Manner) -> Result<(), Memory>
         requires { IsTrue (is_reply_code self.now.code) }
-        ensures { OnOk result
-            (string_bytes out.new
-            ≡ string_bytes out.old ++ field_lines (reply_with self.now) close) }
+        ensures { OnOk result (string_bytes out.new ≡ string_bytes out.old
+            ++ dressed_lines (dress_of manner.entry) (reply_with self.now) manner.entry.close) }
     {
         self.push_content_lines(out)?;
         push_location(out, self.location)?;
         push_allow(out, self.allow)?;
-        push_challenge(out, self.code)?;
-        push_close(out, close)
+        push_challenges(out, self.code, manner.realm)?;
+        push_guards(out, manner.guarded && self.is_html(), manner.private)?;
+        push_close(out, manner.close)
     }
 
     /// Adds what says of the content its type and its length.
@@ -141,50 +162,6 @@ impl<'a> ReplyParts<'a> {
     }
 }
 
-/// Adds a field line.
-#[tactic(auto, unfolding(crate::specs::Replies::field_line))]
-fn push_field(out: &mut String, name: &str, value: &str) -> Result<(), Memory>
-    ensures { OnOk result
-        (string_bytes out.new ≡ string_bytes out.old ++ field_line name.now value.now) }
-{
-    out.push_str(name)?;
-    out.push_str(": ")?;
-    out.push_str(value)?;
-    out.push_str("\r\n")?;
-    Ok(())
-}
-
-/// Adds the length of the content.
-#[tactic(auto, unfolding(crate::specs::Replies::field_line))]
-fn push_length(out: &mut String, len: usize) -> Result<(), Memory>
-    ensures { OnOk result
-        (string_bytes out.new
-        ≡ string_bytes out.old ++ field_line (codes "Content-Length") (decimal len)) }
-{
-    write!(out, "Content-Length: {}\r\n", len)?;
-    Ok(())
-}
-
-/// Adds the code and its reason.
-fn push_status(out: &mut String, code: u16) -> Result<(), Memory>
-    ensures { OnOk result (string_bytes out.new ≡ string_bytes out.old ++ status_of code) }
-{
-    write!(out, "{} {}", code, reason(code))?;
-    Ok(())
-}
-
-/// Adds where the resource is.
-fn push_location(out: &mut String, location: Option<&str>) -> Result<(), Memory>
-    ensures { OnOk result
-        (string_bytes out.new
-        ≡ string_bytes out.old ++ location_line (option_copied location.entry)) }
-{
-    match location {
-        Some(location) => push_field(out, "Location", location),
-        None => Ok(()),
-    }
-}
-
 /// Adds the methods that the resource has.
 fn push_allow(out: &mut String, allow: Option<Allow>) -> Result<(), Memory>
     ensures { OnOk result (string_bytes out.new ≡ string_bytes out.old ++ allow_line allow) }
@@ -192,28 +169,6 @@ fn push_allow(out: &mut String, allow: Option<Allow>) -> Result<(), Memory>
     match allow {
         Some(allow) => push_field(out, "Allow", allow.methods()),
         None => Ok(()),
-    }
-}
-
-/// Adds how to ask again, with 401.
-fn push_challenge(out: &mut String, code: u16) -> Result<(), Memory>
-    ensures { OnOk result (string_bytes out.new ≡ string_bytes out.old ++ challenge_line code) }
-{
-    if code == 401 {
-        push_field(out, "WWW-Authenticate", "Bearer realm=\"docs\"")
-    } else {
-        Ok(())
-    }
-}
-
-/// Adds that no further request is read.
-fn push_close(out: &mut String, close: bool) -> Result<(), Memory>
-    ensures { OnOk result (string_bytes out.new ≡ string_bytes out.old ++ close_line close) }
-{
-    if close {
-        push_field(out, "Connection", "close")
-    } else {
-        Ok(())
     }
 }
 
@@ -225,28 +180,5 @@ fn content_type(html: bool) -> &'static str
         "text/html; charset=utf-8"
     } else {
         "text/plain; charset=utf-8"
-    }
-}
-
-/// The reason phrase of a code; empty where a reply has not the code.
-#[tactic(auto, unfolding(crate::specs::Replies::reason_of))]
-fn reason(code: u16) -> &'static str
-    ensures { result.now ≡ reason_of code }
-{
-    match code {
-        200 => "OK",
-        201 => "Created",
-        204 => "No Content",
-        301 => "Moved Permanently",
-        400 => "Bad Request",
-        401 => "Unauthorized",
-        403 => "Forbidden",
-        404 => "Not Found",
-        405 => "Method Not Allowed",
-        413 => "Content Too Large",
-        431 => "Request Header Fields Too Large",
-        501 => "Not Implemented",
-        507 => "Insufficient Storage",
-        _ => "",
     }
 }

@@ -1,3 +1,4 @@
+mod FolderSteps
 mod OriginParts
 mod Routing
 mod TargetExamples

@@ -2,7 +2,9 @@
 #![tactic(auto)]
 
 mod origin_form;
+pub mod people_route;
 pub mod query;
 pub mod route;
 pub mod routes;
+pub mod written_folder;
 pub mod written_path;

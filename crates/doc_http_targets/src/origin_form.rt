@@ -38,7 +38,7 @@ pub fn after_slash(text: &str) -> Option<&str>
     Some(rest)
 }
 
-fn if_rooted(text: &str) -> Option<&str>
+pub fn if_rooted(text: &str) -> Option<&str>
     ensures { option_copied result ≡ if_rooted text.now }
 {
     if text.starts_with('/') {
@@ -49,7 +49,7 @@ fn if_rooted(text: &str) -> Option<&str>
 }
 
 /// What follows `http://`, which is read without case.
-fn after_http(target: &str) -> Option<&str>
+pub fn after_http(target: &str) -> Option<&str>
     ensures { option_copied result ≡ after_http target.now }
 {
     let scheme = target.get(..HTTP.len())?;
@@ -61,7 +61,7 @@ fn after_http(target: &str) -> Option<&str>
 }
 
 /// What follows the authority that the text begins with.
-fn after_authority(text: &str) -> &str
+pub fn after_authority(text: &str) -> &str
     ensures { result.now ≡ after_authority text.now }
 {
     let end = text

@@ -1,8 +1,8 @@
 use Rattle.std.proofs.Common.{rules}
 use Rattle.std.proofs.lemmas.List.{append_assoc}
-use Rattle.doc_http_replies.specs.Replies.{reply_head}
+use Rattle.doc_http_replies.specs.Heads.{dressed_head}
 use Rattle.doc_http_replies.proofs.reply_parts.ReplyParts.push_head.Goals as goal
 
 pub returns : goal.returns
-unfolding reply_head
+unfolding dressed_head
 returns c = search (rules, append_assoc)
