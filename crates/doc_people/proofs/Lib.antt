@@ -17,3 +17,4 @@ pub mod InertLaws
 pub mod KeyLaws
 pub mod CountLaws
 pub mod WrittenLaws
+pub mod GroupLaws

@@ -6,7 +6,7 @@ use Rattle.doc_page_parts.specs.declared.rendered.Heading.{Heading}
 use Rattle.doc_page_parts.specs.declared.rendered.Piece.{Piece}
 use Rattle.doc_page_parts.specs.declared.rendered.Piece.TheVariants.{Link}
 use Rattle.doc_store_readers.specs.Sites.{View}
-use Rattle.doc_people.specs.BrokenLinks.{broken_from, broken_main}
+use Rattle.doc_people.specs.BrokenLinks.{broken_from, broken_main, by_source}
 use Rattle.doc_people.specs.Lists.{backlinks_main, contents_from, contents_main, pager, sources_from}
 use Rattle.doc_people.specs.Pages.{heading_line, linked_from, listed_headings, on_this_page, source_item}
 use Rattle.doc_people.specs.Sources.{broken_links, sources_of}
@@ -147,7 +147,7 @@ linking text = record {
 abbrev linked_pages : View
 linked_pages = view_of_paths (codes "b.md" ∷ [])
 
-reasons : broken_main linking linked_pages [] (broken_links linking linked_pages) (broken_from [] (broken_links linking linked_pages))
+reasons : broken_main linking linked_pages [] (by_source (broken_from [] (broken_links linking linked_pages)))
     ≡ codes "<h1>Broken links</h1>\n<p>A page that you may not read counts as none.</p>\n<table class=\"broken\">\n<thead>\n"
     ++ codes "<tr><th scope=\"col\">Link</th><th scope=\"col\">Leads to</th><th scope=\"col\">What is wrong</th></tr>\n</thead>\n"
     ++ codes "<tbody>\n<tr><th colspan=\"3\" scope=\"rowgroup\"><a href=\"/page/b.md\">Top</a> <span class=\"path\">b.md</span></th></tr>\n"
@@ -157,7 +157,7 @@ reasons : broken_main linking linked_pages [] (broken_links linking linked_pages
 unfolding page_words
 reasons = refl
 
-no_broken_links : broken_main demo (view_of_paths []) [] (broken_links demo (view_of_paths [])) (broken_from [] [])
+no_broken_links : broken_main demo (view_of_paths []) [] (by_source (broken_from [] (broken_links demo (view_of_paths []))))
     ≡ codes "<h1>Broken links</h1>\n<p>A page that you may not read counts as none.</p>\n"
     ++ codes "<p>No link is broken on the pages that you may read.</p>\n"
 unfolding page_words

@@ -1,12 +1,13 @@
 -- The page for people that lists broken links, source by source. All of this is this project's choice.
-use Rattle.std.specs.Prelude.{ℕ, ◌-◌, List, [], ◌∷◌, ◌++◌, length, take, map as mapped, filter, Bool, nat_lt, bytes_eq, codes, decimal, None}
+use Rattle.std.specs.Prelude.{ℕ, ◌-◌, List, [], ◌∷◌, ◌++◌, length, take, Bool, nat_lt, bytes_eq, codes, decimal, None, option_map}
 use Rattle.std.specs.Prelude.{◌==◌, slice_get, unwrap_or, if◌then◌else◌}
-use Rattle.std.specs.List.{after_first, before_first, dedup, flat_map}
-use Rattle.percent_encoding.specs.Percent.{percent_decode}
+use Rattle.std.specs.List.{after_first, before_first, flat_map}
 use Rattle.doc_links_pages.specs.declared.answers.Broken.{Broken}
 use Rattle.doc_links_pages.specs.declared.answers.Reason.{Reason}
 use Rattle.doc_links_pages.specs.declared.answers.Reason.TheVariants as reasons
 use Rattle.doc_page_parts.specs.Escaping.{escaped}
+use Rattle.doc_page_parts.specs.Paths.{is_path}
+use Rattle.doc_resolve.specs.Links.{decoded_text}
 use Rattle.doc_store_readers.specs.Sites.{View, goal_in}
 use Rattle.doc_people.specs.Folders.{page_href, short}
 use Rattle.doc_people.specs.Limits.{link_limit, source_limit}
@@ -29,11 +30,11 @@ written_path target = before_first is_hash target
 
 -- and the anchor behind its `#`, decoded
 abbrev pub written_anchor : List ℕ → List ℕ
-written_anchor target = percent_decode (after_first is_hash target)
+written_anchor target = decoded_text (after_first is_hash target)
 
--- the page that a path leads to
+-- the page that a path leads to; a text that is no path leads to none
 abbrev pub goal_href : View → List ℕ → List ℕ
-goal_href view path = page_href (unwrap_or (goal_in view path) path)
+goal_href view path = page_href (if is_path path then unwrap_or (goal_in view path) path else path)
 
 -- U+2013, where a link writes no path
 abbrev pub dash : List ℕ
@@ -65,9 +66,20 @@ broken_row view link =
 
 -- ---- a page with broken links
 
--- the broken links of a page
-abbrev pub broken_of : List ℕ → List Broken → List Broken
-broken_of source links = filter (λ link. bytes_eq link.source source) links
+-- a page and its broken links
+abbrev pub Group : Type 0
+Group = List ℕ × List Broken
+
+-- a link before those of pages that stand behind it: among the first one's, where it is a link of that page
+abbrev pub onto_group : Broken → List Group → List Group
+onto_group link [] = (link.source, link ∷ []) ∷ []
+onto_group link (group ∷ groups) =
+    if bytes_eq group.0 link.source then (group.0, link ∷ group.1) ∷ groups else (link.source, link ∷ []) ∷ group ∷ groups
+
+-- the broken links page by page, in the order that they stand in
+abbrev pub by_source : List Broken → List Group
+by_source [] = []
+by_source (link ∷ links) = onto_group link (by_source links)
 
 -- how many there are behind those that are shown
 abbrev pub more_row : List Broken → List ℕ
@@ -81,16 +93,12 @@ source_row render view source =
     codes "<tr><th colspan=\"3\" scope=\"rowgroup\">" ++ page_and_path render view source ++ codes "</th></tr>\n"
 
 -- a page and its broken links
-abbrev pub broken_group : Renders → View → List ℕ → List Broken → List ℕ
-broken_group render view source links =
-    codes "<tbody>\n" ++ source_row render view source ++ flat_map (broken_row view) (take link_limit links) ++ more_row links
+abbrev pub broken_group : Renders → View → Group → List ℕ
+broken_group render view group =
+    codes "<tbody>\n" ++ source_row render view group.0 ++ flat_map (broken_row view) (take link_limit group.1) ++ more_row group.1
     ++ codes "</tbody>\n"
 
 -- ---- the list
-
--- the pages with broken links, in order, each once
-abbrev pub broken_sources : List Broken → List (List ℕ)
-broken_sources links = dedup bytes_eq (mapped (λ link. link.source) links)
 
 -- what stands before the first page
 abbrev pub broken_head : List ℕ
@@ -99,25 +107,25 @@ broken_head =
     ++ codes "<th scope=\"col\">What is wrong</th></tr>\n</thead>\n"
 
 -- the table of these pages, or in its place that there are none
-abbrev pub table_or_note : Renders → View → List ℕ → List Broken → List (List ℕ) → List ℕ
-table_or_note render view note links [] = note
-table_or_note render view note links (source ∷ rest) =
-    broken_head ++ flat_map (λ page. broken_group render view page (broken_of page links)) (source ∷ rest) ++ codes "</table>\n"
+abbrev pub table_or_note : Renders → View → List ℕ → List Group → List ℕ
+table_or_note render view note [] = note
+table_or_note render view note (group ∷ groups) =
+    broken_head ++ flat_map (broken_group render view) (group ∷ groups) ++ codes "</table>\n"
 
--- the main part, of the broken links of a view and of the pages that have some
-abbrev pub broken_main : Renders → View → List ℕ → List Broken → List (List ℕ) → List ℕ
-broken_main render view from links sources =
+-- the main part, of the pages with broken links from a text on
+abbrev pub broken_main : Renders → View → List ℕ → List Group → List ℕ
+broken_main render view from groups =
     codes "<h1>Broken links</h1>\n<p>A page that you may not read counts as none.</p>\n"
-    ++ table_or_note render view (note_from from (codes "No link is broken on the pages that you may read.")) links
-    (take source_limit sources)
-    ++ pager (codes "/broken") from (slice_get sources source_limit)
+    ++ table_or_note render view (note_from from (codes "No link is broken on the pages that you may read."))
+    (take source_limit groups)
+    ++ pager (codes "/broken") from (option_map (λ group. group.0) (slice_get groups source_limit))
 
--- the sources from a text on
-abbrev pub broken_from : List ℕ → List Broken → List (List ℕ)
-broken_from from links = from_on (λ source. source) from (broken_sources links)
+-- the links of the pages from a text on
+abbrev pub broken_from : List ℕ → List Broken → List Broken
+broken_from from links = from_on (λ link. link.source) from links
 
 -- the broken links of a view, from a source on
 unfoldable pub broken_body : Renders → Browse → Offers → View → List ℕ → List ℕ
 broken_body render settings offers view from =
     shell render settings offers view (codes "Broken links") None
-    (broken_main render view from (broken_links render view) (broken_from from (broken_links render view))) []
+    (broken_main render view from (by_source (broken_from from (broken_links render view)))) []

@@ -1,6 +1,7 @@
 //! Laws of the definitions. The functions do nothing: their contracts are the laws.
 
 ghost use Rattle.doc_people.specs.Laws.{InertHtmlHasNoForms, InertHtmlHasNoFrames, InertHtmlStays, PathsRise, KeysRise, CountsAreSums, WrittenPathsAreRead, WrittenAnchorsAreRead};
+ghost use Rattle.doc_people.specs.Laws.{GroupsArePages};
 
 /// Inert HTML begins no form.
 #[tactic(auto, using(crate::proofs::InertLaws::inert_html_has_no_forms))]
@@ -48,4 +49,10 @@ pub fn written_paths_are_read()
 #[tactic(auto, using(crate::proofs::WrittenLaws::written_anchors_are_read))]
 pub fn written_anchors_are_read()
     ensures { WrittenAnchorsAreRead }
+{}
+
+/// Where the paths of a view rise, the pages with broken links are listed each once, with all of its broken links.
+#[tactic(auto, using(crate::proofs::GroupLaws::groups_are_pages))]
+pub fn groups_are_pages()
+    ensures { GroupsArePages }
 {}

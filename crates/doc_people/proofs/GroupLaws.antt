@@ -1,0 +1,111 @@
+-- Laws of broken links, page by page.
+use Rattle.std.proofs.Common.{◌≡◌, ℕ, suc, List, [], ◌∷◌, ◌++◌, Bool, true, false, not, cond, refl, ap, sym, subst, ◌∙◌}
+use Rattle.std.specs.Prelude.{Option, Some, None, bytes_eq, filter, map as mapped}
+use Rattle.std.specs.List.{AllByRecursion, flat_map}
+use Rattle.std.specs.List.Sorted.{IsStrictlySortedBy}
+use Rattle.std.specs.Ordering.{ordering_reverse}
+use Rattle.std.specs.declared.cmp.Ordering.TheVariants.{Less}
+use Rattle.std.proofs.lemmas.Bool.{cond_both, false_from_ne_true}
+use Rattle.std.proofs.lemmas.Cmp.{nat_list_cmp_total}
+use Rattle.doc_page_parts.proofs.Texts.{bytes_eq_itself, bytes_eq_true}
+use Rattle.doc_page_parts.specs.Pages.{is_empty}
+use Rattle.doc_links_pages.specs.Links.{broken, broken_by, broken_from as broken_on, fault_of}
+use Rattle.doc_links_pages.specs.declared.answers.Broken.{Broken}
+use Rattle.doc_links_pages.specs.declared.answers.Reason.{Reason}
+use Rattle.doc_links_pages.specs.declared.page_links.PageLinks.{PageLinks}
+use Rattle.doc_page_parts.specs.declared.rendered.Rendered.{Rendered}
+use Rattle.doc_resolve.specs.declared.link_kind.LinkKind.{LinkKind}
+use Rattle.doc_store_readers.specs.Pages.{Page}
+use Rattle.doc_store_readers.specs.Sites.{View, goal_in}
+use Rattle.doc_people.proofs.KeyLaws.{cmp, not_greater}
+use Rattle.doc_people.specs.BrokenLinks.{Group, by_source, onto_group}
+use Rattle.doc_people.specs.Laws.{GroupsArePages, broken_in, has_links}
+use Rattle.doc_people.specs.Sources.{links_in, linked_pages}
+use Rattle.doc_people.specs.Views.{Renders, paths}
+
+-- ---- links of one page before those of others
+
+-- the first of these is of another page
+abbrev Apart : List ℕ → List Group → Type 0
+Apart source [] = Unit {0}
+Apart source (group ∷ groups) = bytes_eq group.0 source ≡ false
+
+alone : (source : List ℕ) (link : Broken) (groups : List Group) → link.source ≡ source → Apart source groups
+    → onto_group link groups ≡ (source, link ∷ []) ∷ groups
+alone source link [] is apart = ap (λ (s : List ℕ). (s, link ∷ []) ∷ []) is
+alone source link (group ∷ groups) is apart =
+    ap (λ s. cond (bytes_eq group.0 s) ((group.0, link ∷ group.1) ∷ groups) ((s, link ∷ []) ∷ group ∷ groups)) is
+    ∙ ap (λ b. cond b ((group.0, link ∷ group.1) ∷ groups) ((source, link ∷ []) ∷ group ∷ groups)) apart
+
+joined : (source : List ℕ) (link : Broken) (links : List Broken) (groups : List Group) → link.source ≡ source
+    → onto_group link ((source, links) ∷ groups) ≡ (source, link ∷ links) ∷ groups
+joined source link links groups is =
+    ap (λ s. cond (bytes_eq source s) ((source, link ∷ links) ∷ groups) ((s, link ∷ []) ∷ (source, links) ∷ groups)) is
+    ∙ ap (λ b. cond b ((source, link ∷ links) ∷ groups) ((source, link ∷ []) ∷ (source, links) ∷ groups)) (bytes_eq_itself source)
+
+together : (source : List ℕ) (link : Broken) (links rest : List Broken) (groups : List Group) → link.source ≡ source
+    → AllByRecursion (λ l. l.source ≡ source) links → by_source rest ≡ groups → Apart source groups
+    → by_source ((link ∷ links) ++ rest) ≡ (source, link ∷ links) ∷ groups
+together source link [] rest groups is all same apart = ap (onto_group link) same ∙ alone source link groups is apart
+together source link (next ∷ links) rest groups is all same apart =
+    ap (onto_group link) (together source next links rest groups all.0 all.1 same apart) ∙ joined source link (next ∷ links) groups is
+
+-- ---- pages whose names rise
+
+isnt_less : (k : List ℕ) → cmp k k ≡ Less → ⊥
+isnt_less k less = not_greater (sym (ap ordering_reverse less) ∙ sym (nat_list_cmp_total.antisymm k k) ∙ less)
+
+module _ (P : Type 0) (name : P → List ℕ) (links : P → List Broken) where
+  abbrev groups : List P → List Group
+  groups pages = filter has_links (mapped (λ p. (name p, links p)) pages)
+
+  behind : (source : List ℕ) (pages : List P) → AllByRecursion (λ k. cmp source k ≡ Less) (mapped name pages) → Apart source (groups pages)
+  behind source [] less = tt
+  behind source (p ∷ pages) less =
+      cond_both (not (is_empty (links p))) ((name p, links p) ∷ groups pages) (groups pages) (Apart source)
+      (λ _. false_from_ne_true (bytes_eq (name p) source) (λ same.
+      isnt_less source (subst (λ z. cmp source z ≡ Less) (bytes_eq_true (name p) source same) less.0)))
+      (λ _. behind source pages less.1)
+
+  one_page : (source : List ℕ) (own rest : List Broken) (others : List Group) → AllByRecursion (λ l. l.source ≡ source) own
+      → by_source rest ≡ others → Apart source others
+      → by_source (own ++ rest) ≡ cond (not (is_empty own)) ((source, own) ∷ others) others
+  one_page source [] rest others all same apart = same
+  one_page source (link ∷ own) rest others all same apart = together source link own rest others all.0 all.1 same apart
+
+  grouped : ((p : P) → AllByRecursion (λ l. l.source ≡ name p) (links p)) → (pages : List P) → IsStrictlySortedBy cmp (mapped name pages)
+      → by_source (flat_map links pages) ≡ groups pages
+  unfolding IsStrictlySortedBy
+  grouped own [] sorted = refl
+  grouped own (p ∷ pages) sorted =
+      one_page (name p) (links p) (flat_map links pages) (groups pages) (own p) (grouped own pages sorted.1)
+      (behind (name p) pages sorted.0)
+
+-- ---- the pages of a view
+
+one_link : (source : List ℕ) (place : ℕ) (fault : Option (Reason × List ℕ)) (rest : List Broken)
+    → AllByRecursion (λ l. l.source ≡ source) rest → AllByRecursion (λ l. l.source ≡ source) (broken_by source place fault ++ rest)
+one_link source place None rest all = all
+one_link source place (Some fault) rest all = (refl, all)
+
+own_links : (goals : List ℕ → Option (List ℕ)) (pages : List (List ℕ × PageLinks)) (source : List ℕ) (place : ℕ) (links : List LinkKind)
+    → AllByRecursion (λ l. l.source ≡ source) (broken_on goals pages source place links)
+own_links goals pages source place [] = tt
+own_links goals pages source place (link ∷ links) =
+    one_link source place (fault_of goals pages link) (broken_on goals pages source (suc place) links)
+    (own_links goals pages source (suc place) links)
+
+same_paths : (render : Renders) (pages : List (List ℕ × Page))
+    → mapped (λ (page : List ℕ × PageLinks). page.0)
+    (mapped links_in (mapped (λ (page : List ℕ × Page). (page.0, render page.1.text)) pages))
+    ≡ mapped (λ (page : List ℕ × Page). page.0) pages
+same_paths render [] = refl
+same_paths render (page ∷ pages) = ap (λ ps. page.0 ∷ ps) (same_paths render pages)
+
+pub groups_are_pages : GroupsArePages
+unfolding broken
+groups_are_pages render view sorted =
+    grouped (List ℕ × PageLinks) (λ page. page.0)
+    (λ page. broken_on (goal_in view) (linked_pages render view) page.0 1 page.1.links)
+    (λ page. own_links (goal_in view) (linked_pages render view) page.0 1 page.1.links) (linked_pages render view)
+    (subst (IsStrictlySortedBy cmp) (sym (same_paths render view.pages)) sorted)

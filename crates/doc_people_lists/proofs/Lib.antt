@@ -1,0 +1,5 @@
+mod BodySteps
+mod GroupSteps
+mod PartSteps
+mod SeenSteps
+mod WriteSteps

@@ -1,0 +1,5 @@
+mod HeadingSteps
+mod InertSteps
+mod LinkedSteps
+mod PageSteps
+mod WriteSteps

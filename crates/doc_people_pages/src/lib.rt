@@ -1,0 +1,12 @@
+//! The pages for people that show a page of the site.
+//!
+//! `page_body` is such a page as a whole. Each writer adds to the end of a buffer, where after a refusal part of it may stand.
+#![tactic(auto)]
+
+mod article;
+mod headings;
+mod inert;
+mod linked_from;
+mod page;
+
+pub use page::page_body;

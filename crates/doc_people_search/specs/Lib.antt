@@ -1,0 +1,3 @@
+pub mod Asking
+pub mod Finding
+pub mod Reading

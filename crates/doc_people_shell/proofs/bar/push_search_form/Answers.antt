@@ -1,0 +1,9 @@
+use Rattle.doc_people_shell.proofs.WriteSteps.{three_written}
+use Rattle.doc_people_shell.proofs.bar.push_search_form.Goals as goal
+
+pub returns : goal.returns
+returns c =
+    three_written _ _ _ _ _ _ _
+    c.in_ok-push_str.ensures.bytes
+    c.in_ok-push_str-2.ensures.bytes
+    c.in_ok-push_str-3.ensures.bytes
