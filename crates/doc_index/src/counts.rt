@@ -22,12 +22,18 @@ impl Model for Counts {
     ghost use Rattle.std.specs.Coded.{coded_ℕ, coded_list};
     ghost use Rattle.std.specs.FinMap as map;
     ghost use Rattle.doc_index_tables.specs.Maps.{TextMap};
+    ghost use Rattle.std.specs.Cmp.Lexicographic.{slice_cmp};
+    ghost use Rattle.std.specs.List.Sorted.{IsStrictlySortedBy};
+    ghost use Rattle.std.specs.Map.{keys_of};
+    ghost use Rattle.std.specs.Ordering.{nat_cmp};
 
     ghost Value = { TextMap ℕ };
 
     ghost coded = { map.code (coded_list coded_ℕ) coded_ℕ };
 
     ghost view = { λ c. map.from_entries c.entries };
+
+    ghost invariant = { λ c. IsStrictlySortedBy (slice_cmp nat_cmp) (keys_of c.entries) };
 }
 
 impl Counts {
@@ -43,9 +49,18 @@ impl Counts {
     pub(crate) fn copy_of(heap: Heap, keys: &BTreeMap<String, u64>) -> Result<Counts, Memory>
         ensures { IfOk result (λ counts. counts ≡ text_map keys.now) }
     {
+        // what the number of keys tells besides: that they rise
+        let _keys = keys.len();
         Ok(Counts {
             entries: Packed::copy_of(heap, keys)?,
         })
+    }
+
+    /// The keys with their counts, in the order of their bytes.
+    pub fn entries(&self) -> &Packed
+        ensures { result.now ≡ map.entries self.now }
+    {
+        &self.entries
     }
 
     pub(crate) fn copy(&self, heap: Heap) -> Result<Counts, Memory>

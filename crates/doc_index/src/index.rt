@@ -114,6 +114,17 @@ impl<T> Index<T> {
         Some(&page.value)
     }
 
+    /// The counts of the keys of the page under a path and a stamp.
+    pub fn counts(&self, path: &Path, stamp: u64) -> Option<&Counts>
+        ensures { option_copied result
+            ≡ option_map (λ page. page.counts) (map.get (held self.now) (path.now, stamp)) }
+    {
+        let Some(page) = self.page(path, stamp) else {
+            return None;
+        };
+        Some(&page.counts)
+    }
+
     /// The page under a path and a stamp.
     fn page(&self, path: &Path, stamp: u64) -> Option<&Held<T>>
         ensures { option_map known (option_copied result)

@@ -1,1 +1,2 @@
 mod ShelfSteps
+mod StepLaws

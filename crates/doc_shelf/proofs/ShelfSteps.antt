@@ -18,7 +18,9 @@ use Rattle.doc_store.proofs.StoreSteps.{empty_is_store}
 use Rattle.doc_store.specs.Store.{StoreState, empty_store, fits_in, put_by, put_into, with_page}
 use Rattle.doc_store.specs.declared.store.Put.{Put}
 use Rattle.doc_store.specs.declared.store.Put.TheVariants as puts
-use Rattle.doc_shelf.specs.Shelves.{rendered_for}
+use Rattle.doc_rows.proofs.PlaceLaws.{no_rows}
+use Rattle.doc_rows.specs.Rows.{RowMap}
+use Rattle.doc_shelf.specs.Shelves.{InStep, IsWhole, rendered_for}
 
 -- a shelf after an edit
 pub edited : (render : Renders) (old new : StoreState) (before after : Kept) (cache : Cached) → IsShelf render old before cache
@@ -34,6 +36,17 @@ pub edited_by : (render now : Renders) (old new : StoreState) (before after : Ke
     → IsShelf render old before cache → IsEdited render old new after → IsShelf now new after cache
 edited_by render now old new before after cache same shelf e =
     subst (λ r. IsShelf r new after cache) (sym same) (edited render old new before after cache shelf e)
+
+-- the same with the rows of the pages, where texts are kept as before
+pub edited_whole : (render now : Renders) (old new : StoreState) (before begun after : Kept) (cache : Cached) (rows left : RowMap)
+    → now ≡ render → IsWhole render old before cache rows → begun.with_texts ≡ before.with_texts → after.with_texts ≡ begun.with_texts
+    → IsEdited render old new after
+    → (InStep begun.with_texts old.site.pages rows → InStep begun.with_texts new.site.pages left)
+    → IsWhole now new after cache left
+edited_whole render now old new before begun after cache rows left same whole e f edit step = record {
+  shelf = edited_by render now old new before after cache same whole.shelf edit;
+  in_step = λ people. step (λ p. whole.in_step (sym e ∙ p)) (sym f ∙ people);
+}
 
 -- under the next stamp nothing is kept
 pub is_free : (render : Renders) (store : StoreState) (kept : Kept) (cache : Cached) (path : List ℕ) (stamp : ℕ)
@@ -51,14 +64,14 @@ is_being_put render store before added cache path text stamp shelf next is = rec
 }
 
 -- an empty shelf
-pub is_new : (render : Renders) (store : StoreState) (kept : Kept) (capacity : ℕ) (cache : Cached) → store ≡ empty_store
-    → kept ≡ none_kept → IsAnswer cache_errors.Memory (cache_of capacity) (Ok cache) → IsShelf render store kept cache
-is_new render store kept capacity cache none nothing made =
+pub is_new : (render : Renders) (store : StoreState) (kept : Kept) (with_texts : Bool) (capacity : ℕ) (cache : Cached) → store ≡ empty_store
+    → kept ≡ none_kept with_texts → IsAnswer cache_errors.Memory (cache_of capacity) (Ok cache) → IsShelf render store kept cache
+is_new render store kept with_texts capacity cache none nothing made =
     subst (λ s. IsShelf render s kept cache) (sym none)
     (subst (λ k. IsShelf render empty_store k cache) (sym nothing)
     (record {
       is_store = empty_is_store;
-      pages = edits_of_kept.empty render;
+      pages = edits_of_kept.empty render with_texts;
       documents = by capacity made;
     }))
   where
@@ -74,6 +87,15 @@ is_new render store kept capacity cache none nothing made =
         by_answer false true made = absurd made
         by_answer false false made = subst (HasDocuments render empty_store) (sym made) (empty_has n)
 
+-- the same with its rows
+pub is_new_whole : (render : Renders) (store : StoreState) (kept : Kept) (with_texts : Bool) (capacity : ℕ) (cache : Cached) (rows : RowMap)
+    → store ≡ empty_store → kept ≡ none_kept with_texts → rows ≡ map.empty → IsAnswer cache_errors.Memory (cache_of capacity) (Ok cache)
+    → IsWhole render store kept cache rows
+is_new_whole render store kept with_texts capacity cache rows none nothing empty made = record {
+  shelf = is_new render store kept with_texts capacity cache none nothing made;
+  in_step = λ people. no_rows store.site.pages rows (ap (λ s. s.site.pages) none) empty;
+}
+
 -- a page that stands is served
 pub is_served : (render : Renders) (store : StoreState) (kept : Kept) (cache : Cached) (path : List ℕ) (stamp told : ℕ) (page : Page)
     → IsShelf render store kept cache → told ≡ stamp → Stands store path stamp page → IsServed render store kept cache path told page
@@ -83,9 +105,12 @@ is_served render store kept cache path stamp told page shelf same stands = recor
 }
 
 -- after a look the cache alone is another
-pub looked_at : (render : Renders) (store : StoreState) (kept : Kept) (cache new : Cached) → IsShelf render store kept cache
-    → HasDocuments render store new → IsShelf render store kept new
-looked_at render store kept cache new shelf has = record { is_store = shelf.is_store; pages = shelf.pages; documents = has }
+pub looked_at : (render : Renders) (store : StoreState) (kept : Kept) (cache new : Cached) (rows : RowMap) → IsWhole render store kept cache rows
+    → HasDocuments render store new → IsWhole render store kept new rows
+looked_at render store kept cache new rows whole has = record {
+  shelf = record { is_store = whole.shelf.is_store; pages = whole.shelf.pages; documents = has };
+  in_step = whole.in_step;
+}
 
 -- ---- what puts answer, by what a shelf shows
 

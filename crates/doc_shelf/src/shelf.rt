@@ -1,34 +1,55 @@
 //! The shelf.
 
-ghost use Rattle.std.specs.Prelude.{◌≡◌, ◌+◌, IfOk, Ok, OnErr, OnOk, Some, option_map};
+ghost use Rattle.std.specs.Prelude.{◌≡◌, ◌+◌, not, IfOk, Ok, OnErr, OnOk, Some, filter, length, option_copied, option_map, take};
 ghost use Rattle.std.specs.FinMap as map;
+ghost use Rattle.doc_http_replies.specs.Heads.{dressed_bytes};
+ghost use Rattle.doc_http_replies.specs.Manners.{dress_of};
 ghost use Rattle.doc_http_replies.specs.ReplyForms.{reply_of};
-ghost use Rattle.doc_http_replies.specs.Replies.{reply_bytes};
 ghost use Rattle.doc_page_parts.specs.Refusals.{Gives, IsAnswer};
+ghost use Rattle.doc_page_parts.specs.Pages.{filled};
+ghost use Rattle.doc_people.specs.Folders.{keys};
+ghost use Rattle.doc_people.specs.Hits.{hits};
+ghost use Rattle.doc_people.specs.Lists.{contents_from, sources_from};
+ghost use Rattle.doc_people.specs.Navigation.{is_before, last_ones};
+ghost use Rattle.doc_people.specs.Sources.{broken_links};
+ghost use Rattle.doc_people.specs.Views.{rendered_at, rendered_pages, sees};
+ghost use Rattle.doc_resolve.specs.Hrefs.{shown};
 ghost use Rattle.doc_shelf.specs.Shelves.{rendered_for, shelf_made};
 ghost use Rattle.doc_shelf_documents.specs.Documents.{page_shown};
 ghost use Rattle.doc_shelf_pages.specs.ViewLaws.{seen_in};
 ghost use Rattle.doc_shelf_pages.specs.Views.{backlinks_body, contents_body, report_body, search_body};
-ghost use Rattle.doc_store_readers.specs.Sites.{page_at};
+ghost use Rattle.doc_store_readers.specs.Sites.{goal_in, page_at};
 ghost use Rattle.doc_store.specs.Store.{fits_in, moved_in, put_into, with_page, without_page};
 
+use crate::in_step::{end_put_in_step, end_put_saying_in_step, move_in_step, remove_in_step};
+use crate::reader_view::ReaderView;
 use doc_cache::cache::PageCache;
 use doc_cache::failure::CacheError;
+use doc_http::manner::Manner;
 use doc_http::reply_form::ReplyForm;
+use doc_links_pages::answers::Broken;
 use doc_page::renderer::Renderer;
 use doc_page_parts::bytes::Bytes;
 use doc_page_parts::failure::Memory;
 use doc_page_parts::heap::Heap;
+use doc_page_parts::list::List;
 use doc_page_parts::path::Path;
+use doc_page_parts::rendered::Heading;
+use doc_page_parts::sight::Sight;
 use doc_page_parts::text::Text;
+use doc_people::term::Term;
+use doc_people::viewed::Found;
+use doc_rows::rows::Rows;
+use doc_rows_folders::{keys_before, keys_from};
 use doc_shelf_documents::{Writing, reply_with_page};
+use doc_shelf_hits::hits::hits;
 use doc_shelf_pages::KeptPages;
 use doc_shelf_pages::edits::{
-    NewPage, begin_put, end_put, end_put_saying, move_page, next_stamp, put_over, remove,
-    stamp_of_move, stamp_of_put,
+    NewPage, begin_put, next_stamp, put_over, stamp_of_move, stamp_of_put,
 };
 use doc_shelf_pages::lists::{backlinks, contents, report, search};
 use doc_shelf_pages::visible::visible_page;
+use doc_shelf_views::{links, pages};
 use doc_store::groups::Groups;
 use doc_store::moving::MoveError;
 use doc_store::reader::Reader;
@@ -40,10 +61,7 @@ use std::marker::Model;
 #[derive(Clone, Copy)]
 pub struct Saying<'a> {
     pub form: &'a ReplyForm,
-    /// The head alone, as for HEAD.
-    pub head_only: bool,
-    /// Whether the connection closes after the reply.
-    pub close: bool,
+    pub manner: Manner<'a>,
 }
 
 /// The pages of a server, ready to be served. Contracts see the renderer and the store.
@@ -55,6 +73,7 @@ pub struct Shelf<R: Renderer + Drop> {
     renderer: R,
     store: Store,
     kept: KeptPages,
+    rows: Rows,
     cache: PageCache,
 }
 
@@ -66,6 +85,7 @@ impl<R: Renderer + Drop> Drop for Shelf<R> {
             renderer: _,
             store: _,
             kept: _,
+            rows: _,
             cache: _,
         } = self;
     }
@@ -73,7 +93,7 @@ impl<R: Renderer + Drop> Drop for Shelf<R> {
 
 impl<R: Renderer + Drop> Model for Shelf<R> {
     ghost use Rattle.std.specs.Coded.{coded×};
-    ghost use Rattle.doc_shelf_documents.specs.Shelves.{IsShelf};
+    ghost use Rattle.doc_shelf.specs.Shelves.{IsWhole};
     ghost use Rattle.doc_store.specs.Store.{StoreState, store_code};
 
     ghost Value = { R × StoreState };
@@ -82,12 +102,18 @@ impl<R: Renderer + Drop> Model for Shelf<R> {
 
     ghost view = { λ s. (s.renderer, s.store) };
 
-    ghost invariant = { λ s. IsShelf (R.page s.renderer) s.store s.kept s.cache };
+    ghost invariant = { λ s. IsWhole (R.page s.renderer) s.store s.kept s.cache s.rows };
 }
 
 impl<R: Renderer + Drop> Shelf<R> {
-    /// A shelf without pages, whose cache has room for so many documents, 1 to 4,096.
-    pub fn new(heap: Heap, renderer: R, capacity: usize) -> Result<Self, CacheError>
+    /// A shelf without pages, whose cache has room for so many documents, 1 to 4,096. `for_people` says whether the pages for people are
+    /// served of it: then the texts of pages are kept too, and the rows of the pages.
+    pub fn new(
+        heap: Heap,
+        renderer: R,
+        capacity: usize,
+        for_people: bool,
+    ) -> Result<Self, CacheError>
         ensures { IsAnswer CacheError.Memory (shelf_made renderer capacity) result }
     {
         let cache = PageCache::new(heap, capacity)?;
@@ -95,7 +121,8 @@ impl<R: Renderer + Drop> Shelf<R> {
             heap,
             renderer,
             store: Store::new(heap),
-            kept: KeptPages::new(heap),
+            kept: KeptPages::new(heap, for_people),
+            rows: Rows::new(heap),
             cache,
         })
     }
@@ -105,6 +132,16 @@ impl<R: Renderer + Drop> Shelf<R> {
         ensures { result.now ≡ self.now.1 }
     {
         &self.store
+    }
+
+    /// What a reader sees of the pages, for the pages for people.
+    pub fn view<'a>(&'a self, reader: &'a Reader) -> ReaderView<'a, R>
+        ensures { result ≡ record { shelf = self.entry; reader = reader.entry } }
+    {
+        ReaderView {
+            shelf: self,
+            reader,
+        }
     }
 
     /// Puts a page, as `Store::put`. Its text is rendered once where the put fits, and not at all where it doesn't.
@@ -129,7 +166,14 @@ impl<R: Renderer + Drop> Shelf<R> {
             text,
             stamp,
         };
-        Ok(put_over(end_put(&mut self.store, &mut self.kept, path, page)?))
+        Ok(put_over(end_put_in_step(
+            self.heap,
+            &mut self.store,
+            &mut self.kept,
+            &mut self.rows,
+            path,
+            page,
+        )?))
     }
 
     /// Puts a page that fits, and answers the bytes of a reply. These are written before the page is put, since a put could not be
@@ -142,8 +186,9 @@ impl<R: Renderer + Drop> Shelf<R> {
         saying: Saying,
     ) -> Result<Bytes, Memory>
         requires fits { fits_in self.old.1 path.now text.now ≡ Ok tt }
-        ensures reply { IfOk result (λ bytes. bytes ≡ reply_bytes (reply_of saying.entry.form.now)
-            saying.entry.head_only saying.entry.close) }
+        ensures reply { IfOk result (λ bytes. bytes ≡ dressed_bytes (dress_of saying.entry.manner)
+            (reply_of saying.entry.form.now) saying.entry.manner.head_only
+            saying.entry.manner.close) }
         ensures put { OnOk result (self.new.1 ≡ with_page self.old.1 path.now
             (record { groups = groups.now; text = text.now })) }
         ensures refused { OnErr result (self.new.1 ≡ self.old.1) }
@@ -161,13 +206,21 @@ impl<R: Renderer + Drop> Shelf<R> {
             stamp,
             text,
         )?;
-        let said = saying.form.write(self.heap, saying.head_only, saying.close);
+        let said = saying.form.write(self.heap, saying.manner);
         let page = NewPage {
             groups,
             text,
             stamp,
         };
-        end_put_saying(&mut self.store, &mut self.kept, path, page, said)
+        end_put_saying_in_step(
+            self.heap,
+            &mut self.store,
+            &mut self.kept,
+            &mut self.rows,
+            path,
+            page,
+            said,
+        )
     }
 
     /// Removes the page of a path, as `Store::remove`, with what is kept of it. It takes no memory.
@@ -176,7 +229,7 @@ impl<R: Renderer + Drop> Shelf<R> {
         ensures store { self.new.1 ≡ without_page self.old.1 path.now }
         ensures same { self.new.0 ≡ self.old.0 }
     {
-        remove(&mut self.store, &mut self.kept, path)
+        remove_in_step(&mut self.store, &mut self.kept, &mut self.rows, path)
     }
 
     /// Moves a page, as `Store::move_page`. What is kept of it is carried over, and nothing is rendered.
@@ -186,7 +239,15 @@ impl<R: Renderer + Drop> Shelf<R> {
         ensures same { self.new.0 ≡ self.old.0 }
     {
         let stamp = stamp_of_move(&self.store, from, to)?;
-        move_page(&mut self.store, &mut self.kept, from, to, stamp)
+        move_in_step(
+            self.heap,
+            &mut self.store,
+            &mut self.kept,
+            &mut self.rows,
+            from,
+            to,
+            stamp,
+        )
     }
 
     /// The reply that shows a reader the page at a path, where they see one. It renders nothing. A document that was made for a reader
@@ -195,11 +256,11 @@ impl<R: Renderer + Drop> Shelf<R> {
         &mut self,
         path: &Path,
         reader: &Reader,
-        head_only: bool,
-        close: bool,
+        manner: Manner,
     ) -> Result<Option<Bytes>, Memory>
         ensures reply { IfOk result (λ reply. reply ≡ page_shown (R.page self.old.0)
-            (seen_in self.old.1 reader.now) path.now head_only close) }
+            (seen_in self.old.1 reader.now) path.now (dress_of manner.entry)
+            manner.entry.head_only manner.entry.close) }
         ensures same { self.new ≡ self.old }
     {
         let Some(page) = visible_page(&self.store, reader, path) else {
@@ -208,8 +269,7 @@ impl<R: Renderer + Drop> Shelf<R> {
         let stamp = page.stamp();
         let writing = Writing {
             heap: self.heap,
-            head_only,
-            close,
+            manner,
         };
         let sight = self.store.sight(reader);
         reply_with_page(writing, &self.kept, &mut self.cache, path, stamp, &sight)
@@ -249,5 +309,121 @@ impl<R: Renderer + Drop> Shelf<R> {
             ≡ report_body (R.page self.now.0) (seen_in self.now.1 reader.now)) }
     {
         report(self.heap, &self.store, &self.kept, reader)
+    }
+
+    /// Whether a reader sees a page at a path.
+    pub(crate) fn sees(&self, path: &str, reader: &Reader) -> Result<bool, Memory>
+        ensures { IfOk result (λ seen. seen ≡ sees (seen_in self.now.1 reader.now) path.now) }
+    {
+        pages::sees(self.heap, &self.store, path, reader)
+    }
+
+    /// The path of the page that a path leads to for a reader.
+    pub(crate) fn goal(&self, path: &Path, reader: &Reader) -> Result<Option<Path>, Memory>
+        ensures { IfOk result (λ goal. goal ≡ goal_in (seen_in self.now.1 reader.now) path.now) }
+    {
+        let view = self.store.sight(reader);
+        let Some(goal) = view.goal(path) else {
+            return Ok(None);
+        };
+        Ok(Some(goal.copy(self.heap)?))
+    }
+
+    /// The headings of the page at a path, where a reader sees one there.
+    pub(crate) fn headings(&self, path: &str, reader: &Reader) -> Result<Option<&[Heading]>, Memory>
+        ensures { IfOk result (λ headings. option_copied headings ≡ option_map
+            (λ page. page.headings)
+            (rendered_at (R.page self.now.0) (seen_in self.now.1 reader.now) path.now)) }
+    {
+        pages::headings(self.heap, &self.store, &self.kept, path, reader)
+    }
+
+    /// The HTML of the page at a path, where a reader sees one there.
+    pub(crate) fn html(&self, path: &Path, reader: &Reader) -> Result<Option<Text>, Memory>
+        ensures { IfOk result (λ html. html ≡ option_map
+            (filled (shown (goal_in (seen_in self.now.1 reader.now)) path.now))
+            (rendered_at (R.page self.now.0) (seen_in self.now.1 reader.now) path.now)) }
+    {
+        pages::html(self.heap, &self.store, &self.kept, path, reader)
+    }
+
+    /// The texts of the page at a path, where a reader sees one there. Of a shelf that isn't for people no texts are kept, and it answers
+    /// `Memory`; the pages for people are asked of a shelf for people alone.
+    pub(crate) fn texts(&self, path: &Path, reader: &Reader) -> Result<Option<&[Text]>, Memory>
+        ensures { IfOk result (λ texts. option_copied texts ≡ option_map (λ page. page.texts)
+            (rendered_at (R.page self.now.0) (seen_in self.now.1 reader.now) path.now)) }
+    {
+        if !self.kept.keeps_texts() {
+            return Err(Memory);
+        }
+        Ok(pages::texts(&self.store, &self.kept, path, reader))
+    }
+
+    /// What stands in a folder for a reader, from a text on: the first so many. Of a shelf that isn't for people no rows are kept, and it
+    /// answers `Memory`, as `texts` does.
+    pub(crate) fn keys_from(
+        &self,
+        reader: &Reader,
+        folder: &str,
+        from: &str,
+        most: usize,
+    ) -> Result<List<Text>, Memory>
+        ensures { IfOk result (λ found. found ≡ take most
+            (contents_from (seen_in self.now.1 reader.now) folder.now from.now)) }
+    {
+        if !self.kept.keeps_texts() {
+            return Err(Memory);
+        }
+        keys_from(self.heap, &self.rows, reader, folder, from, most)
+    }
+
+    /// What stands in a folder for a reader and comes before a text: the last so many. Of a shelf that isn't for people it answers `Memory`.
+    pub(crate) fn keys_before(
+        &self,
+        reader: &Reader,
+        folder: &str,
+        before: &str,
+        most: usize,
+    ) -> Result<List<Text>, Memory>
+        ensures { IfOk result (λ found. found ≡ last_ones most
+            (filter (λ key. is_before key before.now)
+            (keys (seen_in self.now.1 reader.now) folder.now))) }
+    {
+        if !self.kept.keeps_texts() {
+            return Err(Memory);
+        }
+        keys_before(self.heap, &self.rows, reader, folder, before, most)
+    }
+
+    /// The other pages that link to a page that a reader sees.
+    pub(crate) fn sources_from(
+        &self,
+        path: &Path,
+        reader: &Reader,
+        from: &str,
+        most: usize,
+    ) -> Result<List<(Path, u64)>, Memory>
+        ensures { IfOk result (λ found. found ≡ take most
+            (sources_from (R.page self.now.0) (seen_in self.now.1 reader.now) path.now from.now)) }
+    {
+        links::sources_from(self.heap, &self.store, &self.kept, path, reader, from, most)
+    }
+
+    /// The links that are broken for a reader.
+    pub(crate) fn broken_from(&self, reader: &Reader, from: &str) -> Result<List<Broken>, Memory>
+        ensures { IfOk result (λ found. found ≡ filter (λ link. not (is_before link.source from.now))
+            (broken_links (R.page self.now.0) (seen_in self.now.1 reader.now))) }
+    {
+        links::broken_from(&self.store, &self.kept, reader, from)
+    }
+
+    /// What these terms find for a reader, and of that the first so many.
+    pub(crate) fn hits(&self, reader: &Reader, terms: &[Term], most: usize) -> Result<Found, Memory>
+        ensures count { IfOk result (λ found. found.count ≡ length (hits (rendered_pages
+            (R.page self.now.0) (seen_in self.now.1 reader.now)) terms.now)) }
+        ensures best { IfOk result (λ found. found.best ≡ take most (hits (rendered_pages
+            (R.page self.now.0) (seen_in self.now.1 reader.now)) terms.now)) }
+    {
+        hits(self.heap, &self.store, &self.kept, reader, terms, most)
     }
 }

@@ -5,6 +5,7 @@ use Rattle.std.specs.FinMap as map
 use Rattle.std.proofs.lemmas.Bool.{both_ways}
 use Rattle.doc_cache.specs.Caches.{Cached, kept as kept_in_cache, looked, text_under}
 use Rattle.doc_cache.specs.declared.key.Key.{Key}
+use Rattle.doc_http_replies.specs.Heads.{Dress}
 use Rattle.doc_index_tables.specs.Maps.{PairMap}
 use Rattle.doc_links_pages.specs.declared.page_links.PageLinks.{PageLinks}
 use Rattle.doc_page_parts.specs.Pages.{filled}
@@ -21,7 +22,7 @@ use Rattle.doc_shelf_pages.proofs.Documents.{caches_have_documents, documents_ar
 use Rattle.doc_shelf_pages.proofs.KeptEdits.{what_is_kept_is_held}
 use Rattle.doc_shelf_pages.specs.EditLaws.{IsKeyOf, document_of}
 use Rattle.doc_shelf_pages.specs.Shelves.{HasDocuments, IsDocument}
-use Rattle.doc_shelf_pages.specs.KeptPages.{Kept, without_texts}
+use Rattle.doc_shelf_pages.specs.KeptPages.{Kept, kept_of}
 use Rattle.doc_shelf_pages.specs.Views.{Renders, links_in}
 use Rattle.doc_store_readers.specs.Pages.{Page}
 use Rattle.doc_store.specs.Store.{StoreState}
@@ -38,25 +39,28 @@ none_some : {X : Type 0} (x : X) → None ≡ Some x → ⊥
 none_some x e = cc
 
 -- a document has nothing of a rendering's texts
-bare_document : (path : List ℕ) (how : List ℕ → Shown) (page : Rendered) → body_of path how (without_texts page) ≡ body_of path how page
+bare_document : (with_texts : Bool) (path : List ℕ) (how : List ℕ → Shown) (page : Rendered)
+    → body_of path how (kept_of with_texts page) ≡ body_of path how page
 unfolding filled
-bare_document path how page = refl
+bare_document true path how page = refl
+bare_document false path how page = refl
 
 -- the reply and the document of what is kept
-pub making_is : (head_only close : Bool) (kept : Kept) (goals : List ℕ → Option (List ℕ)) (path : List ℕ) (stamp : ℕ) (found : Rendered)
-    (document reply : List ℕ) → Some found ≡ map.get kept.renderings (path, stamp) → document ≡ body_of path (shown goals path) found
-    → reply ≡ document_reply head_only close document
-    → ◌≡◌ {A = Option Made} (Some (record { reply = reply; document = document })) (made_of_kept head_only close kept goals path stamp)
-making_is head_only close kept goals path stamp found document reply is made written =
-    (λ i. Some (record { reply = (written ∙ ap (document_reply head_only close) made) i; document = made i }))
-    ∙ ap (option_map (λ page. made_of head_only close (body_of path (shown goals path) page))) is
+pub making_is : (dress : Dress) (head_only close : Bool) (kept : Kept) (goals : List ℕ → Option (List ℕ)) (path : List ℕ) (stamp : ℕ)
+    (found : Rendered) (document reply : List ℕ) → Some found ≡ map.get kept.renderings (path, stamp)
+    → document ≡ body_of path (shown goals path) found → reply ≡ document_reply dress head_only close document
+    → ◌≡◌ {A = Option Made} (Some (record { reply = reply; document = document }))
+    (made_of_kept dress head_only close kept goals path stamp)
+making_is dress head_only close kept goals path stamp found document reply is made written =
+    (λ i. Some (record { reply = (written ∙ ap (document_reply dress head_only close) made) i; document = made i }))
+    ∙ ap (option_map (λ page. made_of dress head_only close (body_of path (shown goals path) page))) is
 
 module _ (render : Renders) (store : StoreState) (kept : Kept) (cache : Cached) (path : List ℕ) (stamp : ℕ) (page : Page)
     (served : IsServed render store kept cache path stamp page) where
   links_kept : map.get kept.links (path, stamp) ≡ Some (links_in path (render page.text))
   links_kept = (what_is_kept_is_held render store kept served.shelf.pages).links_of path stamp page served.stands
 
-  rendering_kept : map.get kept.renderings (path, stamp) ≡ Some (without_texts (render page.text))
+  rendering_kept : map.get kept.renderings (path, stamp) ≡ Some (kept_of kept.with_texts (render page.text))
   rendering_kept = (what_is_kept_is_held render store kept served.shelf.pages).rendering_of path stamp page served.stands
 
   -- what is kept of the page is found
@@ -79,36 +83,38 @@ module _ (render : Renders) (store : StoreState) (kept : Kept) (cache : Cached) 
         ∙ sym (decisions_are_goals goals path (render page.text))
 
     -- what is made of what is kept is the page's document, and the reply with it
-    pub made_is : (head_only close : Bool) → made_of_kept head_only close kept goals path stamp
-        ≡ Some (made_of head_only close (document_of render goals path page))
-    made_is head_only close =
-        ap (option_map (λ found. made_of head_only close (body_of path (shown goals path) found))) rendering_kept
-        ∙ ap (λ document. Some (made_of head_only close document)) (bare_document path (shown goals path) (render page.text))
+    pub made_is : (dress : Dress) (head_only close : Bool) → made_of_kept dress head_only close kept goals path stamp
+        ≡ Some (made_of dress head_only close (document_of render goals path page))
+    made_is dress head_only close =
+        ap (option_map (λ found. made_of dress head_only close (body_of path (shown goals path) found))) rendering_kept
+        ∙ ap (λ document. Some (made_of dress head_only close document)) (bare_document kept.with_texts path (shown goals path) (render page.text))
 
-    pub making_gives : (head_only close : Bool) (made : Made) → Some made ≡ made_of_kept head_only close kept goals path stamp
-        → made ≡ made_of head_only close (document_of render goals path page)
-    making_gives head_only close made is =
-        some_is made (made_of head_only close (document_of render goals path page)) (is ∙ made_is head_only close)
+    pub making_gives : (dress : Dress) (head_only close : Bool) (made : Made)
+        → Some made ≡ made_of_kept dress head_only close kept goals path stamp
+        → made ≡ made_of dress head_only close (document_of render goals path page)
+    making_gives dress head_only close made is =
+        some_is made (made_of dress head_only close (document_of render goals path page)) (is ∙ made_is dress head_only close)
 
-    pub making_gives_one : (head_only close : Bool) → None ≡ made_of_kept head_only close kept goals path stamp → ⊥
-    making_gives_one head_only close none =
-        none_some (made_of head_only close (document_of render goals path page)) (none ∙ made_is head_only close)
+    pub making_gives_one : (dress : Dress) (head_only close : Bool) → None ≡ made_of_kept dress head_only close kept goals path stamp → ⊥
+    making_gives_one dress head_only close none =
+        none_some (made_of dress head_only close (document_of render goals path page)) (none ∙ made_is dress head_only close)
 
     module _ (key : Key) (of : IsKeyOf render goals path stamp page key) where
-      found_text : (head_only close : Bool) (text : Option (List ℕ)) → text_under cache key ≡ text
-          → is_some (option_map (document_reply head_only close) text) ≡ true
-          → option_map (document_reply head_only close) text ≡ Some (document_reply head_only close (document_of render goals path page))
-      found_text head_only close None is there = absurd (both_ways false refl there)
-      found_text head_only close (Some text) is there =
-          ap (λ t. Some (document_reply head_only close t))
+      found_text : (dress : Dress) (head_only close : Bool) (text : Option (List ℕ)) → text_under cache key ≡ text
+          → is_some (option_map (document_reply dress head_only close) text) ≡ true
+          → option_map (document_reply dress head_only close) text
+          ≡ Some (document_reply dress head_only close (document_of render goals path page))
+      found_text dress head_only close None is there = absurd (both_ways false refl there)
+      found_text dress head_only close (Some text) is there =
+          ap (λ t. Some (document_reply dress head_only close t))
           (documents_are_found.found render store cache goals path stamp page key text served.shelf.documents served.stands of is)
 
       -- a document that is found is the reader's
-      pub found_is : (head_only close : Bool) (found : Option (List ℕ))
-          → found ≡ option_map (document_reply head_only close) (text_under cache key) → is_some found ≡ true
-          → found ≡ Some (document_reply head_only close (document_of render goals path page))
-      found_is head_only close found is there =
-          is ∙ found_text head_only close (text_under cache key) refl (sym (ap is_some is) ∙ there)
+      pub found_is : (dress : Dress) (head_only close : Bool) (found : Option (List ℕ))
+          → found ≡ option_map (document_reply dress head_only close) (text_under cache key) → is_some found ≡ true
+          → found ≡ Some (document_reply dress head_only close (document_of render goals path page))
+      found_is dress head_only close found is there =
+          is ∙ found_text dress head_only close (text_under cache key) refl (sym (ap is_some is) ∙ there)
 
       -- and one that is made may be kept
       pub kept_has : (new : Cached) (text : List ℕ) → text ≡ document_of render goals path page

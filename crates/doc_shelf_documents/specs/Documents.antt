@@ -2,8 +2,8 @@
 use Rattle.std.specs.Prelude.{ℕ, Bool, true, List, Option, option_map}
 use Rattle.std.specs.FinMap as map
 use Rattle.doc_cache.specs.Caches.{Cached}
+use Rattle.doc_http_replies.specs.Heads.{Dress, dressed_bytes}
 use Rattle.doc_http_replies.specs.ReplyForms.{content_reply}
-use Rattle.doc_http_replies.specs.Replies.{reply_bytes}
 use Rattle.doc_resolve.specs.Hrefs.{shown}
 use Rattle.doc_shelf_documents.specs.Shelves.{IsShelf}
 use Rattle.doc_shelf_documents.specs.declared.documents.Made.{Made}
@@ -16,23 +16,23 @@ use Rattle.doc_store_readers.specs.Sites.{View, goal_in, page_at}
 use Rattle.doc_store.specs.Store.{StoreState}
 
 -- a reply with a document, or its head alone
-abbrev pub document_reply : Bool → Bool → List ℕ → List ℕ
-document_reply head_only close document = reply_bytes (content_reply true document) head_only close
+abbrev pub document_reply : Dress → Bool → Bool → List ℕ → List ℕ
+document_reply dress head_only close document = dressed_bytes dress (content_reply true document) head_only close
 
 -- what a reader with this view is sent of the page at a path, where they see one
-abbrev pub page_shown : Renders → View → List ℕ → Bool → Bool → Option (List ℕ)
-page_shown render view path head_only close =
-    option_map (λ page. document_reply head_only close (document_of render (goal_in view) path page)) (page_at view.pages path)
+abbrev pub page_shown : Renders → View → List ℕ → Dress → Bool → Bool → Option (List ℕ)
+page_shown render view path dress head_only close =
+    option_map (λ page. document_reply dress head_only close (document_of render (goal_in view) path page)) (page_at view.pages path)
 
 -- a document, and the reply with it
-abbrev pub made_of : Bool → Bool → List ℕ → Made
-made_of head_only close document = record { reply = document_reply head_only close document; document = document }
+abbrev pub made_of : Dress → Bool → Bool → List ℕ → Made
+made_of dress head_only close document = record { reply = document_reply dress head_only close document; document = document }
 
 -- The same of what is kept of a page under a path and a stamp, if anything is, for a reader: `goals` says which page a path leads to
 -- for them.
-abbrev pub made_of_kept : Bool → Bool → Kept → (List ℕ → Option (List ℕ)) → List ℕ → ℕ → Option Made
-made_of_kept head_only close kept goals path stamp =
-    option_map (λ page. made_of head_only close (body_of path (shown goals path) page)) (map.get kept.renderings (path, stamp))
+abbrev pub made_of_kept : Dress → Bool → Bool → Kept → (List ℕ → Option (List ℕ)) → List ℕ → ℕ → Option Made
+made_of_kept dress head_only close kept goals path stamp =
+    option_map (λ page. made_of dress head_only close (body_of path (shown goals path) page)) (map.get kept.renderings (path, stamp))
 
 -- a page stands under a path with a stamp, and what is kept beside its store is a shelf's
 pub record IsServed (render : Renders) (store : StoreState) (kept : Kept) (cache : Cached) (path : List ℕ) (stamp : ℕ) (page : Page)

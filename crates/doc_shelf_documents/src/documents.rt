@@ -2,6 +2,7 @@
 
 ghost use Rattle.std.specs.Prelude.{◌≡◌, ◌⊎◌, IfOk, Some, option_map};
 ghost use Rattle.doc_cache.specs.Caches.{kept as kept_in_cache, looked, text_under};
+ghost use Rattle.doc_http_replies.specs.Manners.{dress_of};
 ghost use Rattle.doc_shelf_documents.specs.Documents.{IsServed, document_reply, made_of_kept};
 ghost use Rattle.doc_shelf_pages.specs.EditLaws.{document_of};
 ghost use Rattle.doc_shelf_pages.specs.Shelves.{HasDocuments};
@@ -12,6 +13,7 @@ ghost use Rattle.doc_store.specs.Store.{StoreState};
 use crate::body::body;
 use doc_cache::cache::PageCache;
 use doc_cache::key::Key;
+use doc_http::manner::Manner;
 use doc_http::reply::write_content;
 use doc_page_parts::bytes::Bytes;
 use doc_page_parts::failure::Memory;
@@ -23,14 +25,11 @@ use doc_page_parts::text::Text;
 use doc_resolve::{SiteLinker, goals_of};
 use doc_shelf_pages::KeptPages;
 
-/// How a reply is written.
+/// How a reply is written, and with whose memory.
 #[derive(Clone, Copy)]
-pub struct Writing {
+pub struct Writing<'a> {
     pub heap: Heap,
-    /// The head alone, as for HEAD.
-    pub head_only: bool,
-    /// Whether the connection closes after the reply.
-    pub close: bool,
+    pub manner: Manner<'a>,
 }
 
 /// A document, and the reply with it.
@@ -52,7 +51,8 @@ pub fn reply_with_page<S: Sight>(
 ) -> Result<Option<Bytes>, Memory>
     ensures reply { (render : Renders) → (store : StoreState) → (page : Page)
         → IsServed render store kept.now cache.old path.now stamp page
-        → IfOk result (λ reply. reply ≡ Some (document_reply writing.head_only writing.close
+        → IfOk result (λ reply. reply ≡ Some (document_reply (dress_of writing.entry.manner)
+        writing.entry.manner.head_only writing.entry.manner.close
         (document_of render (S.goals sight.now) path.now page))) }
     ensures cache { (render : Renders) → (store : StoreState) → (page : Page)
         → IsServed render store kept.now cache.old path.now stamp page
@@ -78,20 +78,15 @@ pub fn reply_with_page<S: Sight>(
 /// The reply with the document that stands under a key, if one does.
 fn found_reply(writing: Writing, cache: &mut PageCache, key: &Key) -> Result<Option<Bytes>, Memory>
     ensures reply { IfOk result (λ reply. reply
-        ≡ option_map (document_reply writing.head_only writing.close)
+        ≡ option_map (document_reply (dress_of writing.entry.manner) writing.entry.manner.head_only
+        writing.entry.manner.close)
         (text_under cache.old key.now)) }
     ensures cache { cache.new ≡ looked cache.old key.now }
 {
     let Some(text) = cache.look(key) else {
         return Ok(None);
     };
-    let reply = write_content(
-        writing.heap,
-        true,
-        text.as_bytes(),
-        writing.head_only,
-        writing.close,
-    )?;
+    let reply = write_content(writing.heap, true, text.as_bytes(), writing.manner)?;
     Ok(Some(reply))
 }
 
@@ -104,7 +99,8 @@ fn make<S: Sight>(
     stamp: u64,
     sight: &S,
 ) -> Result<Option<Made>, Memory>
-    ensures { IfOk result (λ made. made ≡ made_of_kept writing.head_only writing.close kept.now
+    ensures { IfOk result (λ made. made ≡ made_of_kept (dress_of writing.entry.manner)
+        writing.entry.manner.head_only writing.entry.manner.close kept.now
         (S.goals sight.now) path.now stamp) }
 {
     let Some(page) = kept.get(path, stamp) else {
@@ -112,13 +108,7 @@ fn make<S: Sight>(
     };
     let document = body(writing.heap, path, page, &SiteLinker::new(path, sight))?;
     let content = document.get().as_bytes();
-    let reply = write_content(
-        writing.heap,
-        true,
-        content,
-        writing.head_only,
-        writing.close,
-    )?;
+    let reply = write_content(writing.heap, true, content, writing.manner)?;
     Ok(Some(Made { reply, document }))
 }
 

@@ -1,15 +1,16 @@
 -- What is kept of a store's pages, through its edits.
-use Rattle.std.proofs.Common.{◌≡◌, ℕ, List, refl, ap, sym, subst, ◌∙◌}
+use Rattle.std.proofs.Common.{◌≡◌, ℕ, List, Bool, refl, ap, sym, subst, ◌∙◌}
 use Rattle.std.specs.Prelude.{Option, Some, None, option_map}
 use Rattle.std.specs.Cmp.Lexicographic.{slice_cmp}
 use Rattle.std.specs.FinMap as map
 use Rattle.std.specs.Ordering.{nat_cmp}
 use Rattle.doc_index_tables.specs.Maps.{TextMap, pair_cmp}
 use Rattle.doc_index_tables.proofs.PairSteps.{pairs_exact, pairs_total}
+use Rattle.doc_links_pages.specs.PageLinks.{page_links}
 use Rattle.doc_page_parts.specs.declared.rendered.Rendered.{Rendered}
-use Rattle.doc_shelf_pages.proofs.KeptSteps.{together, undone as undone_at}
+use Rattle.doc_shelf_pages.proofs.KeptSteps.{headings_of_kept, pieces_of_kept, together, undone as undone_at}
 use Rattle.doc_shelf_pages.specs.KeptPages.{IsFree, Kept, carried, carried_with, none_kept, with_page as kept_with_page}
-use Rattle.doc_shelf_pages.specs.KeptPages.{without_page as kept_without_page, without_texts}
+use Rattle.doc_shelf_pages.specs.KeptPages.{kept_of, without_page as kept_without_page}
 use Rattle.doc_shelf_pages.specs.Held.{held_links, held_words, rendered_under}
 use Rattle.doc_shelf_pages.specs.Views.{Renders, links_in}
 use Rattle.doc_shelf_pages.proofs.HeldLaws.{what_is_held}
@@ -24,12 +25,17 @@ use Rattle.doc_shelf_pages.proofs.PairEdits.{gone, move_knows, nothing_next, put
 abbrev counts : List ℕ → Rendered → TextMap ℕ
 counts path page = word_counts page
 
-abbrev bare : List ℕ → Rendered → Rendered
-bare path page = without_texts page
+abbrev shown : Bool → List ℕ → Rendered → Rendered
+shown with_texts path page = kept_of with_texts page
 
 -- a page is let go of each map
 let_go-maps : (kept : Kept) (path : List ℕ) (present : Option ℕ) → let_go kept path present
-    ≡ record { links = gone kept.links path present; words = gone kept.words path present; renderings = gone kept.renderings path present }
+    ≡ record {
+      with_texts = kept.with_texts;
+      links = gone kept.links path present;
+      words = gone kept.words path present;
+      renderings = gone kept.renderings path present;
+    }
 let_go-maps kept path None = refl
 let_go-maps kept path (Some stamp) = refl
 
@@ -38,7 +44,7 @@ module _ (render : Renders) (store : StoreState) (is : IsStore store) where
   free kept path k = record {
     links = k.links path store.puts ∙ ap (option_map (links_in path)) (nothing_next render store path is);
     words = k.words path store.puts ∙ ap (option_map (counts path)) (nothing_next render store path is);
-    renderings = k.renderings path store.puts ∙ ap (option_map (bare path)) (nothing_next render store path is);
+    renderings = k.renderings path store.puts ∙ ap (option_map (shown kept.with_texts path)) (nothing_next render store path is);
   }
 
   -- ---- a put
@@ -53,7 +59,7 @@ module _ (render : Renders) (store : StoreState) (is : IsStore store) where
         (record {
           links = put_knows links_in render store is before.links k.links path page;
           words = put_knows counts render store is before.words k.words path page;
-          renderings = put_knows bare render store is before.renderings k.renderings path page;
+          renderings = put_knows (shown before.with_texts) render store is before.renderings k.renderings path page;
         })
 
   made : (kept : Kept) (path text : List ℕ) (groups : List (List ℕ)) → IsBeingPut render store path text kept
@@ -85,7 +91,7 @@ module _ (render : Renders) (store : StoreState) (is : IsStore store) where
       (record {
         links = removal_knows links_in render store is kept.links k.links path;
         words = removal_knows counts render store is kept.words k.words path;
-        renderings = removal_knows bare render store is kept.renderings k.renderings path;
+        renderings = removal_knows (shown kept.with_texts) render store is kept.renderings k.renderings path;
       })
 
 -- what is kept of a page that stands
@@ -97,8 +103,8 @@ module _ (render : Renders) (store : StoreState) (kept : Kept) (k : IsKept rende
         ∙ ap (rendered_under render stamp (Some stamp)) here.stands
         ∙ under_own render stamp page
 
-    rendering_is : map.get kept.renderings (path, stamp) ≡ Some (without_texts (render page.text))
-    rendering_is = k.renderings path stamp ∙ ap (option_map (bare path)) under_is
+    rendering_is : map.get kept.renderings (path, stamp) ≡ Some (kept_of kept.with_texts (render page.text))
+    rendering_is = k.renderings path stamp ∙ ap (option_map (shown kept.with_texts path)) under_is
 
     words_are : map.get kept.words (path, stamp) ≡ Some (word_counts (render page.text))
     words_are = k.words path stamp ∙ ap (option_map (counts path)) under_is
@@ -134,8 +140,14 @@ module _ (render : Renders) (store : StoreState) (is : IsStore store) where
     added =
         ap (λ o. carried_with kept o (counts_or_none (map.get kept.words (from, stamp))) to store.puts)
         (rendering_is render store kept k from stamp page here)
-        ∙ ap (λ o. carried_with kept (Some (without_texts (render page.text))) (counts_or_none o) to store.puts)
-        (words_are render store kept k from stamp page here);
+        ∙ ap (λ o. carried_with kept (Some (kept_of kept.with_texts (render page.text))) (counts_or_none o) to store.puts)
+        (words_are render store kept k from stamp page here)
+        ∙ (λ i. record kept {
+          links = map.insert kept.links (to, store.puts) (page_links to (pieces_of_kept kept.with_texts (render page.text) i)
+              (headings_of_kept kept.with_texts (render page.text) i));
+          words = map.insert kept.words (to, store.puts) (word_counts (render page.text));
+          renderings = map.insert kept.renderings (to, store.puts) (kept_of kept.with_texts (render page.text));
+        });
   }
 
   module _ (from to : List ℕ) (stamp : ℕ) (page : Page) (here : Stands store from stamp page)
@@ -146,7 +158,7 @@ module _ (render : Renders) (store : StoreState) (is : IsStore store) where
       moved_before before k = record {
         links = move_knows links_in render store is before.links k.links from to stamp page here.stamped here.stands free_path;
         words = move_knows counts render store is before.words k.words from to stamp page here.stamped here.stands free_path;
-        renderings = move_knows bare render store is before.renderings k.renderings from to stamp page here.stamped here.stands free_path;
+        renderings = move_knows (shown before.with_texts) render store is before.renderings k.renderings from to stamp page here.stamped here.stands free_path;
       }
 
   moved : (kept : Kept) (from to : List ℕ) (stamp : ℕ) (page : Page) → Stands store from stamp page
@@ -159,11 +171,11 @@ module _ (render : Renders) (store : StoreState) (is : IsStore store) where
   moves_are_kept : MovesAreKept render store
   moves_are_kept = record { carries = carries; made = moved }
 
-nothing_kept : (render : Renders) → IsKept render empty_store none_kept
-nothing_kept render = record {
+nothing_kept : (render : Renders) (with_texts : Bool) → IsKept render empty_store (none_kept with_texts)
+nothing_kept render with_texts = record {
   links = λ path stamp. map.get-empty pair_cmp (path, stamp) ∙ sym (ap (option_map (links_in path)) (nothing_there path stamp));
   words = λ path stamp. map.get-empty pair_cmp (path, stamp) ∙ sym (ap (option_map (counts path)) (nothing_there path stamp));
-  renderings = λ path stamp. map.get-empty pair_cmp (path, stamp) ∙ sym (ap (option_map (bare path)) (nothing_there path stamp));
+  renderings = λ path stamp. map.get-empty pair_cmp (path, stamp) ∙ sym (ap (option_map (shown with_texts path)) (nothing_there path stamp));
 }
   where
     nothing_there : (path : List ℕ) (stamp : ℕ) → page_under render empty_store path stamp ≡ None

@@ -7,7 +7,7 @@ use Rattle.doc_index_tables.specs.Maps.{PairMap, TextMap}
 use Rattle.doc_index_tables.proofs.PairSteps.{pair_is, pairs_exact, pairs_total, same_pair}
 use Rattle.doc_page_parts.specs.declared.rendered.Rendered.{Rendered}
 use Rattle.doc_links_pages.specs.declared.page_links.PageLinks.{PageLinks}
-use Rattle.doc_shelf_pages.specs.KeptPages.{Kept}
+use Rattle.doc_shelf_pages.specs.KeptPages.{Kept, kept_of}
 
 -- to let go what was just added under a free key leaves what was there
 pub undone : {X : Type 0} (m : PairMap X) (k : List ℕ × ℕ) (v : X) → map.get m k ≡ None → map.remove (map.insert m k v) k ≡ m
@@ -32,10 +32,20 @@ pub on_fine : {X E P : Type 0} (r : Result X E) → OnOk r P → is_err r ≡ fa
 on_fine (Ok x) p h = p
 on_fine (Err e) p h = absurd (cc)
 
-abbrev pub kept_of : PairMap PageLinks → PairMap (TextMap ℕ) → PairMap Rendered → Kept
-kept_of links words renderings = record { links = links; words = words; renderings = renderings }
+abbrev pub kept_in : Bool → PairMap PageLinks → PairMap (TextMap ℕ) → PairMap Rendered → Kept
+kept_in with_texts links words renderings = record { with_texts = with_texts; links = links; words = words; renderings = renderings }
 
 -- three maps that are the same
-pub together : {a b : PairMap PageLinks} {c d : PairMap (TextMap ℕ)} {e f : PairMap Rendered} → a ≡ b → c ≡ d → e ≡ f
-    → kept_of a c e ≡ kept_of b d f
-together p q r = λ i. record { links = p i; words = q i; renderings = r i }
+pub together : {with_texts : Bool} {a b : PairMap PageLinks} {c d : PairMap (TextMap ℕ)} {e f : PairMap Rendered} → a ≡ b → c ≡ d → e ≡ f
+    → kept_in with_texts a c e ≡ kept_in with_texts b d f
+together {with_texts = with_texts} p q r = λ i. record { with_texts = with_texts; links = p i; words = q i; renderings = r i }
+
+-- a rendering as it is kept has the pieces of the page
+pub pieces_of_kept : (with_texts : Bool) (page : Rendered) → (kept_of with_texts page).pieces ≡ page.pieces
+pieces_of_kept true page = refl
+pieces_of_kept false page = refl
+
+-- and its headings
+pub headings_of_kept : (with_texts : Bool) (page : Rendered) → (kept_of with_texts page).headings ≡ page.headings
+headings_of_kept true page = refl
+headings_of_kept false page = refl

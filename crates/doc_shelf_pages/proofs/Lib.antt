@@ -11,7 +11,7 @@ pub mod ViewAnswers
 pub mod Documents
 pub mod EditSteps
 pub mod KeptEdits
-mod ListSteps
+pub mod ListSteps
 mod PairEdits
-mod ViewSteps
+pub mod ViewSteps
 mod TemplateExamples

@@ -23,7 +23,7 @@ use Rattle.doc_shelf_pages.proofs.ViewAnswers.{backlinks_are_the_views, broken_a
 use Rattle.doc_shelf_pages.proofs.ViewAnswers.{links_are}
 use Rattle.doc_shelf_pages.specs.Held.{held_links, held_words}
 use Rattle.doc_shelf_pages.specs.ViewLaws.{links_seen, seen_in, words_seen}
-use Rattle.doc_shelf_pages.specs.Views.{Renders, backlinks_body, contents_body, links_in, report_body, search_body}
+use Rattle.doc_shelf_pages.specs.Views.{Renders, backlinks_body, backlinks_in, broken_in, contents_body, links_in, report_body, search_body}
 use Rattle.doc_store.specs.Names.{AreNames, names_of}
 use Rattle.doc_store_readers.specs.Pages.{Page}
 use Rattle.doc_store_readers.specs.Sites.{View, goal_in, page_at}
@@ -84,18 +84,24 @@ module _ (render : Renders) (store : StoreState) (kept : Kept) (reader : Reader)
     contents_are pages are =
         ap contents_text (are ∙ ap contents linked_are ∙ contents_are_the_views render store reader index is held)
 
+    pub broken_are : (links : List Broken) → links ≡ broken (goal_in view) (linked_in view index)
+        → links ≡ broken_in render (seen_in store reader)
+    broken_are links are =
+        are ∙ ap (λ v. broken (goal_in v) (linked_in v index)) sees ∙ broken_are_the_views render store reader index is held
+
     pub report_is : (links : List Broken) → links ≡ broken (goal_in view) (linked_in view index)
         → report_text links ≡ report_body render (seen_in store reader)
-    report_is links are =
-        ap report_text
-        (are ∙ ap (λ v. broken (goal_in v) (linked_in v index)) sees ∙ broken_are_the_views render store reader index is held)
+    report_is links are = ap report_text (broken_are links are)
+
+    pub sources_are : (path : List ℕ) (sources : List (List ℕ × ℕ)) → sources ≡ backlinks (goal_in view) (linked_in view index) path
+        → sources ≡ backlinks_in render (seen_in store reader) path
+    sources_are path sources are =
+        are ∙ ap (λ v. backlinks (goal_in v) (linked_in v index) path) sees
+        ∙ backlinks_are_the_views render store reader index path is held
 
     pub backlinks_are : (path : List ℕ) (sources : List (List ℕ × ℕ)) → sources ≡ backlinks (goal_in view) (linked_in view index) path
         → backlinks_text sources ≡ backlinks_body render (seen_in store reader) path
-    backlinks_are path sources are =
-        ap backlinks_text
-        (are ∙ ap (λ v. backlinks (goal_in v) (linked_in v index) path) sees
-        ∙ backlinks_are_the_views render store reader index path is held)
+    backlinks_are path sources are = ap backlinks_text (sources_are path sources are)
 
     pub is_once : IsOnce index
     is_once = subst IsOnce (sym held) (each_is_held_once render store).links

@@ -1,5 +1,5 @@
 -- Laws of what a shelf keeps: edits of a store, with what goes with them, keep it so, and what is found in it is what the renderer makes.
-use Rattle.std.specs.Prelude.{◌≡◌, ℕ, List, [], Option, Some, None}
+use Rattle.std.specs.Prelude.{◌≡◌, ℕ, List, [], Bool, Option, Some, None}
 use Rattle.std.specs.FinMap as map
 use Rattle.doc_cache.specs.Caches.{Cached, cached, kept as kept_in_cache, looked, text_under}
 use Rattle.doc_cache.specs.declared.key.Key.{Key}
@@ -7,7 +7,7 @@ use Rattle.doc_shelf_pages.specs.Templates.{body_of}
 use Rattle.doc_resolve.specs.Decisions.{decisions}
 use Rattle.doc_resolve.specs.Hrefs.{shown}
 use Rattle.doc_shelf_pages.specs.Shelves.{HasDocuments, IsBeingPut, IsDocument, IsKept, let_go}
-use Rattle.doc_shelf_pages.specs.KeptPages.{IsFree, Kept, carried, none_kept, without_page as kept_without_page, without_texts}
+use Rattle.doc_shelf_pages.specs.KeptPages.{IsFree, Kept, carried, kept_of, none_kept, without_page as kept_without_page}
 use Rattle.doc_shelf_pages.specs.Held.{held_links, held_words}
 use Rattle.doc_shelf_pages.specs.Views.{Renders, links_in}
 use Rattle.doc_store_readers.specs.Pages.{Page}
@@ -46,7 +46,7 @@ pub record MovesAreKept (render : Renders) (store : StoreState) : Type 0 where
 
 -- what is kept stays so through every edit
 pub record EditsOfKept : Type 0 where
-  pub empty : (render : Renders) → IsKept render empty_store none_kept
+  pub empty : (render : Renders) (with_texts : Bool) → IsKept render empty_store (none_kept with_texts)
   pub puts : (render : Renders) (store : StoreState) → IsStore store → PutsAreKept render store
   pub removals : (render : Renders) (store : StoreState) → IsStore store → RemovalsAreKept render store
   pub moves : (render : Renders) (store : StoreState) → IsStore store → MovesAreKept render store
@@ -56,7 +56,7 @@ pub record KeptIsHeld (render : Renders) (store : StoreState) (kept : Kept) : Ty
   pub links : kept.links ≡ held_links render store
   pub words : kept.words ≡ held_words render store
   pub rendering_of : (path : List ℕ) (stamp : ℕ) (page : Page) → Stands store path stamp page
-      → map.get kept.renderings (path, stamp) ≡ Some (without_texts (render page.text))
+      → map.get kept.renderings (path, stamp) ≡ Some (kept_of kept.with_texts (render page.text))
   pub links_of : (path : List ℕ) (stamp : ℕ) (page : Page) → Stands store path stamp page
       → map.get kept.links (path, stamp) ≡ Some (links_in path (render page.text))
 

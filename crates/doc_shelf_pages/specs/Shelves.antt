@@ -9,7 +9,7 @@ use Rattle.doc_shelf_pages.specs.Templates.{body_of}
 use Rattle.doc_page_parts.specs.declared.rendered.Rendered.{Rendered}
 use Rattle.doc_resolve.specs.Decisions.{decisions}
 use Rattle.doc_resolve.specs.Hrefs.{shown}
-use Rattle.doc_shelf_pages.specs.KeptPages.{Kept, with_page as kept_with_page, without_page as kept_without_page, without_texts}
+use Rattle.doc_shelf_pages.specs.KeptPages.{Kept, kept_of, with_page as kept_with_page, without_page as kept_without_page}
 use Rattle.doc_shelf_pages.specs.Held.{rendered_under}
 use Rattle.doc_shelf_pages.specs.Views.{Renders, links_in}
 use Rattle.doc_store_readers.specs.Pages.{Page}
@@ -26,11 +26,11 @@ Knows known render store held =
     (path : List ℕ) (stamp : ℕ) → map.get held (path, stamp) ≡ option_map (known path) (page_under render store path stamp)
 
 -- What is kept of a store's pages: of each, under its path and its stamp, what it links to with its headings, the counts of its
--- words, and its rendering without the texts; and nothing else.
+-- words, and its rendering as it is kept; and nothing else.
 pub record IsKept (render : Renders) (store : StoreState) (kept : Kept) : Type 0 where
   pub links : Knows links_in render store kept.links
   pub words : Knows (λ path page. word_counts page) render store kept.words
-  pub renderings : Knows (λ path page. without_texts page) render store kept.renderings
+  pub renderings : Knows (λ path page. kept_of kept.with_texts page) render store kept.renderings
 
 -- what is kept after the page under a path and the stamp that it had, if any, is let go
 abbrev pub let_go : Kept → List ℕ → Option ℕ → Kept

@@ -1,7 +1,7 @@
 //! Copies of renderings.
 
 ghost use Rattle.std.specs.Prelude.{◌≡◌, IfOk};
-ghost use Rattle.doc_shelf_pages.specs.KeptPages.{without_texts};
+ghost use Rattle.doc_shelf_pages.specs.KeptPages.{kept_of, without_texts};
 
 use doc_page_parts::failure::Memory;
 use doc_page_parts::heap::{Heap, Vec};
@@ -9,8 +9,18 @@ use doc_page_parts::list::List;
 use doc_page_parts::rendered::{Heading, LinkSpot, Piece, Rendered};
 use doc_page_parts::text::Text;
 
+/// A rendering as it is kept: with its texts, or without.
+pub fn kept_of(heap: Heap, with_texts: bool, page: Rendered) -> Rendered
+    ensures { result ≡ kept_of with_texts page }
+{
+    if with_texts {
+        return page;
+    }
+    without_texts(heap, page)
+}
+
 /// A rendering without its texts, which are dropped.
-pub fn without_texts(heap: Heap, page: Rendered) -> Rendered
+fn without_texts(heap: Heap, page: Rendered) -> Rendered
     ensures { result ≡ without_texts page }
 {
     let Rendered {
@@ -25,14 +35,14 @@ pub fn without_texts(heap: Heap, page: Rendered) -> Rendered
     }
 }
 
-/// A copy of a rendering, without its texts.
+/// A copy of a rendering.
 pub fn copy_of(heap: Heap, page: &Rendered) -> Result<Rendered, Memory>
-    ensures { IfOk result (λ copy. copy ≡ without_texts page.now) }
+    ensures { IfOk result (λ copy. copy ≡ page.now) }
 {
     Ok(Rendered {
         pieces: pieces_of(heap, page.pieces.get())?,
         headings: headings_of(heap, page.headings.get())?,
-        texts: List::new(Vec::new(heap)),
+        texts: texts_of(heap, page.texts.get())?,
     })
 }
 
@@ -85,4 +95,14 @@ fn heading_of(heap: Heap, heading: &Heading) -> Result<Heading, Memory>
         anchor: heading.anchor.copy(heap)?,
         text: heading.text.copy(heap)?,
     })
+}
+
+fn texts_of(heap: Heap, texts: &[Text]) -> Result<List<Text>, Memory>
+    ensures { IfOk result (λ copies. copies ≡ texts.now) }
+{
+    let mut copies = Vec::with_capacity(heap, texts.len())?;
+    for text in texts {
+        copies.push(text.copy(heap)?)?;
+    }
+    Ok(List::new(copies))
 }

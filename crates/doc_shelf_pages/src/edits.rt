@@ -101,6 +101,7 @@ pub fn end_put(
     ensures kept { (render : Renders) → IsStore store.old
         → IsBeingPut render store.old path.now page.entry.text.now kept.old
         → IsEdited render store.old store.new kept.new }
+    ensures texts { kept.new.with_texts ≡ kept.old.with_texts }
 {
     let put = store.put_fitting(path, page.groups, page.text);
     let over = match put {
@@ -128,6 +129,7 @@ pub fn end_put_saying(
     ensures kept { (render : Renders) → IsStore store.old
         → IsBeingPut render store.old path.now page.entry.text.now kept.old
         → IsEdited render store.old store.new kept.new }
+    ensures texts { kept.new.with_texts ≡ kept.old.with_texts }
 {
     if said.is_err() {
         kept.drop_page(path, page.stamp);
@@ -155,6 +157,7 @@ pub fn remove(store: &mut Store, kept: &mut KeptPages, path: &Path) -> bool
     ensures store { store.new ≡ without_page store.old path.now }
     ensures kept { (render : Renders) → IsStore store.old → IsKept render store.old kept.old
         → IsEdited render store.old store.new kept.new }
+    ensures texts { kept.new.with_texts ≡ kept.old.with_texts }
 {
     let before = stamp_at(store, path);
     let_go(kept, path, before);
@@ -176,6 +179,7 @@ pub fn move_page(
         (moved_in store.old from.now to.now) store.old store.new result }
     ensures kept { (render : Renders) → IsStore store.old → IsKept render store.old kept.old
         → IsEdited render store.old store.new kept.new }
+    ensures texts { kept.new.with_texts ≡ kept.old.with_texts }
 {
     let Some(before) = stamp_at(store, from) else {
         return Err(MoveError::NoPage);

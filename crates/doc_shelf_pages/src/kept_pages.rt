@@ -4,6 +4,7 @@ ghost use Rattle.std.specs.Prelude.{◌≡◌, OnOk, OnErr, option_copied};
 ghost use Rattle.std.specs.FinMap as map;
 ghost use Rattle.doc_shelf_pages.specs.KeptPages.{IsFree, carried, none_kept, with_page, without_page};
 
+use crate::copying::kept_of;
 use crate::renderings::Renderings;
 use doc_links::LinkIndex;
 use doc_page_parts::failure::Memory;
@@ -13,9 +14,11 @@ use doc_page_parts::rendered::Rendered;
 use doc_words::index::WordIndex;
 use std::marker::Model;
 
-/// What is kept of pages, each under its path and a stamp: its links and headings, its words, and its rendering, of which the texts
-/// are dropped. Contracts see the three maps.
+/// What is kept of pages, each under its path and a stamp: its links and headings, its words, and its rendering, whose texts are kept
+/// or dropped, as it is told when it is made. Contracts see which, and the three maps.
 pub struct KeptPages {
+    heap: Heap,
+    with_texts: bool,
     links: LinkIndex,
     words: WordIndex,
     renderings: Renderings,
@@ -25,6 +28,8 @@ pub struct KeptPages {
 impl Drop for KeptPages {
     fn drop(self) {
         let KeptPages {
+            heap: _,
+            with_texts: _,
             links: _,
             words: _,
             renderings: _,
@@ -41,19 +46,33 @@ impl Model for KeptPages {
 
     ghost coded = { kept_code link_row.the_row.coded page_row.the_row.coded };
 
-    ghost view = { λ k. record { links = k.links; words = k.words; renderings = k.renderings } };
+    ghost view = { λ k. record {
+      with_texts = k.with_texts;
+      links = k.links;
+      words = k.words;
+      renderings = k.renderings;
+    } };
 }
 
 impl KeptPages {
-    /// Nothing is kept. It takes no memory.
-    pub fn new(heap: Heap) -> KeptPages
-        ensures { result ≡ none_kept }
+    /// Nothing is kept, and of pages to come the texts or not. It takes no memory.
+    pub fn new(heap: Heap, with_texts: bool) -> KeptPages
+        ensures { result ≡ none_kept with_texts }
     {
         KeptPages {
+            heap,
+            with_texts,
             links: LinkIndex::new(heap),
             words: WordIndex::new(heap),
             renderings: Renderings::new(heap),
         }
+    }
+
+    /// Whether the texts of pages are kept.
+    pub fn keeps_texts(&self) -> bool
+        ensures { result ≡ self.now.with_texts }
+    {
+        self.with_texts
     }
 
     /// The links and headings of the pages.
@@ -70,7 +89,7 @@ impl KeptPages {
         &self.words
     }
 
-    /// The rendering under a path and a stamp, without its texts.
+    /// The rendering under a path and a stamp, as it is kept.
     pub fn get(&self, path: &Path, stamp: u64) -> Option<&Rendered>
         ensures { option_copied result ≡ map.get self.now.renderings (path.now, stamp) }
     {
@@ -89,6 +108,7 @@ impl KeptPages {
             self.links.drop_page(path, stamp);
             return Err(Memory);
         }
+        let page = kept_of(self.heap, self.with_texts, page);
         if self.renderings.add(path, stamp, page).is_err() {
             self.words.drop_page(path, stamp);
             self.links.drop_page(path, stamp);

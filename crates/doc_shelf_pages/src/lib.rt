@@ -1,7 +1,8 @@
 //! The pages of a store with what is kept of them for answers, the edits that keep both in step, and the lists made of that.
 //!
 //! A page is kept under its path and a stamp in three maps, for its links, its words and its rendering, which change together: a call
-//! changes all of them, or, where memory is refused, none. To let a page go takes no memory.
+//! changes all of them, or, where memory is refused, none. To let a page go takes no memory. The texts of renderings are kept where what is
+//! kept was made so, and no edit changes that.
 //!
 //! `specs/Views` says what each list is of a reader's view, and `specs/Held` what indexes hold of the pages of a store; `view_laws` carry
 //! one to the other: what is held, asked by what a reader sees, answers what the definitions say of the reader's view. `specs/Shelves` says

@@ -2,10 +2,9 @@
 
 ghost use Rattle.std.specs.Prelude.{◌≡◌, None, OnOk, OnErr, option_copied};
 ghost use Rattle.std.specs.FinMap as map;
-ghost use Rattle.doc_shelf_pages.specs.KeptPages.{without_texts};
 ghost use Rattle.doc_shelf_pages.specs.RenderingSteps.{with_copy};
 
-use crate::copying::{copy_of, without_texts};
+use crate::copying::copy_of;
 use doc_index::index::Index;
 use doc_page_parts::failure::Memory;
 use doc_page_parts::heap::{BTreeMap, Heap, String};
@@ -13,7 +12,7 @@ use doc_page_parts::path::Path;
 use doc_page_parts::rendered::Rendered;
 use std::marker::Model;
 
-/// Renderings without their texts, each held under a path and a stamp. Contracts see the map.
+/// Renderings, each held under a path and a stamp. Contracts see the map.
 #[derive(Drop)]
 pub struct Renderings {
     heap: Heap,
@@ -51,14 +50,13 @@ impl Renderings {
         self.pages.get(path, stamp)
     }
 
-    /// Holds a rendering without its texts under a path and a stamp that none has. A refusal drops it and leaves the others.
+    /// Holds a rendering under a path and a stamp that none has. A refusal drops it and leaves the others.
     pub fn add(&mut self, path: &Path, stamp: u64, page: Rendered) -> Result<(), Memory>
         requires free { map.get self.old (path.now, stamp) ≡ None }
         ensures ok { OnOk result (self.new
-            ≡ map.insert self.old (path.now, stamp) (without_texts page)) }
+            ≡ map.insert self.old (path.now, stamp) page) }
         ensures err { OnErr result (self.new ≡ self.old) }
     {
-        let page = without_texts(self.heap, page);
         let keys = no_keys(self.heap);
         self.pages.add(path, stamp, page, &keys)
     }

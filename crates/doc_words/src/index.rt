@@ -1,6 +1,6 @@
 //! Pages held under a path and a stamp, and searched by their words.
 
-ghost use Rattle.std.specs.Prelude.{◌≡◌, None, IfOk, OnOk, OnErr, length};
+ghost use Rattle.std.specs.Prelude.{◌≡◌, None, IfOk, OnOk, OnErr, length, option_copied, option_map};
 ghost use Rattle.std.specs.FinMap as map;
 ghost use Rattle.doc_page_parts.specs.Sights.{seen};
 ghost use Rattle.doc_words_search.specs.Held.{counts_or_none};
@@ -8,6 +8,7 @@ ghost use Rattle.doc_words_search.specs.Searches.{pages_of, search};
 ghost use Rattle.doc_words_search.specs.Words.{word_counts};
 
 use doc_index::index::Index;
+use doc_index_tables::packed::Packed;
 use doc_page_parts::failure::Memory;
 use doc_page_parts::heap::Heap;
 use doc_page_parts::list::List;
@@ -95,6 +96,18 @@ impl WordIndex {
         ensures rest { self.new ≡ map.remove self.old (path.now, stamp) }
     {
         self.pages.drop_page(path, stamp)
+    }
+
+    /// The words of the page under a path and a stamp, each once with its count, in the order of their
+    /// bytes.
+    pub fn counts(&self, path: &Path, stamp: u64) -> Option<&Packed>
+        ensures { option_copied result
+            ≡ option_map map.entries (map.get self.now (path.now, stamp)) }
+    {
+        let Some(counts) = self.pages.counts(path, stamp) else {
+            return None;
+        };
+        Some(counts.entries())
     }
 
     /// Searches the held pages that are seen for those that have each word: the first 100 by score

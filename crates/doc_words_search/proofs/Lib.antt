@@ -4,6 +4,7 @@ mod Examples
 pub mod HeldSteps
 pub mod MapSteps
 pub mod MarkSteps
+pub mod OrderSteps
 pub mod RankSteps
 pub mod RunSteps
 pub mod SearchSteps

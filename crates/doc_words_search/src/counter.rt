@@ -64,7 +64,7 @@ impl Counter {
     }
 
     /// Counts a word.
-    fn add(&mut self, word: String) -> Result<(), Memory>
+    pub(crate) fn add(&mut self, word: String) -> Result<(), Memory>
         ensures { OnOk result (self.new ≡ one_more self.old (string_bytes word)) }
     {
         let Some(count) = self.counts.get_mut(word.as_str()) else {

@@ -7,9 +7,10 @@
 //! path.
 #![tactic(auto)]
 
-mod characters;
+pub mod characters;
 pub mod counter;
 pub mod hit;
+pub mod in_order;
 pub mod marking;
 pub mod query;
 pub mod search;

@@ -14,7 +14,7 @@ returns g c =
     let store = c.self.inside.store in
     let path = c.args.path.now in
     let reader = c.args.reader.now in
-    ap Some (c.in_ok-backlinks.ensures render c.self.invariant.pages)
+    ap Some (c.in_ok-backlinks.ensures render c.self.invariant.shelf.pages)
     ∙ ap (option_map (λ page. backlinks_body render (seen_in store reader) path)) c.in-Some.ensures.page
     ∙ (λ i. option_map (λ page. backlinks_body (g.R.Renderer.page (c.self.view_is i).0) (seen_in (c.self.view_is i).1 reader) path)
     (page_at (seen_in (c.self.view_is i).1 reader).pages path))

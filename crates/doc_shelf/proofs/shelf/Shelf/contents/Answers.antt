@@ -9,4 +9,4 @@ returns g c =
     let render = g.R.Renderer.page c.self.inside.renderer in
     subst (λ s. IfOk c.contents.result (λ text. text ≡ contents_body (g.R.Renderer.page s.0) (seen_in s.1 c.args.reader.now)))
     c.self.view_is
-    (c.contents.ensures render c.self.invariant.is_store c.self.invariant.pages)
+    (c.contents.ensures render c.self.invariant.shelf.is_store c.self.invariant.shelf.pages)

@@ -1,8 +1,11 @@
-use Rattle.doc_shelf.proofs.ShelfSteps.{edited}
+use Rattle.std.proofs.Common.{refl}
+use Rattle.doc_shelf.proofs.ShelfSteps.{edited_whole}
 use Rattle.doc_shelf.proofs.shelf.Shelf.move_page.Goals as goal
 
 pub invariant_of-self : goal.invariant_of-self
 invariant_of-self g c =
     let render = g.R.Renderer.page c.self.inside.renderer in
-    edited render c.self.inside.store c.move_page.new.store c.self.inside.kept c.move_page.new.kept c.self.inside.cache c.self.invariant
-    (c.move_page.ensures.kept render c.self.invariant.is_store c.self.invariant.pages)
+    let new = c.move_in_step.new in
+    edited_whole render render c.self.inside.store new.store c.self.inside.kept c.self.inside.kept new.kept c.self.inside.cache
+    c.self.inside.rows new.rows refl c.self.invariant refl c.move_in_step.ensures.texts
+    (c.move_in_step.ensures.kept render c.self.invariant.shelf.is_store c.self.invariant.shelf.pages) c.move_in_step.ensures.rows

@@ -1,18 +1,21 @@
 use Rattle.std.proofs.Common.{◌+◌, ap, ◌∙◌}
 use Rattle.doc_shelf_pages.proofs.EditSteps.{no_stamp}
 use Rattle.doc_store.specs.Store.{fits_in}
-use Rattle.doc_shelf.proofs.ShelfSteps.{edited_by, is_being_put, is_free}
+use Rattle.doc_shelf.proofs.ShelfSteps.{edited_whole, is_being_put, is_free}
 use Rattle.doc_shelf.proofs.shelf.Shelf.put_saying.Goals as goal
 
 pub invariant_of-self-2 : goal.invariant_of-self-2
 invariant_of-self-2 g c =
     let render = g.R.Renderer.page c.self.inside.renderer in
     let store = c.self.inside.store in
-    edited_by render (g.R.Renderer.page c.begin_put.new.renderer) store c.end_put_saying.new.store c.self.inside.kept
-    c.end_put_saying.new.kept c.self.inside.cache c.in_ok-begin_put.ensures.same c.self.invariant
-    (c.end_put_saying.ensures.kept render c.self.invariant.is_store
-    (is_being_put render store c.self.inside.kept c.begin_put.new.kept c.self.inside.cache c.args.path.now c.args.text.now
-    c.in-Some.stamp c.self.invariant c.in-Some.ensures.next c.in_ok-begin_put.ensures.ok))
+    let begun = c.begin_put.new.kept in
+    let new = c.end_put_saying_in_step.new in
+    edited_whole render (g.R.Renderer.page c.begin_put.new.renderer) store new.store c.self.inside.kept begun new.kept c.self.inside.cache
+    c.self.inside.rows new.rows c.in_ok-begin_put.ensures.same c.self.invariant
+    (ap (λ k. k.with_texts) c.in_ok-begin_put.ensures.ok) c.end_put_saying_in_step.ensures.texts
+    (c.end_put_saying_in_step.ensures.kept render c.self.invariant.shelf.is_store
+    (is_being_put render store c.self.inside.kept begun c.self.inside.cache c.args.path.now c.args.text.now c.in-Some.stamp
+    c.self.invariant.shelf c.in-Some.ensures.next c.in_ok-begin_put.ensures.ok)) c.end_put_saying_in_step.ensures.rows
 
 pub returns-in_default-clause-counted : goal.returns-in_default-clause-counted
 returns-in_default-clause-counted g c =
@@ -23,15 +26,15 @@ pub begin_put-requires : goal.begin_put-requires
 begin_put-requires g c =
     record {
       free = is_free (g.R.Renderer.page c.self.inside.renderer) c.self.inside.store c.self.inside.kept c.self.inside.cache c.args.path.now
-          c.in-Some.stamp c.self.invariant c.in-Some.ensures.next;
+          c.in-Some.stamp c.self.invariant.shelf c.in-Some.ensures.next;
     }
 
 pub returns-in_err-begin_put-clause-counted : goal.returns-in_err-begin_put-clause-counted
 returns-in_err-begin_put-clause-counted g c =
     c.in_err-begin_put.ensures.counted ∙ ap (λ s. g.R.Renderer.count s.0 + 1) c.self.view_is
 
-pub end_put_saying-requires-clause-fits : goal.end_put_saying-requires-clause-fits
-end_put_saying-requires-clause-fits g c =
+pub end_put_saying_in_step-requires-clause-fits : goal.end_put_saying_in_step-requires-clause-fits
+end_put_saying_in_step-requires-clause-fits g c =
     ap (λ s. fits_in s.1 c.args.path.now c.args.text.now) c.self.view_is ∙ c.requires.fits
 
 pub returns-clause-counted : goal.returns-clause-counted

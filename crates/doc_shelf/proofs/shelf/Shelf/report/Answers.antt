@@ -8,4 +8,4 @@ pub returns : goal.returns
 returns g c =
     let render = g.R.Renderer.page c.self.inside.renderer in
     subst (λ s. IfOk c.report.result (λ text. text ≡ report_body (g.R.Renderer.page s.0) (seen_in s.1 c.args.reader.now))) c.self.view_is
-    (c.report.ensures render c.self.invariant.pages)
+    (c.report.ensures render c.self.invariant.shelf.pages)

@@ -9,4 +9,4 @@ returns g c =
     let render = g.R.Renderer.page c.self.inside.renderer in
     subst (λ s. IfOk c.search.result (λ text. text ≡ search_body (g.R.Renderer.page s.0) (seen_in s.1 c.args.reader.now)
     c.args.words.now)) c.self.view_is
-    (c.search.ensures render c.self.invariant.pages)
+    (c.search.ensures render c.self.invariant.shelf.pages)

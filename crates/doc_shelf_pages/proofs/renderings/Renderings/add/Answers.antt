@@ -1,4 +1,4 @@
-use Rattle.std.proofs.Common.{ℕ, List, ap, ◌∙◌}
+use Rattle.std.proofs.Common.{ℕ, List, ap, refl, ◌∙◌}
 use Rattle.std.specs.FinMap as map
 use Rattle.doc_shelf_pages.proofs.HeldSteps.{added, free}
 use Rattle.doc_shelf_pages.proofs.renderings.Renderings.add.Goals as goal
@@ -10,5 +10,5 @@ add-requires c =
 
 pub returns-clause-ok : goal.returns-clause-ok
 returns-clause-ok c =
-    added c.self.inside.pages _ c.add.new.self (c.args.path.now, c.args.stamp) c.add.result c.self.view_is c.without_texts-page.ensures
+    added c.self.inside.pages _ c.add.new.self (c.args.path.now, c.args.stamp) c.add.result c.self.view_is refl
     c.add.ensures.ok

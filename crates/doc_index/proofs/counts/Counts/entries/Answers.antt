@@ -1,0 +1,10 @@
+use Rattle.std.proofs.Common.{ap, sym, ◌∙◌}
+use Rattle.std.specs.FinMap as map
+use Rattle.std.proofs.lemmas.Cmp.{nat_list_cmp_total}
+use Rattle.std.proofs.lemmas.Map.Lookups.{exact_bytes}
+use Rattle.doc_page_parts.proofs.Maps.{entries_in_order}
+use Rattle.doc_index.proofs.counts.Counts.entries.Goals as goal
+
+pub returns : goal.returns
+returns c =
+    sym (entries_in_order nat_list_cmp_total exact_bytes c.self.inside.entries c.self.invariant) ∙ ap map.entries c.self.view_is

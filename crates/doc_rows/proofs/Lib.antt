@@ -1,0 +1,5 @@
+pub mod RowSteps
+pub mod RowsSteps
+pub mod LookLaws
+pub mod SeenLaws
+pub mod PlaceLaws

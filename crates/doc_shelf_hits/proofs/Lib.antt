@@ -1,0 +1,4 @@
+pub mod CandidateSteps
+mod Examples
+pub mod FoundSteps
+pub mod ScoreSteps

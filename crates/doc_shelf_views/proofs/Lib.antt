@@ -1,0 +1,3 @@
+mod LinkSteps
+mod NamedSteps
+mod PageSteps

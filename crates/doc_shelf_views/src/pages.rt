@@ -1,0 +1,125 @@
+//! Single pages, as a reader sees them.
+
+ghost use Rattle.std.specs.Prelude.{◌≡◌, true, IfOk, option_copied, option_map};
+ghost use Rattle.doc_page_parts.specs.Pages.{filled};
+ghost use Rattle.doc_people.specs.Views.{rendered_at, sees};
+ghost use Rattle.doc_resolve.specs.Hrefs.{shown};
+ghost use Rattle.doc_shelf_pages.specs.KeptPages.{kept_of};
+ghost use Rattle.doc_shelf_pages.specs.Shelves.{IsKept};
+ghost use Rattle.doc_shelf_pages.specs.ViewLaws.{seen_in};
+ghost use Rattle.doc_shelf_pages.specs.Views.{Renders};
+ghost use Rattle.doc_store_readers.specs.Sites.{goal_in};
+
+use crate::named::path_named;
+use doc_page_parts::failure::Memory;
+use doc_page_parts::filling::push_filled;
+use doc_page_parts::heap::{Heap, String};
+use doc_page_parts::path::Path;
+use doc_page_parts::rendered::{Heading, Rendered};
+use doc_page_parts::text::Text;
+use doc_resolve::SiteLinker;
+use doc_shelf_pages::KeptPages;
+use doc_shelf_pages::visible::visible_page;
+use doc_store::reader::Reader;
+use doc_store::store::Store;
+
+/// Whether the reader sees a page at a path. A text that is no path has none.
+pub fn sees(heap: Heap, store: &Store, path: &str, reader: &Reader) -> Result<bool, Memory>
+    ensures { IfOk result (λ seen. seen ≡ sees (seen_in store.now reader.now) path.now) }
+{
+    let Some(path) = path_named(heap, store, path)? else {
+        return Ok(false);
+    };
+    Ok(visible_page(store, reader, &path).is_some())
+}
+
+/// The headings of the page at a path, where the reader sees one there. A text that is no path has none.
+pub fn headings<'a>(
+    heap: Heap,
+    store: &Store,
+    kept: &'a KeptPages,
+    path: &str,
+    reader: &Reader,
+) -> Result<Option<&'a [Heading]>, Memory>
+    ensures { (render : Renders) → IsKept render store.now kept.now
+        → IfOk result (λ headings. option_copied headings ≡ option_map (λ page. page.headings)
+        (rendered_at render (seen_in store.now reader.now) path.now)) }
+{
+    let Some(path) = path_named(heap, store, path)? else {
+        return Ok(None);
+    };
+    Ok(headings_at(store, kept, &path, reader))
+}
+
+fn headings_at<'a>(
+    store: &Store,
+    kept: &'a KeptPages,
+    path: &Path,
+    reader: &Reader,
+) -> Option<&'a [Heading]>
+    ensures { (render : Renders) → IsKept render store.now kept.now
+        → option_copied result ≡ option_map (λ page. page.headings)
+        (rendered_at render (seen_in store.now reader.now) path.now) }
+{
+    let Some(page) = rendering_at(store, kept, path, reader) else {
+        return None;
+    };
+    Some(page.headings.get())
+}
+
+/// The HTML of the page at a path, where the reader sees one there, with its links as the reader sees them.
+pub fn html(
+    heap: Heap,
+    store: &Store,
+    kept: &KeptPages,
+    path: &Path,
+    reader: &Reader,
+) -> Result<Option<Text>, Memory>
+    ensures { (render : Renders) → IsKept render store.now kept.now
+        → IfOk result (λ html. html ≡ option_map
+        (filled (shown (goal_in (seen_in store.now reader.now)) path.now))
+        (rendered_at render (seen_in store.now reader.now) path.now)) }
+{
+    let Some(page) = rendering_at(store, kept, path, reader) else {
+        return Ok(None);
+    };
+    let sight = store.sight(reader);
+    let mut out = String::new(heap);
+    push_filled(heap, &mut out, page, &SiteLinker::new(path, &sight))?;
+    Ok(Some(Text::new(out)))
+}
+
+/// The plain texts of the blocks of the page at a path, where the reader sees one there, of pages that are kept with their texts.
+pub fn texts<'a>(
+    store: &Store,
+    kept: &'a KeptPages,
+    path: &Path,
+    reader: &Reader,
+) -> Option<&'a [Text]>
+    ensures { (render : Renders) → IsKept render store.now kept.now
+        → kept.now.with_texts ≡ true
+        → option_copied result ≡ option_map (λ page. page.texts)
+        (rendered_at render (seen_in store.now reader.now) path.now) }
+{
+    let Some(page) = rendering_at(store, kept, path, reader) else {
+        return None;
+    };
+    Some(page.texts.get())
+}
+
+/// The rendering of the page at a path, as it is kept, where the reader sees one there.
+fn rendering_at<'a>(
+    store: &Store,
+    kept: &'a KeptPages,
+    path: &Path,
+    reader: &Reader,
+) -> Option<&'a Rendered>
+    ensures { (render : Renders) → IsKept render store.now kept.now
+        → option_copied result ≡ option_map (kept_of kept.now.with_texts)
+        (rendered_at render (seen_in store.now reader.now) path.now) }
+{
+    let Some(page) = visible_page(store, reader, path) else {
+        return None;
+    };
+    kept.get(path, page.stamp())
+}
