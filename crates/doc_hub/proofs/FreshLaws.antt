@@ -1,5 +1,5 @@
 -- In any run, each reply is that of a fresh server, while puts are left.
-use Rattle.std.proofs.Common.{◌≡◌, ◌≤◌, ◌+◌, ℕ, List, length, suc, true, cond, refl, ap, sym, ◌∙◌, subst, arith}
+use Rattle.std.proofs.Common.{◌≡◌, ◌≤◌, ◌+◌, ℕ, List, length, suc, Bool, true, cond, refl, ap, sym, ◌∙◌, subst, arith}
 use Rattle.std.specs.Prelude.{nat_lt, Option, Some, None, option_and_then, Result, Ok, Err, All}
 use Rattle.std.specs.FinMap as map
 use Rattle.std.specs.Cmp.{eq_by_cmp_equiv}
@@ -13,7 +13,8 @@ use Rattle.doc_store_readers.specs.Readers.{ReaderTable}
 use Rattle.doc_store_readers.specs.Sites.{visible_to}
 use Rattle.doc_store.specs.Store.{put_limit}
 use Rattle.doc_store_readers.proofs.ViewLaw.{view_of_view}
-use Rattle.doc_http.specs.Bearers.{bearer_of}
+use Rattle.doc_http.specs.Passwords.{token_in}
+use Rattle.doc_hub_people.specs.Asking.{asking_by, guest_of, known_by, known_of, login_of, row_of}
 use Rattle.doc_http.specs.Requests.{IsNext}
 use Rattle.doc_http.specs.declared.request.Request.{Request}
 use Rattle.doc_http.specs.declared.request.Next.{Next}
@@ -27,7 +28,7 @@ use Rattle.doc_hub.specs.FreshLaws.{first_connection, fresh, fresh_for, only_rea
 use Rattle.doc_hub_answers.specs.Replies.{Renders}
 use Rattle.doc_hub.specs.Runs.{Happened, Leaves, Runs, nothing, first}
 use Rattle.doc_hub.specs.StepLaws.{Agree, AgreeOn, connection, is_owners_put, open_with, site_seen}
-use Rattle.doc_hub.specs.Worlds.{World, Answers, StepsAt, new_world, reader_of, stepped_by}
+use Rattle.doc_hub.specs.Worlds.{World, Answers, StepsAt, asking_of, new_world, reader_of, stepped_by, token_of}
 use Rattle.doc_hub.specs.declared.connection.Connection.{Connection}
 use Rattle.doc_hub.specs.declared.event.ConnId.{ConnId}
 use Rattle.doc_hub.specs.declared.event.Event.{Event}
@@ -56,17 +57,33 @@ reader_again : (readers : ReaderTable) (token : Option (List ℕ))
 reader_again readers None = refl
 reader_again readers (Some token) = found_again token (map.get readers token)
 
+-- the entry of a reader who is known is told again
+known_again : (o : Option Reader) → o ≡ known_of (known_by o)
+known_again None = refl
+known_again (Some row) = refl
+
+-- and who asks is the same there
+asking_again : (guest : Option (List (List ℕ))) (login : Bool) (readers : ReaderTable) (value : Option (List ℕ))
+    → asking_by guest login readers value
+    ≡ asking_by guest login (only_reader (token_in login value) (known_of (asking_by guest login readers value))) value
+asking_again guest login readers None = refl
+asking_again guest login readers (Some value) =
+    let token = token_in login (Some value) in
+    ap known_by (reader_again readers token
+    ∙ ap (λ o. option_and_then (map.get (only_reader token o)) token) (known_again (option_and_then (map.get readers) token)))
+
 -- a world is alike for a request with its fresh server, where both have a put left or no owner puts a page
 fresh_agrees : (puts : ℕ) (w : World) (request : Request) (unread : List ℕ)
     → (is_owners_put (reader_of w request) request ≡ true → puts_left w.puts ≡ true) → puts_left puts ≡ true
-    → Agree w (fresh puts (site_seen w request) (bearer_of request) (reader_of w request) w.keep_alive unread) request
+    → Agree w (fresh puts (site_seen w request) (token_of w request) (known_of (asking_of w request)) w.settings unread) request
 fresh_agrees puts w request unread room also =
-    let v : World = fresh puts (site_seen w request) (bearer_of request) (reader_of w request) w.keep_alive unread in
-    let reader : reader_of w request ≡ reader_of v request = reader_again w.readers (bearer_of request) in
+    let v : World = fresh puts (site_seen w request) (token_of w request) (known_of (asking_of w request)) w.settings unread in
+    let asking : asking_of w request ≡ asking_of v request =
+    asking_again (guest_of w.settings.browse) (login_of w.settings.browse) w.readers request.authorization in
     record {
-      keep_alive = refl;
-      reader = reader;
-      sites = sym (view_of_view w.site (reader_of w request)) ∙ ap (visible_to v.site) reader;
+      settings = refl;
+      asking = asking;
+      sites = sym (view_of_view w.site (reader_of w request)) ∙ ap (λ a. visible_to v.site (row_of a)) asking;
       puts = λ owns. room owns ∙ sym also;
     }
 
@@ -180,10 +197,10 @@ none_before : (n : ℕ) → 0 + n ≡ n
 none_before n = omega arith
 
 pub new_replies_as_fresh : NewRepliesAsFresh
-new_replies_as_fresh render readers keep_alive v run runs few =
-    always_as_fresh render (new_world readers keep_alive) v run runs (ap (λ n. nat_lt n put_limit) (none_before (length run)) ∙ few)
+new_replies_as_fresh render readers settings v run runs few =
+    always_as_fresh render (new_world readers settings) v run runs (ap (λ n. nat_lt n put_limit) (none_before (length run)) ∙ few)
 
 pub puts_are_left : PutsAreLeft
-puts_are_left render readers keep_alive v run runs few =
+puts_are_left render readers settings v run runs few =
     no_less v.puts (length run) put_limit
-    (subst (λ n. v.puts ≤ n) (none_before (length run)) (puts_are_counted render (new_world readers keep_alive) v run runs)) few
+    (subst (λ n. v.puts ≤ n) (none_before (length run)) (puts_are_counted render (new_world readers settings) v run runs)) few

@@ -73,8 +73,8 @@ module _ (site : Site) (reader : Option Reader) (path : List ℕ) (hidden : IsHi
 agree : (w : World) (request : Request) (path : List ℕ) → IsHidden w.site (reader_of w request) path
     → Agree w (world_without w path) request
 agree w request path hidden = record {
-  keep_alive = refl;
-  reader = refl;
+  settings = refl;
+  asking = refl;
   sites = seen_without w.site (reader_of w request) path hidden;
   puts = λ _. refl;
 }

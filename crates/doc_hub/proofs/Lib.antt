@@ -1,3 +1,4 @@
+pub mod AnswerEdits
 mod ConnectionSteps
 mod CountSteps
 mod CutLaws

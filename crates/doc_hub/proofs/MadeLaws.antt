@@ -13,6 +13,7 @@ use Rattle.doc_store_readers.proofs.KeySteps.{same_key, same_from, same_itself, 
 use Rattle.doc_store_readers.specs.Maps.{TextMap}
 use Rattle.doc_store_readers.specs.Pages.{Page}
 use Rattle.doc_store_readers.specs.Readers.{ReaderTable}
+use Rattle.doc_people.specs.declared.settings.Settings.{Settings}
 use Rattle.doc_store_readers.specs.Sites.{Site, IsSite}
 use Rattle.doc_store.specs.Store.{alias_limit, aliases_after, effect_of, fits, may_move, move_page, moved_by, page_limit, put_by, put_limit}
 use Rattle.doc_store.specs.Store.{set_page, text_limit}
@@ -81,15 +82,15 @@ move_fits_by true false true out a b d e = cc
 move_fits_by true false false true a b d e = cc
 move_fits_by true false false false a b d e = refl
 
-module _ (render : Renders) (readers : ReaderTable) (keep_alive : Bool) where
+module _ (render : Renders) (readers : ReaderTable) (settings : Settings) where
   -- the server with this site after so many puts and moves
   abbrev at : Site → ℕ → World
-  at site puts = record (new_world readers keep_alive) { site = site; puts = puts }
+  at site puts = record (new_world readers settings) { site = site; puts = puts }
 
   record Reached (w : World) : Type 0 where
     run : List Happened
     making : All IsMaking run
-    runs : Runs render (new_world readers keep_alive) run w
+    runs : Runs render (new_world readers settings) run w
 
   one_more : (w v : World) (event : Event) (outcome : Outcome) → IsMaking (happened w event outcome) → Leaves render w event v outcome
       → Reached w → Reached v
@@ -98,7 +99,7 @@ module _ (render : Renders) (readers : ReaderTable) (keep_alive : Bool) where
       record {
         run = so_far.run ++ h ∷ [];
         making = All-append IsMaking so_far.run (h ∷ []) so_far.making (All-cons IsMaking h [] making (All-nil IsMaking));
-        runs = runs_more render (new_world readers keep_alive) w v so_far.run event outcome so_far.runs leaves;
+        runs = runs_more render (new_world readers settings) w v so_far.run event outcome so_far.runs leaves;
       }
 
   put_more : (site : Site) (puts : ℕ) (path : List ℕ) (page : Page)
@@ -127,7 +128,7 @@ module _ (render : Renders) (readers : ReaderTable) (keep_alive : Bool) where
       → Reached (at (record { pages = pages; aliases = map.empty }) n)
   pages_reached zero pages e few short =
       subst (λ m. Reached (at (record { pages = m; aliases = map.empty }) 0)) (sym (map.empty_of_len pages e))
-      (record { run = []; making = All-nil IsMaking; runs = nothing (new_world readers keep_alive) })
+      (record { run = []; making = All-nil IsMaking; runs = nothing (new_world readers settings) })
   pages_reached (suc n) pages e few short =
       let (path, page, found) = some_entry pages n e in
       let others : TextMap Page = map.remove pages path in
@@ -251,12 +252,12 @@ module _ (render : Renders) (readers : ReaderTable) (keep_alive : Bool) where
       none_before n = omega arith
 
 pub fresh_is_made : FreshIsMade
-fresh_is_made render site token reader keep_alive unread fine short =
+fresh_is_made render site token reader settings unread fine short =
     let readers = only_reader token reader in
     let puts = makings site in
-    let all = push_more render readers keep_alive site puts unread short
-    (connect_more render readers keep_alive site puts
-    (site_reached render readers keep_alive (map.len site.aliases) site refl fine.aliases fine.pages fine.is_site fine.texts)) in
+    let all = push_more render readers settings site puts unread short
+    (connect_more render readers settings site puts
+    (site_reached render readers settings (map.len site.aliases) site refl fine.aliases fine.pages fine.is_site fine.texts)) in
     record {
       run = all.run;
       making = all.making;

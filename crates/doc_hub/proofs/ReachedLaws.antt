@@ -10,15 +10,16 @@ use Rattle.std.proofs.lemmas.List.Elements.{All-nil, All-cons}
 use Rattle.doc_page_parts.specs.Refusals.{Gives}
 use Rattle.doc_store_readers.specs.Pages.{Page}
 use Rattle.doc_store_readers.specs.Readers.{ReaderTable}
+use Rattle.doc_people.specs.declared.settings.Settings.{Settings}
 use Rattle.doc_store.specs.Store.{StoreState, fits_in, may_move, moved_by, put_by}
 use Rattle.doc_store.specs.declared.moving.MoveError.{MoveError}
 use Rattle.doc_store.specs.declared.moving.MoveError.TheVariants as move_errors
 use Rattle.doc_store.specs.declared.store.EditError.{EditError}
 use Rattle.doc_store.specs.declared.store.EditError.TheVariants as edit_errors
 use Rattle.doc_store.proofs.StoreSteps.{taken_out}
-use Rattle.doc_http.specs.Bearers.{bearer_of}
 use Rattle.doc_http.specs.declared.request.Next.{Next}
 use Rattle.doc_http.specs.declared.request.Next.TheVariants as nexts
+use Rattle.doc_hub_people.specs.Asking.{known_of}
 use Rattle.doc_hub.specs.Connections.{Connections, backlog_limit, finished, new_connection, pushed_at, with_pushed}
 use Rattle.doc_hub_answers.specs.Edits.{CanBeMade, store_after}
 use Rattle.doc_hub.specs.Events.{Said, SaidOn, SaidSite}
@@ -27,8 +28,8 @@ use Rattle.doc_hub.specs.MadeLaws.{IsWithin, MadeReplies, SendsAsMade, makings}
 use Rattle.doc_hub_answers.specs.Replies.{Renders}
 use Rattle.doc_hub.specs.Runs.{Happens, HappensOn, HappensSite, Happened, Runs, nothing, first}
 use Rattle.doc_hub.specs.StepLaws.{open_with, site_seen}
-use Rattle.doc_hub.specs.Worlds.{World, Answers, Stays, StepsAt, answer_in, connected, disconnected, last_id, new_world, reader_of}
-use Rattle.doc_hub.specs.Worlds.{stepped_by, store_of, world_moved, world_pushed, world_put}
+use Rattle.doc_hub.specs.Worlds.{World, Answers, Stays, StepsAt, answer_in, asking_of, connected, disconnected, last_id, new_world}
+use Rattle.doc_hub.specs.Worlds.{reader_of, stepped_by, store_of, token_of, world_moved, world_pushed, world_put}
 use Rattle.doc_hub.proofs.KindSteps.{stand_beside}
 use Rattle.doc_hub.specs.declared.connection.Connection.{Connection}
 use Rattle.doc_hub.specs.declared.event.ConnId.{ConnId}
@@ -48,7 +49,7 @@ use Rattle.doc_hub.specs.declared.refusal.StepError.{StepError}
 use Rattle.doc_hub.specs.declared.refusal.StepError.TheVariants as step_errors
 use Rattle.doc_hub_answers.specs.declared.edit.Edit.{Edit}
 use Rattle.doc_hub_answers.specs.declared.edit.Edit.TheVariants as edits
-use Rattle.doc_hub_answers.proofs.AnswerEdits.{answer_can_be_made}
+use Rattle.doc_hub.proofs.AnswerEdits.{answer_can_be_made}
 use Rattle.doc_hub.proofs.FreshLaws.{new_replies_as_fresh}
 use Rattle.doc_hub.proofs.MadeLaws.{fresh_is_made}
 use Rattle.doc_hub.proofs.StoredSteps.{Stored, cut_within, move_stored, nothing_stored, put_stored, remove_stored}
@@ -174,8 +175,8 @@ module _ (render : Renders) where
   front_can w n k (nexts.Request used request) found can =
       let a = answer_in render w request in
       record {
-        stored = edit_can w request.body a.edit (answer_can_be_made render (store_of w)
-            (reader_of w request) w.keep_alive request) can.stored;
+        stored = edit_can w request.body a.edit (answer_can_be_made render w.settings (store_of w)
+            (asking_of w request) request) can.stored;
         short = set_short w.connections n (finished k used a.closes) can.short (finished_length k used a.closes (can.short n k found));
       }
 
@@ -251,15 +252,15 @@ made_one : (render : Renders) (h : Happened) → CanBe h.world → SendsAsFreshA
 made_one render h can replies unread used request said is =
     let site = site_seen h.world request in
     let reader = reader_of h.world request in
-    let made = fresh_is_made render site (bearer_of request) reader h.world.keep_alive unread
+    let made = fresh_is_made render site (token_of h.world request) (known_of (asking_of h.world request)) h.world.settings unread
     (cut_within h.world.site reader (within_limits h.world can)) (can.short is.c.0 (open_with unread) is.stands) in
     (made, replies unread (nexts.Request used request) said is (makings site) made.left)
 
-new_can : (readers : ReaderTable) (keep_alive : Bool) → CanBe (new_world readers keep_alive)
-new_can readers keep_alive = record { stored = nothing_stored; short = none_short }
+new_can : (readers : ReaderTable) (settings : Settings) → CanBe (new_world readers settings)
+new_can readers settings = record { stored = nothing_stored; short = none_short }
 
 pub made_replies : MadeReplies
-made_replies render readers keep_alive v run runs few =
-    let cans = all_can render (new_world readers keep_alive) v run (new_can readers keep_alive) runs in
-    let replies = new_replies_as_fresh render readers keep_alive v run runs few in
+made_replies render readers settings v run runs few =
+    let cans = all_can render (new_world readers settings) v run (new_can readers settings) runs in
+    let replies = new_replies_as_fresh render readers settings v run runs few in
     λ k d lt. made_one render (slice_index_or run k d) (cans k d lt) (replies k d lt)

@@ -32,9 +32,12 @@ use Rattle.doc_links_pages.specs.Links.{backlinks, broken, contents}
 use Rattle.doc_listings.specs.Listings.{backlinks_text, entry_lines, heading_line, report_text}
 use Rattle.doc_hub.specs.Connections.{pushed_onto, finished, backlog_limit}
 use Rattle.doc_hub_answers.specs.Edits.{puts_left}
-use Rattle.doc_hub_answers.specs.Replies.{Renders, answer_of, fault_bytes}
+use Rattle.doc_hub_answers.specs.Replies.{Renders, fault_bytes}
+use Rattle.doc_hub_people.specs.Asking.{known_by}
+use Rattle.doc_hub_replies.specs.Answers.{answer_of}
+use Rattle.doc_http_replies.specs.Heads.{dressed_bytes, dressed_head}
 use Rattle.doc_hub.specs.StepEdits.{edit_of_step}
-use Rattle.doc_hub.specs.Worlds.{World, reader_of}
+use Rattle.doc_hub.specs.Worlds.{World, asking_of, plain_settings, reader_of}
 use Rattle.doc_http_targets.specs.Queries.{value_of}
 use Rattle.doc_http_targets.specs.Targets.{origin_form, route_of}
 use Rattle.doc_http_targets.specs.WrittenPaths.{path_written}
@@ -48,7 +51,7 @@ use Rattle.doc_hub_answers.specs.declared.edit.Edit.TheVariants as edits
 unfoldable computing : Unit {0}
 unfolding digits chars is_utf8 encode percent_decode percent_encode_byte encoded encoded_path kind_on target_path_written put_all reference
     resolve without_dots escaped lines without_ending stripped filled is_path paragraphs plain_html reason_of field_line reply_head
-    reply_bytes answer_of origin_form route_of path_written value_of raw_pairs split utf8_lossy utf8_valid_len groups_of_names text_limit
+    reply_bytes dressed_head dressed_bytes answer_of origin_form route_of path_written value_of raw_pairs split utf8_lossy utf8_valid_len groups_of_names text_limit
     page_limit backlog_limit kinds backlinks broken contents backlinks_text entry_lines heading_line report_text
 computing = tt
 
@@ -79,9 +82,14 @@ abbrev owner : Option Reader
 owner = Some (record { owner = true; groups = [] })
 
 abbrev asked : List ℕ → List ℕ → Request
-asked method target = record { method = method; target = target; authorization = None; close = false; body = [] }
+asked method target = record { method = method; target = target; authorization = None; close = false; html = false; body = [] }
 
-page_reply_bytes : (answer_of plain_page staff_view ann true true (asked (codes "GET") (codes "/page/a.md"))).bytes
+-- the answer to whom an entry names, without pages for people
+abbrev answer_by_entry : Renders → View → Option Reader → Bool → Bool → Request → Answer
+answer_by_entry render view reader left keep_alive request =
+    answer_of (plain_settings keep_alive) render view (known_by reader) left request
+
+page_reply_bytes : (answer_by_entry plain_page staff_view ann true true (asked (codes "GET") (codes "/page/a.md"))).bytes
     ≡ codes "HTTP/1.1 200 OK\r\nContent-Type: text/html; charset=utf-8\r\n"
     ++ codes "Content-Length: 49\r\n\r\n<!DOCTYPE html>\n<title>a.md</title>\n<p>Hello</p>\n"
 unfolding computing
@@ -104,14 +112,14 @@ by_table text =
     else record { pieces = Html text ∷ []; headings = []; texts = [] }
 
 -- the reader of staff sees no `c.md`: it is shown as `d.md` is, which nobody has
-links_for_staff : (answer_of by_table staff_view ann true true (asked (codes "GET") (codes "/page/b.md"))).bytes
+links_for_staff : (answer_by_entry by_table staff_view ann true true (asked (codes "GET") (codes "/page/b.md"))).bytes
     ≡ codes "HTTP/1.1 200 OK\r\nContent-Type: text/html; charset=utf-8\r\n"
     ++ codes "Content-Length: 93\r\n\r\n<!DOCTYPE html>\n<title>b.md</title>\n"
     ++ codes "<p><a class=\"missing\">c</a> <a class=\"missing\">d</a></p>\n"
 unfolding computing
 links_for_staff = refl
 
-links_for_an_owner : (answer_of by_table owner_view owner true true (asked (codes "GET") (codes "/page/b.md"))).bytes
+links_for_an_owner : (answer_by_entry by_table owner_view owner true true (asked (codes "GET") (codes "/page/b.md"))).bytes
     ≡ codes "HTTP/1.1 200 OK\r\nContent-Type: text/html; charset=utf-8\r\n"
     ++ codes "Content-Length: 95\r\n\r\n<!DOCTYPE html>\n<title>b.md</title>\n"
     ++ codes "<p><a href=\"/page/c.md\">c</a> <a class=\"missing\">d</a></p>\n"
@@ -122,46 +130,46 @@ links_for_an_owner = refl
 abbrev moved_view : View
 moved_view = record { pages = page_a ∷ page_b ∷ (codes "e/c.md", page_c.1) ∷ []; aliases = (codes "c.md", codes "e/c.md") ∷ [] }
 
-links_after_a_move : (answer_of by_table moved_view owner true true (asked (codes "GET") (codes "/page/b.md"))).bytes
+links_after_a_move : (answer_by_entry by_table moved_view owner true true (asked (codes "GET") (codes "/page/b.md"))).bytes
     ≡ codes "HTTP/1.1 200 OK\r\nContent-Type: text/html; charset=utf-8\r\n"
     ++ codes "Content-Length: 97\r\n\r\n<!DOCTYPE html>\n<title>b.md</title>\n"
     ++ codes "<p><a href=\"/page/e/c.md\">c</a> <a class=\"missing\">d</a></p>\n"
 unfolding computing
 links_after_a_move = refl
 
-unknown_reader : (answer_of plain_page empty_view None true true (asked (codes "GET") (codes "/page/a.md"))).bytes
+unknown_reader : (answer_by_entry plain_page empty_view None true true (asked (codes "GET") (codes "/page/a.md"))).bytes
     ≡ codes "HTTP/1.1 401 Unauthorized\r\nContent-Type: text/plain; charset=utf-8\r\n"
     ++ codes "Content-Length: 17\r\nWWW-Authenticate: Bearer realm=\"docs\"\r\n\r\n401 Unauthorized\n"
 unfolding computing
 unknown_reader = refl
 
-unknown_reader_and_route : (answer_of plain_page empty_view None true true (asked (codes "PUT") (codes "/x"))).bytes
+unknown_reader_and_route : (answer_by_entry plain_page empty_view None true true (asked (codes "PUT") (codes "/x"))).bytes
     ≡ codes "HTTP/1.1 401 Unauthorized\r\nContent-Type: text/plain; charset=utf-8\r\n"
     ++ codes "Content-Length: 17\r\nWWW-Authenticate: Bearer realm=\"docs\"\r\n\r\n401 Unauthorized\n"
 unfolding computing
 unknown_reader_and_route = refl
 
-hidden_page : (answer_of plain_page staff_view ann true true (asked (codes "GET") (codes "/page/c.md"))).bytes
+hidden_page : (answer_by_entry plain_page staff_view ann true true (asked (codes "GET") (codes "/page/c.md"))).bytes
     ≡ codes "HTTP/1.1 404 Not Found\r\nContent-Type: text/plain; charset=utf-8\r\nContent-Length: 14\r\n\r\n404 Not Found\n"
 unfolding computing
 hidden_page = refl
 
-absent_page : (answer_of plain_page staff_view ann true true (asked (codes "GET") (codes "/page/zz.md"))).bytes
-    ≡ (answer_of plain_page staff_view ann true true (asked (codes "GET") (codes "/page/c.md"))).bytes
+absent_page : (answer_by_entry plain_page staff_view ann true true (asked (codes "GET") (codes "/page/zz.md"))).bytes
+    ≡ (answer_by_entry plain_page staff_view ann true true (asked (codes "GET") (codes "/page/c.md"))).bytes
 unfolding computing
 absent_page = refl
 
-dot_segments : (answer_of plain_page staff_view ann true true (asked (codes "GET") (codes "/page/%2e%2e"))).bytes
-    ≡ (answer_of plain_page staff_view ann true true (asked (codes "GET") (codes "/page/c.md"))).bytes
+dot_segments : (answer_by_entry plain_page staff_view ann true true (asked (codes "GET") (codes "/page/%2e%2e"))).bytes
+    ≡ (answer_by_entry plain_page staff_view ann true true (asked (codes "GET") (codes "/page/c.md"))).bytes
 unfolding computing
 dot_segments = refl
 
-head_has_no_body : (answer_of plain_page staff_view ann true true (asked (codes "HEAD") (codes "/Contents"))).bytes
+head_has_no_body : (answer_by_entry plain_page staff_view ann true true (asked (codes "HEAD") (codes "/Contents"))).bytes
     ≡ codes "HTTP/1.1 404 Not Found\r\nContent-Type: text/plain; charset=utf-8\r\nContent-Length: 14\r\n\r\n"
 unfolding computing
 head_has_no_body = refl
 
-without_keep_alive : (answer_of plain_page staff_view ann true false (asked (codes "GET") (codes "/page/zz.md"))).bytes
+without_keep_alive : (answer_by_entry plain_page staff_view ann true false (asked (codes "GET") (codes "/page/zz.md"))).bytes
     ≡ codes "HTTP/1.1 404 Not Found\r\nContent-Type: text/plain; charset=utf-8\r\n"
     ++ codes "Content-Length: 14\r\nConnection: close\r\n\r\n404 Not Found\n"
 unfolding computing
@@ -182,7 +190,7 @@ bad_request = refl
 
 -- the answer of a server that keeps connections alive and has puts left
 abbrev answered : View → Option Reader → Request → Answer
-answered view reader request = answer_of plain_page view reader true true request
+answered view reader request = answer_by_entry plain_page view reader true true request
 
 abbrev sent : List ℕ → List ℕ → List ℕ → Request
 sent method target body = record (asked method target) { body = body }
@@ -320,7 +328,7 @@ put_of_a_bad_path : answered owner_view owner (sent (codes "PUT") (codes "/page/
 unfolding computing
 put_of_a_bad_path = refl
 
-put_where_it_closes : answer_of plain_page owner_view owner true false (sent (codes "PUT") (codes "/page/a.md") (codes "hi"))
+put_where_it_closes : answer_by_entry plain_page owner_view owner true false (sent (codes "PUT") (codes "/page/a.md") (codes "hi"))
     ≡ record {
       bytes = codes "HTTP/1.1 204 No Content\r\nConnection: close\r\n\r\n";
       closes = true;
@@ -331,15 +339,15 @@ unfolding computing
 put_where_it_closes = refl
 
 -- where no put is left, also of an old page; what is bad is refused before
-put_of_none_left : answer_of plain_page owner_view owner false true (sent (codes "PUT") (codes "/page/n.md") (codes "hi")) ≡ only full
+put_of_none_left : answer_by_entry plain_page owner_view owner false true (sent (codes "PUT") (codes "/page/n.md") (codes "hi")) ≡ only full
 unfolding computing
 put_of_none_left = refl
 
-old_put_of_none_left : answer_of plain_page owner_view owner false true (sent (codes "PUT") (codes "/page/a.md") (codes "hi")) ≡ only full
+old_put_of_none_left : answer_by_entry plain_page owner_view owner false true (sent (codes "PUT") (codes "/page/a.md") (codes "hi")) ≡ only full
 unfolding computing
 old_put_of_none_left = refl
 
-bad_put_of_none_left : answer_of plain_page owner_view owner false true (sent (codes "PUT") (codes "/page/n.md?groups=A") (codes "hi"))
+bad_put_of_none_left : answer_by_entry plain_page owner_view owner false true (sent (codes "PUT") (codes "/page/n.md?groups=A") (codes "hi"))
     ≡ only bad
 unfolding computing
 bad_put_of_none_left = refl
@@ -376,7 +384,7 @@ unfolding computing
 removal_by_another = refl
 
 -- an owner's DELETE; it takes no put
-removal : answer_of plain_page owner_view owner false true (asked (codes "DELETE") (codes "/page/a.md"))
+removal : answer_by_entry plain_page owner_view owner false true (asked (codes "DELETE") (codes "/page/a.md"))
     ≡ with_edit no_content (edits.Remove (codes "a.md"))
 unfolding computing
 removal = refl
@@ -397,13 +405,14 @@ removal_of_a_bad_path = refl
 
 -- by what a step knows of a world for a request
 abbrev edit_seen : View → Option Reader → Bool → Request → Option Edit
-edit_seen view reader left request = (answer_of plain_page view reader left true request).edit
+edit_seen view reader left request = (answer_by_entry plain_page view reader left true request).edit
 
 step_tells_what_is_seen : (w : World) (used : ℕ) (request : Request) (view : View) (reader : Option Reader) (left : Bool)
-    → view_of w.site (reader_of w request) ≡ view → reader_of w request ≡ reader → puts_left w.puts ≡ left → w.keep_alive ≡ true
+    → view_of w.site (reader_of w request) ≡ view → asking_of w request ≡ known_by reader → puts_left w.puts ≡ left
+    → w.settings ≡ plain_settings true
     → edit_of_step plain_page w (nexts.Request used request) ≡ edit_seen view reader left request
 step_tells_what_is_seen w used request view reader left sees is remains keeps =
-    λ i. (answer_of plain_page (sees i) (is i) (remains i) (keeps i) request).edit
+    λ i. (answer_of (keeps i) plain_page (sees i) (is i) (remains i) request).edit
 
 step_of_a_fault : (w : World) → edit_of_step plain_page w (nexts.Fault 400 false) ≡ None
 step_of_a_fault w = refl
@@ -471,7 +480,7 @@ step_of_an_unknown_reader = refl
 
 -- the answer of such a server with the table of renderings
 abbrev listed : View → Option Reader → Request → Answer
-listed view reader request = answer_of by_table view reader true true request
+listed view reader request = answer_by_entry by_table view reader true true request
 
 contents_of_staff : listed staff_view ann (asked (codes "GET") (codes "/contents"))
     ≡ only (codes "HTTP/1.1 200 OK\r\nContent-Type: text/html; charset=utf-8\r\nContent-Length: 129\r\n\r\n"

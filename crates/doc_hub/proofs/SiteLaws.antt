@@ -19,7 +19,7 @@ use Rattle.doc_hub_answers.specs.Edits.{CanBeMade, store_after}
 use Rattle.doc_hub.specs.Events.{Said, SaidOn, SaidSite, moving, outcome_of, outcome_of_site, outcome_on, putting, step_on, stepping}
 use Rattle.doc_hub_answers.specs.Replies.{Renders}
 use Rattle.doc_hub.specs.Runs.{Happens, HappensOn, HappensSite, Leaves, nothing, first}
-use Rattle.doc_hub.specs.Worlds.{World, Answers, Stays, StepsAt, answer_in, connected, last_id, reader_of, stepped_by, store_of}
+use Rattle.doc_hub.specs.Worlds.{World, Answers, Stays, StepsAt, answer_in, asking_of, connected, last_id, stepped_by, store_of}
 use Rattle.doc_hub.specs.Worlds.{world_moved, world_pushed, world_put}
 use Rattle.doc_hub.specs.declared.connection.Connection.{Connection}
 use Rattle.doc_hub.specs.declared.event.ConnId.{ConnId}
@@ -39,7 +39,7 @@ use Rattle.doc_hub.specs.declared.refusal.StepError.{StepError}
 use Rattle.doc_hub.specs.declared.refusal.StepError.TheVariants as step_errors
 use Rattle.doc_hub_answers.specs.declared.edit.Edit.{Edit}
 use Rattle.doc_hub_answers.specs.declared.edit.Edit.TheVariants as edits
-use Rattle.doc_hub_answers.proofs.AnswerEdits.{answer_can_be_made}
+use Rattle.doc_hub.proofs.AnswerEdits.{answer_can_be_made}
 use Rattle.doc_hub.proofs.KindSteps.{stand_beside}
 
 err_ok : {X E : Type 0} (e : E) (x : X) → ◌≡◌ {A = Result X E} (Err e) (Ok x) → ⊥
@@ -108,7 +108,7 @@ module _ (render : Renders) where
   next_site w n c (nexts.Fault code bare) = refl
   next_site w n c (nexts.Request used request) =
       made_site (store_of w) request.body (answer_in render w request).edit
-      (answer_can_be_made render (store_of w) (reader_of w request) w.keep_alive request)
+      (answer_can_be_made render w.settings (store_of w) (asking_of w request) request)
 
   open_edits : (w v : World) (n : ℕ) (c : Connection) (said : Step) (closed : Bool)
       → MatchBool closed (Stays w (Ok steps.Closed) v (Ok said)) (Answers render w n v (Ok said) c)

@@ -12,14 +12,14 @@ use Rattle.doc_http.proofs.LawLemmas.{read_in_one_way}
 use Rattle.doc_hub_answers.specs.Edits.{CanBeMade, store_after}
 use Rattle.doc_hub_answers.specs.Replies.{Renders}
 use Rattle.doc_hub.specs.StepEdits.{Changes, StepsChange, TellsAt, edit_of_step}
-use Rattle.doc_hub.specs.Worlds.{World, Answers, Stays, StepsAt, answer_in, reader_of, stepped_by, store_of}
+use Rattle.doc_hub.specs.Worlds.{World, Answers, Stays, StepsAt, answer_in, asking_of, stepped_by, store_of}
 use Rattle.doc_hub.specs.declared.connection.Connection.{Connection}
 use Rattle.doc_hub.specs.declared.event.Step.{Step}
 use Rattle.doc_hub.specs.declared.event.Step.TheVariants as steps
 use Rattle.doc_hub.specs.declared.refusal.StepError.{StepError}
 use Rattle.doc_hub_answers.specs.declared.edit.Edit.{Edit}
 use Rattle.doc_hub_answers.specs.declared.edit.Edit.TheVariants as edits
-use Rattle.doc_hub_answers.proofs.AnswerEdits.{answer_can_be_made}
+use Rattle.doc_hub.proofs.AnswerEdits.{answer_can_be_made}
 use Rattle.doc_hub.proofs.SiteLaws.{made_site, refused_step}
 
 module _ (render : Renders) (w v : World) where
@@ -45,7 +45,7 @@ module _ (render : Renders) (w v : World) where
   next_changes n c (nexts.Fault code bare) site = site
   next_changes n c (nexts.Request used request) site =
       edit_changes request.body (answer_in render w request).edit
-      (answer_can_be_made render (store_of w) (reader_of w request) w.keep_alive request) site
+      (answer_can_be_made render w.settings (store_of w) (asking_of w request) request) site
 
   open_changes : (n : ℕ) (c : Connection) (said : Step) (edit : Option Edit) (closed : Bool)
       → MatchBool closed (Stays w (Ok steps.Closed) v (Ok said)) (Answers render w n v (Ok said) c)

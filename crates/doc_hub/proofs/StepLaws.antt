@@ -4,12 +4,12 @@ use Rattle.std.specs.Prelude.{not, ◌&&◌, ◌||◌, Option, Some, None, Resul
 use Rattle.std.specs.FinMap as map
 use Rattle.doc_store_readers.specs.declared.reader.Reader.{Reader}
 use Rattle.doc_store_readers.specs.Sites.{View, view_of}
-use Rattle.doc_http.specs.Requests.{IsNext, is_bare}
+use Rattle.doc_http.specs.Requests.{IsNext}
 use Rattle.doc_http.specs.declared.request.Request.{Request}
 use Rattle.doc_http.specs.declared.request.Next.{Next}
 use Rattle.doc_http.specs.declared.request.Next.TheVariants as nexts
 use Rattle.doc_http.proofs.LawLemmas.{read_in_one_way}
-use Rattle.doc_http_replies.specs.Replies.{reply_bytes}
+use Rattle.doc_http_replies.specs.Heads.{Dress, undressed}
 use Rattle.doc_http_targets.specs.Targets.{Route, route_of}
 use Rattle.doc_http_targets.specs.Targets as routes
 use Rattle.doc_hub_answers.specs.declared.answer.Answer.{Answer}
@@ -19,10 +19,16 @@ use Rattle.doc_hub_answers.specs.declared.method.Method.{Method}
 use Rattle.doc_hub_answers.specs.declared.method.Method.TheVariants.{Get, Head, Put, Delete, Other}
 use Rattle.doc_hub.specs.declared.refusal.StepError.{StepError}
 use Rattle.doc_hub_answers.specs.Edits.{puts_left}
-use Rattle.doc_hub_answers.specs.Replies.{Renders, Response, answer_of, at_route, edit_at, edit_page, method_of, on_route, only_reply, put_by}
-use Rattle.doc_hub_answers.specs.Replies.{reads, refused, reply_at, response_to}
+use Rattle.doc_hub_answers.specs.Replies.{Renders, Response, at_route, edit_at, edit_page, method_of, on_route, only_reply, plain_answer}
+use Rattle.doc_hub_answers.specs.Replies.{put_by, reads, refused, reply_at, response_to}
+use Rattle.doc_hub_people.specs.Asking.{Asking, is_guest, row_of}
+use Rattle.doc_hub_people.specs.PeopleAnswers.{people_reply}
+use Rattle.doc_hub_replies.specs.Answers.{answer_by, answer_of, asks_for_style, dress_for, is_for_people, kept_from_guests, people_answer}
+use Rattle.doc_hub_replies.specs.Answers.{style_answer}
+use Rattle.doc_people.specs.declared.settings.Browse.{Browse}
+use Rattle.doc_people.specs.declared.settings.Settings.{Settings}
 use Rattle.doc_hub.specs.StepLaws.{AgreeOn, AnswersAlike, StepsAlike, connection, is_owners_put, open_with}
-use Rattle.doc_hub.specs.Worlds.{World, Steps, StepsAt, reader_of, stepped_by, step_said}
+use Rattle.doc_hub.specs.Worlds.{World, Steps, StepsAt, asking_of, reader_of, stepped_by, step_said}
 
 -- ---- a PUT of an owner alone asks whether a put is left
 
@@ -91,25 +97,36 @@ module _ (render : Renders) (view : View) (left other : Bool) (request : Request
       same_route reader.owner (route_of request.target)
       (λ puts owns. same (ap (λ b. b && bytes_eq request.method (codes "PUT")) owns ∙ put_is_named request.method puts))
 
-  asks_of_puts : (reader : Option Reader) (keep_alive : Bool) → (is_owners_put reader request ≡ true → left ≡ other)
-      → answer_of render view reader left keep_alive request ≡ answer_of render view reader other keep_alive request
+  -- one that isn't for people
+  same_plain : (dress : Dress) (asking : Asking) (close guest : Bool) → (is_owners_put (row_of asking) request ≡ true → left ≡ other)
+      → plain_answer dress (kept_from_guests guest (response_to render view (row_of asking) left request)) close request
+      ≡ plain_answer dress (kept_from_guests guest (response_to render view (row_of asking) other request)) close request
+  same_plain dress asking close guest same =
+      ap (λ response. plain_answer dress (kept_from_guests guest response) close request) (same_response (row_of asking) same)
+
+  same_by : (browse : Option Browse) (asking : Asking) (close : Bool) → (is_owners_put (row_of asking) request ≡ true → left ≡ other)
+      → answer_by browse render view asking left close request ≡ answer_by browse render view asking other close request
+  same_by None asking close same =
+      ap (λ response. plain_answer undressed response close request) (same_response (row_of asking) same)
+  same_by (Some browse) asking close same =
+      ap (λ plain. if asks_for_style request then style_answer close request
+      else (if is_for_people request then people_answer (people_reply render browse view asking request) close request else plain))
+      (same_plain (dress_for browse asking) asking close (is_guest asking) same)
+
+  asks_of_puts : (settings : Settings) (asking : Asking) → (is_owners_put (row_of asking) request ≡ true → left ≡ other)
+      → answer_of settings render view asking left request ≡ answer_of settings render view asking other request
   unfolding answer_of
-  asks_of_puts reader keep_alive same =
-      λ i. record {
-        bytes = reply_bytes (same_response reader same i).reply (is_bare request.method) (request.close || not keep_alive);
-        closes = request.close || not keep_alive;
-        edit = (same_response reader same i).edit;
-      }
+  asks_of_puts settings asking same = same_by settings.browse asking (request.close || not settings.keep_alive) same
 
 -- ---- answers and steps
 
 pub answers_alike : AnswersAlike
 answers_alike render w v request agree =
-    asks_of_puts render (view_of w.site (reader_of w request)) (puts_left w.puts) (puts_left v.puts) request
-    (reader_of w request) w.keep_alive
-    agree.puts
-    ∙ (λ i. answer_of render (record { pages = map.entries (agree.sites i).pages; aliases = map.entries (agree.sites i).aliases })
-    (agree.reader i) (puts_left v.puts) (agree.keep_alive i) request)
+    asks_of_puts render (view_of w.site (reader_of w request)) (puts_left w.puts) (puts_left v.puts) request w.settings
+    (asking_of w request) agree.puts
+    ∙ (λ i. answer_of (agree.settings i) render
+    (record { pages = map.entries (agree.sites i).pages; aliases = map.entries (agree.sites i).aliases })
+    (agree.asking i) (puts_left v.puts) request)
 
 -- what a step answers, by what the unread bytes begin with
 pub said_alike : (render : Renders) (w v : World) (c d : ℕ) (one other : Connection) (next : Next) → AgreeOn w v next

@@ -1,11 +1,12 @@
 -- Noninterference, one reply after another: each is that of a fresh server which holds only what its reader may see.
-use Rattle.std.specs.Prelude.{◌≡◌, ◌≤◌, ◌+◌, ℕ, All, Bool, List, length, nat_lt, true, Option, Some, None, Result, Ok, Err, ⊤}
+use Rattle.std.specs.Prelude.{◌≡◌, ◌≤◌, ◌+◌, ℕ, All, List, length, nat_lt, true, Option, Some, None, Result, Ok, Err, ⊤}
 use Rattle.std.specs.FinMap as map
 use Rattle.doc_store_readers.specs.declared.reader.Reader.{Reader}
 use Rattle.doc_store_readers.specs.Sites.{Site, empty_site}
 use Rattle.doc_store.specs.Store.{put_limit}
 use Rattle.doc_store_readers.specs.Readers.{ReaderTable}
-use Rattle.doc_http.specs.Bearers.{bearer_of}
+use Rattle.doc_hub_people.specs.Asking.{known_of}
+use Rattle.doc_people.specs.declared.settings.Settings.{Settings}
 use Rattle.doc_http.specs.Requests.{IsNext}
 use Rattle.doc_http.specs.declared.request.Next.{Next}
 use Rattle.doc_http.specs.declared.request.Next.TheVariants as nexts
@@ -19,7 +20,7 @@ use Rattle.doc_hub_answers.specs.Edits.{puts_left}
 use Rattle.doc_hub_answers.specs.Replies.{Renders}
 use Rattle.doc_hub.specs.Runs.{Happens, Happened, Runs}
 use Rattle.doc_hub.specs.StepLaws.{connection, is_owners_put, open_with, site_seen}
-use Rattle.doc_hub.specs.Worlds.{World, new_world, reader_of}
+use Rattle.doc_hub.specs.Worlds.{World, asking_of, new_world, reader_of, token_of}
 
 -- ---- the fresh server
 
@@ -29,13 +30,13 @@ only_reader (Some token) (Some reader) = map.insert map.empty token reader
 only_reader token reader = map.empty
 
 -- a server that holds only this site, after so many puts and moves, and this reader, with one connection
-abbrev pub fresh : ℕ → Site → Option (List ℕ) → Option Reader → Bool → List ℕ → World
-fresh puts site token reader keep_alive unread =
+abbrev pub fresh : ℕ → Site → Option (List ℕ) → Option Reader → Settings → List ℕ → World
+fresh puts site token reader settings unread =
     record {
       site = site;
       puts = puts;
       readers = only_reader token reader;
-      keep_alive = keep_alive;
+      settings = settings;
       given = 1;
       connections = map.insert map.empty 1 (open_with unread);
     }
@@ -43,8 +44,8 @@ fresh puts site token reader keep_alive unread =
 -- the fresh server for a request, of what its reader may see in this world; where there is no request, any will do
 abbrev pub fresh_for : ℕ → World → List ℕ → Next → World
 fresh_for puts w unread (nexts.Request used request) =
-    fresh puts (site_seen w request) (bearer_of request) (reader_of w request) w.keep_alive unread
-fresh_for puts w unread next = fresh puts empty_site None None w.keep_alive unread
+    fresh puts (site_seen w request) (token_of w request) (known_of (asking_of w request)) w.settings unread
+fresh_for puts w unread next = fresh puts empty_site None None w.settings unread
 
 abbrev pub first_connection : ConnId
 first_connection = record { 0 = 1 }
@@ -96,8 +97,8 @@ PutsAreCounted = (render : Renders) (w v : World) (run : List Happened) → Runs
 -- a run of fewer than 2^64 - 1 events from a new server leaves a put
 abbrev pub PutsAreLeft : Type 0
 PutsAreLeft =
-    (render : Renders) (readers : ReaderTable) (keep_alive : Bool) (v : World) (run : List Happened)
-    → Runs render (new_world readers keep_alive) run v → nat_lt (length run) put_limit ≡ true → puts_left v.puts ≡ true
+    (render : Renders) (readers : ReaderTable) (settings : Settings) (v : World) (run : List Happened)
+    → Runs render (new_world readers settings) run v → nat_lt (length run) put_limit ≡ true → puts_left v.puts ≡ true
 
 -- the same, whether or not a put is left
 abbrev pub SendsAsFreshAlways : Renders → Happened → Type 0
@@ -107,5 +108,5 @@ SendsAsFreshAlways render h =
 -- Noninterference from a new server, in a run of fewer than 2^64 - 1 events: nothing is asked of puts.
 abbrev pub NewRepliesAsFresh : Type 0
 NewRepliesAsFresh =
-    (render : Renders) (readers : ReaderTable) (keep_alive : Bool) (v : World) (run : List Happened)
-    → Runs render (new_world readers keep_alive) run v → nat_lt (length run) put_limit ≡ true → All (SendsAsFreshAlways render) run
+    (render : Renders) (readers : ReaderTable) (settings : Settings) (v : World) (run : List Happened)
+    → Runs render (new_world readers settings) run v → nat_lt (length run) put_limit ≡ true → All (SendsAsFreshAlways render) run

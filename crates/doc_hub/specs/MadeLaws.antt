@@ -1,12 +1,13 @@
 -- The fresh server is a world that a hub can be in.
-use Rattle.std.specs.Prelude.{◌≡◌, ◌≤◌, ◌+◌, ℕ, All, Bool, true, List, length, nat_lt, Option, Some, ⊤}
+use Rattle.std.specs.Prelude.{◌≡◌, ◌≤◌, ◌+◌, ℕ, All, true, List, length, nat_lt, Option, Some, ⊤}
 use Rattle.std.specs.FinMap as map
 use Rattle.doc_store_readers.specs.Pages.{Page}
 use Rattle.doc_store_readers.specs.Sites.{Site, IsSite}
 use Rattle.doc_store.specs.Store.{alias_limit, page_limit, put_limit, text_limit}
 use Rattle.doc_store_readers.specs.Readers.{ReaderTable}
 use Rattle.doc_store_readers.specs.declared.reader.Reader.{Reader}
-use Rattle.doc_http.specs.Bearers.{bearer_of}
+use Rattle.doc_hub_people.specs.Asking.{known_of}
+use Rattle.doc_people.specs.declared.settings.Settings.{Settings}
 use Rattle.doc_http.specs.declared.request.Request.{Request}
 use Rattle.doc_http.specs.declared.request.Next.TheVariants as nexts
 use Rattle.doc_hub.specs.Connections.{backlog_limit}
@@ -15,7 +16,7 @@ use Rattle.doc_hub.specs.FreshLaws.{IsAnswered, StepSays, first_connection, fres
 use Rattle.doc_hub_answers.specs.Replies.{Renders}
 use Rattle.doc_hub.specs.Runs.{Happened, Runs}
 use Rattle.doc_hub.specs.StepLaws.{site_seen}
-use Rattle.doc_hub.specs.Worlds.{World, new_world, reader_of}
+use Rattle.doc_hub.specs.Worlds.{World, asking_of, new_world, token_of}
 use Rattle.doc_store.specs.declared.site_edit.SiteEdit.{SiteEdit}
 use Rattle.doc_store.specs.declared.site_edit.SiteEdit.TheVariants as site_edits
 use Rattle.doc_hub.specs.declared.event.ConnectionEvent.{ConnectionEvent}
@@ -54,29 +55,29 @@ abbrev pub makings : Site → ℕ
 makings site = map.len site.pages + map.len site.aliases
 
 -- a run of nothing else makes the fresh server of a new hub with that reader alone
-pub record IsMade (render : Renders) (site : Site) (token : Option (List ℕ)) (reader : Option Reader) (keep_alive : Bool) (unread : List ℕ)
+pub record IsMade (render : Renders) (site : Site) (token : Option (List ℕ)) (reader : Option Reader) (settings : Settings) (unread : List ℕ)
     : Type 0 where
   pub run : List Happened
   pub making : All IsMaking run
-  pub runs : Runs render (new_world (only_reader token reader) keep_alive) run (fresh (makings site) site token reader keep_alive unread)
+  pub runs : Runs render (new_world (only_reader token reader) settings) run (fresh (makings site) site token reader settings unread)
   pub left : puts_left (makings site) ≡ true
 
 -- The fresh server of a site within the limits, with no more unread bytes than a connection may have, is a world that a hub can be in.
 abbrev pub FreshIsMade : Type 0
 FreshIsMade =
-    (render : Renders) (site : Site) (token : Option (List ℕ)) (reader : Option Reader) (keep_alive : Bool) (unread : List ℕ)
-    → IsWithin site → length unread ≤ backlog_limit → IsMade render site token reader keep_alive unread
+    (render : Renders) (site : Site) (token : Option (List ℕ)) (reader : Option Reader) (settings : Settings) (unread : List ℕ)
+    → IsWithin site → length unread ≤ backlog_limit → IsMade render site token reader settings unread
 
 -- what a step answered to a request, a hub answers that was new with that reader alone, in which the pages of the view were put, its
 -- aliases made by moves, and nothing else was done
 abbrev pub SendsAsMade : Renders → Happened → Type 0
 SendsAsMade render h =
     (unread : List ℕ) (used : ℕ) (request : Request) (said : Step) → IsAnswered h unread (nexts.Request used request) said
-    → IsMade render (site_seen h.world request) (bearer_of request) (reader_of h.world request) h.world.keep_alive unread
+    → IsMade render (site_seen h.world request) (token_of h.world request) (known_of (asking_of h.world request)) h.world.settings unread
     × StepSays render (fresh_for (makings (site_seen h.world request)) h.world unread (nexts.Request used request)) first_connection said
 
 -- Noninterference by hubs alone: in a run of fewer than 2^64 - 1 events from a new hub each request is answered so.
 abbrev pub MadeReplies : Type 0
 MadeReplies =
-    (render : Renders) (readers : ReaderTable) (keep_alive : Bool) (v : World) (run : List Happened)
-    → Runs render (new_world readers keep_alive) run v → nat_lt (length run) put_limit ≡ true → All (SendsAsMade render) run
+    (render : Renders) (readers : ReaderTable) (settings : Settings) (v : World) (run : List Happened)
+    → Runs render (new_world readers settings) run v → nat_lt (length run) put_limit ≡ true → All (SendsAsMade render) run

@@ -14,7 +14,7 @@ use Rattle.doc_hub.specs.declared.event.Step.{Step}
 use Rattle.doc_hub_answers.specs.Edits.{puts_left}
 use Rattle.doc_hub_answers.specs.Replies.{Renders}
 use Rattle.doc_hub.specs.Runs.{Happens}
-use Rattle.doc_hub.specs.Worlds.{World, answer_in, reader_of}
+use Rattle.doc_hub.specs.Worlds.{World, answer_in, asking_of, reader_of}
 
 -- what the reader of a request may see of a world's site
 abbrev pub site_seen : World → Request → Site
@@ -25,11 +25,11 @@ abbrev pub is_owners_put : Option Reader → Request → Bool
 is_owners_put None request = false
 is_owners_put (Some reader) request = reader.owner && bytes_eq request.method (codes "PUT")
 
--- two worlds are alike for a request: one keep-alive setting, one reader's entry and one view; and where an owner puts a page, a put is
--- left in both or in neither
+-- two worlds are alike for a request: the same settings, the same who asks, and one view; and where an owner puts a page, a put is left
+-- in both or in neither
 pub record Agree (w v : World) (request : Request) : Type 0 where
-  pub keep_alive : w.keep_alive ≡ v.keep_alive
-  pub reader : reader_of w request ≡ reader_of v request
+  pub settings : w.settings ≡ v.settings
+  pub asking : asking_of w request ≡ asking_of v request
   pub sites : site_seen w request ≡ site_seen v request
   pub puts : is_owners_put (reader_of w request) request ≡ true → puts_left w.puts ≡ puts_left v.puts
 

@@ -1,7 +1,7 @@
 -- The world that a hub stands for, and one function of it for each call.
-use Rattle.std.specs.Prelude.{◌≡◌, ℕ, List, ◌+◌, ◌^◌, ◌-◌, Bool, true, nat_lt, nat_le, ◌&&◌, MatchBool, Option, Some, None, option_and_then, option_map}
+use Rattle.std.specs.Prelude.{◌≡◌, ℕ, List, ◌+◌, ◌^◌, ◌-◌, Bool, true, nat_lt, nat_le, ◌&&◌, MatchBool, Option, Some, None, option_map}
 use Rattle.std.specs.Prelude.{Result, Ok, Err, if◌then◌else◌, refl}
-use Rattle.std.specs.Coded.{Coded, code_by, coded×, coded_ℕ, coded_bool}
+use Rattle.std.specs.Coded.{Coded, code_by, coded×, coded_ℕ}
 use Rattle.std.specs.FinMap as map
 use Rattle.doc_store_readers.specs.declared.reader.Reader.{Reader}
 use Rattle.doc_store_readers.specs.Sites.{Site, empty_site, site_code, view_of}
@@ -12,7 +12,7 @@ use Rattle.doc_store_readers.specs.declared.readers.ReaderError.{ReaderError}
 use Rattle.doc_store_readers.specs.declared.readers.Set.{Set}
 use Rattle.doc_store.specs.declared.store.EditError.{EditError}
 use Rattle.doc_store.specs.declared.store.Put.{Put}
-use Rattle.doc_http.specs.Bearers.{bearer_of}
+use Rattle.doc_http.specs.Passwords.{token_in}
 use Rattle.doc_shelf_pages.specs.Views.{report_body}
 use Rattle.doc_http.specs.Requests.{IsNext}
 use Rattle.doc_http.specs.declared.request.Request.{Request}
@@ -20,7 +20,10 @@ use Rattle.doc_http.specs.declared.request.Next.{Next}
 use Rattle.doc_http.specs.declared.request.Next.TheVariants as nexts
 use Rattle.doc_hub.specs.Connections.{Connections, new_connection, pushed, finished}
 use Rattle.doc_hub_answers.specs.Edits.{puts_left, store_after}
-use Rattle.doc_hub_answers.specs.Replies.{Renders, answer_of, fault_bytes}
+use Rattle.doc_hub_answers.specs.Replies.{Renders, fault_bytes}
+use Rattle.doc_hub_people.specs.Asking.{Asking, login_of, reader_asking, row_of}
+use Rattle.doc_hub_replies.specs.Answers.{answer_of}
+use Rattle.doc_people.specs.declared.settings.Settings.{Settings}
 use Rattle.doc_hub_answers.specs.declared.answer.Answer.{Answer}
 use Rattle.doc_hub.specs.declared.connection.Connection.{Connection}
 use Rattle.doc_hub.specs.declared.event.ConnId.{ConnId}
@@ -34,50 +37,54 @@ use Rattle.doc_hub.specs.declared.refusal.PushError.{PushError}
 use Rattle.doc_hub.specs.declared.refusal.StepError.{StepError}
 use Rattle.doc_hub.specs.declared.refusal.StepError.TheVariants as step_errors
 
--- the site, how many puts and moves were accepted, the readers, whether connections are kept alive, the
--- number of connections given, and the connections by number; no reply knows the stamp of a page
+-- the site, how many puts and moves were accepted, the readers, the settings, the number of connections given, and the connections by
+-- number; no reply knows the stamp of a page
 pub record World : Type 0 where
   pub site : Site
   pub puts : ℕ
   pub readers : ReaderTable
-  pub keep_alive : Bool
+  pub settings : Settings
   pub given : ℕ
   pub connections : Connections
 
 -- a world as its parts, which tell worlds apart
-abbrev pub world_code : Coded ReaderTable → Coded Connection → Coded World
-world_code readers one =
-    code_by (Site × (ℕ × (ReaderTable × (Bool × (ℕ × Connections)))))
-    (coded× site_code (coded× coded_ℕ (coded× readers (coded× coded_bool (coded× coded_ℕ (map.code coded_ℕ one))))))
-    (λ w. (w.site, (w.puts, (w.readers, (w.keep_alive, (w.given, w.connections))))))
+abbrev pub world_code : Coded ReaderTable → Coded Settings → Coded Connection → Coded World
+world_code readers settings one =
+    code_by (Site × (ℕ × (ReaderTable × (Settings × (ℕ × Connections)))))
+    (coded× site_code (coded× coded_ℕ (coded× readers (coded× settings (coded× coded_ℕ (map.code coded_ℕ one))))))
+    (λ w. (w.site, (w.puts, (w.readers, (w.settings, (w.given, w.connections))))))
     (λ p. record {
       site = p.0;
       puts = p.1.0;
       readers = p.1.1.0;
-      keep_alive = p.1.1.1.0;
+      settings = p.1.1.1.0;
       given = p.1.1.1.1.0;
       connections = p.1.1.1.1.1;
     }) (λ _. refl)
 
 -- a server without pages and connections
-abbrev pub new_world : ReaderTable → Bool → World
-new_world readers keep_alive = record {
+abbrev pub new_world : ReaderTable → Settings → World
+new_world readers settings = record {
   site = empty_site;
   puts = 0;
   readers = readers;
-  keep_alive = keep_alive;
+  settings = settings;
   given = 0;
   connections = map.empty;
 }
+
+-- the settings of a server without pages for people
+abbrev pub plain_settings : Bool → Settings
+plain_settings keep_alive = record { keep_alive = keep_alive; browse = None }
 
 -- the capacities that a cache may have; this project's choice
 abbrev pub is_capacity : ℕ → Bool
 is_capacity n = nat_le 1 n && nat_le n 4096
 
 -- the renderer and the world of a new hub
-abbrev pub hub_made : {R : Type 0} → R → ReaderTable → Bool → ℕ → Result (R × World) HubError
-hub_made renderer readers keep_alive capacity = if is_capacity capacity then Ok (renderer, new_world readers keep_alive) else Err
-    hub_errors.BadCapacity
+abbrev pub hub_made : {R : Type 0} → R → ReaderTable → Settings → ℕ → Result (R × World) HubError
+hub_made renderer readers settings capacity =
+    if is_capacity capacity then Ok (renderer, new_world readers settings) else Err hub_errors.BadCapacity
 
 unfoldable pub last_id : ℕ
 last_id = 2 ^ 64 - 1
@@ -101,14 +108,22 @@ world_pushed w id bytes = let r = pushed w.connections id bytes in (record w { c
 abbrev pub disconnected : World → ℕ → World × Bool
 disconnected w id = (record w { connections = map.remove w.connections id }, map.contains_key w.connections id)
 
--- the reader of a request: the entry of its bearer token
+-- who asks
+abbrev pub asking_of : World → Request → Asking
+asking_of w request = reader_asking w.settings.browse w.readers request
+
+-- the token that a request has
+abbrev pub token_of : World → Request → Option (List ℕ)
+token_of w request = token_in (login_of w.settings.browse) request.authorization
+
+-- the reader of a request: the entry of who asks
 abbrev pub reader_of : World → Request → Option Reader
-reader_of w request = option_and_then (map.get w.readers) (bearer_of request)
+reader_of w request = row_of (asking_of w request)
 
 -- the answer to a request, from what its reader may see
 abbrev pub answer_in : Renders → World → Request → Answer
 answer_in render w request =
-    answer_of render (view_of w.site (reader_of w request)) (reader_of w request) (puts_left w.puts) w.keep_alive request
+    answer_of w.settings render (view_of w.site (reader_of w request)) (asking_of w request) (puts_left w.puts) request
 
 -- the world's site and puts as a store's, whose edits are the world's: which stamps its pages have changes nothing else, so they have none
 abbrev pub store_of : World → StoreState

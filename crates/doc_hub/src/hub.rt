@@ -19,7 +19,7 @@ ghost use Rattle.doc_hub_answers.specs.Counts.{RendersPuts};
 ghost use Rattle.doc_hub.specs.Events.{disconnect_on, push_on, step_on, stepping};
 ghost use Rattle.doc_hub.specs.Runs.{Happens, Leaves, GivesRun};
 ghost use Rattle.doc_hub.specs.StepEdits.{StepTells, step_in};
-ghost use Rattle.doc_hub.specs.Worlds.{hub_made, report_in, store_of};
+ghost use Rattle.doc_hub.specs.Worlds.{hub_made, plain_settings, report_in, store_of};
 ghost use Rattle.doc_shelf.specs.Shelves.{rendered_for};
 ghost use Rattle.doc_store.specs.Store.{fits_in};
 
@@ -41,6 +41,7 @@ use doc_page_parts::heap::{Heap, Vec};
 use doc_page_parts::list::List;
 use doc_page_parts::path::Path;
 use doc_page_parts::text::Text;
+use doc_people::settings::Settings;
 use doc_shelf::Shelf;
 use doc_store::groups::Groups;
 use doc_store::moving::MoveError;
@@ -60,7 +61,7 @@ pub struct Hub<R: Renderer + Drop> {
     heap: Heap,
     routes: Routes,
     readers: Readers,
-    keep_alive: bool,
+    settings: Settings,
     shelf: Shelf<R>,
     given: u64,
     connections: Connections,
@@ -73,7 +74,7 @@ impl<R: Renderer + Drop> Drop for Hub<R> {
             heap: _,
             routes: _,
             readers: _,
-            keep_alive: _,
+            settings: _,
             shelf: _,
             given: _,
             connections: _,
@@ -86,11 +87,12 @@ impl<R: Renderer + Drop> Model for Hub<R> {
     ghost use Rattle.doc_hub.specs.Connections.{HaveGivenNumbers};
     ghost use Rattle.doc_hub.specs.Worlds.{World, world_code};
     ghost use Rattle.doc_hub.specs.contracts.connection.Connection as one;
+    ghost use Rattle.doc_people.specs.contracts.settings.Settings as settings_row;
     ghost use Rattle.doc_store_readers.specs.contracts.readers.Readers as reader_table;
 
     ghost Value = { R × World };
 
-    ghost coded = { coded× R.code (world_code reader_table.the_row.coded one.the_row.coded) };
+    ghost coded = { coded× R.code (world_code reader_table.the_row.coded settings_row.the_row.coded one.the_row.coded) };
 
     ghost view = { λ h. (
       h.shelf.0,
@@ -98,7 +100,7 @@ impl<R: Renderer + Drop> Model for Hub<R> {
         site = h.shelf.1.site;
         puts = h.shelf.1.puts;
         readers = h.readers;
-        keep_alive = h.keep_alive;
+        settings = h.settings;
         given = h.given;
         connections = h.connections;
       },
@@ -108,8 +110,9 @@ impl<R: Renderer + Drop> Model for Hub<R> {
 }
 
 impl<R: Renderer + Drop> Hub<R> {
-    /// A hub without pages and connections. `keep_alive` says whether connections stay open where
-    /// a request allows it. `cache` is how many documents of pages may be kept for the next reader, 1 to 4,096.
+    /// A hub without pages and connections, and without pages for people. `keep_alive` says whether
+    /// connections stay open where a request allows it. `cache` is how many documents of pages may be kept
+    /// for the next reader, 1 to 4,096.
     pub fn new(
         heap: Heap,
         renderer: R,
@@ -117,19 +120,38 @@ impl<R: Renderer + Drop> Hub<R> {
         keep_alive: bool,
         cache: usize,
     ) -> Result<Self, HubError>
-        ensures { IsAnswer HubError.Memory (hub_made renderer readers keep_alive cache) result }
+        ensures { IsAnswer HubError.Memory
+            (hub_made renderer readers (plain_settings keep_alive) cache) result }
+    {
+        let settings = Settings {
+            keep_alive,
+            browse: None,
+        };
+        Hub::with_settings(heap, renderer, readers, settings, cache)
+    }
+
+    /// The same with these settings, which no event changes. With pages for people the hub keeps what these
+    /// are made of beside the documents.
+    pub fn with_settings(
+        heap: Heap,
+        renderer: R,
+        readers: Readers,
+        settings: Settings,
+        cache: usize,
+    ) -> Result<Self, HubError>
+        ensures { IsAnswer HubError.Memory (hub_made renderer readers settings cache) result }
     {
         if cache < 1 || cache > 4096 {
             return Err(HubError::BadCapacity);
         }
-        let Ok(shelf) = Shelf::new(heap, renderer, cache) else {
+        let Ok(shelf) = Shelf::new(heap, renderer, cache, settings.browse.is_some()) else {
             return Err(HubError::Memory);
         };
         Ok(Hub {
             heap,
             routes: Routes::new(heap)?,
             readers,
-            keep_alive,
+            settings,
             shelf,
             given: 0,
             connections: Connections::new(heap),
@@ -210,7 +232,7 @@ impl<R: Renderer + Drop> Hub<R> {
                     heap: self.heap,
                     routes: &self.routes,
                     readers: &self.readers,
-                    keep_alive: self.keep_alive,
+                    settings: &self.settings,
                 };
                 let answer = serving.answer(&mut self.shelf, &request)?;
                 self.connections.finish(id.0, used, answer.closes);

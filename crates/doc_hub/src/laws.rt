@@ -12,9 +12,9 @@ ghost use Rattle.doc_hub.specs.RunLaws.{RunsAlike};
 ghost use Rattle.doc_hub.specs.StepEdits.{StepsChange};
 ghost use Rattle.doc_hub.specs.StepLaws.{AnswersAlike, StepsAlike};
 
-/// A request has one answer, with one edit, in two worlds with one keep-alive setting, one entry for its
-/// token, and one view for its reader; and, where it is a PUT of an owner, a put left in both or in
-/// neither. Nothing else of the worlds matters.
+/// A request has one answer, with one edit, in two worlds with the same settings, the same who asks (nobody,
+/// a guest, or a reader of one entry), and one view for them; and, where it is a PUT of an owner, a put left
+/// in both or in neither. Nothing else of the worlds matters.
 #[tactic(auto, using(crate::proofs::StepLaws::answers_alike))]
 pub fn answers_are_noninterfering()
     ensures { AnswersAlike }
@@ -37,17 +37,17 @@ pub fn a_link_to_a_hidden_page_is_shown_as_one_to_none()
 
 /// Step noninterference. Two steps send equal bytes and do the same where their connections are open,
 /// their unread bytes begin with the same thing, both are answered (memory sufficed for both), and,
-/// where that is a request, the worlds have one keep-alive setting, one entry for its token, and one
-/// view for its reader; and, where it is a PUT of an owner, a put left in both or in neither.
+/// where that is a request, the worlds have the same settings, the same who asks, and one view for them;
+/// and, where it is a PUT of an owner, a put left in both or in neither.
 pub fn steps_are_noninterfering()
     ensures { StepsAlike }
 {}
 
 /// In any run, from any world, what a step of an open connection answers is what the step of a fresh
-/// server answers, and nothing else but where memory runs out there: one that holds only what the
-/// request's reader may see at that step, and that reader's entry. Two premises: the connection stands
-/// and is open, and a put is left at that step, where the request is a PUT of an owner. A step that
-/// answered that memory ran out sent nothing, and nothing is said of it.
+/// server answers, and nothing else but where memory runs out there: one with the same settings that holds
+/// only what the request's reader may see at that step, and that reader's entry, where a token names it.
+/// Two premises: the connection stands and is open, and a put is left at that step, where the request is a
+/// PUT of an owner. A step that answered that memory ran out sent nothing, and nothing is said of it.
 pub fn replies_are_a_fresh_servers()
     ensures { RepliesAsFresh }
 {}

@@ -14,7 +14,7 @@ use Rattle.doc_http_targets.specs.Targets.{Route, route_of}
 use Rattle.doc_http_targets.specs.Targets as routes
 use Rattle.doc_http_targets.specs.WrittenPaths.{path_written}
 use Rattle.doc_hub_answers.specs.Edits.{CanBeMade, puts_left}
-use Rattle.doc_hub_answers.specs.Replies.{Renders, Response, answer_of, at_route, delete_at, edit_at, edit_page, edited, has_room, method_of}
+use Rattle.doc_hub_answers.specs.Replies.{Renders, Response, at_route, delete_at, edit_at, edit_page, edited, has_room, method_of}
 use Rattle.doc_hub_answers.specs.Replies.{on_route, only_reply, put_at, put_by, put_page, reads, refused, reply_at, response_to}
 use Rattle.doc_hub_answers.specs.declared.method.Method.{Method}
 use Rattle.doc_hub_answers.specs.declared.method.Method.TheVariants.{Get, Head, Put, Delete, Other}
@@ -98,12 +98,8 @@ module _ (store : StoreState) (reader : Reader) where
   route_can render None request = tt
   route_can render (Some route) request = at_can render route request (method_of request.method)
 
-response_can : (render : Renders) (store : StoreState) (reader : Option Reader) (request : Request)
+-- the edit that goes with a response can be made
+pub response_can : (render : Renders) (store : StoreState) (reader : Option Reader) (request : Request)
     → CanBeMade store request.body (response_to render (view_of store.site reader) reader (puts_left store.puts) request).edit
 response_can render store None request = tt
 response_can render store (Some reader) request = route_can store reader render (route_of request.target) request
-
-pub answer_can_be_made : (render : Renders) (store : StoreState) (reader : Option Reader) (keep_alive : Bool) (request : Request)
-    → CanBeMade store request.body (answer_of render (view_of store.site reader) reader (puts_left store.puts) keep_alive request).edit
-unfolding answer_of
-answer_can_be_made render store reader keep_alive request = response_can render store reader request

@@ -1,42 +1,24 @@
 -- Answers as they are sent.
-use Rattle.std.proofs.Common.{◌≡◌, ℕ, List, Bor, Bool, true, false, bytes_eq, codes, refl, ap, sym, ◌∙◌, subst}
-use Rattle.std.specs.Prelude.{not, ◌||◌, IfOk, Option, Some, None, Result, Ok, Err, if◌then◌else◌}
-use Rattle.std.proofs.lemmas.Slice.Eq.{bytes_eq-Decides}
+use Rattle.std.proofs.Common.{◌≡◌, ℕ, List, Bor, Bool, true, false, refl, ap, sym, ◌∙◌, subst}
+use Rattle.std.specs.Prelude.{IfOk, Some, None, Result, Ok, Err, if◌then◌else◌}
 use Rattle.doc_page_parts.specs.declared.failure.Memory.{Memory}
-use Rattle.doc_store_readers.specs.Sites.{Site, View, view_of}
+use Rattle.doc_store_readers.specs.Sites.{View}
 use Rattle.doc_store.specs.Store.{StoreState}
-use Rattle.doc_store_readers.specs.declared.reader.Reader.{Reader}
-use Rattle.doc_http_replies.specs.Replies.{reply_bytes}
 use Rattle.doc_http_replies.specs.declared.reply.Allow.TheVariants.{Read}
-use Rattle.doc_http.specs.Requests.{is_bare}
 use Rattle.doc_http.specs.declared.request.Request.{Request}
-use Rattle.doc_http_targets.specs.Targets.{Route, route_of, route_shown}
+use Rattle.doc_http_targets.specs.Targets.{Route, route_shown}
 use Rattle.doc_http_targets.specs.declared.route.Route as found
 use Rattle.doc_http_targets.specs.declared.route.Route.TheVariants as found_routes
 use Rattle.doc_http_targets.specs.WrittenPaths.{path_written}
-use Rattle.doc_hub_answers.specs.AnswerSteps.{Answered, AnsweredSo, after_edit, is_head, sent_in}
+use Rattle.doc_hub_answers.specs.AnswerSteps.{Answered, AnsweredSo, after_edit, sent_in}
 use Rattle.doc_hub_answers.specs.Edits.{store_after}
-use Rattle.doc_hub_answers.specs.Replies.{Renders, Response, answer_of, at_route, delete_at, edit_at, edit_page, edited, method_of, not_allowed}
-use Rattle.doc_hub_answers.specs.Replies.{on_route, only_reply, put_by, reads, refused, reply_at, response_to}
+use Rattle.doc_hub_answers.specs.Replies.{Renders, Response, at_route, delete_at, edit_at, edit_page, edited, not_allowed}
+use Rattle.doc_hub_answers.specs.Replies.{only_reply, put_by, reads, refused, reply_at}
 use Rattle.doc_hub_answers.specs.declared.answer.Answer.{Answer}
 use Rattle.doc_hub_answers.specs.declared.exchange.Exchange.{Exchange}
 use Rattle.doc_hub_answers.specs.declared.method.Method.{Method}
-use Rattle.doc_hub_answers.specs.declared.method.Method.TheVariants.{Get, Head, Put, Delete, Other}
+use Rattle.doc_hub_answers.specs.declared.method.Method.TheVariants.{Put, Delete}
 use Rattle.doc_hub_answers.specs.declared.edit.Edit.{Edit}
-
-by_tests : (get head put delete : Bool) → (get ≡ true → head ≡ false)
-    → is_head (if get then Get else (if head then Head else (if put then Put else (if delete then Delete else Other)))) ≡ head
-by_tests true head put delete apart = sym (apart refl)
-by_tests false true put delete apart = refl
-by_tests false false true delete apart = refl
-by_tests false false false true apart = refl
-by_tests false false false false apart = refl
-
--- the method says whether the reply is its head alone
-head_is_bare : (name : List ℕ) → is_head (method_of name) ≡ is_bare name
-head_is_bare name =
-    by_tests (bytes_eq name (codes "GET")) (bytes_eq name (codes "HEAD")) (bytes_eq name (codes "PUT")) (bytes_eq name (codes "DELETE"))
-    (λ get. ap (λ n. bytes_eq n (codes "HEAD")) ((bytes_eq-Decides name (codes "GET")).0 get))
 
 -- ---- a response by what is sent of it
 
@@ -57,35 +39,6 @@ module _ (exchange : Exchange) (old new : StoreState) (text : List ℕ) where
     made ∙ sym (ap (λ (a : Answer). store_after old text a.edit) told_is),
   )
 
--- ---- the answer to a request, by the response to it
-
-module _ (exchange : Exchange) (request : Request) (render : Renders) (view : View) (reader : Option Reader) (left keep_alive : Bool)
-    (same : exchange.request.now ≡ request) (named : exchange.method ≡ method_of request.method)
-    (closes : exchange.close ≡ (request.close || not keep_alive)) where
-  sent_is_answer : sent_in exchange (response_to render view reader left request) ≡ answer_of render view reader left keep_alive request
-  unfolding answer_of
-  sent_is_answer =
-      let response = response_to render view reader left request in
-      λ i. record {
-        bytes = reply_bytes response.reply ((ap is_head named ∙ head_is_bare request.method) i) (closes i);
-        closes = closes i;
-        edit = response.edit;
-      }
-
-  pub answered_so : (old new : StoreState) (response : Response) (result : Result Answer Memory)
-      → response ≡ response_to render view reader left request → Answered exchange old response new result
-      → AnsweredSo request.body old (answer_of render view reader left keep_alive request) new result
-  answered_so old new response result is answered =
-      subst (λ (r : Request). AnsweredSo r.body old (answer_of render view reader left keep_alive request) new result) same
-      (subst (λ a. AnsweredSo exchange.request.now.body old a new result) (ap (sent_in exchange) is ∙ sent_is_answer) answered)
-
-  pub refused_so : (store : StoreState) (code : ℕ) (result : Result Answer Memory)
-      → IfOk result (λ a. a ≡ sent_in exchange (refused code)) → refused code ≡ response_to render view reader left request
-      → AnsweredSo request.body store (answer_of render view reader left keep_alive request) store result
-  refused_so store code result told is =
-      answered_so store store (refused code) result is
-      (sent_alone exchange store store exchange.request.now.body (refused code) (refused code) result told refl refl refl)
-
 -- ---- the response to a request, by what was found for it
 
 module _ (view : View) (owner left : Bool) (rest : List ℕ) (request : Request) (method : Method) where
@@ -98,26 +51,6 @@ module _ (view : View) (owner left : Bool) (rest : List ℕ) (request : Request)
   delete_is_edit is owns =
       sym (ap (edit_page view owner left rest request) is
       ∙ ap (λ o. if o then delete_at view (path_written rest) else refused 403) owns)
-
-module _ (render : Renders) (view : View) (left : Bool) (request : Request) where
-  pub unknown : (entry : Option Reader) → None ≡ entry → refused 401 ≡ response_to render view entry left request
-  unknown entry none = ap (λ r. response_to render view r left request) none
-
-  pub unrouted : (reader : Reader) (entry : Option Reader) → Some reader ≡ entry → None ≡ route_of request.target
-      → refused 404 ≡ response_to render view entry left request
-  unrouted reader entry found none =
-      ap (λ p. on_route render view reader.owner left p request) none ∙ ap (λ r. response_to render view r left request) found
-
-pub routed : (exchange : Exchange) (request : Request) (render : Renders) (site : Site) (left : Bool) (reader : Reader)
-    (entry : Option Reader) (route : Route)
-    → exchange.request.now ≡ request → exchange.method ≡ method_of request.method → Some reader ≡ entry
-    → Some route ≡ route_of request.target
-    → at_route render (view_of site (Some reader)) reader.owner left route exchange.request.now exchange.method
-    ≡ response_to render (view_of site entry) entry left request
-routed exchange request render site left reader entry route same named found path =
-    (λ i. at_route render (view_of site (found i)) reader.owner left route (same i) (named i))
-    ∙ ap (λ p. on_route render (view_of site entry) reader.owner left p request) path
-    ∙ ap (λ r. response_to render (view_of site entry) r left request) found
 
 -- ---- the response at a route
 

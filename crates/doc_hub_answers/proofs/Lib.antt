@@ -1,4 +1,5 @@
 pub mod AnswerEdits
 pub mod AnswerSteps
+mod FaultSteps
 pub mod OwnerSteps
 mod PutSteps

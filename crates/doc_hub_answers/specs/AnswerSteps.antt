@@ -1,17 +1,16 @@
 -- What is said of answers as they are made.
-use Rattle.std.specs.Prelude.{◌≡◌, ℕ, List, Bool, true, false, Option, Some, option_and_then, Result, Ok, Err}
+use Rattle.std.specs.Prelude.{◌≡◌, ℕ, List, Option, Some, option_and_then, Result, Ok, Err}
 use Rattle.std.specs.FinMap as map
 use Rattle.doc_page_parts.specs.declared.failure.Memory.{Memory}
 use Rattle.doc_store_readers.specs.Readers.{ReaderTable}
 use Rattle.doc_store.specs.Store.{StoreState}
 use Rattle.doc_store_readers.specs.declared.reader.Reader.{Reader}
 use Rattle.doc_http.specs.Bearers.{bearer_of}
-use Rattle.doc_http_replies.specs.Replies.{reply_bytes}
+use Rattle.doc_http_replies.specs.Heads.{dressed_bytes}
+use Rattle.doc_http_replies.specs.Manners.{dress_of}
 use Rattle.doc_http.specs.declared.request.Request.{Request}
 use Rattle.doc_hub_answers.specs.declared.answer.Answer.{Answer}
 use Rattle.doc_hub_answers.specs.declared.exchange.Exchange.{Exchange}
-use Rattle.doc_hub_answers.specs.declared.method.Method.{Method}
-use Rattle.doc_hub_answers.specs.declared.method.Method.TheVariants.{Head}
 use Rattle.doc_hub_answers.specs.declared.edit.Edit.{Edit}
 use Rattle.doc_hub_answers.specs.Edits.{store_after}
 use Rattle.doc_hub_answers.specs.Replies.{Response}
@@ -20,17 +19,12 @@ use Rattle.doc_hub_answers.specs.Replies.{Response}
 abbrev pub entry_of : ReaderTable → Request → Option Reader
 entry_of readers request = option_and_then (map.get readers) (bearer_of request)
 
--- whether the reply to the method is its head alone
-abbrev pub is_head : Method → Bool
-is_head Head = true
-is_head _ = false
-
 -- a response as it is sent in an exchange
 abbrev pub sent_in : Exchange → Response → Answer
 sent_in exchange response =
     record {
-      bytes = reply_bytes response.reply (is_head exchange.method) exchange.close;
-      closes = exchange.close;
+      bytes = dressed_bytes (dress_of exchange.manner) response.reply exchange.manner.head_only exchange.manner.close;
+      closes = exchange.manner.close;
       edit = response.edit;
     }
 

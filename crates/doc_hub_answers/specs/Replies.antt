@@ -1,7 +1,6 @@
--- The reply to a request. It is a function of the reader's view, the reader's entry, the request, the
--- keep-alive setting and whether a put is left, and never of the whole site: that is what makes
--- noninterference true.
-use Rattle.std.specs.Prelude.{ℕ, List, [], ◌++◌, Bool, true, false, not, ◌||◌, ◌&&◌, bytes_eq, codes, is_some, length, nat_lt, nat_le}
+-- The reply to a request that isn't one for people. It is a function of the reader's view, the reader's entry, the request, and whether
+-- a put is left, and never of the whole site: that is what makes noninterference true.
+use Rattle.std.specs.Prelude.{ℕ, List, [], ◌++◌, Bool, true, false, ◌||◌, ◌&&◌, bytes_eq, codes, is_some, length, nat_lt, nat_le}
 use Rattle.std.specs.Prelude.{Option, Some, None, Result, Ok, Err, if◌then◌else◌}
 use Rattle.std.specs.Str.{is_utf8}
 use Rattle.doc_shelf_pages.specs.Templates.{body_of}
@@ -19,6 +18,7 @@ use Rattle.doc_http_replies.specs.declared.reply.Allow.{Allow}
 use Rattle.doc_http_replies.specs.declared.reply.Allow.TheVariants as resources
 use Rattle.doc_http_replies.specs.declared.reply.Reply.{Reply}
 use Rattle.doc_http.specs.declared.request.Request.{Request}
+use Rattle.doc_http_replies.specs.Heads.{Dress, dressed_bytes}
 use Rattle.doc_http_replies.specs.Replies.{reply_bytes}
 use Rattle.doc_http_replies.specs.ReplyForms.{content_reply}
 use Rattle.doc_http.specs.Requests.{is_bare}
@@ -195,12 +195,13 @@ abbrev pub response_to : Renders → View → Option Reader → Bool → Request
 response_to render view None puts_left request = refused 401
 response_to render view (Some reader) puts_left request = on_route render view reader.owner puts_left (route_of request.target) request
 
--- The bytes that are sent, whether the connection closes after them, and the edit that is made.
-unfoldable pub answer_of : Renders → View → Option Reader → Bool → Bool → Request → Answer
-answer_of render view reader puts_left keep_alive request =
-    let response = response_to render view reader puts_left request in
-    let close = request.close || not keep_alive in
-    record { bytes = reply_bytes response.reply (is_bare request.method) close; closes = close; edit = response.edit }
+-- A response as it is sent: its bytes, with what its head has beside, whether the connection closes after them, and the edit that is made.
+abbrev pub plain_answer : Dress → Response → Bool → Request → Answer
+plain_answer dress response close request = record {
+  bytes = dressed_bytes dress response.reply (is_bare request.method) close;
+  closes = close;
+  edit = response.edit;
+}
 
 -- the bytes for what is no request; the connection closes after them
 abbrev pub fault_bytes : ℕ → Bool → List ℕ

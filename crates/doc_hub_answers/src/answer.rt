@@ -8,6 +8,7 @@ ghost use Rattle.doc_hub_answers.specs.Replies.{fault_bytes};
 use crate::edit::Edit;
 use doc_http::reply_form::ReplyForm;
 use doc_http::status::Status;
+use doc_http_replies::manner::Manner;
 use doc_page_parts::bytes::Bytes;
 use doc_page_parts::failure::Memory;
 use doc_page_parts::heap::Heap;
@@ -40,5 +41,5 @@ pub fn answer_to_fault(heap: Heap, code: u16, bare: bool) -> Result<Bytes, Memor
     requires { IsTrue (is_fault_code code) }
     ensures { IfOk result (λ bytes. bytes ≡ fault_bytes code bare) }
 {
-    ReplyForm::Status(Status::of_fault(code)).write(heap, bare, true)
+    ReplyForm::Status(Status::of_fault(code)).write(heap, Manner::plain(bare, true))
 }

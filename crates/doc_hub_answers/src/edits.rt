@@ -77,11 +77,9 @@ fn put_text<R: Renderer + Drop>(
         return exchange.status(Status::InsufficientStorage);
     }
     let form = ReplyForm::Status(put_status(shelf.store(), &path));
-    let head_only = exchange.head_only();
     let saying = Saying {
         form: &form,
-        head_only,
-        close: exchange.close,
+        manner: exchange.manner,
     };
     let bytes = shelf.put_saying(&path, &groups, text, saying)?;
     Ok(exchange.sent(bytes).after(Edit::Put(path, groups)))

@@ -2,7 +2,7 @@
 
 ghost use Rattle.std.specs.Prelude.{◌≡◌, IfOk, None};
 ghost use Rattle.doc_http_replies.specs.ReplyForms.{code_of, content_reply, reply_of};
-ghost use Rattle.doc_hub_answers.specs.AnswerSteps.{is_head, sent_in};
+ghost use Rattle.doc_hub_answers.specs.AnswerSteps.{sent_in};
 ghost use Rattle.doc_hub_answers.specs.Replies.{only_reply, refused};
 
 use crate::answer::Answer;
@@ -11,6 +11,7 @@ use doc_http::reply::write_content;
 use doc_http::reply_form::ReplyForm;
 use doc_http::request::Request;
 use doc_http::status::Status;
+use doc_http_replies::manner::Manner;
 use doc_page_parts::bytes::Bytes;
 use doc_page_parts::failure::Memory;
 use doc_page_parts::heap::Heap;
@@ -23,25 +24,18 @@ pub struct Exchange<'a> {
     pub request: &'a Request,
     /// The request's.
     pub method: Method,
-    /// Whether the connection closes after the reply.
-    pub close: bool,
+    /// How the reply is written.
+    pub manner: Manner<'a>,
 }
 
 impl Exchange<'_> {
-    /// Whether the reply is its head alone.
-    pub fn head_only(&self) -> bool
-        ensures { result ≡ is_head self.now.method }
-    {
-        self.method.is_head()
-    }
-
     /// The answer that these bytes are, after no edit.
     pub fn sent(&self, bytes: Bytes) -> Answer
-        ensures { result ≡ record { bytes = bytes; closes = self.now.close; edit = None } }
+        ensures { result ≡ record { bytes = bytes; closes = self.now.manner.close; edit = None } }
     {
         Answer {
             bytes,
-            closes: self.close,
+            closes: self.manner.close,
             edit: None,
         }
     }
@@ -50,7 +44,7 @@ impl Exchange<'_> {
     pub fn reply(&self, form: ReplyForm) -> Result<Answer, Memory>
         ensures { IfOk result (λ a. a ≡ sent_in self.now (only_reply (reply_of form))) }
     {
-        Ok(self.sent(form.write(self.heap, self.head_only(), self.close)?))
+        Ok(self.sent(form.write(self.heap, self.manner)?))
     }
 
     /// The answer that is this text, HTML or else plain, after no edit.
@@ -59,7 +53,7 @@ impl Exchange<'_> {
             (λ a. a ≡ sent_in self.now (only_reply (content_reply html text.now))) }
     {
         let bytes = text.get().as_bytes();
-        let reply = write_content(self.heap, html, bytes, self.head_only(), self.close)?;
+        let reply = write_content(self.heap, html, bytes, self.manner)?;
         Ok(self.sent(reply))
     }
 

@@ -1,7 +1,6 @@
 //! Methods of requests.
 
 ghost use Rattle.std.specs.Prelude.{◌≡◌};
-ghost use Rattle.doc_hub_answers.specs.AnswerSteps.{is_head};
 ghost use Rattle.doc_hub_answers.specs.Replies.{method_of, reads};
 
 /// What a request asks for (RFC 9110, section 9.3).
@@ -27,13 +26,6 @@ impl Method {
             "DELETE" => Method::Delete,
             _ => Method::Other,
         }
-    }
-
-    /// Whether the reply is its head alone (RFC 9110, section 9.3.2).
-    pub fn is_head(self) -> bool
-        ensures { result ≡ is_head self }
-    {
-        matches!(self, Method::Head)
     }
 
     /// Whether it only reads: GET and HEAD, which every resource here has.

@@ -49,7 +49,7 @@ fn answer_under<R: Renderer + Drop>(
         (Some path.now)))) }
     ensures same { shelf.new ≡ shelf.old }
 {
-    match shelf.page(path, reader, exchange.head_only(), exchange.close)? {
+    match shelf.page(path, reader, exchange.manner)? {
         Some(bytes) => Ok(exchange.sent(bytes)),
         None => goal_answer(exchange, "/page/", path, &shelf.store().sight(reader)),
     }

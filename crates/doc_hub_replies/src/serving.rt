@@ -1,23 +1,43 @@
 //! How requests are answered: each from what its reader may see.
 
-ghost use Rattle.std.specs.Prelude.{◌≡◌, ◌||◌, not, OnOk, option_copied};
+ghost use Rattle.std.specs.Prelude.{◌≡◌, ◌&&◌, IfOk, OnOk, Some, option_copied};
+ghost use Rattle.doc_http.specs.Requests.{is_bare};
+ghost use Rattle.doc_http_replies.specs.Heads.{undressed};
+ghost use Rattle.doc_http_replies.specs.Manners.{dress_of};
+ghost use Rattle.doc_http_targets.specs.Targets.{route_of, route_shown};
 ghost use Rattle.doc_store_readers.specs.Sites.{view_of};
-ghost use Rattle.doc_hub_answers.specs.AnswerSteps.{AnsweredSo, entry_of};
+ghost use Rattle.doc_hub_answers.specs.AnswerSteps.{Answered, AnsweredSo, entry_of};
 ghost use Rattle.doc_hub_answers.specs.Counts.{RendersPuts};
 ghost use Rattle.doc_hub_answers.specs.Edits.{puts_left};
-ghost use Rattle.doc_hub_answers.specs.Replies.{answer_of, method_of};
+ghost use Rattle.doc_hub_answers.specs.Replies.{method_of, plain_answer, response_to};
+ghost use Rattle.doc_hub_people.specs.Asking.{is_guest, reader_asking, row_of};
+ghost use Rattle.doc_hub_people.specs.AskingSteps.{asking_shown};
+ghost use Rattle.doc_hub_people.specs.PeopleAnswers.{on_route, people_reply};
+ghost use Rattle.doc_hub_people.specs.VisitSteps.{offers_of, people_sent};
+ghost use Rattle.doc_http_targets.specs.PeopleTargets.{people_route_of};
+ghost use Rattle.doc_hub_replies.specs.Answers.{answer_of, browsed, dress_for, kept_from_guests, people_answer, style_answer};
+ghost use Rattle.doc_hub_replies.specs.ServingSteps.{closes_after, edits_at, edits_page};
 
+use crate::asked::{asks_for_style, head_only, is_for_people};
 use doc_http::bearer::bearer;
+use doc_http::manner::Manner;
 use doc_http::request::Request;
 use doc_http::status::Status;
+use doc_http::style_sheet::write_style_sheet;
+use doc_http_targets::route::Route;
 use doc_http_targets::routes::Routes;
 use doc_hub_answers::answer::Answer;
 use doc_hub_answers::exchange::Exchange;
 use doc_hub_answers::method::Method;
 use doc_hub_answers::routes::at_route;
+use doc_hub_people::asking::{Asking, who_asks};
+use doc_hub_people::people::people_answer;
+use doc_hub_people::visit::{Visit, realm_of, unauthorized};
 use doc_page::renderer::Renderer;
 use doc_page_parts::failure::Memory;
 use doc_page_parts::heap::Heap;
+use doc_people::settings::{Browse, Settings};
+use doc_people::style_sheet::STYLE_SHEET;
 use doc_shelf::Shelf;
 use doc_store::reader::Reader;
 use doc_store::readers::Readers;
@@ -28,54 +48,244 @@ pub struct Serving<'a> {
     pub heap: Heap,
     pub routes: &'a Routes,
     pub readers: &'a Readers,
-    pub keep_alive: bool,
+    pub settings: &'a Settings,
 }
 
 impl Serving<'_> {
-    /// The answer to a request, and the edit that it asks for, which is made. Refused are, in this
-    /// order, who has no entry, what has no route, and what the method refuses. Where memory runs out
-    /// the pages are as they were.
+    /// The answer to a request, and the edit that it asks for, which is made. With settings for people the style
+    /// sheet comes first, then who asks, then whether the request is for people. Refused are, in this order, who
+    /// has no entry, what has no route, and what the method refuses. Where memory runs out the pages are as
+    /// they were.
     pub fn answer<R: Renderer + Drop>(
         &self,
         shelf: &mut Shelf<R>,
         request: &Request,
     ) -> Result<Answer, Memory>
-        ensures answer { let reader = entry_of self.now.readers.now request.now in
+        ensures answer { let asking = reader_asking self.now.settings.now.browse
+            self.now.readers.now request.now in
             AnsweredSo request.now.body shelf.old.1
-            (answer_of (R.page shelf.old.0) (view_of shelf.old.1.site reader) reader
-            (puts_left shelf.old.1.puts) self.now.keep_alive request.now) shelf.new.1 result }
+            (answer_of self.now.settings.now (R.page shelf.old.0)
+            (view_of shelf.old.1.site (row_of asking)) asking (puts_left shelf.old.1.puts)
+            request.now) shelf.new.1 result }
         ensures same { R.page shelf.new.0 ≡ R.page shelf.old.0 }
         ensures counted { OnOk result (RendersPuts (R.count shelf.old.0) shelf.old.1.puts
             (R.count shelf.new.0) shelf.new.1.puts 0) }
     {
-        let exchange = self.exchange(request);
-        let Some(reader) = self.reader_of(request) else {
+        match &self.settings.browse {
+            None => self.plain(shelf, request),
+            Some(browse) => self.browsed(shelf, request, browse),
+        }
+    }
+
+    /// The same without settings for people.
+    fn plain<R: Renderer + Drop>(
+        &self,
+        shelf: &mut Shelf<R>,
+        request: &Request,
+    ) -> Result<Answer, Memory>
+        ensures answer { let entry = entry_of self.now.readers.now request.now in
+            AnsweredSo request.now.body shelf.old.1
+            (plain_answer undressed (response_to (R.page shelf.old.0)
+            (view_of shelf.old.1.site entry) entry (puts_left shelf.old.1.puts) request.now)
+            (closes_after self.now.settings.now request.now) request.now) shelf.new.1 result }
+        ensures same { R.page shelf.new.0 ≡ R.page shelf.old.0 }
+        ensures counted { OnOk result (RendersPuts (R.count shelf.old.0) shelf.old.1.puts
+            (R.count shelf.new.0) shelf.new.1.puts 0) }
+    {
+        let manner = Manner::plain(head_only(request), self.closes_after(request));
+        self.respond(
+            &self.exchange(request, manner),
+            shelf,
+            self.reader_of(request),
+        )
+    }
+
+    /// The same with them.
+    fn browsed<R: Renderer + Drop>(
+        &self,
+        shelf: &mut Shelf<R>,
+        request: &Request,
+        browse: &Browse,
+    ) -> Result<Answer, Memory>
+        ensures answer { let asking = reader_asking (Some browse.now) self.now.readers.now
+            request.now in AnsweredSo request.now.body shelf.old.1
+            (browsed browse.now (R.page shelf.old.0) (view_of shelf.old.1.site (row_of asking))
+            asking (puts_left shelf.old.1.puts) (closes_after self.now.settings.now request.now)
+            request.now) shelf.new.1 result }
+        ensures same { R.page shelf.new.0 ≡ R.page shelf.old.0 }
+        ensures counted { OnOk result (RendersPuts (R.count shelf.old.0) shelf.old.1.puts
+            (R.count shelf.new.0) shelf.new.1.puts 0) }
+    {
+        if asks_for_style(request) {
+            return self.style(request);
+        }
+        let asking = who_asks(self.heap, browse, self.readers, request)?;
+        if is_for_people(request) {
+            return self.people(shelf, request, browse, &asking);
+        }
+        self.guarded(shelf, request, browse, &asking)
+    }
+
+    /// The style sheet, whoever asks.
+    fn style(&self, request: &Request) -> Result<Answer, Memory>
+        ensures { IfOk result (λ a. a
+            ≡ style_answer (closes_after self.now.settings.now request.now) request.now) }
+    {
+        let close = self.closes_after(request);
+        let sheet = STYLE_SHEET.as_bytes();
+        let bytes = write_style_sheet(self.heap, sheet, head_only(request), close)?;
+        Ok(Answer {
+            bytes,
+            closes: close,
+            edit: None,
+        })
+    }
+
+    /// The answer to a request for people, which edits nothing.
+    fn people<R: Renderer + Drop>(
+        &self,
+        shelf: &Shelf<R>,
+        request: &Request,
+        browse: &Browse,
+        asking: &Asking,
+    ) -> Result<Answer, Memory>
+        ensures { IfOk result (λ a. a ≡ people_answer (people_reply (R.page shelf.now.0) browse.now
+            (view_of shelf.now.1.site (row_of (asking_shown asking.now))) (asking_shown asking.now)
+            request.now) (closes_after self.now.settings.now request.now) request.now) }
+    {
+        let manner = self.manner(request, browse, asking);
+        let exchange = self.exchange(request, manner);
+        let visit = Visit {
+            exchange: &exchange,
+            browse,
+            guest: asking.is_guest(),
+        };
+        match asking.row() {
+            None => unauthorized(&exchange, browse),
+            Some(row) => self.shown(visit, shelf, row),
+        }
+    }
+
+    /// The answer to a request for people of a reader, or of a guest, with this entry.
+    fn shown<R: Renderer + Drop>(
+        &self,
+        visit: Visit<'_>,
+        shelf: &Shelf<R>,
+        row: &Reader,
+    ) -> Result<Answer, Memory>
+        ensures { IfOk result (λ a. a ≡ people_sent visit.entry.exchange.now (on_route
+            (R.page shelf.now.0) visit.entry.browse.now (offers_of visit.entry)
+            (view_of shelf.now.1.site (Some row.now)) visit.entry.guest
+            visit.entry.exchange.now.request.now.target
+            (people_route_of visit.entry.exchange.now.request.now.target))) }
+    {
+        people_answer(visit, self.routes, &shelf.view(row))
+    }
+
+    /// The answer to another request, where there are settings for people. A guest edits nothing: they are asked to sign in.
+    fn guarded<R: Renderer + Drop>(
+        &self,
+        shelf: &mut Shelf<R>,
+        request: &Request,
+        browse: &Browse,
+        asking: &Asking,
+    ) -> Result<Answer, Memory>
+        requires { asking_shown asking.now
+            ≡ reader_asking (Some browse.now) self.now.readers.now request.now }
+        ensures answer { let asking = asking_shown asking.now in
+            AnsweredSo request.now.body shelf.old.1 (plain_answer (dress_for browse.now asking)
+            (kept_from_guests (is_guest asking) (response_to (R.page shelf.old.0)
+            (view_of shelf.old.1.site (row_of asking)) (row_of asking)
+            (puts_left shelf.old.1.puts) request.now))
+            (closes_after self.now.settings.now request.now) request.now) shelf.new.1 result }
+        ensures same { R.page shelf.new.0 ≡ R.page shelf.old.0 }
+        ensures counted { OnOk result (RendersPuts (R.count shelf.old.0) shelf.old.1.puts
+            (R.count shelf.new.0) shelf.new.1.puts 0) }
+    {
+        let exchange = self.exchange(request, self.manner(request, browse, asking));
+        if self.is_kept(&exchange, asking) {
+            exchange.status(Status::Unauthorized)
+        } else {
+            self.respond(&exchange, shelf, asking.row())
+        }
+    }
+
+    /// Whether a guest asks for an edit of a page, which readers who own nothing are forbidden.
+    fn is_kept(&self, exchange: &Exchange, asking: &Asking) -> bool
+        ensures { result ≡ (is_guest (asking_shown asking.now)
+            && edits_page exchange.now.method (route_of exchange.now.request.now.target)) }
+    {
+        asking.is_guest() && self.edits_page(exchange)
+    }
+
+    /// The answer to a request by the reader's entry, if they have one.
+    fn respond<R: Renderer + Drop>(
+        &self,
+        exchange: &Exchange,
+        shelf: &mut Shelf<R>,
+        reader: Option<&Reader>,
+    ) -> Result<Answer, Memory>
+        requires { exchange.now.method ≡ method_of exchange.now.request.now.method }
+        ensures answer { let entry = option_copied reader.entry in Answered exchange.now shelf.old.1
+            (response_to (R.page shelf.old.0) (view_of shelf.old.1.site entry) entry
+            (puts_left shelf.old.1.puts) exchange.now.request.now) shelf.new.1 result }
+        ensures same { R.page shelf.new.0 ≡ R.page shelf.old.0 }
+        ensures counted { OnOk result (RendersPuts (R.count shelf.old.0) shelf.old.1.puts
+            (R.count shelf.new.0) shelf.new.1.puts 0) }
+    {
+        let Some(reader) = reader else {
             return exchange.status(Status::Unauthorized);
         };
-        let Some(route) = self.routes.route(request.target.get()) else {
+        let Some(route) = self.routes.route(exchange.request.target.get()) else {
             return exchange.status(Status::NotFound);
         };
-        at_route(&exchange, shelf, reader, route)
+        at_route(exchange, shelf, reader, route)
+    }
+
+    /// Whether the request of an exchange edits a page.
+    fn edits_page(&self, exchange: &Exchange) -> bool
+        ensures { result
+            ≡ edits_page exchange.now.method (route_of exchange.now.request.now.target) }
+    {
+        match self.routes.route(exchange.request.target.get()) {
+            Some(route) => edits_at(exchange.method, route),
+            None => false,
+        }
     }
 
     /// The exchange that a request begins.
-    fn exchange<'a>(&self, request: &'a Request) -> Exchange<'a>
+    fn exchange<'a>(&self, request: &'a Request, manner: Manner<'a>) -> Exchange<'a>
         ensures request { result.request.now ≡ request.now }
         ensures method { result.method ≡ method_of request.now.method }
-        ensures close { result.close ≡ (request.now.close || not self.now.keep_alive) }
+        ensures manner { result.manner ≡ manner.entry }
     {
         Exchange {
             heap: self.heap,
             request,
             method: Method::of(request.method.get()),
+            manner,
+        }
+    }
+
+    /// How the replies to who asks are written, where there are settings for people.
+    fn manner<'a>(&self, request: &Request, browse: &'a Browse, asking: &Asking) -> Manner<'a>
+        ensures dress { dress_of result ≡ dress_for browse.now (asking_shown asking.now) }
+        ensures head_only { result.head_only ≡ is_bare request.now.method }
+        ensures close { result.close ≡ closes_after self.now.settings.now request.now }
+    {
+        Manner {
+            head_only: head_only(request),
             close: self.closes_after(request),
+            guarded: true,
+            private: asking.is_guest(),
+            realm: realm_of(browse),
         }
     }
 
     fn closes_after(&self, request: &Request) -> bool
-        ensures { result ≡ (request.now.close || not self.now.keep_alive) }
+        ensures { result ≡ closes_after self.now.settings.now request.now }
     {
-        request.close || !self.keep_alive
+        request.close || !self.settings.keep_alive
     }
 
     /// The entry of the request's token.
@@ -86,5 +296,15 @@ impl Serving<'_> {
             Some(token) => self.readers.find(token),
             None => None,
         }
+    }
+}
+
+/// Whether a method edits what a route leads to.
+fn edits_at(method: Method, route: Route<'_>) -> bool
+    ensures { result ≡ edits_at method (route_shown route.entry) }
+{
+    match route {
+        Route::Page(_) => matches!(method, Method::Put | Method::Delete),
+        _ => false,
     }
 }

@@ -2,9 +2,8 @@ use Rattle.std.proofs.Common.{ap, sym, refl, ◌∙◌}
 use Rattle.std.specs.FinMap as map
 use Rattle.std.specs.Prelude.{None, if◌then◌else◌}
 use Rattle.doc_http_replies.specs.ReplyForms.{code_of}
-use Rattle.doc_http_replies.specs.Replies.{reply_bytes}
 use Rattle.doc_store.specs.Store.{StoreState, fits_in}
-use Rattle.doc_hub_answers.specs.Replies.{refused, status_reply}
+use Rattle.doc_hub_answers.specs.Replies.{refused}
 use Rattle.doc_hub_answers.specs.declared.edit.Edit.TheVariants as edits
 use Rattle.doc_hub_answers.proofs.AnswerSteps.{sent_alone, sent_edited}
 use Rattle.doc_hub_answers.proofs.PutSteps.{put_fits, put_fits_if, put_full_if, put_is_full}
@@ -33,9 +32,7 @@ returns-clause-answer g c reader owns =
     ∙ put_fits_if c.fits.result (sym c.is_err.ensures.value ∙ c.if-is_err.false) in
     sent_edited exchange old c.put_saying.new.self.1 c.args.text.now c.sent.result c.after.result code
     (edits.Put c.args.path c.args.groups) _
-    (c.sent.ensures
-    ∙ ap (λ b. record { bytes = b; closes = exchange.close; edit = None })
-    (c.in_ok-bytes.ensures.reply ∙ ap (λ h. reply_bytes (status_reply code) h exchange.close) c.head_only-head_only.ensures))
+    (c.sent.ensures ∙ ap (λ b. record { bytes = b; closes = exchange.manner.close; edit = None }) c.in_ok-bytes.ensures.reply)
     c.after.ensures
     (put_fits old reader c.args.path owns c.args.groups c.args.text.now code
     (c.put_status.ensures ∙ ap (λ (s : StoreState). if map.contains_key s.site.pages c.args.path then 204 else 201) c.store-2.ensures) fits)

@@ -37,7 +37,7 @@ returns-in_ok-answer-in-Request-clause-world g c =
     let begins = subst (IsNext connection.unread) c.in-Request.is (c.in_ok-next_request.ensures.found connection (sym c.in-Some.ensures)) in
     let set = c.finish-in-Request.ensures.finished connection (sym (c.in-Some.ensures ∙ ap (λ m. map.get m c.args.id.0) (sym same)))
     ∙ ap (λ m. map.insert m c.args.id.0 (finished connection c.in-Request.used answer.closes)) same in
-    request_answered (g.R.Renderer.page hub.shelf.0) hub.readers hub.keep_alive hub.given hub.connections c.finish-in-Request.new.self
+    request_answered (g.R.Renderer.page hub.shelf.0) hub.readers hub.settings hub.given hub.connections c.finish-in-Request.new.self
     hub.shelf.1 c.answer.new.shelf.1 c.args.self.now.1 (λ i. (c.self.view_is i).1) c.args.id.0 connection c.in-Some.ensures
     c.if-connection.false c.in-Request.used c.in-Request.request begins answer
     c.in_ok-answer-in-Request.ensures.answer.0 c.in_ok-answer-in-Request.ensures.answer.1 set

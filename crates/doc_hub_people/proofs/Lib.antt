@@ -1,0 +1,2 @@
+pub mod AskingLaws
+mod FieldSteps

@@ -1,0 +1,60 @@
+-- Laws of answers.
+use Rattle.std.specs.Prelude.{◌≡◌, Bool, true, false, Some, None}
+use Rattle.doc_http.specs.declared.request.Request.{Request}
+use Rattle.doc_http_replies.specs.Heads.{undressed}
+use Rattle.doc_people.specs.declared.settings.Browse.{Browse}
+use Rattle.doc_people.specs.declared.settings.Settings.{Settings}
+use Rattle.doc_store_readers.specs.Readers.{ReaderTable}
+use Rattle.doc_store_readers.specs.Sites.{Site, View, view_of}
+use Rattle.doc_hub_answers.specs.AnswerSteps.{entry_of}
+use Rattle.doc_hub_answers.specs.Replies.{Renders, plain_answer, response_to}
+use Rattle.doc_hub_answers.specs.declared.answer.Answer.{Answer}
+use Rattle.doc_hub_people.specs.Asking.{Asking, is_guest, reader_asking, row_of}
+use Rattle.doc_hub_people.specs.Asking as asked
+use Rattle.doc_hub_replies.specs.Answers.{answer_of, asks_for_style, dress_for, is_for_people, kept_from_guests}
+use Rattle.doc_hub_replies.specs.ServingSteps.{closes_after}
+
+-- the answer to whoever asks, of a site
+abbrev pub answer_in : Settings → Renders → Site → ReaderTable → Bool → Request → Answer
+answer_in settings render site readers puts_left request =
+    answer_of settings render (view_of site (row_of (reader_asking settings.browse readers request)))
+    (reader_asking settings.browse readers request) puts_left request
+
+-- without settings for people each answer is the response's to the entry of the bearer's token, and nothing is added to its head
+abbrev pub NothingChangesWithoutSettings : Type 0
+NothingChangesWithoutSettings =
+    (settings : Settings) (render : Renders) (site : Site) (readers : ReaderTable) (puts_left : Bool) (request : Request)
+    → settings.browse ≡ None
+    → answer_in settings render site readers puts_left request
+    ≡ plain_answer undressed (response_to render (view_of site (entry_of readers request)) (entry_of readers request) puts_left request)
+    (closes_after settings request) request
+
+-- with settings, who asks neither for people nor for their style sheet is answered by the same response, but that guests are told to sign in
+-- where readers are forbidden
+abbrev pub OnlyPeopleAreShownPages : Type 0
+OnlyPeopleAreShownPages =
+    (settings : Settings) (browse : Browse) (render : Renders) (view : View) (asking : Asking) (puts_left : Bool) (request : Request)
+    → settings.browse ≡ Some browse → asks_for_style request ≡ false → is_for_people request ≡ false
+    → answer_of settings render view asking puts_left request
+    ≡ plain_answer (dress_for browse asking) (kept_from_guests (is_guest asking) (response_to render view (row_of asking) puts_left request))
+    (closes_after settings request) request
+
+-- the answer to a request for people has no edit
+abbrev pub PeopleEditNothing : Type 0
+PeopleEditNothing =
+    (settings : Settings) (browse : Browse) (render : Renders) (view : View) (asking : Asking) (puts_left : Bool) (request : Request)
+    → settings.browse ≡ Some browse → is_for_people request ≡ true
+    → (answer_of settings render view asking puts_left request).edit ≡ None
+
+-- the answer to a guest has no edit
+abbrev pub GuestsEditNothing : Type 0
+GuestsEditNothing =
+    (settings : Settings) (render : Renders) (site : Site) (readers : ReaderTable) (puts_left : Bool) (request : Request)
+    → is_guest (reader_asking settings.browse readers request) ≡ true
+    → (answer_in settings render site readers puts_left request).edit ≡ None
+
+-- the answer to nobody is the same whatever there is to be seen, whatever is made of it, and whether or not a put is left
+abbrev pub UnauthorizedIsAlike : Type 0
+UnauthorizedIsAlike =
+    (settings : Settings) (render other : Renders) (view another : View) (puts_left still_left : Bool) (request : Request)
+    → answer_of settings render view asked.Nobody puts_left request ≡ answer_of settings other another asked.Nobody still_left request

@@ -1,0 +1,33 @@
+//! Laws of answers. The functions do nothing: their contracts are the laws.
+
+ghost use Rattle.doc_hub_replies.specs.Laws.{GuestsEditNothing, NothingChangesWithoutSettings, OnlyPeopleAreShownPages, PeopleEditNothing, UnauthorizedIsAlike};
+
+/// Without settings for people each answer is the response's to the entry of the bearer's token.
+#[tactic(auto, using(crate::proofs::AnswerLaws::nothing_changes_without_settings))]
+pub fn nothing_changes_without_settings()
+    ensures { NothingChangesWithoutSettings }
+{}
+
+/// With settings, who asks neither for people nor for their style sheet is answered by the same response.
+#[tactic(auto, using(crate::proofs::AnswerLaws::only_people_are_shown_pages))]
+pub fn only_people_are_shown_pages()
+    ensures { OnlyPeopleAreShownPages }
+{}
+
+/// The answer to a request for people has no edit.
+#[tactic(auto, using(crate::proofs::AnswerLaws::people_edit_nothing))]
+pub fn people_edit_nothing()
+    ensures { PeopleEditNothing }
+{}
+
+/// The answer to a guest has no edit.
+#[tactic(auto, using(crate::proofs::AnswerLaws::guests_edit_nothing))]
+pub fn guests_edit_nothing()
+    ensures { GuestsEditNothing }
+{}
+
+/// The answer to nobody is the same whatever there is to be seen.
+#[tactic(auto, using(crate::proofs::AnswerLaws::unauthorized_is_alike))]
+pub fn unauthorized_is_alike()
+    ensures { UnauthorizedIsAlike }
+{}
