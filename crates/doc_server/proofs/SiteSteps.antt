@@ -11,7 +11,7 @@ use Rattle.doc_server_config.specs.declared.config.SiteConfig.{SiteConfig}
 use Rattle.doc_server_config.specs.declared.page_row.PageRow.{PageRow}
 use Rattle.doc_server_streams.specs.declared.fault.Fault.{Fault}
 use Rattle.doc_server_streams.specs.declared.fault.Fault.TheVariants as faults
-use Rattle.doc_server.specs.Sites.{accepted, site_world, with_pages}
+use Rattle.doc_server.specs.Sites.{accepted, site_world, with_pages, settings_of}
 
 -- a put that is refused
 pub put_refused : (w : World) (r : Result Put EditError) (e : EditError) → IsAnswer edit_errors.Memory r (Err e)
@@ -21,11 +21,11 @@ put_refused w (Err f) e is other = refl
 
 -- a site with a page that is refused
 pub site_refused : (config : SiteConfig) (texts : List (List ℕ)) (w : World) (rows : List PageRow) (fault : Fault)
-    → is_capacity config.cache ≡ true → w ≡ new_world config.readers config.keep_alive → rows ≡ config.pages
+    → is_capacity config.cache ≡ true → w ≡ new_world config.readers (settings_of config) → rows ≡ config.pages
     → (fault ≡ faults.Refused) × (with_pages w rows texts ≡ None)
     → site_world config texts ≡ Err fault
 site_refused config texts w rows fault can made same (why, none) =
-    let first = new_world config.readers config.keep_alive in
+    let first = new_world config.readers (settings_of config) in
     let none_there : with_pages first config.pages texts ≡ None =
     sym (ap (λ v. with_pages v config.pages texts) made) ∙ sym (ap (λ ps. with_pages w ps texts) same) ∙ none
     in ap (λ t. cond t (ok_or (with_pages first config.pages texts) faults.Refused) (Err faults.Config)) can

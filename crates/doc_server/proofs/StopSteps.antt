@@ -24,7 +24,7 @@ use Rattle.doc_server.specs.Replays.{outcome_lines, Replays, RunTells, StopsRepl
 use Rattle.doc_server.specs.ReplaySteps.{StopsScript}
 use Rattle.doc_server.specs.Scripts.{events_from, events_of, lines}
 use Rattle.doc_server.proofs.ReplaySteps.{script_told, replayed}
-use Rattle.doc_server.specs.Sites.{site_world, with_pages}
+use Rattle.doc_server.specs.Sites.{site_world, with_pages, settings_of}
 
 no_error : {X E : Type 0} (x : X) (e : E) → Ok x ≡ Err e → ⊥
 no_error x e is = subst T (ap is_ok is) tt
@@ -162,7 +162,7 @@ module _ (config : SiteConfig) (texts : List (List ℕ)) (fault : Fault)
   site_fails =
       memory_or fault (λ other.
       let is = holds other in
-      (is, no_site (is_capacity config.cache) (with_pages (new_world config.readers config.keep_alive) config.pages texts) fault is))
+      (is, no_site (is_capacity config.cache) (with_pages (new_world config.readers (settings_of config)) config.pages texts) fault is))
 
   -- one of three
   by_three : (P : Fault → Type 0) → P faults.Memory → (site_world config texts ≡ Err faults.Refused → P faults.Refused)

@@ -4,7 +4,7 @@ use Rattle.std.specs.FinMap as map
 use Rattle.doc_store_readers.specs.Readers.{ReaderTable}
 use Rattle.doc_store.specs.declared.store.EditError.{EditError}
 use Rattle.doc_store.specs.declared.store.Put.{Put}
-use Rattle.doc_hub.specs.Worlds.{World, new_world, world_put}
+use Rattle.doc_hub.specs.Worlds.{World, new_world, plain_settings, world_put}
 use Rattle.doc_server_config.specs.declared.config.SiteConfig.{SiteConfig}
 use Rattle.doc_server_config.specs.declared.page_row.PageRow.{PageRow}
 use Rattle.doc_server_config.specs.declared.page_row.Source.TheVariants.{Text}
@@ -31,6 +31,7 @@ demo_config = record {
   pages = demo_page (codes "a.md") (codes "staff") (codes "Hello\n")
       ∷ demo_page (codes "b.md") (codes "staff") (codes "[c](c.md) [d](d.md)\n")
       ∷ demo_page (codes "c.md") (codes "ops") (codes "See [b](b.md), [b](b.md).\n") ∷ [];
+  browse = None;
 }
 
 -- a put of a page of one group
@@ -43,7 +44,7 @@ with_page w path group text = (page_put w path group text).0
 
 -- a new server with these readers, which keeps connections alive, and after puts of a first, a second and a third page
 abbrev pub site_of_none : World
-site_of_none = new_world demo_readers true
+site_of_none = new_world demo_readers (plain_settings true)
 
 abbrev pub site_of_one : World
 site_of_one = with_page site_of_none (codes "a.md") (codes "staff") (codes "Hello\n")

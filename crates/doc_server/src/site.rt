@@ -9,6 +9,7 @@ use doc_hub::refusal::HubError;
 use doc_page::renderer::Renderer;
 use doc_page_parts::heap::Heap;
 use doc_page_parts::text::Text;
+use doc_people::settings::Settings;
 use doc_server_config::config::SiteConfig;
 use doc_server_config::page_row::{PageRow, Source};
 use doc_server_streams::fault::Fault;
@@ -35,8 +36,10 @@ pub fn site_hub<R: Renderer + Drop>(
         entities: _,
         readers,
         pages,
+        browse,
     } = config;
-    let mut hub = new_hub(heap, renderer, readers, keep_alive, cache)?;
+    let settings = Settings { keep_alive, browse };
+    let mut hub = new_hub(heap, renderer, readers, settings, cache)?;
     put_pages(&mut hub, pages.get(), texts)?;
     Ok(hub)
 }
@@ -45,15 +48,15 @@ fn new_hub<R: Renderer + Drop>(
     heap: Heap,
     renderer: R,
     readers: Readers,
-    keep_alive: bool,
+    settings: Settings,
     cache: usize,
 ) -> Result<Hub<R>, Fault>
-    ensures made { IfOk result (λ hub. hub ≡ (renderer, new_world readers keep_alive)) }
+    ensures made { IfOk result (λ hub. hub ≡ (renderer, new_world readers settings)) }
     ensures capacity { IfOk result (λ hub. is_capacity cache ≡ true) }
     ensures fault { IfErr result (λ fault. fault ≢ Fault.Memory
         → (fault ≡ Fault.Config) × (is_capacity cache ≡ false)) }
 {
-    match Hub::new(heap, renderer, readers, keep_alive, cache) {
+    match Hub::with_settings(heap, renderer, readers, settings, cache) {
         Ok(hub) => Ok(hub),
         Err(HubError::Memory) => Err(Fault::Memory),
         Err(HubError::BadCapacity) => Err(Fault::Config),

@@ -13,12 +13,12 @@ use Rattle.doc_server_config.specs.declared.page_row.Source.TheVariants.{Text, F
 use Rattle.doc_server_config.specs.Configurations.{config_of}
 
 -- nothing is said: connections are kept, and so are 64 filled pages; there are no readers and no pages
-empty_text : config_of (codes "") ≡ Ok (record { keep_alive = true; cache = 64; entities = None; readers = map.empty; pages = [] })
+empty_text : config_of (codes "") ≡ Ok (record { keep_alive = true; cache = 64; entities = None; readers = map.empty; pages = []; browse = None })
 unfolding toml_on_literals
 empty_text = refl
 
 all_settings : config_of (codes "keep_alive = false\ncache = 4096\nentities = \"e.txt\"\nother = 1\nreader = []\n")
-    ≡ Ok (record { keep_alive = false; cache = 4096; entities = Some (codes "e.txt"); readers = map.empty; pages = [] })
+    ≡ Ok (record { keep_alive = false; cache = 4096; entities = Some (codes "e.txt"); readers = map.empty; pages = []; browse = None })
 unfolding toml_on_literals
 all_settings = refl
 
@@ -30,6 +30,7 @@ pages_in_order : config_of (codes "[[page]]\npath = \"b.md\"\ngroups = [\"ops\"]
       readers = map.empty;
       pages = record { path = codes "b.md"; groups = codes "ops" ∷ []; source = Text (codes "x") }
           ∷ record { path = codes "a.md"; groups = []; source = File (codes "f") } ∷ [];
+      browse = None;
     })
 unfolding toml_on_literals is_path chars groups_of_names
 pages_in_order = refl

@@ -12,10 +12,17 @@ use Rattle.doc_server_config.specs.declared.settings.Settings.{Settings}
 use Rattle.doc_server_config.specs.PageRows.{pages_from}
 use Rattle.doc_server_config.specs.Settings.{settings_in}
 
--- the configuration of these parts
+-- the configuration of these parts, without pages for people, which are `listen`'s to add
 abbrev pub config_with : Settings → ReaderTable → List PageRow → SiteConfig
 config_with settings readers pages =
-    record { keep_alive = settings.keep_alive; cache = settings.cache; entities = settings.entities; readers = readers; pages = pages }
+    record {
+      keep_alive = settings.keep_alive;
+      cache = settings.cache;
+      entities = settings.entities;
+      readers = readers;
+      pages = pages;
+      browse = None;
+    }
 
 -- a configuration whose pages may be refused
 abbrev pub with_pages : Settings → ReaderTable → Result (List PageRow) ConfigError → Result SiteConfig ConfigError

@@ -9,3 +9,4 @@ pub mod Folders
 pub mod Keys
 pub mod Listenings
 pub mod FolderPages
+pub mod Browsing

@@ -13,6 +13,7 @@ use doc_page_parts::failure::Memory;
 use doc_page_parts::heap::Heap;
 use doc_page_parts::list::List;
 use doc_page_parts::text::Text;
+use doc_people::settings::Browse;
 use doc_store::readers::{Readers, ReadersError};
 use doc_store_readers::documents::readers_of_document;
 use doc_store_readers::tables::{document_of, tables_at};
@@ -61,6 +62,8 @@ pub struct SiteConfig {
     pub readers: Readers,
     /// The pages in their order. A path may come again: its later page takes the place of the earlier.
     pub pages: List<PageRow>,
+    /// The pages for people. A configuration that is read has none: `listen` adds them ([`browse_of`](crate::browsing::browse_of)).
+    pub browse: Option<Browse>,
 }
 
 impl SiteConfig {
@@ -100,6 +103,7 @@ impl SiteConfig {
             entities: settings.entities,
             readers,
             pages,
+            browse: None,
         })
     }
 }

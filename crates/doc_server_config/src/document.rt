@@ -3,12 +3,15 @@
 ghost use Rattle.std.specs.Prelude.{◌≡◌, ◌≢◌, Ok, Err, Some, None, IfOk, IfErr};
 ghost use Rattle.toml.specs.Parse.{parse_document};
 ghost use Rattle.toml.specs.View.{table_view};
+ghost use Rattle.doc_server_config.specs.Browsing.{browse_of_document};
 ghost use Rattle.doc_server_config.specs.Configurations.{config_of_document};
 ghost use Rattle.doc_server_config.specs.Listenings.{listening_of_document};
 
+use crate::browsing::{BrowseError, browse_in};
 use crate::config::{ConfigError, SiteConfig};
 use crate::listening::{Listening, ListeningError};
 use doc_page_parts::heap::Heap;
+use doc_people::settings::Browse;
 use doc_store::readers::ReadersError;
 use doc_store_readers::tables::document_of;
 use toml::Table;
@@ -59,5 +62,16 @@ impl Document {
             → listening_of_document (table_view self.now.table) ≡ Err e) }
     {
         Listening::from_document(heap, &self.table)
+    }
+
+    /// What it says of the pages for people, as [`crate::browsing::browse_of`].
+    pub fn browse(&self, heap: Heap) -> Result<Option<Browse>, BrowseError>
+        ensures read { IfOk result (λ browse.
+            browse_of_document (table_view self.now.table) ≡ Ok browse) }
+        ensures refused { IfErr result
+            (λ e. e ≢ BrowseError.Memory
+            → browse_of_document (table_view self.now.table) ≡ Err e) }
+    {
+        browse_in(heap, &self.table)
     }
 }

@@ -1,12 +1,15 @@
 //! The configuration of a site: its settings, its readers and its pages, as a TOML document has them.
 //!
-//! Of it `listen` alone reads its bounds, and the folders whose files are pages.
+//! Of it `listen` alone reads its bounds, the folders whose files are pages, and what it says of the pages for people.
 //!
 //! What a folder holds no contract can say. What is trusted: that the system names each file of a folder, and tells files from folders
 //! and links.
 #![tactic(auto)]
 
 pub mod bounds;
+pub mod browsing;
+mod browsing_keys;
+mod browsing_texts;
 pub mod config;
 pub mod document;
 pub mod file_name;

@@ -20,7 +20,11 @@ use Rattle.doc_http_targets.specs.Targets.{Route, route_of}
 use Rattle.doc_http_targets.specs.Targets as routes
 use Rattle.doc_http_targets.specs.WrittenPaths.{path_written}
 use Rattle.doc_hub.specs.EditLaws.{site_edit}
-use Rattle.doc_hub_answers.specs.Replies.{Renders, Response, answer_of, delete_at, edit_at, edit_page, edited, has_room, method_of}
+use Rattle.doc_hub.proofs.AnswerEdits.{answer_holds}
+use Rattle.doc_hub_people.specs.Asking.{Asking, row_of}
+use Rattle.doc_hub_replies.specs.Answers.{answer_of}
+use Rattle.doc_people.specs.declared.settings.Settings.{Settings}
+use Rattle.doc_hub_answers.specs.Replies.{Renders, Response, delete_at, edit_at, edit_page, edited, has_room, method_of}
 use Rattle.doc_hub_answers.specs.Replies.{on_route, only_reply, put_at, put_by, put_page, reads, refused, reply_at, response_to}
 use Rattle.doc_hub_answers.specs.declared.edit.Edit.{Edit}
 use Rattle.doc_hub_answers.specs.declared.edit.Edit.TheVariants as edits
@@ -141,7 +145,7 @@ response_fits : (render : Renders) (view : View) (reader : Option Reader) (left 
 response_fits render view None left request = tt
 response_fits render view (Some reader) left request = route_fits view left render reader.owner (route_of request.target) request
 
-pub answer_fits : (render : Renders) (view : View) (reader : Option Reader) (left keep_alive : Bool) (request : Request)
-    → FitsWith request.body (answer_of render view reader left keep_alive request).edit
-unfolding answer_of
-answer_fits render view reader left keep_alive request = response_fits render view reader left request
+pub answer_fits : (render : Renders) (settings : Settings) (view : View) (asking : Asking) (left : Bool) (request : Request)
+    → FitsWith request.body (answer_of settings render view asking left request).edit
+answer_fits render settings view asking left request =
+    answer_holds (FitsWith request.body) tt render view asking left request (response_fits render view (row_of asking) left request) settings

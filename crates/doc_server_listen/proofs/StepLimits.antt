@@ -18,7 +18,7 @@ use Rattle.doc_hub_answers.specs.declared.edit.Edit.{Edit}
 use Rattle.doc_hub_answers.specs.declared.edit.Edit.TheVariants as edits
 use Rattle.doc_hub.specs.Runs.{Happens}
 use Rattle.doc_hub.specs.StepEdits.{StepTells, TellsAt, edit_of_step}
-use Rattle.doc_hub.specs.Worlds.{World, Answers, Stays, StepsAt, answer_in, reader_of, stepped_by, store_of}
+use Rattle.doc_hub.specs.Worlds.{World, Answers, Stays, StepsAt, answer_in, asking_of, reader_of, stepped_by, store_of}
 use Rattle.doc_hub.specs.declared.connection.Connection.{Connection}
 use Rattle.doc_hub.specs.declared.event.ConnId.{ConnId}
 use Rattle.doc_hub.specs.Events.{step_on}
@@ -55,7 +55,7 @@ module _ (render : Renders) (w v : World) where
   next_within n c (nexts.Fault code bare) site = tt
   next_within n c (nexts.Request used request) site =
       edit_within request.body (answer_in render w request).edit
-      (answer_fits render (view_of w.site (reader_of w request)) (reader_of w request) (puts_left w.puts) w.keep_alive request) site
+      (answer_fits render w.settings (view_of w.site (reader_of w request)) (asking_of w request) (puts_left w.puts) request) site
 
   none_within : (told : Option Edit) → told ≡ None → TellsWithin told
   none_within told none = subst TellsWithin (sym none) tt

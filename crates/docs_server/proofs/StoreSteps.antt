@@ -12,7 +12,7 @@ use Rattle.doc_server_config.specs.declared.page_row.PageRow.{PageRow}
 use Rattle.doc_server_streams.specs.declared.fault.Fault.{Fault}
 use Rattle.doc_server_streams.specs.declared.fault.Fault.TheVariants as faults
 use Rattle.doc_server_restore.specs.Restores.{unstamped}
-use Rattle.doc_server.specs.Sites.{accepted, site_world, text_of, texts_behind, with_page, with_pages}
+use Rattle.doc_server.specs.Sites.{accepted, site_world, text_of, texts_behind, with_page, with_pages, settings_of}
 use Rattle.docs_server.specs.Compacting.{store_in, stored_page, stored_pages}
 
 -- ---- one page
@@ -79,7 +79,7 @@ site_by config texts can =
     ∙ (store_or (with_pages first config.pages texts) ∙ ap (λ o. ok_or o faults.Refused) (pages_alike config.pages first texts))
   where
     first : World
-    first = new_world config.readers config.keep_alive
+    first = new_world config.readers (settings_of config)
 
 -- all pages of a site were put
 pub site_stored : (config : SiteConfig) (texts : List (List ℕ)) (pages : List PageRow) (before after : StoreState)

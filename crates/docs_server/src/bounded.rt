@@ -8,7 +8,9 @@ use crate::listen_fault::ListenFault;
 use doc_page_parts::failure::Memory;
 use doc_page_parts::heap::{Heap, Vec};
 use doc_page_parts::list::List;
+use doc_people::settings::Browse;
 use doc_server_config::bounds::Bounds;
+use doc_server_config::browsing::BrowseError;
 use doc_server_config::config::SiteConfig;
 use doc_server_config::document::Document;
 use doc_server_config::folder::Folder;
@@ -32,8 +34,9 @@ pub fn read_bounded<R: AllocGlobal + Files + Clone + Drop>(
     let heap = rt.alloc();
     let text = read_file(rt, heap, name)?;
     let document = document_of(heap, &text)?;
-    let config = config_of(heap, &document)?;
+    let mut config = config_of(heap, &document)?;
     let Listening { bounds, folders } = listening_of(heap, &document)?;
+    config.browse = browse_of(heap, &document)?;
     let Site { pages, entities } = site_of(rt, heap, config)?;
     let pages = with_folders(rt, heap, pages, folders.get())?;
     Ok(Bounded {
@@ -51,6 +54,15 @@ fn listening_of(heap: Heap, document: &Document) -> Result<Listening, ListenFaul
     }
 }
 
+/// The pages for people, of a configuration's document.
+fn browse_of(heap: Heap, document: &Document) -> Result<Option<Browse>, ListenFault> {
+    match document.browse(heap) {
+        Ok(browse) => Ok(browse),
+        Err(BrowseError::Memory) => Err(ListenFault::Command(Fault::Memory)),
+        Err(e) => Err(ListenFault::Browsing(e)),
+    }
+}
+
 /// The pages with those of folders behind them.
 fn with_folders<R: AllocGlobal + Files + Clone + Drop>(
     rt: &R,
@@ -65,6 +77,7 @@ fn with_folders<R: AllocGlobal + Files + Clone + Drop>(
         entities,
         readers,
         pages,
+        browse,
     } = config;
     let mut rows = pages.into_inner();
     for folder in folders {
@@ -78,6 +91,7 @@ fn with_folders<R: AllocGlobal + Files + Clone + Drop>(
             entities,
             readers,
             pages: List::new(rows),
+            browse,
         },
         texts,
     })

@@ -1,6 +1,7 @@
 //! What stops the commands `listen` and `compact`.
 
 use doc_page_parts::failure::Memory;
+use doc_server_config::browsing::BrowseError;
 use doc_server_config::listening::ListeningError;
 use doc_server_journal::fault::OpenFault;
 use doc_server_journal::file_fault::FileFault;
@@ -20,6 +21,9 @@ pub enum ListenFault {
     /// What the configuration says of a server that runs is bad.
     #[error("config: {0}")]
     Listening(ListeningError),
+    /// What it says of the pages for people is bad.
+    #[error("config: {0}")]
+    Browsing(BrowseError),
     /// The journal's file isn't opened.
     #[error("{0}")]
     File(FileFault),

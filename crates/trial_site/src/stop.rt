@@ -3,6 +3,7 @@
 use doc_hub::refusal::HubError;
 use doc_page_parts::failure::Memory;
 use doc_page_parts::path::PathError;
+use doc_server_config::browsing::BrowseError;
 use doc_store::groups::GroupsError;
 use doc_store::readers::ReadersError;
 use std::alloc::{AllocError, AllocFailed};
@@ -26,6 +27,8 @@ pub enum Stop {
     Groups(GroupsError),
     #[error("refused: {0}")]
     Readers(ReadersError),
+    #[error("refused: {0}")]
+    Browse(BrowseError),
     #[error("refused: {0}")]
     Hub(HubError),
 }
@@ -63,6 +66,12 @@ impl From<GroupsError> for Stop {
 impl From<ReadersError> for Stop {
     fn from(e: ReadersError) -> Stop {
         Stop::Readers(e)
+    }
+}
+
+impl From<BrowseError> for Stop {
+    fn from(e: BrowseError) -> Stop {
+        Stop::Browse(e)
     }
 }
 

@@ -7,6 +7,8 @@ use doc_hub::hub::Hub;
 use doc_page::renderer::Renderer;
 use doc_page_parts::failure::Memory;
 use doc_page_parts::heap::{Heap, String};
+use doc_people::settings::Settings;
+use doc_server_config::browsing::browse_of;
 use doc_store::readers::Readers;
 use trial::run::Calls;
 use trial::written::text_of;
@@ -21,26 +23,27 @@ pub struct World<R: Renderer + Drop> {
     pub hub: Hub<R>,
 }
 
-/// The world of a line `keep CACHE READERS`, or `close CACHE READERS` where no connection is kept alive.
+/// The world of a line `keep CACHE CONFIG`, or `close CACHE CONFIG` where no connection is kept alive. Of the configuration the readers are
+/// taken, and the pages for people.
 pub fn new_world<R: Renderer + Drop>(
     heap: Heap,
     renderer: R,
     line: &str,
 ) -> Result<World<R>, Stop> {
     let Begin {
-        keep_alive,
+        settings,
         cache,
         readers,
     } = read_begin(heap, line)?;
     Ok(World {
         heap,
-        hub: Hub::new(heap, renderer, readers, keep_alive, cache)?,
+        hub: Hub::with_settings(heap, renderer, readers, settings, cache)?,
     })
 }
 
 /// What the line of a world says of its hub.
 struct Begin {
-    keep_alive: bool,
+    settings: Settings,
     cache: usize,
     readers: Readers,
 }
@@ -56,11 +59,15 @@ fn read_begin(heap: Heap, line: &str) -> Result<Begin, Stop> {
 
 fn begin_of(heap: Heap, given: &str) -> Result<Begin, Stop> {
     let (kind, rest) = given.split_once(' ').unwrap_or((given, ""));
-    let (cache, readers) = number_first(rest)?;
+    let (cache, config) = number_first(rest)?;
+    let readers = Readers::from_toml(heap, config)?;
     Ok(Begin {
-        keep_alive: kind == "keep",
+        settings: Settings {
+            keep_alive: kind == "keep",
+            browse: browse_of(heap, config)?,
+        },
         cache: cache as usize,
-        readers: Readers::from_toml(heap, readers)?,
+        readers,
     })
 }
 
