@@ -113,6 +113,11 @@ def got(name):
         return file.read()
 
 
+def without_browse(name):
+    """A configuration's text without its pages for people, so that `listen` answers every request as other commands do."""
+    return re.sub(r"(?m)^\[browse\]\n(?:(?!\[).*\n)*", "", got(name).decode())
+
+
 def free_port():
     with socket.socket() as probe:
         probe.bind((HOST, 0))

@@ -5,6 +5,8 @@ token behind. curl, wget and chromium read it through nginx:
   answered with the very bytes of a page that doesn't exist;
 - wget and chromium follow the links, and find what curl finds;
 - a PUT and a DELETE by the owner are seen by another reader at the next GET;
+- chromium is shown the pages for people, and `/` leads it to the first one; each reply with HTML has one policy, and each one
+  Cache-Control, with the table `[browse]` and without it;
 - nobody gets in without the login, and a token of one's own doesn't go through;
 - the server ends in order when the pipe on its standard input is closed.
 
@@ -14,11 +16,12 @@ Builds nothing. Needs python3, openssl, and nginx, curl, wget and chromium, whic
 """
 import os, re, subprocess, sys, tomllib, urllib.parse
 sys.path.insert(1, os.path.dirname(__file__) + "/../lib")
-from scene import HOST, Client, Scene, free_port, put, start, stop, until
+from scene import HOST, Client, Scene, free_port, put, start, stop, until, without_browse
 
 scene = Scene(seconds=300, needs=["nginx=nginx-light", "curl", "wget", "chromium", "openssl"], at_top=True)
 LOGINS = {"owner": "tok-owner", "ann": "tok-ann", "bob": "tok-bob", "eve": ""}
 LINK = re.compile(r'href="(/page/[^"#]*)')
+PERSON = ("--header", "Accept: text/html,*/*;q=0.8")
 
 
 def run(*words, seconds=60):
@@ -129,14 +132,46 @@ def pages_walked(proxy, who, seen, direct):
     return walked
 
 
-def check_browser(proxy, who, walked):
-    """The browser follows the links too: the three pages that it goes to from the first one."""
-    first = proxy.browsed(who, "/page/index.md")
+def check_browser(proxy, who, seen, site):
+    """The browser follows the links too, those of the navigation among them: the first page, and three that it goes to from there."""
+    first = proxy.browsed(who, "/")
     links = sorted(set(LINK.findall(first)))
-    scene.check(f"{who}: chromium has the links of the first page", links and set(links) <= walked, links)
-    for target in links[:3]:
+    scene.check(f"{who}: chromium has links to pages that they see", links and set(links) <= seen, links)
+    for target in ["/page/index.md", *links[:3]]:
         title = re.search(r"<title>(.*?)</title>", proxy.curl(who, target)[2].decode())[1]
-        scene.check(f"{who}: chromium at {target}", f"<title>{title}</title>" in proxy.browsed(who, target))
+        shown = first if target == "/page/index.md" else proxy.browsed(who, target)
+        scene.check(f"{who}: chromium at {target}", f"<title>{title} · {site}</title>" in shown)
+
+
+def fields(lines, name):
+    """The values of a field in the lines of a head."""
+    return [line.partition(": ")[2] for line in lines if line.lower().startswith(name.lower() + ": ")]
+
+
+def check_heads(name, curl, with_browse):
+    """HTML that docs_server sends has one policy; every reply has one Cache-Control, which is docs_server's own where it has one."""
+    for words in ((), PERSON):
+        for target in ("/page/index.md", "/contents", "/broken", "/search?q=incident", "/page/never.md", "/", "/style.css"):
+            code, lines, _ = curl("ann", target, *words)
+            is_html = fields(lines, "Content-Type")[0].startswith("text/html")
+            scene.check(f"{name}, {target} {words}: policies", len(fields(lines, "Content-Security-Policy")) == is_html, lines)
+            sheet = with_browse and target == "/style.css"
+            wanted = ["public, max-age=86400" if sheet else "private, no-cache"]
+            scene.check(f"{name}, {target} {words}: Cache-Control", fields(lines, "Cache-Control") == wanted, lines)
+            scene.check(f"{name}, {target} {words}: its type", not (words and with_browse) or is_html or sheet, (code, lines))
+
+
+def check_plain(proxied):
+    """The same proxy before a server without pages for people."""
+    put(f"{scene.scratch}/plain.toml", without_browse("site/config.toml"))
+    server = scene.listen(f"{scene.scratch}/plain.toml")
+    proxy = proxied(server.port)
+    try:
+        scene.check("nginx before a server without [browse]", proxy.begins())
+        check_heads("without [browse]", proxy.curl, False)
+    finally:
+        stop(proxy.nginx)
+    scene.ends(server, "the server without [browse]")
 
 
 def check_edits(proxy):
@@ -164,7 +199,9 @@ def check_logins(curl):
     scene.check("with a wrong one", curl("", "/page/index.md", "--user", "ann:wrong")[0] == 401)
     scene.check("with a token of one's own", curl("", "/page/index.md", "--header", "Authorization: Bearer tok-owner")[0] == 401)
     scene.check("a login without a token", curl("eve", "/page/index.md")[0] == 401)
-    scene.check("the first page", curl("ann", "/")[0] == 302)
+    code, lines, _ = curl("ann", "/", *PERSON)
+    scene.check("the first page", (code, fields(lines, "Location")) == (301, ["/page/index.md"]), lines)
+    scene.check("programs have none", curl("ann", "/")[0] == 404)
 
 
 def main():
@@ -181,12 +218,15 @@ def main():
         for reader in config["reader"]:
             who, direct = reader["token"].removeprefix("tok-"), Client(server.port, reader["token"])
             seen = pages_seen(proxy, reader, config["page"], direct)
-            check_browser(proxy, who, pages_walked(proxy, who, seen, direct))
+            pages_walked(proxy, who, seen, direct)
+            check_browser(proxy, who, seen, config["browse"]["title"])
             direct.close()
+        check_heads("with [browse]", proxy.curl, True)
         check_edits(proxy)
     finally:
         stop(proxy.nginx)
     scene.ends(server, "the pipe closed")
+    check_plain(Proxy)
 
 
 scene.run(main)

@@ -76,6 +76,14 @@ def page():
                ("file", lambda: text(one_of(["page.md"], ["absent.md"])), both or not is_text))
 
 
+def browse():
+    """The table of the pages for people, which `check` passes over whatever it holds."""
+    entries = row(("title", lambda: text(one_of(["Handbook"], ["", " Handbook"])), 0.5),
+                  ("language", lambda: text(one_of(["en", "de-CH"], ["e", "en_GB"])), 0.5), ("home", path, 0.5), ("guest", groups, 0.5),
+                  ("login", lambda: one_of(['"basic"'], ['"digest"', "true"]), 0.5))
+    return f"[{key('browse')}]\n" + "".join(f"{key(k)} = {v}\n" for k, v in entries)
+
+
 def key(name):
     return pick([name] * 6 + [f'"{name}"', f"'{name}'", f" {name} "])
 
@@ -94,9 +102,11 @@ def configuration():
                    ("unknown", number, 0.1), ("listen.connections", number, 0.05))
     whole = "".join(f"{k} = {v}\n" for k, v in settings)
     parts = [tables("reader", [reader() for _ in range(pick([0, 1, 1, 2]))]), tables("page", [page() for _ in range(pick([0, 1, 1, 2]))])]
+    if random.random() < 0.2:
+        parts.append(browse())
     random.shuffle(parts)
-    inline = [it for it in parts if not it.startswith("[[")]
-    whole += "".join(inline) + "".join(it for it in parts if it.startswith("[["))
+    inline = [it for it in parts if not it.startswith("[")]
+    whole += "".join(inline) + "".join(it for it in parts if it.startswith("["))
     if random.random() < 2 * share and whole:
         at = random.randrange(len(whole))
         whole = pick([whole[:at] + whole[at + 1:], whole[:at] + pick('"\'[]{}=,.#\n\r\t\\ \x00\x7fé') + whole[at:], whole[:at]])
