@@ -3,3 +3,4 @@ pub mod RowsSteps
 pub mod LookLaws
 pub mod SeenLaws
 pub mod PlaceLaws
+pub mod StepLaws

@@ -1,5 +1,5 @@
 -- A path more or less in some rows, and the rows of a site's pages.
-use Rattle.std.proofs.Common.{◌≡◌, ℕ, ◌+◌, ◌<◌, List, [], ◌∷◌, ◌++◌, length, take, drop, get_or, Bool, true, false, cond, not, refl, ap, sym, subst, ◌∙◌}
+use Rattle.std.proofs.Common.{◌≡◌, ◌⊎◌, inl, inr, ℕ, ◌+◌, ◌<◌, List, [], ◌∷◌, ◌++◌, length, take, drop, get_or, Bool, true, false, cond, not, refl, ap, sym, subst, ◌∙◌}
 use Rattle.std.specs.Prelude.{◌&&◌, ◌||◌, ◌==◌, Option, Some, None, Result, Ok, Err, OnErr, bytes_eq, option_map, is_some, if◌then◌else◌}
 use Rattle.std.specs.Borrow.{Bor}
 use Rattle.std.specs.Cmp.{eq_by_cmp_equiv}
@@ -155,7 +155,8 @@ module _ (old mid new : RowMap) (p : List ℕ) (names : List (List ℕ)) (r : Li
 
 module _ (old mid new : RowMap) (p : List ℕ) where
   -- some are taken out of all
-  pub undone : (names rest all : List (List ℕ)) → names ++ rest ≡ all → HasMore old p names mid → HasLess mid p all new → HasLess old p all new
+  pub undone : (names rest all : List (List ℕ)) → names ++ rest ≡ all → HasMore old p names mid → HasLess mid p all new
+      → HasLess old p all new
   undone names rest all parts more less = λ row q.
       less row q ∙ ap (λ b. b && not (bytes_eq q p && is_among row all)) (more row q)
       ∙ by (stands old row q) (bytes_eq q p) (is_among row names) (is_among row rest) (is_among row all)
@@ -168,7 +169,8 @@ module _ (old mid new : RowMap) (p : List ℕ) where
       by false true false b c is = refl
 
   -- out of some rows, then out of others
-  pub less_of_both : (names others : List (List ℕ)) → HasLess old p names mid → HasLess mid p others new → HasLess old p (names ++ others) new
+  pub less_of_both : (names others : List (List ℕ)) → HasLess old p names mid → HasLess mid p others new
+      → HasLess old p (names ++ others) new
   less_of_both names others less more = λ row q.
       more row q ∙ ap (λ b. b && not (bytes_eq q p && is_among row others)) (less row q)
       ∙ by (stands old row q) (bytes_eq q p) (is_among row names) (is_among row others)
@@ -183,7 +185,8 @@ module _ (old mid new : RowMap) (p : List ℕ) where
   -- the row of all pages, then those of groups
   pub less_of_all : (names : List (List ℕ)) → mid ≡ without_path old all_row p → HasLess mid p names new → HasLess old p (rows_of names) new
   less_of_all names is less = λ row q.
-      less row q ∙ ap (λ b. b && not (bytes_eq q p && is_among row names)) (ap (λ m. stands m row q) is ∙ stands_without old all_row p row q)
+      less row q ∙ ap (λ b. b && not (bytes_eq q p && is_among row names)) (ap (λ m. stands m row q) is
+      ∙ stands_without old all_row p row q)
       ∙ by (stands old row q) (bytes_eq q p) (bytes_eq all_row row) (is_among row names)
     where
       by : (s e a b : Bool) → ((s && not (e && a)) && not (e && b)) ≡ (s && not (e && (a || b)))
@@ -229,11 +232,13 @@ module _ (pages : TextMap Page) (path : List ℕ) (before : Option (List (List �
       ∙ ap (λ g. is_among row (rows_of_some g)) stood
 
   module _ (groups : List (List ℕ)) where
-    pub placed : (mid new : RowMap) (page : Page) → page.groups ≡ groups → HasMore old path (rows_beside (rows_of groups) (rows_of_some before)) mid
+    pub placed : (mid new : RowMap) (page : Page) → page.groups ≡ groups
+        → HasMore old path (rows_beside (rows_of groups) (rows_of_some before)) mid
         → HasLess mid path (rows_beside (rows_of_some before) (rows_of groups)) new → IsRows (map.insert pages path page) new
     placed mid new page has more less = record {
       each = λ row q.
-          less row q ∙ ap (λ b. b && not (bytes_eq q path && is_among row (rows_beside (rows_of_some before) (rows_of groups)))) (more row q)
+          less row q ∙ ap (λ b. b && not (bytes_eq q path && is_among row (rows_beside (rows_of_some before) (rows_of groups))))
+          (more row q)
           ∙ (λ i. (stands old row q || (bytes_eq_is q path i && among_beside row (rows_of groups) (rows_of_some before) i))
           && not (bytes_eq_is q path i && among_beside row (rows_of_some before) (rows_of groups) i))
           ∙ by row q (same_key q path) refl
@@ -278,11 +283,17 @@ module _ (pages : TextMap Page) (path : List ℕ) (before : Option (List (List �
         other false = refl
 
         by : (row q : List ℕ) (e : Bool) → same_key q path ≡ e
-            → (stands old row q && not (e && (is_among row (rows_of groups) && not (is_among row (rows_of_some before))))) ≡ stands old row q
+            → (stands old row q && not (e && (is_among row (rows_of groups) && not (is_among row (rows_of_some before)))))
+            ≡ stands old row q
         by row q true e =
             ap (λ s. s && not (is_among row (rows_of groups) && not (is_among row (rows_of_some before)))) (stood_at row q e)
             ∙ all (is_among row (rows_of_some before)) (is_among row (rows_of groups)) ∙ sym (stood_at row q e)
         by row q false e = other (stands old row q)
+
+    pub not_wider : (new : RowMap) → (new ≡ old) ⊎ HasLess old path (rows_beside (rows_of groups) (rows_of_some before)) new
+        → IsRows pages new
+    not_wider new (inl same) = subst (IsRows pages) (sym same) are
+    not_wider new (inr less) = refused new less
 
 -- ---- while a page is set
 
@@ -300,7 +311,8 @@ module _ (pages : TextMap Page) (path : List ℕ) (before : Option (List (List �
     narrowed_back less =
         refused pages path before wide.old wide.stood wide.are groups new
         (undone wide.old mid new path (rows_beside (rows_of groups) (rows_of_some before)) []
-        (rows_beside (rows_of groups) (rows_of_some before)) (append-nil (rows_beside (rows_of groups) (rows_of_some before))) wide.more less)
+        (rows_beside (rows_of groups) (rows_of_some before)) (append-nil (rows_beside (rows_of groups)
+        (rows_of_some before))) wide.more less)
 
 -- none of no rows are beside others, and all are beside none
 pub all_beside : (rows : List (List ℕ)) → rows_beside rows [] ≡ rows

@@ -41,7 +41,8 @@ module _ {A X : Type 0} where
 
   -- the keys of the map
   keys_are : (m : BTreeMap (String A) X) → IsStrictlySortedBy string_cmp (keys_of m.entries) → texts m.entries ≡ map.keys (text_map m)
-  keys_are m sorted = ap keys_of (sym (entries_in_order nat_list_cmp_total exact_bytes (by_bytes m.entries) (sorted_bytes m.entries sorted)))
+  keys_are m sorted = ap keys_of (sym (entries_in_order nat_list_cmp_total exact_bytes (by_bytes m.entries)
+      (sorted_bytes m.entries sorted)))
 
   kept : (e : String A × X) (b c : Bool) (es : List (String A × X)) (them : List (List ℕ)) → b ≡ c → texts es ≡ them
       → texts (cond b (e ∷ es) es) ≡ cond c (string_bytes e.0 ∷ them) them

@@ -175,7 +175,8 @@ turned a b = by (bytes_eq a b) refl (bytes_eq b a) refl
     by false e false f = refl
 
 -- of a reader who is no owner: a page stands in some of their rows where it and they have a group in common
-met : (ours theirs : List (List ℕ)) → is_among all_row ours ≡ false → list_any (λ name. is_among name (rows_of theirs)) ours ≡ meet ours theirs
+met : (ours theirs : List (List ℕ)) → is_among all_row ours ≡ false
+    → list_any (λ name. is_among name (rows_of theirs)) ours ≡ meet ours theirs
 met [] theirs none = refl
 met (name ∷ ours) theirs none =
     by (bytes_eq name all_row) (is_among all_row ours) none refl (is_among name theirs)
@@ -243,7 +244,8 @@ module _ (rows : RowMap) (names : List (List ℕ)) (i : ℕ) (x row : List ℕ) 
       (λ j. lesser (e j) (f j)) ∙ first_of_more rows (take i names) row from
       ∙ ap (λ ns. first_from from (map.keys (paths_among rows ns))) so_far
 
-  pub last_of_next : (before : List ℕ) (best found : Option (List ℕ)) → best ≡ last_before before (map.keys (paths_among rows (take i names)))
+  pub last_of_next : (before : List ℕ) (best found : Option (List ℕ))
+      → best ≡ last_before before (map.keys (paths_among rows (take i names)))
       → found ≡ last_before before (map.keys (row_at rows row))
       → greater best found ≡ last_before before (map.keys (paths_among rows (take (i + 1) names)))
   last_of_next before best found e f =

@@ -106,7 +106,8 @@ rows_beside rows others = filter (λ row. not (is_among row others)) rows
 
 -- The rows while a page with these groups is set at a path, where one with the groups `before` stands, or none: those of the pages, and
 -- the path stands besides in the rows that the new page has and the old one hasn't.
-pub record IsWider (pages : TextMap Page) (path : List ℕ) (before : Option (List (List ℕ))) (groups : List (List ℕ)) (rows : RowMap) : Type 0 where
+pub record IsWider (pages : TextMap Page) (path : List ℕ) (before : Option (List (List ℕ))) (groups : List (List ℕ))
+    (rows : RowMap) : Type 0 where
   pub old : RowMap
   pub stood : groups_at pages path ≡ before
   pub are : IsRows pages old

@@ -1,6 +1,6 @@
 //! Pages in rows: a path stands in the row of all pages and in one for each group of its page.
 
-ghost use Rattle.std.specs.Prelude.{◌≡◌, [], ◌∷◌, Some, IfOk, OnOk, OnErr, option_copied};
+ghost use Rattle.std.specs.Prelude.{◌≡◌, ◌⊎◌, [], ◌∷◌, Some, IfOk, OnOk, OnErr, option_copied};
 ghost use Rattle.std.specs.FinMap as map;
 ghost use Rattle.doc_store_readers.specs.Groups.{texts_of};
 ghost use Rattle.doc_store_readers.specs.Maps.{TextMap};
@@ -32,10 +32,7 @@ impl Rows {
             ((pages : TextMap Page) → groups_at pages path.now ≡ option_copied before.entry
             → IsRows pages self.old → IsRows pages self.new) }
     {
-        let old_rows = rows_of(heap, before)?;
-        let new_rows = rows_of(heap, Some(groups))?;
-        let added = rows_beside(heap, new_rows.as_slice(), old_rows.as_slice())?;
-        self.add_to_each(heap, added.as_slice(), path)
+        self.add_beside(heap, path, groups, before)
     }
 
     /// After the page is set: the path leaves the rows of the old groups that the new page hasn't. It takes no memory.
@@ -44,10 +41,7 @@ impl Rows {
             → IsWider pages path.now (option_copied before.entry) groups.now self.old
             → IsRows (map.insert pages path.now page) self.new }
     {
-        let Some(before) = before else {
-            return;
-        };
-        self.leave(path, before.names(), groups.names());
+        self.leave_beside(path, before, Some(groups));
     }
 
     /// After the page was refused: the path leaves the rows of its groups that the old page hasn't. It takes no memory.
@@ -56,11 +50,7 @@ impl Rows {
             → IsWider pages path.now (option_copied before.entry) groups.now self.old
             → IsRows pages self.new }
     {
-        let Some(before) = before else {
-            self.leave_all(path, groups.names());
-            return;
-        };
-        self.leave(path, groups.names(), before.names());
+        self.leave_beside(path, Some(groups), before);
     }
 
     /// The page at a path, which had these groups, goes. It takes no memory.
@@ -68,7 +58,45 @@ impl Rows {
         ensures { (pages : TextMap Page) → groups_at pages path.now ≡ Some groups.now
             → IsRows pages self.old → IsRows (map.remove pages path.now) self.new }
     {
-        self.leave_all(path, groups.names());
+        self.leave_beside(path, Some(groups), None);
+    }
+
+    /// Adds a path to the rows that a page with some groups has, and one with the others, if any, hasn't. After a refusal
+    /// it stands in none of them, or all rows are as they were.
+    pub fn add_beside(
+        &mut self,
+        heap: Heap,
+        path: &Path,
+        groups: &Groups,
+        others: Option<&Groups>,
+    ) -> Result<(), Memory>
+        ensures ok { OnOk result (HasMore self.old path.now
+            (rows_beside (rows_of groups.now) (rows_of_some
+            (option_copied others.entry))) self.new) }
+        ensures err { OnErr result ((self.new ≡ self.old) ⊎ HasLess self.old path.now
+            (rows_beside (rows_of groups.now) (rows_of_some
+            (option_copied others.entry))) self.new) }
+    {
+        let old_rows = rows_of(heap, others)?;
+        let new_rows = rows_of(heap, Some(groups))?;
+        let added = rows_beside(heap, new_rows.as_slice(), old_rows.as_slice())?;
+        self.add_to_each(heap, added.as_slice(), path)
+    }
+
+    /// Takes a path out of the rows that a page with some groups has, if there is one, and one with the others, if any, hasn't. It takes
+    /// no memory.
+    pub fn leave_beside(&mut self, path: &Path, groups: Option<&Groups>, others: Option<&Groups>)
+        ensures { HasLess self.old path.now (rows_beside (rows_of_some (option_copied groups.entry))
+            (rows_of_some (option_copied others.entry))) self.new }
+    {
+        let Some(groups) = groups else {
+            return;
+        };
+        let Some(others) = others else {
+            self.leave_all(path, groups.names());
+            return;
+        };
+        self.leave(path, groups.names(), others.names());
     }
 
     /// Takes a path out of the rows of a page with these groups.
@@ -135,7 +163,8 @@ impl Rows {
 
 /// The rows of a page with these groups, where one stands.
 fn rows_of<'a>(heap: Heap, groups: Option<&'a Groups>) -> Result<Vec<&'a str>, Memory>
-    ensures { IfOk result (λ rows. texts_of rows.items ≡ rows_of_some (option_copied groups.entry)) }
+    ensures { IfOk result (λ rows. texts_of rows.items
+        ≡ rows_of_some (option_copied groups.entry)) }
 {
     match groups {
         Some(groups) => rows_of_groups(heap, groups.names()),

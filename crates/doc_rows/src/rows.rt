@@ -1,6 +1,6 @@
 //! Rows of paths by text.
 
-ghost use Rattle.std.specs.Prelude.{◌≡◌, ◌≢◌, None, OnOk, OnErr, option_copied, string_bytes};
+ghost use Rattle.std.specs.Prelude.{◌≡◌, ◌≢◌, ◌==◌, None, OnOk, OnErr, option_copied, string_bytes};
 ghost use Rattle.std.specs.FinMap as map;
 ghost use Rattle.doc_rows.specs.Looks.{first_from, last_before};
 ghost use Rattle.doc_rows.specs.Rows.{left_in_row, row_at, with_path, without_path};
@@ -39,6 +39,13 @@ impl Rows {
         Rows {
             rows: BTreeMap::new(heap),
         }
+    }
+
+    /// No row is kept.
+    pub fn is_empty(&self) -> bool
+        ensures { result ≡ (map.len self.now == 0) }
+    {
+        self.rows.len() == 0
     }
 
     fn row(&self, row: &str) -> Option<&Row>

@@ -15,6 +15,7 @@ returns-in_err-path c =
 pub returns : goal.returns
 returns c =
     ap Some c.as_str.ensures.value
-    ∙ last_is c.self.inside.paths c.range.ensures.ordered c.args.before.now _ c.next_back.new.self c.range.result (c.range.ensures.between tt)
+    ∙ last_is c.self.inside.paths c.range.ensures.ordered c.args.before.now _ c.next_back.new.self c.range.result
+    (c.range.ensures.between tt)
     c.in_ok-path.ensures.steps
     ∙ ap (λ m. last_before (string_bytes c.args.before.now) (map.keys m)) c.self.view_is

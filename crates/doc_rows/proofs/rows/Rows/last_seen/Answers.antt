@@ -12,5 +12,6 @@ returns-then-reader c = λ site are.
 pub returns : goal.returns
 returns c = λ site are.
     c.last_among.ensures
-    ∙ ap (last_before (string_bytes c.args.before.now)) (seen_by_others c.args.reader.now c.names-names.result.now c.names-names.ensures.same
+    ∙ ap (last_before (string_bytes c.args.before.now))
+    (seen_by_others c.args.reader.now c.names-names.result.now c.names-names.ensures.same
     c.names-names.ensures.groups site c.args.self.now are c.if-reader.false)

@@ -21,7 +21,8 @@ pub returns-clause-rest : goal.returns-clause-rest
 returns-clause-rest c =
     let updates = (c.get_mut.follows.holds c.remove.new.self).3 in
     ap (λ m. map.remove m c.args.row.now) (inserted_text c.self.inside.rows (c.get_mut.follows.lender c.remove.new.self) c.args.row.now
-    c.remove.new.self (updates (rw (← c.in-Some.ensures.value) refl)) ∙ ap (λ m. map.insert m c.args.row.now c.remove.new.self) c.self.view_is)
+    c.remove.new.self (updates (rw (← c.in-Some.ensures.value) refl))
+    ∙ ap (λ m. map.insert m c.args.row.now c.remove.new.self) c.self.view_is)
     ∙ set_and_removed c.args.self.now c.args.row.now c.remove.new.self
 
 pub returns-clause-row : goal.returns-clause-row

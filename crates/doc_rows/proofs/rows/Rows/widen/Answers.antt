@@ -1,28 +1,16 @@
 use Rattle.std.specs.Prelude.{option_copied}
 use Rattle.std.proofs.lemmas.Result.{on_ok_weaker, on_err_weaker}
-use Rattle.doc_store_readers.specs.Groups.{texts_of}
-use Rattle.doc_rows.specs.Rows.{rows_beside, rows_of, rows_of_some}
-use Rattle.doc_rows.proofs.PlaceLaws.{beside_are, less_by, more_by, refused, wider}
+use Rattle.doc_rows.proofs.PlaceLaws.{not_wider, wider}
 use Rattle.doc_rows.proofs.rows.Rows.widen.Goals as goal
 
 pub returns-clause-err : goal.returns-clause-err
 returns-clause-err c =
-    on_err_weaker c.add_to_each.result (λ less pages stood are.
-    refused pages c.args.path.now (option_copied c.args.before) c.args.self.now stood are c.args.groups.now c.add_to_each.new.self
-    (less_by c.args.self.now c.add_to_each.new.self c.args.path.now (texts_of c.as_slice-3.result.now)
-    (rows_beside (rows_of c.args.groups.now) (rows_of_some (option_copied c.args.before)))
-    (beside_are _ c.in_ok-added.added.items c.as_slice.result.now c.in_ok-new_rows.new_rows.items c.as_slice-2.result.now
-    c.in_ok-old_rows.old_rows.items _ _ c.as_slice-3.ensures.value c.in_ok-added.ensures c.as_slice.ensures.value c.in_ok-new_rows.ensures
-    c.as_slice-2.ensures.value c.in_ok-old_rows.ensures)
-    less)) c.add_to_each.ensures.err
+    on_err_weaker c.add_beside.result (λ less pages stood are.
+    not_wider pages c.args.path.now (option_copied c.args.before) c.args.self.now stood are c.args.groups.now c.add_beside.new.self less)
+    c.add_beside.ensures.err
 
 pub returns-clause-ok : goal.returns-clause-ok
 returns-clause-ok c =
-    on_ok_weaker c.add_to_each.result (λ more pages stood are.
-    wider pages c.args.path.now (option_copied c.args.before) c.args.groups.now c.args.self.now c.add_to_each.new.self stood are
-    (more_by c.args.self.now c.add_to_each.new.self c.args.path.now (texts_of c.as_slice-3.result.now)
-    (rows_beside (rows_of c.args.groups.now) (rows_of_some (option_copied c.args.before)))
-    (beside_are _ c.in_ok-added.added.items c.as_slice.result.now c.in_ok-new_rows.new_rows.items c.as_slice-2.result.now
-    c.in_ok-old_rows.old_rows.items _ _ c.as_slice-3.ensures.value c.in_ok-added.ensures c.as_slice.ensures.value c.in_ok-new_rows.ensures
-    c.as_slice-2.ensures.value c.in_ok-old_rows.ensures)
-    more)) c.add_to_each.ensures.ok
+    on_ok_weaker c.add_beside.result (λ more pages stood are.
+    wider pages c.args.path.now (option_copied c.args.before) c.args.groups.now c.args.self.now c.add_beside.new.self stood are more)
+    c.add_beside.ensures.ok
