@@ -26,6 +26,11 @@ goes_to goals target External = false
 goes_to goals target (Page path anchor) = leads_to_itself (goals path) target
 goes_to goals target Nowhere = false
 
+-- how many links of a page, if there is one, lead to a target
+abbrev pub links_to : (List ℕ → Option (List ℕ)) → List ℕ → Option PageLinks → ℕ
+links_to goals target None = 0
+links_to goals target (Some page) = count_by (goes_to goals target) page.links
+
 -- a page with the number of its links, where it has some
 abbrev pub source_of : List ℕ → ℕ → List (List ℕ × ℕ)
 source_of path count = if count == 0 then [] else (path, count) ∷ []

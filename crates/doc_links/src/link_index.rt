@@ -7,10 +7,11 @@ ghost use Rattle.doc_page_parts.specs.Sights.{seen};
 ghost use Rattle.doc_links_pages.specs.Links.{backlinks, broken, contents, page_at};
 ghost use Rattle.doc_links_pages.specs.Names.{AreNames};
 ghost use Rattle.doc_links_pages.specs.PageLinks.{IsOnce, page_links, pages_of};
-ghost use Rattle.doc_links_seen.specs.SeenPages.{seen_pages};
+ghost use Rattle.doc_links_seen.specs.SeenPages.{seen_page, seen_pages};
+ghost use Rattle.doc_links.specs.IndexSteps.{links_to};
 
 use crate::entries::entries_of;
-use crate::sources::sources_in;
+use crate::sources::{count_to, sources_in};
 use crate::tally::tally_of;
 use doc_index::index::Index;
 use doc_links_pages::answers::{Broken, Entry};
@@ -118,6 +119,28 @@ impl LinkIndex {
             return None;
         };
         Some(known.links())
+    }
+
+    /// The page under a path and a stamp, for one who knows that it is seen.
+    pub fn page<'a>(&'a self, path: &'a Path, stamp: u64) -> Option<SeenPage<'a>>
+        ensures { option_map seen_page result
+            ≡ option_map (λ page. (path.now, page)) (map.get self.now (path.now, stamp)) }
+    {
+        let Some(known) = self.pages.get(path, stamp) else {
+            return None;
+        };
+        Some(SeenPage::new(path, known))
+    }
+
+    /// How many links of the page under a path and a stamp a sight leads to a target, whether that is seen or not.
+    pub fn links_to<S: Sight>(&self, path: &Path, stamp: u64, target: &Path, sight: &S) -> u64
+        ensures { result ≡ links_to (S.goals sight.now) target.now
+            (map.get self.now (path.now, stamp)) }
+    {
+        let Some(links) = self.links_of(path, stamp) else {
+            return 0;
+        };
+        count_to(links, target, sight) as u64
     }
 
     /// The pages that a sight sees, by path.

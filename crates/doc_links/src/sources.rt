@@ -68,7 +68,7 @@ fn push_source(
 }
 
 /// How many of these links the sight leads to a target.
-fn count_to<S: Sight>(links: &[LinkKind], target: &Path, sight: &S) -> usize
+pub(crate) fn count_to<S: Sight>(links: &[LinkKind], target: &Path, sight: &S) -> usize
     ensures { result ≡ count_by (goes_to (S.goals sight.now) target.now) links.now }
 {
     let mut count = 0;

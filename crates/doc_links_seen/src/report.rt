@@ -22,8 +22,8 @@ pub fn broken_in<S: Sight>(
     pages: &[SeenPage],
     sight: &S,
 ) -> Result<List<Broken>, Memory>
-    requires { IsInOrder (seen_pages pages.now) }
-    ensures { IfOk result (λ all. all ≡ broken (S.goals sight.now) (seen_pages pages.now)) }
+    ensures { IsInOrder (seen_pages pages.now)
+        → IfOk result (λ all. all ≡ broken (S.goals sight.now) (seen_pages pages.now)) }
 {
     let mut all = Vec::new(heap);
     for page in pages {
@@ -40,8 +40,7 @@ fn push_broken<S: Sight>(
     pages: &[SeenPage],
     sight: &S,
 ) -> Result<(), Memory>
-    requires { IsInOrder (seen_pages pages.now) }
-    ensures { OnOk result (all.new.items ≡ all.old.items
+    ensures { IsInOrder (seen_pages pages.now) → OnOk result (all.new.items ≡ all.old.items
         ++ broken_from (S.goals sight.now) (seen_pages pages.now) page.now.path.now 1
         page.now.known.now.links) }
 {
@@ -83,8 +82,7 @@ fn fault_of<S: Sight>(
     pages: &[SeenPage],
     sight: &S,
 ) -> Result<Option<(Reason, Text)>, Memory>
-    requires { IsInOrder (seen_pages pages.now) }
-    ensures { IfOk result (λ fault.
+    ensures { IsInOrder (seen_pages pages.now) → IfOk result (λ fault.
         fault ≡ fault_of (S.goals sight.now) (seen_pages pages.now) link.now) }
 {
     match link {
@@ -99,8 +97,7 @@ fn fault_of<S: Sight>(
 
 /// The page at a path, where there is one and it is one of these.
 fn page_among<'a>(pages: &[SeenPage<'a>], goal: Option<&Path>) -> Option<SeenPage<'a>>
-    requires { IsInOrder (seen_pages pages.now) }
-    ensures { option_map seen_page result
+    ensures { IsInOrder (seen_pages pages.now) → option_map seen_page result
         ≡ option_and_then (page_at (seen_pages pages.now)) (option_copied goal.entry) }
 {
     let Some(goal) = goal else {

@@ -26,6 +26,13 @@ pub struct SeenPage<'a> {
 }
 
 impl<'a> SeenPage<'a> {
+    /// What is known of the page at a path, for one who knows that it is seen.
+    pub fn new(path: &'a Path, known: &'a Known) -> SeenPage<'a>
+        ensures { seen_page result ≡ (path.now, known.now) }
+    {
+        SeenPage { path, known }
+    }
+
     pub fn path(&self) -> &'a Path
         ensures { result.now ≡ self.now.path.now }
     {
@@ -94,8 +101,8 @@ fn push_seen<'a, S: Sight>(
 
 /// The page at a path, where it is one of these, which stand in the order of their paths.
 pub fn page_at<'a>(pages: &[SeenPage<'a>], path: &Path) -> Option<SeenPage<'a>>
-    requires { IsInOrder (seen_pages pages.now) }
-    ensures { option_map seen_page result ≡ page_at (seen_pages pages.now) path.now }
+    ensures { IsInOrder (seen_pages pages.now)
+        → option_map seen_page result ≡ page_at (seen_pages pages.now) path.now }
 {
     let Ok(at) = pages.binary_search_by(|page| page.path.cmp(path)) else {
         return None;

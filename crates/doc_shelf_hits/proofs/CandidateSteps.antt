@@ -1,12 +1,14 @@
 -- What a search knows of the pages of a view.
-use Rattle.std.proofs.Common.{◌≡◌, ℕ, List, [], ◌∷◌, ◌++◌, Bool, true, false, cond, refl, ap, ap₂, sym, ◌∙◌, append-nil, append_assoc}
-use Rattle.std.specs.Prelude.{Option, Some, None, option_map, map as mapped, if◌then◌else◌}
+use Rattle.std.proofs.Common.{◌≡◌, ℕ, ◌+◌, ◌<◌, List, [], ◌∷◌, ◌++◌, length, take, get_or, Bool, true, false, refl, ap, ap₂, sym, subst, ◌∙◌, append-nil}
+use Rattle.std.specs.Prelude.{Option, Some, None, IfSome, option_map, map as mapped, if◌then◌else◌}
 use Rattle.std.specs.Cmp.{unsigned_tied}
 use Rattle.std.specs.Cmp.Lexicographic.{slice_cmp}
 use Rattle.std.specs.FinMap as map
-use Rattle.std.specs.List.{AllByRecursion, filter, flat_map}
+use Rattle.std.specs.List.{AllByRecursion, flat_map}
 use Rattle.std.specs.Ordering.{nat_cmp}
 use Rattle.std.proofs.lemmas.Cmp.{nat_list_cmp_total}
+use Rattle.std.proofs.lemmas.List.{take_more}
+use Rattle.std.proofs.lemmas.List.Concat.{flat_map-append}
 use Rattle.doc_index_tables.proofs.CountSteps.{number_itself}
 use Rattle.doc_index_tables.proofs.EntrySteps.{each_found}
 use Rattle.doc_page_parts.specs.declared.rendered.Heading.{Heading}
@@ -15,18 +17,21 @@ use Rattle.doc_people.proofs.CountLaws.{counts_are_sums}
 use Rattle.doc_people.specs.Hits.{count_of, is_named}
 use Rattle.doc_people.specs.Views.{rendered_at}
 use Rattle.doc_people.specs.declared.term.Term.{Term}
+use Rattle.doc_rows.specs.Looks.{from_text}
+use Rattle.doc_rows.specs.Rows.{paths_in}
+use Rattle.doc_shelf_pages.proofs.ViewSteps.{no_page}
 use Rattle.doc_shelf_pages.specs.EditLaws.{Stands}
 use Rattle.doc_shelf_pages.specs.Held.{rendered_under}
 use Rattle.doc_shelf_pages.specs.KeptPages.{Kept, kept_of}
 use Rattle.doc_shelf_pages.specs.Shelves.{IsKept, page_under}
 use Rattle.doc_shelf_pages.specs.ViewLaws.{seen_in}
 use Rattle.doc_shelf_pages.specs.Views.{Renders, rendered_pages}
-use Rattle.doc_store.proofs.SeenLaw.{entries-retain_keys}
 use Rattle.doc_store.specs.Store.{StoreState}
 use Rattle.doc_store_readers.proofs.FilterSteps.{keys_in_order}
-use Rattle.doc_store_readers.proofs.ViewLaw.{page_at-view_of}
-use Rattle.doc_store_readers.specs.Pages.{Page, StampedPage, without_stamps}
-use Rattle.doc_store_readers.specs.Sites.{View, may_see_at, page_at, visible_to}
+use Rattle.doc_store_readers.proofs.ViewLaw.{entry_at-entries}
+use Rattle.doc_store_readers.specs.Maps.{TextMap}
+use Rattle.doc_store_readers.specs.Pages.{Page}
+use Rattle.doc_store_readers.specs.Sites.{View, visible_to}
 use Rattle.doc_store_readers.specs.declared.reader.Reader.{Reader}
 use Rattle.doc_words_search.specs.Words.{capped, word_counts}
 use Rattle.doc_shelf_hits.specs.Candidates.{Known, known, known_at, known_by, known_from, met_of, parts_by, parts_in}
@@ -78,70 +83,65 @@ parts_are render store kept k path stamp page here seen is =
 
 -- ---- all pages
 
+-- no text comes before the empty one
+all_from_empty : (texts : List (List ℕ)) → from_text [] texts ≡ texts
+all_from_empty [] = refl
+all_from_empty ([] ∷ texts) = ap (λ more. [] ∷ more) (all_from_empty texts)
+all_from_empty ((byte ∷ text) ∷ texts) = ap (λ more. (byte ∷ text) ∷ more) (all_from_empty texts)
+
 module _ (render : Renders) (store : StoreState) (reader : Reader) (terms : List Term) where
   abbrev view : View
   view = seen_in store reader
 
-  -- what is known of the page at the path of an entry
-  abbrev pub known_in : List ℕ × Page → List Known
-  known_in entry = known_at terms entry.0 (rendered_at render view entry.0)
+  abbrev pages : TextMap Page
+  pages = (visible_to store.site (Some reader)).pages
 
-  abbrev sees : List ℕ × Page → Bool
-  sees entry = may_see_at (Some reader) (map.get store.site.pages entry.0)
+  -- what is known of the page at a path
+  abbrev pub known_in : List ℕ → List Known
+  known_in path = known_at terms path (rendered_at render view path)
 
   abbrev rendered : List ℕ × Page → List ℕ × Rendered
   rendered entry = (entry.0, render entry.1.text)
 
-  -- by whether the entry is seen
-  one_entry : (entry : List ℕ × Page) (rest : List (List ℕ × Page)) (b : Bool) (found : Option Page) → found ≡ cond b (Some entry.1) None
-      → known_at terms entry.0 (option_map (λ (p : Page). render p.text) found) ++ mapped (known terms) (mapped rendered rest)
-      ≡ mapped (known terms) (mapped rendered (cond b (entry ∷ rest) rest))
-  one_entry entry rest true found is =
-      ap (λ p. known_at terms entry.0 (option_map (λ (q : Page). render q.text) p) ++ mapped (known terms) (mapped rendered rest)) is
-  one_entry entry rest false found is =
-      ap (λ p. known_at terms entry.0 (option_map (λ (q : Page). render q.text) p) ++ mapped (known terms) (mapped rendered rest)) is
-
   some_entries : (entries : List (List ℕ × Page))
-      → AllByRecursion (λ entry. map.find (slice_cmp nat_cmp) entry.0 (map.entries store.site.pages) ≡ Some entry.1) entries
-      → flat_map known_in entries ≡ mapped (known terms) (mapped rendered (filter sees entries))
+      → AllByRecursion (λ entry. map.find (slice_cmp nat_cmp) entry.0 view.pages ≡ Some entry.1) entries
+      → flat_map known_in (mapped (λ page. page.0) entries) ≡ mapped (known terms) (mapped rendered entries)
   some_entries [] there = refl
   some_entries (entry ∷ entries) there =
-      ap (λ more. known_in entry ++ more) (some_entries entries there.1)
-      ∙ one_entry entry (filter sees entries) (sees entry) (page_at view.pages entry.0)
-      (page_at-view_of store.site (Some reader) entry.0
-      ∙ ap (λ page. cond (sees entry) page None) (map.get-entries store.site.pages entry.0 ∙ there.0))
+      ap (λ more. known_in entry.0 ++ more) (some_entries entries there.1)
+      ∙ ap (λ page. known_at terms entry.0 (option_map (λ (p : Page). render p.text) page) ++ mapped (known terms)
+      (mapped rendered entries))
+      (entry_at-entries pages entry.0 ∙ map.get-entries pages entry.0 ∙ there.0)
 
-  seen_pages : view.pages ≡ filter sees (map.entries store.site.pages)
-  unfolding visible_to
-  seen_pages = entries-retain_keys store.site.pages (λ path. may_see_at (Some reader) (map.get store.site.pages path))
-
-  -- of all pages of a store, those that the reader sees are known
-  pub all_known : flat_map known_in (map.entries store.site.pages) ≡ mapped (known terms) (rendered_pages render view)
-  all_known =
-      some_entries (map.entries store.site.pages)
-      (each_found (slice_cmp nat_cmp) nat_list_cmp_total (map.entries store.site.pages)
-      (keys_in_order (slice_cmp nat_cmp) (map.entries store.site.pages) (map.entries_sorted store.site.pages)))
-      ∙ ap (λ pages. mapped (known terms) (mapped rendered pages)) (sym seen_pages)
+  -- the pages at the paths that the reader sees are those of the reader's view
+  pub all_known : (paths : List (List ℕ)) → paths ≡ from_text [] (paths_in view)
+      → flat_map known_in paths ≡ mapped (known terms) (rendered_pages render view)
+  all_known paths are =
+      ap (flat_map known_in) (are ∙ all_from_empty (paths_in view))
+      ∙ some_entries view.pages
+      (each_found (slice_cmp nat_cmp) nat_list_cmp_total view.pages
+      (keys_in_order (slice_cmp nat_cmp) view.pages (map.entries_sorted pages)))
 
 -- ---- the walk
 
--- one more page
-pub known_next : (known_in : List ℕ × Page → List Known) (old new : List Known) (entries rest : List (List ℕ × StampedPage)) (path : List ℕ)
-    (page : StampedPage) (all : List Known) → entries ≡ (path, page) ∷ rest → new ≡ old ++ known_in (path, page.page)
-    → old ++ flat_map known_in (without_stamps entries) ≡ all → new ++ flat_map known_in (without_stamps rest) ≡ all
-known_next known_in old new entries rest path page all is more before =
-    ap (λ ks. ks ++ flat_map known_in (without_stamps rest)) more
-    ∙ append_assoc old (known_in (path, page.page)) (flat_map known_in (without_stamps rest))
-    ∙ sym (ap (λ es. old ++ flat_map known_in (without_stamps es)) is)
-    ∙ before
+-- one more path
+pub known_next : (known_in : List ℕ → List Known) (old new : List Known) (paths : List (List ℕ)) (at : ℕ) (path text : List ℕ)
+    → at < length paths → path ≡ get_or paths at path → text ≡ path → new ≡ old ++ known_in text
+    → old ≡ flat_map known_in (take at paths) → new ≡ flat_map known_in (take (at + 1) paths)
+known_next known_in old new paths at path text within is same more before =
+    more
+    ∙ ap₂ (λ ks p. ks ++ known_in p) before (same ∙ is)
+    ∙ ap (λ ks. flat_map known_in (take at paths) ++ ks) (sym (append-nil (known_in (get_or paths at path))))
+    ∙ sym (flat_map-append known_in (take at paths) (get_or paths at path ∷ []))
+    ∙ sym (ap (flat_map known_in) (take_more paths at path within))
 
--- before the first page
-pub known_first : (known_in : List ℕ × Page → List Known) (old : List Known) (entries : List (List ℕ × StampedPage)) (pages : List (List ℕ × Page))
-    → old ≡ [] → without_stamps entries ≡ pages → old ++ flat_map known_in (without_stamps entries) ≡ flat_map known_in pages
-known_first known_in old entries pages none is = ap₂ (λ ks es. ks ++ flat_map known_in es) none is
+-- what is said of a path that is there
+pub where_some : {X : Type 0} (P : X → Type 0) (found : Option X) (one : X) → found ≡ Some one → IfSome found P → P one
+where_some P found one is said = subst (λ o. IfSome o P) is said
 
--- behind the last one
-pub known_last : (known_in : List ℕ × Page → List Known) (old : List Known) (entries : List (List ℕ × StampedPage)) (all : List Known)
-    → entries ≡ [] → old ++ flat_map known_in (without_stamps entries) ≡ all → old ≡ all
-known_last known_in old entries all none before =
-    sym (append-nil old) ∙ sym (ap (λ es. old ++ flat_map known_in (without_stamps es)) none) ∙ before
+-- where no page stands none is known
+pub none_known : (render : Renders) (store : StoreState) (reader : Reader) (terms : List Term) (text : List ℕ) (old : List Known)
+    → map.get store.site.pages text ≡ None → old ≡ old ++ known_at terms text (rendered_at render (seen_in store reader) text)
+none_known render store reader terms text old none =
+    sym (append-nil old)
+    ∙ ap (λ page. old ++ known_at terms text (option_map (λ (p : Page). render p.text) page)) (no_page store.site reader text (sym none))

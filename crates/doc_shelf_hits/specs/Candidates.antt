@@ -50,7 +50,7 @@ known_at terms path (Some page) = known terms (path, page) ∷ []
 
 -- of a candidate
 abbrev pub known_of : Candidate → Known
-known_of candidate = record { path = candidate.path.now; counts = candidate.counts.items; named = candidate.named }
+known_of candidate = record { path = candidate.path; counts = candidate.counts.items; named = candidate.named }
 
 -- the candidates are these pages
 abbrev pub AreKnown : List Term → List (List ℕ × Rendered) → List Candidate → Type 0

@@ -23,7 +23,7 @@ use std::cmp::Reverse;
 /// that hold each term, in the same order.
 pub fn found_among(
     heap: Heap,
-    candidates: &[Candidate<'_>],
+    candidates: &[Candidate],
     terms: &[Term],
     most: usize,
 ) -> Result<Found, Memory>
@@ -40,7 +40,7 @@ pub fn found_among(
 
 fn best(
     heap: Heap,
-    candidates: &[Candidate<'_>],
+    candidates: &[Candidate],
     terms: &[Term],
     most: usize,
 ) -> Result<List<Hit>, Memory>
@@ -56,7 +56,7 @@ fn best(
 /// The pages that are named, with their scores.
 fn named_among<'a>(
     heap: Heap,
-    candidates: &[Candidate<'a>],
+    candidates: &'a [Candidate],
     rarities: &[u64],
 ) -> Result<Vec<Ranked<'a>>, Memory>
     ensures { IfOk result (λ found. mapped hit_of found.items ≡ flat_map
@@ -73,7 +73,7 @@ fn named_among<'a>(
 /// The pages that aren't named, but hold each term, with their scores.
 fn others_among<'a>(
     heap: Heap,
-    candidates: &[Candidate<'a>],
+    candidates: &'a [Candidate],
     rarities: &[u64],
 ) -> Result<Vec<Ranked<'a>>, Memory>
     ensures { IfOk result (λ found. mapped hit_of found.items ≡ flat_map
@@ -87,7 +87,7 @@ fn others_among<'a>(
     Ok(found)
 }
 
-fn is_other(candidate: &Candidate<'_>) -> bool
+fn is_other(candidate: &Candidate) -> bool
     ensures { result ≡ is_other (known_of candidate.now) }
 {
     holds_each(&candidate.counts) && !candidate.named
@@ -96,7 +96,7 @@ fn is_other(candidate: &Candidate<'_>) -> bool
 /// Adds a page with its score, where it is one of those that are wanted.
 fn push_if<'a>(
     found: &mut Vec<Ranked<'a>>,
-    candidate: &Candidate<'a>,
+    candidate: &'a Candidate,
     rarities: &[u64],
     wanted: bool,
 ) -> Result<(), Memory>
@@ -108,7 +108,7 @@ fn push_if<'a>(
     }
     Ok(found.push(Ranked {
         score: Reverse(score_of(&candidate.counts, rarities)),
-        path: candidate.path,
+        path: &candidate.path,
     })?)
 }
 

@@ -1,8 +1,7 @@
 //! Pages that are named by the terms of a search.
 
-ghost use Rattle.std.specs.Prelude.{◌≡◌, ◌++◌, IfOk, option_copied};
+ghost use Rattle.std.specs.Prelude.{◌≡◌, ◌++◌, IfOk};
 ghost use Rattle.std.specs.List.{list_all, list_any};
-ghost use Rattle.doc_people.specs.Folders.{first_text, title_by};
 ghost use Rattle.doc_people.specs.Terms.{meets};
 ghost use Rattle.doc_shelf_hits.specs.Candidates.{is_named_by};
 
@@ -12,6 +11,7 @@ use doc_page_parts::heap::Heap;
 use doc_page_parts::path::Path;
 use doc_page_parts::rendered::Heading;
 use doc_people::term::Term;
+use doc_people_lines::titles::title;
 use doc_words_search::in_order::words_in_order;
 use doc_words_search::word::Word;
 
@@ -50,23 +50,4 @@ fn meets_any(term: &Term, words: &[Word]) -> bool
     ensures { result ≡ list_any (meets term.now) words.now }
 {
     words.iter().any(|word| meets(term, word.text()))
-}
-
-/// The title of a page at a path, by its headings.
-fn title<'a>(path: &'a str, headings: &'a [Heading]) -> &'a str
-    ensures { result.now ≡ title_by path.now (first_text headings.now) }
-{
-    first_text(headings).unwrap_or(path)
-}
-
-/// The text of the first heading whose text isn't empty.
-fn first_text(headings: &[Heading]) -> Option<&str>
-    ensures { option_copied result ≡ first_text headings.now }
-{
-    for heading in headings {
-        if !heading.text.get().is_empty() {
-            return Some(heading.text.get());
-        }
-    }
-    None
 }

@@ -13,11 +13,7 @@ use doc_page_parts::heap::{Heap, Vec};
 use doc_people::term::Term;
 
 /// How rare each term is among these pages.
-pub fn rarities(
-    heap: Heap,
-    candidates: &[Candidate<'_>],
-    terms: &[Term],
-) -> Result<Vec<u64>, Memory>
+pub fn rarities(heap: Heap, candidates: &[Candidate], terms: &[Term]) -> Result<Vec<u64>, Memory>
     ensures { (pages : Seq (Seq ℕ × Rendered)) → AreKnown terms.now pages candidates.now
         → IfOk result (λ rarities. rarities.items ≡ mapped (rarity pages) terms.now) }
 {
@@ -29,7 +25,7 @@ pub fn rarities(
 }
 
 /// All pages by those that hold the term at this place, the fraction dropped; 0 where none does.
-fn rarity_at(candidates: &[Candidate<'_>], at: usize) -> u64
+fn rarity_at(candidates: &[Candidate], at: usize) -> u64
     ensures { result ≡ length candidates.now
         / count_by (λ candidate. holds_at at (known_of candidate)) candidates.now }
 {
@@ -37,7 +33,7 @@ fn rarity_at(candidates: &[Candidate<'_>], at: usize) -> u64
 }
 
 /// How many of the pages hold the term at this place.
-fn holders(candidates: &[Candidate<'_>], at: usize) -> u64
+fn holders(candidates: &[Candidate], at: usize) -> u64
     ensures { result
         ≡ count_by (λ candidate. holds_at at (known_of candidate)) candidates.now }
 {
@@ -97,7 +93,7 @@ pub fn holds_each(counts: &[u64]) -> bool
 }
 
 /// How many of the pages are found: they are named, or hold each term.
-pub fn hit_count(candidates: &[Candidate<'_>]) -> u64
+pub fn hit_count(candidates: &[Candidate]) -> u64
     ensures { result ≡ count_by (λ candidate. is_hit (known_of candidate)) candidates.now }
 {
     let mut count: u64 = 0;

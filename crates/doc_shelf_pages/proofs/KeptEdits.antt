@@ -158,7 +158,8 @@ module _ (render : Renders) (store : StoreState) (is : IsStore store) where
       moved_before before k = record {
         links = move_knows links_in render store is before.links k.links from to stamp page here.stamped here.stands free_path;
         words = move_knows counts render store is before.words k.words from to stamp page here.stamped here.stands free_path;
-        renderings = move_knows (shown before.with_texts) render store is before.renderings k.renderings from to stamp page here.stamped here.stands free_path;
+        renderings = move_knows (shown before.with_texts) render store is before.renderings k.renderings from to stamp page here.stamped
+            here.stands free_path;
       }
 
   moved : (kept : Kept) (from to : List ℕ) (stamp : ℕ) (page : Page) → Stands store from stamp page
@@ -175,7 +176,8 @@ nothing_kept : (render : Renders) (with_texts : Bool) → IsKept render empty_st
 nothing_kept render with_texts = record {
   links = λ path stamp. map.get-empty pair_cmp (path, stamp) ∙ sym (ap (option_map (links_in path)) (nothing_there path stamp));
   words = λ path stamp. map.get-empty pair_cmp (path, stamp) ∙ sym (ap (option_map (counts path)) (nothing_there path stamp));
-  renderings = λ path stamp. map.get-empty pair_cmp (path, stamp) ∙ sym (ap (option_map (shown with_texts path)) (nothing_there path stamp));
+  renderings = λ path stamp. map.get-empty pair_cmp (path, stamp)
+      ∙ sym (ap (option_map (shown with_texts path)) (nothing_there path stamp));
 }
   where
     nothing_there : (path : List ℕ) (stamp : ℕ) → page_under render empty_store path stamp ≡ None

@@ -15,3 +15,4 @@ pub mod ListSteps
 mod PairEdits
 pub mod ViewSteps
 mod TemplateExamples
+pub mod NamedSteps

@@ -5,9 +5,10 @@
 //! kept was made so, and no edit changes that.
 //!
 //! `specs/Views` says what each list is of a reader's view, and `specs/Held` what indexes hold of the pages of a store; `view_laws` carry
-//! one to the other: what is held, asked by what a reader sees, answers what the definitions say of the reader's view. `specs/Shelves` says
-//! what is kept of the pages of a store, and which documents may stand in a cache; `edit_laws` say that edits of the store, with what goes
-//! with them, keep both so. `edits` makes these edits, `lists` the lists, and `visible` finds the page that a reader may see.
+//! one to the other: what is held, asked by what a reader sees, answers what the definitions say of the reader's view. `specs/Shelves`
+//! says what is kept of the pages of a store, and which documents may stand in a cache; `edit_laws` say that edits of the store, with
+//! what goes with them, keep both so. `edits` makes these edits, `lists` the lists, `named` finds paths that texts are, and `visible` the
+//! page that a reader may see.
 #![tactic(auto)]
 
 mod copying;
@@ -15,6 +16,7 @@ pub mod edit_laws;
 pub mod edits;
 mod kept_pages;
 pub mod lists;
+pub mod named;
 mod renderings;
 pub mod view_laws;
 pub mod visible;

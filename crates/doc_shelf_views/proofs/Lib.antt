@@ -1,3 +1,4 @@
 mod LinkSteps
-mod NamedSteps
 mod PageSteps
+mod PlaceSteps
+mod SourceSteps

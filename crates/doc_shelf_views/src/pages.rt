@@ -10,7 +10,6 @@ ghost use Rattle.doc_shelf_pages.specs.ViewLaws.{seen_in};
 ghost use Rattle.doc_shelf_pages.specs.Views.{Renders};
 ghost use Rattle.doc_store_readers.specs.Sites.{goal_in};
 
-use crate::named::path_named;
 use doc_page_parts::failure::Memory;
 use doc_page_parts::filling::push_filled;
 use doc_page_parts::heap::{Heap, String};
@@ -19,6 +18,7 @@ use doc_page_parts::rendered::{Heading, Rendered};
 use doc_page_parts::text::Text;
 use doc_resolve::SiteLinker;
 use doc_shelf_pages::KeptPages;
+use doc_shelf_pages::named::path_named;
 use doc_shelf_pages::visible::visible_page;
 use doc_store::reader::Reader;
 use doc_store::store::Store;

@@ -1,24 +1,21 @@
 use Rattle.std.proofs.Common.{ap, ◌∙◌}
 use Rattle.std.specs.Prelude.{map as mapped}
-use Rattle.doc_store_readers.specs.Pages.{without_stamps}
-use Rattle.doc_shelf_hits.proofs.CandidateSteps.{all_known, known_first, known_in, known_last, known_next}
+use Rattle.std.specs.List.{flat_map}
+use Rattle.std.proofs.lemmas.List.{take_all}
+use Rattle.doc_shelf_hits.proofs.CandidateSteps.{all_known, known_in, known_next}
 use Rattle.doc_shelf_hits.specs.Candidates.{known_of}
 use Rattle.doc_shelf_hits.proofs.candidates.candidates.Goals as goal
 
-pub pages-init : goal.pages-init
-pages-init c render k =
-    known_first (known_in render c.args.store.now c.args.reader.now c.args.terms.now) (mapped known_of c.new-all.result.items)
-    c.into_iter-path-iterator.result _ (ap (mapped known_of) c.new-all.ensures.items)
-    (ap without_stamps c.into_iter-path-iterator.ensures.into_iter_gives ∙ c.pages-path-items.ensures)
-
-pub pages-preserved : goal.pages-preserved
-pages-preserved c render k =
-    known_next (known_in render c.args.store.now c.args.reader.now c.args.terms.now) (mapped known_of c.pages.all.items)
-    (mapped known_of c.push_seen.new.all.items) c.pages.path-iterator c.next.new.self c.in-Some.path.now c.in-Some._page.now _
-    c.in-Some.ensures.steps (c.in_ok-push_seen.ensures render k) (c.pages.invariant render k)
+pub paths-preserved : goal.paths-preserved
+paths-preserved c render k =
+    known_next (known_in render c.args.store.now c.args.reader.now c.args.terms.now) (mapped known_of c.paths.all.items)
+    (mapped known_of c.push_named.new.all.items) c.get-path-items.result.now c.paths.path-index c.path-item.result c.get.result.now
+    c.paths-test.true c.path-item.is c.get.ensures (c.in_ok-push_named.ensures render k) (c.paths.invariant render k)
 
 pub returns : goal.returns
-returns c render k =
-    known_last (known_in render c.args.store.now c.args.reader.now c.args.terms.now) (mapped known_of c.pages.all.items)
-    c.pages.path-iterator _ c.in-None.ensures.steps.0 (c.pages.invariant render k)
-    ∙ all_known render c.args.store.now c.args.reader.now c.args.terms.now
+returns c render k are =
+    c.paths.invariant render k
+    ∙ ap (flat_map (known_in render c.args.store.now c.args.reader.now c.args.terms.now))
+    (take_all c.paths.path-index c.get-path-items.result.now c.paths-test.false)
+    ∙ all_known render c.args.store.now c.args.reader.now c.args.terms.now c.get-path-items.result.now
+    (c.get-path-items.ensures ∙ c.in_ok-paths.ensures c.args.store.now.site are)

@@ -11,6 +11,6 @@ pub returns : goal.returns
 returns c render k =
     on_ok_weaker c.push_known.result (λ is. is
     ∙ ap (λ more. mapped known_of c.args.all.now.items ++ more)
-    (known_from_is c.args.terms.now c.args.path.now _ (rendered_at render (seen_in c.args.store.now c.args.reader.now) c.args.path.now)
-    (c.searched_at.ensures render k)))
+    (known_from_is c.args.terms.now c.args.path _ (rendered_at render (seen_in c.args.store.now c.args.reader.now) c.args.path)
+    (c.searched_at-page.ensures render k)))
     c.push_known.ensures

@@ -2,8 +2,8 @@ use Rattle.std.proofs.Common.{bytes_eq, ap, sym, ◌∙◌}
 use Rattle.doc_store_readers.proofs.ViewLaw.{entry_at-entries}
 use Rattle.doc_store_readers.specs.Pages.{without_stamps}
 use Rattle.doc_store_readers.specs.Sites.{page_at}
-use Rattle.doc_shelf_views.proofs.NamedSteps.{is_behind}
-use Rattle.doc_shelf_views.proofs.named.stored_path.Goals as goal
+use Rattle.doc_shelf_pages.proofs.NamedSteps.{is_behind}
+use Rattle.doc_shelf_pages.proofs.named.stored_path.Goals as goal
 
 pub entries-init : goal.entries-init
 entries-init c =
