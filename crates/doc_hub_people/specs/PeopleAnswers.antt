@@ -135,6 +135,24 @@ abbrev pub on_route : Renders → Browse → Offers → View → Bool → List �
 on_route render browse offers view guest target None = not_found_reply render browse offers view
 on_route render browse offers view guest target (Some route) = people_at render browse offers view guest target route
 
+-- the path that a route asks the page of, if it asks for one and writes a path
+abbrev pub page_at_plain : Route → Option (List ℕ)
+page_at_plain (routes.Page rest) = path_written rest
+page_at_plain (routes.Backlinks rest) = None
+page_at_plain routes.Contents = None
+page_at_plain routes.Search = None
+page_at_plain routes.Broken = None
+
+abbrev pub page_at_route : PeopleRoute → Option (List ℕ)
+page_at_route people_routes.Front = None
+page_at_route people_routes.SignIn = None
+page_at_route (people_routes.Folder rest) = None
+page_at_route (people_routes.Plain route) = page_at_plain route
+
+abbrev pub page_asked : Option PeopleRoute → Option (List ℕ)
+page_asked None = None
+page_asked (Some route) = page_at_route route
+
 -- who asks first: nobody gets nothing, whatever is asked
 abbrev pub reply_to : Renders → Browse → View → Asking → List ℕ → PeopleReply
 reply_to render browse view asked.Nobody target = unauthorized_reply browse

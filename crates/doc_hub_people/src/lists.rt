@@ -23,7 +23,8 @@ use doc_people_search::search::search_body;
 pub fn contents_answer<V: Viewed>(visit: Visit<'_>, view: &V) -> Result<Answer, Memory>
     ensures { IfOk result (λ a. a ≡ people_sent visit.entry.exchange.now (page_reply 200
         (contents_body (V.render view.now) visit.entry.browse.now (offers_of visit.entry)
-        (V.view view.now) [] (parameter visit.entry.exchange.now.request.now.target (codes "from"))))) }
+        (V.view view.now) []
+        (parameter visit.entry.exchange.now.request.now.target (codes "from"))))) }
 {
     let from = named(visit, "from")?;
     let body = contents_body(visit.frame(), view, "", from.get())?;
@@ -64,7 +65,8 @@ pub fn search_answer<V: Viewed>(visit: Visit<'_>, view: &V) -> Result<Answer, Me
 pub fn broken_answer<V: Viewed>(visit: Visit<'_>, view: &V) -> Result<Answer, Memory>
     ensures { IfOk result (λ a. a ≡ people_sent visit.entry.exchange.now (page_reply 200
         (broken_body (V.render view.now) visit.entry.browse.now (offers_of visit.entry)
-        (V.view view.now) (parameter visit.entry.exchange.now.request.now.target (codes "from"))))) }
+        (V.view view.now)
+        (parameter visit.entry.exchange.now.request.now.target (codes "from"))))) }
 {
     let from = named(visit, "from")?;
     let body = broken_body(visit.frame(), view, from.get())?;

@@ -23,7 +23,8 @@ use doc_resolve::encoding::push_encoded_path;
 /// The page at the front, where it or an alias of it is seen, and else the contents.
 pub fn front_answer<V: Viewed>(visit: Visit<'_>, view: &V) -> Result<Answer, Memory>
     ensures { IfOk result (λ a. a ≡ people_sent visit.entry.exchange.now (moved_reply
-        visit.entry.browse.now (front_location (goal_in (V.view view.now) visit.entry.browse.now.home)))) }
+        visit.entry.browse.now
+        (front_location (goal_in (V.view view.now) visit.entry.browse.now.home)))) }
 {
     match view.goal(&visit.browse.home)? {
         Some(goal) => moved_to(visit, "/page/", &goal),
@@ -40,7 +41,11 @@ pub fn page_answer<V: Viewed>(visit: Visit<'_>, view: &V, rest: &str) -> Result<
     let Some(path) = written_path(visit.exchange.heap, rest)? else {
         return visit.not_found(view);
     };
-    match page_body(visit.frame(), view, &path)? {
+    let frame = visit.frame();
+    if let Some(body) = view.kept_body(frame.browse, frame.offers, &path) {
+        return visit.page(200, body);
+    }
+    match page_body(frame, view, &path)? {
         Some(body) => visit.page(200, &body),
         None => goal_answer(visit, view, "/page/", &path),
     }

@@ -2,7 +2,7 @@
 
 ghost use Rattle.std.specs.Prelude.{◌≡◌, IfOk};
 ghost use Rattle.doc_http_targets.specs.PeopleTargets.{people_route_of, people_route_shown};
-ghost use Rattle.doc_hub_people.specs.PeopleAnswers.{has_sign_in, on_route, people_at, sign_in_by};
+ghost use Rattle.doc_hub_people.specs.PeopleAnswers.{has_sign_in, on_route, page_asked, people_at, sign_in_by};
 ghost use Rattle.doc_hub_people.specs.VisitSteps.{offers_of, people_sent};
 
 use crate::lists::{broken_answer, contents_answer, folder_answer, search_answer};
@@ -11,8 +11,10 @@ use crate::visit::{Visit, has_sign_in, unauthorized};
 use doc_http_targets::people_route::PeopleRoute;
 use doc_http_targets::route::Route;
 use doc_http_targets::routes::Routes;
+use doc_http_targets::written_path::written_path;
 use doc_hub_answers::answer::Answer;
 use doc_page_parts::failure::Memory;
+use doc_page_parts::path::Path;
 use doc_people::viewed::Viewed;
 
 /// The answer to a request for people of a guest or a reader, who sees this view. It makes no edit.
@@ -29,6 +31,17 @@ pub fn people_answer<V: Viewed>(
     match routes.people_route(visit.exchange.request.target.get()) {
         Some(route) => at_route(visit, route, view),
         None => visit.not_found(view),
+    }
+}
+
+/// The path that a request for people asks the page of, if it asks for one and writes a path.
+pub fn page_asked(visit: Visit<'_>, routes: &Routes) -> Result<Option<Path>, Memory>
+    ensures { IfOk result (λ path. path ≡ page_asked
+        (people_route_of visit.entry.exchange.now.request.now.target)) }
+{
+    match routes.people_route(visit.exchange.request.target.get()) {
+        Some(PeopleRoute::Plain(Route::Page(rest))) => written_path(visit.exchange.heap, rest),
+        _ => Ok(None),
     }
 }
 

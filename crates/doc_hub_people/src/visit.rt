@@ -26,7 +26,7 @@ pub struct Visit<'a> {
 
 impl Visit<'_> {
     /// What the pages are made with.
-    pub(crate) fn frame(&self) -> Frame<'_>
+    pub fn frame(&self) -> Frame<'_>
         ensures browse { result.browse.now ≡ self.now.browse.now }
         ensures offers { result.offers ≡ offers_of self.now }
     {

@@ -55,7 +55,8 @@ nothing_changes_without_settings settings render site readers left request none 
 module _ (browse : Browse) (render : Renders) (view : View) (asking : Asking) (left close : Bool) (request : Request) where
   abbrev plainly : Answer
   plainly =
-      plain_answer (dress_for browse asking) (kept_from_guests (is_guest asking) (response_to render view (row_of asking) left request)) close
+      plain_answer (dress_for browse asking) (kept_from_guests (is_guest asking)
+      (response_to render view (row_of asking) left request)) close
       request
 
   abbrev shown : Answer

@@ -78,15 +78,17 @@ module _ (browse : Browse) (render : Renders) (store : StoreState) (left close :
   abbrev view_for : Asking → View
   view_for who = view_of store.site (row_of who)
 
-  pub people_so : asks_for_style request ≡ false → is_for_people request ≡ true
+  pub people_so : (new : StoreState) → new ≡ store → asks_for_style request ≡ false → is_for_people request ≡ true
       → IfOk result (λ a. a ≡ people_answer (people_reply render browse (view_for told) told request) close request)
-      → AnsweredSo request.body store (browsed browse render (view_for asking) asking left close request) store result
-  people_so style people is =
-      subst (λ who. AnsweredSo request.body store (browsed browse render (view_for who) who left close request) store result) same
+      → AnsweredSo request.body store (browsed browse render (view_for asking) asking left close request) new result
+  people_so new stays style people is =
+      subst (λ after. AnsweredSo request.body store (browsed browse render (view_for asking) asking left close request) after result)
+      (sym stays)
+      (subst (λ who. AnsweredSo request.body store (browsed browse render (view_for who) who left close request) store result) same
       (subst (λ answer. AnsweredSo request.body store answer store result)
       (is_shown browse render (view_for told) told left close request style people)
       (told_alone store request.body (people_answer (people_reply render browse (view_for told) told request) close request) result is
-      refl))
+      refl)))
 
   pub guarded_so : (new : StoreState) → asks_for_style request ≡ false → is_for_people request ≡ false
       → AnsweredSo request.body store (plain_answer (dress_for browse told) (kept_from_guests (is_guest told)

@@ -29,14 +29,16 @@ NothingChangesWithoutSettings =
     ≡ plain_answer undressed (response_to render (view_of site (entry_of readers request)) (entry_of readers request) puts_left request)
     (closes_after settings request) request
 
--- with settings, who asks neither for people nor for their style sheet is answered by the same response, but that guests are told to sign in
+-- with settings, who asks neither for people nor for their style sheet is answered by the same response, but that
+-- guests are told to sign in
 -- where readers are forbidden
 abbrev pub OnlyPeopleAreShownPages : Type 0
 OnlyPeopleAreShownPages =
     (settings : Settings) (browse : Browse) (render : Renders) (view : View) (asking : Asking) (puts_left : Bool) (request : Request)
     → settings.browse ≡ Some browse → asks_for_style request ≡ false → is_for_people request ≡ false
     → answer_of settings render view asking puts_left request
-    ≡ plain_answer (dress_for browse asking) (kept_from_guests (is_guest asking) (response_to render view (row_of asking) puts_left request))
+    ≡ plain_answer (dress_for browse asking) (kept_from_guests (is_guest asking)
+    (response_to render view (row_of asking) puts_left request))
     (closes_after settings request) request
 
 -- the answer to a request for people has no edit

@@ -31,7 +31,7 @@ use doc_hub_answers::exchange::Exchange;
 use doc_hub_answers::method::Method;
 use doc_hub_answers::routes::at_route;
 use doc_hub_people::asking::{Asking, who_asks};
-use doc_hub_people::people::people_answer;
+use doc_hub_people::people::{page_asked, people_answer};
 use doc_hub_people::visit::{Visit, realm_of, unauthorized};
 use doc_page::renderer::Renderer;
 use doc_page_parts::failure::Memory;
@@ -144,14 +144,16 @@ impl Serving<'_> {
     /// The answer to a request for people, which edits nothing.
     fn people<R: Renderer + Drop>(
         &self,
-        shelf: &Shelf<R>,
+        shelf: &mut Shelf<R>,
         request: &Request,
         browse: &Browse,
         asking: &Asking,
     ) -> Result<Answer, Memory>
-        ensures { IfOk result (λ a. a ≡ people_answer (people_reply (R.page shelf.now.0) browse.now
-            (view_of shelf.now.1.site (row_of (asking_shown asking.now))) (asking_shown asking.now)
+        ensures answer { IfOk result (λ a. a
+            ≡ people_answer (people_reply (R.page shelf.old.0) browse.now
+            (view_of shelf.old.1.site (row_of (asking_shown asking.now))) (asking_shown asking.now)
             request.now) (closes_after self.now.settings.now request.now) request.now) }
+        ensures same { shelf.new ≡ shelf.old }
     {
         let manner = self.manner(request, browse, asking);
         let exchange = self.exchange(request, manner);
@@ -170,16 +172,28 @@ impl Serving<'_> {
     fn shown<R: Renderer + Drop>(
         &self,
         visit: Visit<'_>,
-        shelf: &Shelf<R>,
+        shelf: &mut Shelf<R>,
         row: &Reader,
     ) -> Result<Answer, Memory>
-        ensures { IfOk result (λ a. a ≡ people_sent visit.entry.exchange.now (on_route
-            (R.page shelf.now.0) visit.entry.browse.now (offers_of visit.entry)
-            (view_of shelf.now.1.site (Some row.now)) visit.entry.guest
+        ensures answer { IfOk result (λ a. a ≡ people_sent visit.entry.exchange.now (on_route
+            (R.page shelf.old.0) visit.entry.browse.now (offers_of visit.entry)
+            (view_of shelf.old.1.site (Some row.now)) visit.entry.guest
             visit.entry.exchange.now.request.now.target
             (people_route_of visit.entry.exchange.now.request.now.target))) }
+        ensures same { shelf.new ≡ shelf.old }
     {
+        self.keep_page(visit, shelf, row);
         people_answer(visit, self.routes, &shelf.view(row))
+    }
+
+    /// Before a request for people is answered: the page that it asks for is made and kept, unless it is kept.
+    fn keep_page<R: Renderer + Drop>(&self, visit: Visit<'_>, shelf: &mut Shelf<R>, row: &Reader)
+        ensures { shelf.new ≡ shelf.old }
+    {
+        let Ok(Some(path)) = page_asked(visit, self.routes) else {
+            return;
+        };
+        shelf.keep_body(visit.frame(), &path, row);
     }
 
     /// The answer to another request, where there are settings for people. A guest edits nothing: they are asked to sign in.

@@ -1,11 +1,15 @@
 //! How the pages for people are set.
 
+ghost use Rattle.std.specs.Prelude.{◌≡◌, IfOk, option_copied};
+
+use doc_page_parts::failure::Memory;
+use doc_page_parts::heap::Heap;
 use doc_page_parts::path::Path;
 use doc_page_parts::text::Text;
 use doc_store_readers::groups::Groups;
 
 /// What whoever runs the site says of the pages for people.
-#[derive(Drop)]
+#[derive(PartialEq, Eq, Drop)]
 pub struct Browse {
     /// The title of the site.
     pub title: Text,
@@ -19,6 +23,30 @@ pub struct Browse {
     pub login: bool,
 }
 
+impl Browse {
+    pub fn copy(&self, heap: Heap) -> Result<Browse, Memory>
+        ensures { IfOk result (λ copy. copy ≡ self.now) }
+    {
+        Ok(Browse {
+            title: self.title.copy(heap)?,
+            language: self.language.copy(heap)?,
+            home: self.home.copy(heap)?,
+            guest: copied(heap, self.guest.as_ref())?,
+            login: self.login,
+        })
+    }
+}
+
+/// Copies of groups, where there are some.
+fn copied(heap: Heap, groups: Option<&Groups>) -> Result<Option<Groups>, Memory>
+    ensures { IfOk result (λ copy. copy ≡ option_copied groups.entry) }
+{
+    let Some(groups) = groups else {
+        return Ok(None);
+    };
+    Ok(Some(groups.copy(heap)?))
+}
+
 /// What is set for a server that runs. No event changes it.
 #[derive(Drop)]
 pub struct Settings {
@@ -29,7 +57,7 @@ pub struct Settings {
 }
 
 /// What the pages offer whoever asks, beside what they show.
-#[derive(Clone, Copy)]
+#[derive(Clone, Copy, PartialEq, Eq)]
 pub struct Offers {
     /// A link to sign in.
     pub sign_in: bool,

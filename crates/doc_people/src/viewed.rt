@@ -1,6 +1,6 @@
 //! What a reader sees of a site, as the pages for people ask for it.
 
-ghost use Rattle.std.specs.Prelude.{◌≡◌, not, Some, IfOk, filter, length, option_copied, option_map, take};
+ghost use Rattle.std.specs.Prelude.{◌≡◌, not, Some, IfOk, IfSome, filter, length, option_copied, option_map, take};
 ghost use Rattle.doc_page_parts.specs.Pages.{filled};
 ghost use Rattle.doc_resolve.specs.Hrefs.{shown};
 ghost use Rattle.doc_store_readers.specs.Pages.{Page};
@@ -9,9 +9,11 @@ ghost use Rattle.doc_people.specs.Folders.{keys};
 ghost use Rattle.doc_people.specs.Hits.{hits};
 ghost use Rattle.doc_people.specs.Lists.{contents_from, sources_from};
 ghost use Rattle.doc_people.specs.Navigation.{is_before, last_ones};
+ghost use Rattle.doc_people.specs.Pages.{page_body};
 ghost use Rattle.doc_people.specs.Sources.{broken_links};
 ghost use Rattle.doc_people.specs.Views.{Renders, rendered_at, rendered_pages, sees};
 
+use crate::settings::{Browse, Offers};
 use crate::term::Term;
 use doc_links_pages::answers::Broken;
 use doc_page_parts::failure::Memory;
@@ -91,7 +93,14 @@ pub trait Viewed {
     /// What these terms find, and of that the first so many.
     fn hits(&self, terms: &[Term], most: usize) -> Result<Found, Memory>
         ensures count { IfOk result (λ found.
-            found.count ≡ length (hits (rendered_pages (render self.now) (view self.now)) terms.now)) }
+            found.count
+            ≡ length (hits (rendered_pages (render self.now) (view self.now)) terms.now)) }
         ensures best { IfOk result (λ found. found.best
             ≡ take most (hits (rendered_pages (render self.now) (view self.now)) terms.now)) };
+
+    /// The page for people that shows the page at a path, as it was made for these settings and offers, where it is kept.
+    fn kept_body(&self, browse: &Browse, offers: Offers, path: &Path) -> Option<&Text>
+        ensures { IfSome result (λ text. option_map
+            (page_body (render self.now) browse.now offers (view self.now) path.now)
+            (rendered_at (render self.now) (view self.now) path.now) ≡ Some text.now) };
 }

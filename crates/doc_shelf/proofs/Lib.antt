@@ -1,2 +1,3 @@
+mod LinkLaws
 mod ShelfSteps
 mod StepLaws

@@ -1,10 +1,14 @@
 -- What edits and looks leave of a shelf.
-use Rattle.std.proofs.Common.{◌≡◌, ℕ, ◌+◌, ◌==◌, Bool, true, false, ltb, List, [], sym, ap, subst, ◌∙◌}
-use Rattle.std.specs.Prelude.{Ok, Err, Option, is_some, if◌then◌else◌}
+use Rattle.std.proofs.Common.{◌≡◌, ℕ, ◌+◌, ◌==◌, Bool, true, false, ltb, List, [], inl, inr, sym, ap, subst, ◌∙◌}
+use Rattle.std.specs.Prelude.{Ok, Err, IfSome, Option, Some, None, is_some, if◌then◌else◌}
+use Rattle.std.specs.Borrow.{Bor}
 use Rattle.std.specs.FinMap as map
 use Rattle.doc_cache.specs.Caches.{Cached, cache_of, cached}
 use Rattle.doc_cache.specs.declared.failure.CacheError.TheVariants as cache_errors
 use Rattle.doc_page_parts.specs.Refusals.{IsAnswer}
+use Rattle.doc_people.specs.declared.settings.Browse.{Browse}
+use Rattle.doc_people.specs.declared.settings.Offers.{Offers}
+use Rattle.doc_store_readers.specs.declared.reader.Reader.{Reader}
 use Rattle.doc_shelf_pages.proofs.Documents.{caches_have_documents}
 use Rattle.doc_shelf_pages.proofs.KeptEdits.{edits_of_kept}
 use Rattle.doc_shelf_pages.specs.Shelves.{HasDocuments, IsBeingPut, IsEdited}
@@ -18,9 +22,13 @@ use Rattle.doc_store.proofs.StoreSteps.{empty_is_store}
 use Rattle.doc_store.specs.Store.{StoreState, empty_store, fits_in, put_by, put_into, with_page}
 use Rattle.doc_store.specs.declared.store.Put.{Put}
 use Rattle.doc_store.specs.declared.store.Put.TheVariants as puts
-use Rattle.doc_rows.proofs.PlaceLaws.{no_rows}
-use Rattle.doc_rows.specs.Rows.{RowMap}
-use Rattle.doc_shelf.specs.Shelves.{InStep, IsWhole, rendered_for}
+use Rattle.doc_shelf.proofs.StepLaws.{no_people_rows}
+use Rattle.doc_shelf.specs.declared.people_rows.PeopleRows.{PeopleRows}
+use Rattle.doc_shelf_views.specs.Linking.{linking}
+use Rattle.doc_shelf.specs.Shelves.{AreBodies, InStep, IsBody, IsWhole, rendered_for}
+use Rattle.doc_shelf_bodies.proofs.BodySteps.{none_kept as keeps_none}
+use Rattle.doc_shelf_bodies.specs.Bodies.{Keeps, KeepsAtMost, KeepsNothing, Made, made_for}
+use Rattle.doc_shelf_bodies.specs.declared.bodies.Bodies.{Bodies}
 
 -- a shelf after an edit
 pub edited : (render : Renders) (old new : StoreState) (before after : Kept) (cache : Cached) → IsShelf render old before cache
@@ -37,15 +45,23 @@ pub edited_by : (render now : Renders) (old new : StoreState) (before after : Ke
 edited_by render now old new before after cache same shelf e =
     subst (λ r. IsShelf r new after cache) (sym same) (edited render old new before after cache shelf e)
 
--- the same with the rows of the pages, where texts are kept as before
-pub edited_whole : (render now : Renders) (old new : StoreState) (before begun after : Kept) (cache : Cached) (rows left : RowMap)
-    → now ≡ render → IsWhole render old before cache rows → begun.with_texts ≡ before.with_texts → after.with_texts ≡ begun.with_texts
+-- where nothing is kept each body is what it is to be
+pub no_bodies : (render : Renders) (store : StoreState) (bodies : Bodies) → KeepsNothing bodies → AreBodies render store bodies
+no_bodies render store bodies none = record { each = λ one keeps. absurd (keeps_none bodies one none keeps) }
+
+-- the same with the rows of the pages, where texts are kept as before, and bodies dropped
+pub edited_whole : (render now : Renders) (old new : StoreState) (before begun after : Kept) (cache : Cached) (rows left : PeopleRows)
+    (bodies dropped : Bodies) → KeepsNothing dropped
+    → now ≡ render → IsWhole render old before cache rows bodies → begun.with_texts ≡ before.with_texts
+    → after.with_texts ≡ begun.with_texts
     → IsEdited render old new after
-    → (InStep begun.with_texts old.site.pages rows → InStep begun.with_texts new.site.pages left)
-    → IsWhole now new after cache left
-edited_whole render now old new before begun after cache rows left same whole e f edit step = record {
+    → (InStep render begun.with_texts old.site.pages rows → InStep render begun.with_texts new.site.pages left)
+    → IsWhole now new after cache left dropped
+edited_whole render now old new before begun after cache rows left bodies dropped none same whole e f edit step = record {
   shelf = edited_by render now old new before after cache same whole.shelf edit;
-  in_step = λ people. step (λ p. whole.in_step (sym e ∙ p)) (sym f ∙ people);
+  in_step = subst (λ r. InStep r after.with_texts new.site.pages left) (sym same)
+      (λ people. step (λ p. whole.in_step (sym e ∙ p)) (sym f ∙ people));
+  are_bodies = no_bodies now new dropped none;
 }
 
 -- under the next stamp nothing is kept
@@ -88,12 +104,14 @@ is_new render store kept with_texts capacity cache none nothing made =
         by_answer false false made = subst (HasDocuments render empty_store) (sym made) (empty_has n)
 
 -- the same with its rows
-pub is_new_whole : (render : Renders) (store : StoreState) (kept : Kept) (with_texts : Bool) (capacity : ℕ) (cache : Cached) (rows : RowMap)
-    → store ≡ empty_store → kept ≡ none_kept with_texts → rows ≡ map.empty → IsAnswer cache_errors.Memory (cache_of capacity) (Ok cache)
-    → IsWhole render store kept cache rows
-is_new_whole render store kept with_texts capacity cache rows none nothing empty made = record {
+pub is_new_whole : (render : Renders) (store : StoreState) (kept : Kept) (with_texts : Bool) (capacity : ℕ) (cache : Cached)
+    (rows : PeopleRows) (bodies : Bodies) → store ≡ empty_store → kept ≡ none_kept with_texts
+    → rows ≡ record { by_group = map.empty; by_link = map.empty } → KeepsNothing bodies
+    → IsAnswer cache_errors.Memory (cache_of capacity) (Ok cache) → IsWhole render store kept cache rows bodies
+is_new_whole render store kept with_texts capacity cache rows bodies none nothing empty dropped made = record {
   shelf = is_new render store kept with_texts capacity cache none nothing made;
-  in_step = λ people. no_rows store.site.pages rows (ap (λ s. s.site.pages) none) empty;
+  in_step = λ people. no_people_rows (linking render) store.site.pages rows (ap (λ s. s.site.pages) none) empty;
+  are_bodies = no_bodies render store bodies dropped;
 }
 
 -- a page that stands is served
@@ -105,12 +123,40 @@ is_served render store kept cache path stamp told page shelf same stands = recor
 }
 
 -- after a look the cache alone is another
-pub looked_at : (render : Renders) (store : StoreState) (kept : Kept) (cache new : Cached) (rows : RowMap) → IsWhole render store kept cache rows
-    → HasDocuments render store new → IsWhole render store kept new rows
-looked_at render store kept cache new rows whole has = record {
+pub looked_at : (render : Renders) (store : StoreState) (kept : Kept) (cache new : Cached) (rows : PeopleRows)
+    (bodies : Bodies) → IsWhole render store kept cache rows bodies → HasDocuments render store new
+    → IsWhole render store kept new rows bodies
+looked_at render store kept cache new rows bodies whole has = record {
   shelf = record { is_store = whole.shelf.is_store; pages = whole.shelf.pages; documents = has };
   in_step = whole.in_step;
+  are_bodies = whole.are_bodies;
 }
+
+-- after a body was kept the bodies alone are others
+pub one_kept : (render : Renders) (store : StoreState) (kept : Kept) (cache : Cached) (rows : PeopleRows) (bodies new : Bodies)
+    (more : Made)
+    → IsWhole render store kept cache rows bodies → KeepsAtMost bodies more new → IsBody render store more
+    → IsWhole render store kept cache rows new
+one_kept render store kept cache rows bodies new more whole keeps is = record {
+  shelf = whole.shelf;
+  in_step = whole.in_step;
+  are_bodies = record {
+    each = λ one stands. elim (keeps one stands) [
+      | inl before ↦ whole.are_bodies.each one before
+      | inr this ↦ subst (IsBody render store) (sym this) is
+    ];
+  };
+}
+
+-- a body that is found is what it is to be
+pub body_found : (render : Renders) (store : StoreState) (bodies : Bodies) (browse : Browse) (offers : Offers) (path : List ℕ)
+    (reader : Reader)
+    (found : Option (Bor (List ℕ))) → AreBodies render store bodies
+    → IfSome found (λ text. Keeps bodies (made_for browse offers path reader text.now))
+    → IfSome found (λ text. IsBody render store (made_for browse offers path reader text.now))
+body_found render store bodies browse offers path reader None are keeps = tt
+body_found render store bodies browse offers path reader (Some text) are keeps =
+    are.each (made_for browse offers path reader text.now) keeps
 
 -- ---- what puts answer, by what a shelf shows
 

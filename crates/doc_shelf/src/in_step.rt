@@ -1,27 +1,25 @@
-//! Edits that keep the rows of a shelf's pages in step, where the shelf is for people.
+//! Puts and removals that keep the rows of a shelf's pages in step, where the shelf is for people.
 //!
-//! A put goes so: the path joins the rows of the new page, the page is put, and the path leaves those rows that the old page alone had.
-//! Where memory is refused, it leaves what it joined, which takes none.
+//! A put goes so: the path joins the rows of the new page, by group and by link, the page is put, and the path leaves those rows that the
+//! old page alone had. Where memory is refused, it leaves what it joined, which takes none.
 
-ghost use Rattle.std.specs.Prelude.{◌≡◌, true, None, Ok, Some, IfOk, OnErr, OnOk, is_some};
+ghost use Rattle.std.specs.Prelude.{◌≡◌, true, Ok, IfOk, OnErr, OnOk, is_some};
 ghost use Rattle.std.specs.FinMap as map;
-ghost use Rattle.doc_page_parts.specs.Refusals.{Gives};
-ghost use Rattle.doc_rows.specs.Rows.{IsRows, IsWider, groups_at};
-ghost use Rattle.doc_shelf.specs.Shelves.{InStep};
-ghost use Rattle.doc_shelf_pages.specs.KeptPages.{IsFree};
+ghost use Rattle.doc_shelf.specs.Shelves.{ArePeopleRows, InStep, IsBeingSet};
 ghost use Rattle.doc_shelf_pages.specs.Shelves.{IsBeingPut, IsEdited, IsKept};
 ghost use Rattle.doc_shelf_pages.specs.Views.{Renders};
-ghost use Rattle.doc_store.specs.Store.{IsStore, fits_in, may_move, moved_in, with_page, without_page};
+ghost use Rattle.doc_shelf_views.specs.Linking.{linking};
+ghost use Rattle.doc_store.specs.Store.{IsStore, fits_in, with_page, without_page};
 
+use crate::page_change::PageChange;
+use crate::people_rows::PeopleRows;
 use doc_page_parts::bytes::Bytes;
 use doc_page_parts::failure::Memory;
 use doc_page_parts::heap::Heap;
 use doc_page_parts::path::Path;
-use doc_rows::rows::Rows;
+use doc_rows_links::targets::Targets;
 use doc_shelf_pages::KeptPages;
-use doc_shelf_pages::edits::{NewPage, end_put, end_put_saying, move_page, remove};
-use doc_store::groups::Groups;
-use doc_store::moving::MoveError;
+use doc_shelf_pages::edits::{NewPage, end_put, remove};
 use doc_store::store::Store;
 
 /// `end_put` with the rows.
@@ -29,7 +27,7 @@ pub(crate) fn end_put_in_step(
     heap: Heap,
     store: &mut Store,
     kept: &mut KeptPages,
-    rows: &mut Rows,
+    rows: &mut PeopleRows,
     path: &Path,
     page: NewPage,
 ) -> Result<Option<u64>, Memory>
@@ -44,18 +42,20 @@ pub(crate) fn end_put_in_step(
         → IsBeingPut render store.old path.now page.entry.text.now kept.old
         → IsEdited render store.old store.new kept.new }
     ensures texts { kept.new.with_texts ≡ kept.old.with_texts }
-    ensures rows { InStep kept.old.with_texts store.old.site.pages rows.old
-        → InStep kept.old.with_texts store.new.site.pages rows.new }
+    ensures rows { (render : Renders) → IsStore store.old
+        → IsBeingPut render store.old path.now page.entry.text.now kept.old
+        → InStep render kept.old.with_texts store.old.site.pages rows.old
+        → InStep render kept.old.with_texts store.new.site.pages rows.new }
 {
-    let Ok(before) = widen(heap, kept.keeps_texts(), store, rows, path, page.groups) else {
+    let Ok(change) = widen(heap, store, kept, rows, path, page) else {
         kept.drop_page(path, page.stamp);
         return Err(Memory);
     };
     let Ok(stood) = end_put(store, kept, path, page) else {
-        rows.narrow_back(path, before.as_ref(), page.groups);
+        rows.narrow_back(path, &change, page.groups);
         return Err(Memory);
     };
-    rows.narrow(path, before.as_ref(), page.groups);
+    rows.narrow(path, &change, page.groups);
     Ok(stood)
 }
 
@@ -64,7 +64,7 @@ pub(crate) fn end_put_saying_in_step(
     heap: Heap,
     store: &mut Store,
     kept: &mut KeptPages,
-    rows: &mut Rows,
+    rows: &mut PeopleRows,
     path: &Path,
     page: NewPage,
     said: Result<Bytes, Memory>,
@@ -79,8 +79,10 @@ pub(crate) fn end_put_saying_in_step(
         → IsBeingPut render store.old path.now page.entry.text.now kept.old
         → IsEdited render store.old store.new kept.new }
     ensures texts { kept.new.with_texts ≡ kept.old.with_texts }
-    ensures rows { InStep kept.old.with_texts store.old.site.pages rows.old
-        → InStep kept.old.with_texts store.new.site.pages rows.new }
+    ensures rows { (render : Renders) → IsStore store.old
+        → IsBeingPut render store.old path.now page.entry.text.now kept.old
+        → InStep render kept.old.with_texts store.old.site.pages rows.old
+        → InStep render kept.old.with_texts store.new.site.pages rows.new }
 {
     if said.is_err() {
         kept.drop_page(path, page.stamp);
@@ -96,7 +98,7 @@ pub(crate) fn end_put_saying_in_step(
 pub(crate) fn remove_in_step(
     store: &mut Store,
     kept: &mut KeptPages,
-    rows: &mut Rows,
+    rows: &mut PeopleRows,
     path: &Path,
 ) -> bool
     ensures answer { result ≡ map.contains_key store.old.site.pages path.now }
@@ -104,92 +106,53 @@ pub(crate) fn remove_in_step(
     ensures kept { (render : Renders) → IsStore store.old → IsKept render store.old kept.old
         → IsEdited render store.old store.new kept.new }
     ensures texts { kept.new.with_texts ≡ kept.old.with_texts }
-    ensures rows { InStep kept.old.with_texts store.old.site.pages rows.old
-        → InStep kept.old.with_texts store.new.site.pages rows.new }
+    ensures rows { (render : Renders) → IsStore store.old → IsKept render store.old kept.old
+        → InStep render kept.old.with_texts store.old.site.pages rows.old
+        → InStep render kept.old.with_texts store.new.site.pages rows.new }
 {
-    lift_page(store, rows, path);
+    lift_page(store, kept, rows, path);
     remove(store, kept, path)
 }
 
-/// `move_page` with the rows.
-pub(crate) fn move_in_step(
-    heap: Heap,
-    store: &mut Store,
-    kept: &mut KeptPages,
-    rows: &mut Rows,
-    from: &Path,
-    to: &Path,
-    stamp: u64,
-) -> Result<(), MoveError>
-    requires may { may_move store.old from.now to.now ≡ Ok tt }
-    requires next { stamp ≡ store.old.puts }
-    requires free { IsFree kept.old to.now stamp }
-    ensures store { Gives MoveError.Memory
-        (moved_in store.old from.now to.now) store.old store.new result }
-    ensures kept { (render : Renders) → IsStore store.old → IsKept render store.old kept.old
-        → IsEdited render store.old store.new kept.new }
-    ensures texts { kept.new.with_texts ≡ kept.old.with_texts }
-    ensures rows { InStep kept.old.with_texts store.old.site.pages rows.old
-        → InStep kept.old.with_texts store.new.site.pages rows.new }
-{
-    if !kept.keeps_texts() {
-        return move_page(store, kept, from, to, stamp);
-    }
-    let Some(groups) = copied_groups(heap, store, from)? else {
-        return Err(MoveError::NoPage);
-    };
-    rows.widen(heap, to, None, &groups)?;
-    let moved = move_page(store, kept, from, to, stamp);
-    if moved.is_ok() {
-        rows.narrow(to, None, &groups);
-        rows.lift(from, &groups);
-        return moved;
-    }
-    rows.narrow_back(to, None, &groups);
-    moved
-}
-
-/// Before a page with these groups is set at a path: a shelf for people widens its rows. It answers the groups of the page that stands
-/// there, which the rows are narrowed by.
+/// Before a page is put at a path: a shelf for people widens its rows. It answers what they are narrowed by.
 fn widen(
     heap: Heap,
-    for_people: bool,
     store: &Store,
-    rows: &mut Rows,
+    kept: &KeptPages,
+    rows: &mut PeopleRows,
     path: &Path,
-    groups: &Groups,
-) -> Result<Option<Groups>, Memory>
-    ensures ok { IfOk result (λ before. for_people ≡ true
-        → IsRows store.now.site.pages rows.old
-        → IsWider store.now.site.pages path.now before groups.now rows.new) }
-    ensures err { OnErr result (for_people ≡ true → IsRows store.now.site.pages rows.old
-        → IsRows store.now.site.pages rows.new) }
+    page: NewPage,
+) -> Result<PageChange, Memory>
+    requires next { page.stamp ≡ store.now.puts }
+    ensures ok { IfOk result (λ change. (render : Renders) → IsStore store.now
+        → IsBeingPut render store.now path.now page.entry.text.now kept.now
+        → kept.now.with_texts ≡ true → ArePeopleRows (linking render) store.now.site.pages rows.old
+        → IsBeingSet render store.now path.now
+        (record { groups = page.entry.groups.now; text = page.entry.text.now }) change rows.new) }
+    ensures err { OnErr result ((render : Renders) → IsStore store.now
+        → IsBeingPut render store.now path.now page.entry.text.now kept.now
+        → kept.now.with_texts ≡ true → ArePeopleRows (linking render) store.now.site.pages rows.old
+        → ArePeopleRows (linking render) store.now.site.pages rows.new) }
 {
-    if !for_people {
-        return Ok(None);
+    if !kept.keeps_texts() {
+        return Ok(PageChange::to_none(heap, Targets::none(heap)));
     }
-    let before = copied_groups(heap, store, path)?;
-    rows.widen(heap, path, before.as_ref(), groups)?;
-    Ok(before)
-}
-
-/// The groups of the page at a path, where one stands there.
-fn copied_groups(heap: Heap, store: &Store, path: &Path) -> Result<Option<Groups>, Memory>
-    ensures { IfOk result (λ groups. groups ≡ groups_at store.now.site.pages path.now) }
-{
-    let Some(page) = store.get(path) else {
-        return Ok(None);
-    };
-    Ok(Some(page.groups().copy(heap)?))
+    let change = PageChange::of_put(heap, store, kept, path, page.stamp)?;
+    rows.widen(heap, path, &change, page.groups)?;
+    Ok(change)
 }
 
 /// Before the page of a path is removed, where one stands: the path leaves its rows.
-fn lift_page(store: &Store, rows: &mut Rows, path: &Path)
-    ensures { IsRows store.now.site.pages rows.old
-        → IsRows (without_page store.now path.now).site.pages rows.new }
+fn lift_page(store: &Store, kept: &KeptPages, rows: &mut PeopleRows, path: &Path)
+    ensures { (render : Renders) → IsKept render store.now kept.now
+        → ArePeopleRows (linking render) store.now.site.pages rows.old
+        → ArePeopleRows (linking render) (without_page store.now path.now).site.pages rows.new }
 {
     let Some(page) = store.get(path) else {
         return;
     };
-    rows.lift(path, page.groups());
+    let Some(links) = kept.links().links_of(path, page.stamp()) else {
+        return;
+    };
+    rows.lift(path, page.groups(), links);
 }

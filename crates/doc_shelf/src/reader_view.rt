@@ -14,6 +14,7 @@ use doc_page_parts::list::List;
 use doc_page_parts::path::Path;
 use doc_page_parts::rendered::Heading;
 use doc_page_parts::text::Text;
+use doc_people::settings::{Browse, Offers};
 use doc_people::term::Term;
 use doc_people::viewed::{Found, Viewed};
 use doc_store::reader::Reader;
@@ -73,5 +74,9 @@ impl<R: Renderer + Drop> Viewed for ReaderView<'_, R> {
 
     fn hits(&self, terms: &[Term], most: usize) -> Result<Found, Memory> {
         self.shelf.hits(self.reader, terms, most)
+    }
+
+    fn kept_body(&self, browse: &Browse, offers: Offers, path: &Path) -> Option<&Text> {
+        self.shelf.kept_body(browse, offers, path, self.reader)
     }
 }

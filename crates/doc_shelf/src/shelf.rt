@@ -1,6 +1,6 @@
 //! The shelf.
 
-ghost use Rattle.std.specs.Prelude.{◌≡◌, ◌+◌, not, IfOk, Ok, OnErr, OnOk, Some, filter, length, option_copied, option_map, take};
+ghost use Rattle.std.specs.Prelude.{◌≡◌, ◌+◌, not, IfOk, IfSome, Ok, OnErr, OnOk, Some, filter, length, option_copied, option_map, take};
 ghost use Rattle.std.specs.FinMap as map;
 ghost use Rattle.doc_http_replies.specs.Heads.{dressed_bytes};
 ghost use Rattle.doc_http_replies.specs.Manners.{dress_of};
@@ -11,6 +11,7 @@ ghost use Rattle.doc_people.specs.Folders.{keys};
 ghost use Rattle.doc_people.specs.Hits.{hits};
 ghost use Rattle.doc_people.specs.Lists.{contents_from, sources_from};
 ghost use Rattle.doc_people.specs.Navigation.{is_before, last_ones};
+ghost use Rattle.doc_people.specs.Pages.{page_body};
 ghost use Rattle.doc_people.specs.Sources.{broken_links};
 ghost use Rattle.doc_people.specs.Views.{rendered_at, rendered_pages, sees};
 ghost use Rattle.doc_resolve.specs.Hrefs.{shown};
@@ -21,7 +22,9 @@ ghost use Rattle.doc_shelf_pages.specs.Views.{backlinks_body, contents_body, rep
 ghost use Rattle.doc_store_readers.specs.Sites.{goal_in, page_at};
 ghost use Rattle.doc_store.specs.Store.{fits_in, moved_in, put_into, with_page, without_page};
 
-use crate::in_step::{end_put_in_step, end_put_saying_in_step, move_in_step, remove_in_step};
+use crate::in_step::{end_put_in_step, end_put_saying_in_step, remove_in_step};
+use crate::moving::move_in_step;
+use crate::people_rows::PeopleRows;
 use crate::reader_view::ReaderView;
 use doc_cache::cache::PageCache;
 use doc_cache::failure::CacheError;
@@ -37,10 +40,13 @@ use doc_page_parts::path::Path;
 use doc_page_parts::rendered::Heading;
 use doc_page_parts::sight::Sight;
 use doc_page_parts::text::Text;
+use doc_people::settings::{Browse, Offers};
 use doc_people::term::Term;
 use doc_people::viewed::Found;
-use doc_rows::rows::Rows;
+use doc_people_pages::page_body;
+use doc_people_shell::frame::Frame;
 use doc_rows_folders::{keys_before, keys_from};
+use doc_shelf_bodies::Bodies;
 use doc_shelf_documents::{Writing, reply_with_page};
 use doc_shelf_hits::hits::hits;
 use doc_shelf_pages::KeptPages;
@@ -66,15 +72,16 @@ pub struct Saying<'a> {
 
 /// The pages of a server, ready to be served. Contracts see the renderer and the store.
 ///
-/// A call that is refused leaves the store as it was. Documents that were made for readers are kept, and nothing that a call answers
-/// depends on which. A shelf keeps the heap that it was made with.
+/// A call that is refused leaves the store as it was. Documents and pages for people that were made for readers are kept, and nothing that
+/// a call answers depends on which. A shelf keeps the heap that it was made with.
 pub struct Shelf<R: Renderer + Drop> {
     heap: Heap,
     renderer: R,
     store: Store,
     kept: KeptPages,
-    rows: Rows,
+    rows: PeopleRows,
     cache: PageCache,
+    bodies: Bodies,
 }
 
 /// Written out, so that it is proved here once: what a derived drop does is proved wherever a value is let go.
@@ -87,6 +94,7 @@ impl<R: Renderer + Drop> Drop for Shelf<R> {
             kept: _,
             rows: _,
             cache: _,
+            bodies: _,
         } = self;
     }
 }
@@ -102,12 +110,12 @@ impl<R: Renderer + Drop> Model for Shelf<R> {
 
     ghost view = { λ s. (s.renderer, s.store) };
 
-    ghost invariant = { λ s. IsWhole (R.page s.renderer) s.store s.kept s.cache s.rows };
+    ghost invariant = { λ s. IsWhole (R.page s.renderer) s.store s.kept s.cache s.rows s.bodies };
 }
 
 impl<R: Renderer + Drop> Shelf<R> {
-    /// A shelf without pages, whose cache has room for so many documents, 1 to 4,096. `for_people` says whether the pages for people are
-    /// served of it: then the texts of pages are kept too, and the rows of the pages.
+    /// A shelf without pages, whose cache has room for so many documents, 1 to 4,096, and which keeps as many pages for people.
+    /// `for_people` says whether the pages for people are served of it: then the texts of pages are kept too, and the rows of the pages.
     pub fn new(
         heap: Heap,
         renderer: R,
@@ -122,8 +130,9 @@ impl<R: Renderer + Drop> Shelf<R> {
             renderer,
             store: Store::new(heap),
             kept: KeptPages::new(heap, for_people),
-            rows: Rows::new(heap),
+            rows: PeopleRows::new(heap),
             cache,
+            bodies: Bodies::new(heap, capacity),
         })
     }
 
@@ -142,6 +151,24 @@ impl<R: Renderer + Drop> Shelf<R> {
             shelf: self,
             reader,
         }
+    }
+
+    /// Keeps the page for people that shows a reader the page at a path, where they see one, unless it is kept. Where memory is refused it
+    /// isn't kept. Each edit drops all of these.
+    pub fn keep_body(&mut self, frame: Frame<'_>, path: &Path, reader: &Reader)
+        ensures same { self.new ≡ self.old }
+    {
+        if self
+            .kept_body(frame.browse, frame.offers, path, reader)
+            .is_some()
+        {
+            return;
+        }
+        let Ok(Some(body)) = page_body(frame, &self.view(reader), path) else {
+            return;
+        };
+        self.bodies
+            .keep(frame.browse, frame.offers, path, reader, body);
     }
 
     /// Puts a page, as `Store::put`. Its text is rendered once where the put fits, and not at all where it doesn't.
@@ -166,6 +193,7 @@ impl<R: Renderer + Drop> Shelf<R> {
             text,
             stamp,
         };
+        self.bodies.clear();
         Ok(put_over(end_put_in_step(
             self.heap,
             &mut self.store,
@@ -212,6 +240,7 @@ impl<R: Renderer + Drop> Shelf<R> {
             text,
             stamp,
         };
+        self.bodies.clear();
         end_put_saying_in_step(
             self.heap,
             &mut self.store,
@@ -229,6 +258,7 @@ impl<R: Renderer + Drop> Shelf<R> {
         ensures store { self.new.1 ≡ without_page self.old.1 path.now }
         ensures same { self.new.0 ≡ self.old.0 }
     {
+        self.bodies.clear();
         remove_in_step(&mut self.store, &mut self.kept, &mut self.rows, path)
     }
 
@@ -239,6 +269,7 @@ impl<R: Renderer + Drop> Shelf<R> {
         ensures same { self.new.0 ≡ self.old.0 }
     {
         let stamp = stamp_of_move(&self.store, from, to)?;
+        self.bodies.clear();
         move_in_step(
             self.heap,
             &mut self.store,
@@ -311,6 +342,23 @@ impl<R: Renderer + Drop> Shelf<R> {
         report(self.heap, &self.store, &self.kept, reader)
     }
 
+    /// The page for people that shows a reader the page at a path, as it was made for these settings and offers, where it is kept.
+    pub(crate) fn kept_body(
+        &self,
+        browse: &Browse,
+        offers: Offers,
+        path: &Path,
+        reader: &Reader,
+    ) -> Option<&Text>
+        ensures { IfSome result (λ text. option_map
+            (page_body (R.page self.now.0) browse.now offers
+            (seen_in self.now.1 reader.now) path.now)
+            (rendered_at (R.page self.now.0) (seen_in self.now.1 reader.now) path.now)
+            ≡ Some text.now) }
+    {
+        self.bodies.find(browse, offers, path, reader)
+    }
+
     /// Whether a reader sees a page at a path.
     pub(crate) fn sees(&self, path: &str, reader: &Reader) -> Result<bool, Memory>
         ensures { IfOk result (λ seen. seen ≡ sees (seen_in self.now.1 reader.now) path.now) }
@@ -374,10 +422,11 @@ impl<R: Renderer + Drop> Shelf<R> {
         if !self.kept.keeps_texts() {
             return Err(Memory);
         }
-        keys_from(self.heap, &self.rows, reader, folder, from, most)
+        keys_from(self.heap, &self.rows.by_group, reader, folder, from, most)
     }
 
-    /// What stands in a folder for a reader and comes before a text: the last so many. Of a shelf that isn't for people it answers `Memory`.
+    /// What stands in a folder for a reader and comes before a text: the last so many. Of a shelf that isn't for people it answers
+    /// `Memory`.
     pub(crate) fn keys_before(
         &self,
         reader: &Reader,
@@ -392,10 +441,10 @@ impl<R: Renderer + Drop> Shelf<R> {
         if !self.kept.keeps_texts() {
             return Err(Memory);
         }
-        keys_before(self.heap, &self.rows, reader, folder, before, most)
+        keys_before(self.heap, &self.rows.by_group, reader, folder, before, most)
     }
 
-    /// The other pages that link to a page that a reader sees.
+    /// The other pages that link to a page that a reader sees. Of a shelf that isn't for people it answers `Memory`.
     pub(crate) fn sources_from(
         &self,
         path: &Path,
@@ -406,24 +455,53 @@ impl<R: Renderer + Drop> Shelf<R> {
         ensures { IfOk result (λ found. found ≡ take most
             (sources_from (R.page self.now.0) (seen_in self.now.1 reader.now) path.now from.now)) }
     {
-        links::sources_from(self.heap, &self.store, &self.kept, path, reader, from, most)
+        if !self.kept.keeps_texts() {
+            return Err(Memory);
+        }
+        links::sources_from(
+            self.heap,
+            &self.store,
+            &self.kept,
+            &self.rows.by_link,
+            path,
+            reader,
+            from,
+            most,
+        )
     }
 
-    /// The links that are broken for a reader.
+    /// The links that are broken for a reader. Of a shelf that isn't for people it answers `Memory`.
     pub(crate) fn broken_from(&self, reader: &Reader, from: &str) -> Result<List<Broken>, Memory>
-        ensures { IfOk result (λ found. found ≡ filter (λ link. not (is_before link.source from.now))
+        ensures { IfOk result (λ found. found
+            ≡ filter (λ link. not (is_before link.source from.now))
             (broken_links (R.page self.now.0) (seen_in self.now.1 reader.now))) }
     {
-        links::broken_from(&self.store, &self.kept, reader, from)
+        if !self.kept.keeps_texts() {
+            return Err(Memory);
+        }
+        let rows = &self.rows.by_group;
+        links::broken_from(self.heap, &self.store, &self.kept, rows, reader, from)
     }
 
-    /// What these terms find for a reader, and of that the first so many.
+    /// What these terms find for a reader, and of that the first so many. Of a shelf that isn't for people it answers `Memory`.
     pub(crate) fn hits(&self, reader: &Reader, terms: &[Term], most: usize) -> Result<Found, Memory>
         ensures count { IfOk result (λ found. found.count ≡ length (hits (rendered_pages
             (R.page self.now.0) (seen_in self.now.1 reader.now)) terms.now)) }
         ensures best { IfOk result (λ found. found.best ≡ take most (hits (rendered_pages
             (R.page self.now.0) (seen_in self.now.1 reader.now)) terms.now)) }
     {
-        hits(self.heap, &self.store, &self.kept, reader, terms, most)
+        if !self.kept.keeps_texts() {
+            return Err(Memory);
+        }
+        let rows = &self.rows.by_group;
+        hits(
+            self.heap,
+            &self.store,
+            &self.kept,
+            rows,
+            reader,
+            terms,
+            most,
+        )
     }
 }

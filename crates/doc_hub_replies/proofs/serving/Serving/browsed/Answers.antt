@@ -1,4 +1,4 @@
-use Rattle.std.proofs.Common.{Some, sym, ◌∙◌}
+use Rattle.std.proofs.Common.{Some, ap, sym, ◌∙◌}
 use Rattle.doc_store_readers.specs.Sites.{view_of}
 use Rattle.doc_hub_answers.specs.Edits.{puts_left}
 use Rattle.doc_hub_people.specs.Asking.{reader_asking, row_of}
@@ -25,7 +25,9 @@ returns-then-is_for_people-clause-answer g c =
     people_so browse (g.R.Renderer.page c.args.shelf.now.0) store (puts_left store.puts)
     (closes_after c.args.self.now.settings.now request) request (asking_shown c.in_ok-asking.asking)
     (reader_asking (Some browse) c.args.self.now.readers.now request) c.in_ok-asking.ensures c.people.result
-    (sym c.asks_for_style.ensures ∙ c.if-asks_for_style.false) (sym c.is_for_people.ensures ∙ c.if-is_for_people.true) c.people.ensures
+    c.people.new.shelf.1 (ap (λ s. s.1) c.people.ensures.same)
+    (sym c.asks_for_style.ensures ∙ c.if-asks_for_style.false) (sym c.is_for_people.ensures
+    ∙ c.if-is_for_people.true) c.people.ensures.answer
 
 pub returns-clause-answer : goal.returns-clause-answer
 returns-clause-answer g c =

@@ -7,8 +7,8 @@ use Rattle.doc_hub_replies.proofs.ServingSteps.{nobody_is_told, sent_to_people, 
 use Rattle.doc_hub_replies.proofs.serving.Serving.people.Goals as goal
 use Rattle.doc_hub_replies.specs.ServingSteps.{closes_after}
 
-pub returns-in-None : goal.returns-in-None
-returns-in-None g c =
+pub returns-in-None-clause-answer : goal.returns-in-None-clause-answer
+returns-in-None-clause-answer g c =
     let request = c.args.request.now in
     let browse = c.args.browse.now in
     let asking = asking_shown c.args.asking.now in
@@ -19,8 +19,8 @@ returns-in-None g c =
     (nobody_is_told render browse request (view_of c.args.shelf.now.1.site (row_of asking)) asking c.in-None.ensures)
     c.unauthorized.ensures
 
-pub returns-in-Some : goal.returns-in-Some
-returns-in-Some g c =
+pub returns-in-Some-clause-answer : goal.returns-in-Some-clause-answer
+returns-in-Some-clause-answer g c =
     let request = c.args.request.now in
     let browse = c.args.browse.now in
     let asking = asking_shown c.args.asking.now in
@@ -31,4 +31,4 @@ returns-in-Some g c =
     (somebody_is_shown render browse request c.args.shelf.now.1.site c.in-Some.row.now c.is_guest.result
     c.exchange-exchange.result.request.now.target asking c.in-Some.ensures c.is_guest.ensures
     (ap (λ (r : Request). r.target) c.exchange-exchange.ensures.request))
-    c.shown.ensures
+    c.shown.ensures.answer

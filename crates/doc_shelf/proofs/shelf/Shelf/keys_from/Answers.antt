@@ -8,4 +8,5 @@ pub returns : goal.returns
 returns g c =
     subst (λ s. IfOk c.keys_from.result (λ found. found ≡ take c.args.most
     (contents_from (seen_in s.1 c.args.reader.now) c.args.folder.now c.args.from.now))) c.self.view_is
-    (c.keys_from.ensures c.self.inside.store.site (c.self.invariant.in_step (sym c.keeps_texts.ensures ∙ c.if-not-keeps_texts.false)))
+    (c.keys_from.ensures c.self.inside.store.site
+    (c.self.invariant.in_step (sym c.keeps_texts.ensures ∙ c.if-not-keeps_texts.false)).by_group)

@@ -13,7 +13,8 @@ invariant_of-self g c =
     let render = g.R.Renderer.page c.self.inside.renderer in
     let store = c.self.inside.store in
     let page = c.in-Some.page.now in
-    looked_at render store c.self.inside.kept c.self.inside.cache c.reply_with_page.new.cache c.self.inside.rows c.self.invariant
+    looked_at render store c.self.inside.kept c.self.inside.cache c.reply_with_page.new.cache c.self.inside.rows c.self.inside.bodies
+    c.self.invariant
     (c.reply_with_page.ensures.cache render store page.page
     (is_served render store c.self.inside.kept c.self.inside.cache c.args.path.now page.stamp c.stamp-stamp.result page.page
     c.self.invariant.shelf

@@ -10,12 +10,13 @@ invariant_of-self-2 g c =
     let store = c.self.inside.store in
     let begun = c.begin_put.new.kept in
     let new = c.end_put_saying_in_step.new in
+    let put = is_being_put render store c.self.inside.kept begun c.self.inside.cache c.args.path.now c.args.text.now c.in-Some.stamp
+    c.self.invariant.shelf c.in-Some.ensures.next c.in_ok-begin_put.ensures.ok in
     edited_whole render (g.R.Renderer.page c.begin_put.new.renderer) store new.store c.self.inside.kept begun new.kept c.self.inside.cache
-    c.self.inside.rows new.rows c.in_ok-begin_put.ensures.same c.self.invariant
+    c.self.inside.rows new.rows c.self.inside.bodies c.clear.new.self c.clear.ensures c.in_ok-begin_put.ensures.same c.self.invariant
     (ap (λ k. k.with_texts) c.in_ok-begin_put.ensures.ok) c.end_put_saying_in_step.ensures.texts
-    (c.end_put_saying_in_step.ensures.kept render c.self.invariant.shelf.is_store
-    (is_being_put render store c.self.inside.kept begun c.self.inside.cache c.args.path.now c.args.text.now c.in-Some.stamp
-    c.self.invariant.shelf c.in-Some.ensures.next c.in_ok-begin_put.ensures.ok)) c.end_put_saying_in_step.ensures.rows
+    (c.end_put_saying_in_step.ensures.kept render c.self.invariant.shelf.is_store put)
+    (c.end_put_saying_in_step.ensures.rows render c.self.invariant.shelf.is_store put)
 
 pub returns-in_default-clause-counted : goal.returns-in_default-clause-counted
 returns-in_default-clause-counted g c =

@@ -1,0 +1,3 @@
+pub mod BodySteps
+mod EqualSteps
+mod TableSteps
