@@ -8,6 +8,8 @@
 - What README.md says of site/try.toml: a link of the front page leads nowhere, until Ann has signed in.
 - A page whose own HTML tries all that HTML can do by itself (scripts, styles, frames, forms, refreshes, addresses of other sites) does
   none of it, at its address and where Back shows its plain form, which a picture of another page has brought into the browser's cache.
+- A page whose own HTML tries all that could cover the bar (pictures drawn beyond their frame, the sheet's classes, popovers, dialogs)
+  covers none of it.
 
     python3 scripts/site/browser.py PROGRAM
 
@@ -86,6 +88,19 @@ def hostile(elsewhere):
 """
 
 
+def covering():
+    """HTML that would stand over the bar: what is drawn beyond its frame, a class of the sheet's, a popover, and dialogs."""
+    picture = "<svg width='1400' height='900'><rect width='1400' height='900' fill='red'/></svg>"
+    return f"""# Covering
+
+<div><svg width="9" height="9" overflow="visible"><rect x="-2000" y="-2000" width="6000" height="6000" fill="red"/></svg>
+<div id="skipped" class="skip" tabindex="0"><svg width="900" height="40"><rect width="900" height="40" fill="red"/></svg></div>
+<button id="pop" popovertarget="popped">Pop</button> <div id="popped" class="frame bare" popover>{picture}</div>
+<button id="ask" commandfor="asked" command="show-modal">Ask</button> <dialog id="asked">{picture}</dialog>
+<dialog id="open" open>{picture}</dialog><body class="over frame bare pager" hidden></div>
+"""
+
+
 def pages(elsewhere):
     """Paths, groups and texts."""
     public, staff = ["public", "staff"], ["staff"]
@@ -105,6 +120,7 @@ def pages(elsewhere):
                              "`" + "y" * 300 + "`\n\n<img alt=\"\" src=\"data:image/svg+xml,%3Csvg xmlns='http://www.w3.org/2000/svg' "
                              "width='3000' height='20'/%3E\">\n")
     yield "hostile.md", staff, hostile(elsewhere)
+    yield "covering.md", staff, covering()
     yield "pictures.md", staff, '# Pictures\n\n<img src="/page/hostile.md" alt="a page as a picture">\n'
     for number in range(230):
         yield f"many/page-{number:03}.md", staff, f"# Page {number}\n\n[Parts](../guide/parts.md), twice: [parts](../guide/parts.md).\n"
@@ -194,7 +210,7 @@ def check_guest(look, guest):
     base = look.base
     guest.go(base + "/")
     look.at(guest, "the front", "/page/index.md", "Welcome")
-    scene.check("the style sheet", guest.replies.get(base + "/style.css?1", {}).get("status") == 200, list(guest.replies))
+    scene.check("the style sheet", guest.replies.get(base + "/style.css?2", {}).get("status") == 200, list(guest.replies))
     scene.check("it counts", guest.style(guest.node("body > header"))["display"] == "flex")
     missing = guest.attributes("main a.missing")
     scene.check("a hidden page's link has no address", missing == [{"class": "missing"}], missing)
@@ -354,6 +370,36 @@ def check_hostile(look, ann):
     scene.check("no window was opened", look.browser.opened == opened)
 
 
+def bar_is_seen(name, window):
+    """What is met at some places of the bar is of the bar, which begins the page and is as wide as the window."""
+    bar = window.nodes("body > :first-child + header, body > :first-child + header *")
+    box = window.ask("DOM.getBoxModel", nodeId=bar[0])["model"]
+    scene.check(f"{name}: the bar stands above all", box["border"][:2] == [0, 0] and box["width"] == 1280, box)
+    met = [(x, y) for x in (30, 400, 640, 1250) for y in (5, 30, 50) if window.node_at(x, y) not in bar]
+    scene.check(f"{name}: nothing covers the bar", not met, met)
+
+
+def check_covering(look, ann):
+    """A page whose own HTML tries to stand over the bar."""
+    ann.go(look.base + "/page/covering.md")
+    bar_is_seen("covering", ann)
+    ann.quietly(lambda: ann.ask("DOM.focus", nodeId=ann.node("#skipped")))
+    scene.check("what would be over the bar has the focus", len(ann.nodes("#skipped:focus")) == 1)
+    bar_is_seen("covering, with the focus", ann)
+    ann.click(ann.node("#pop"), quiet=True)
+    bar_is_seen("covering, with a popover", ann)
+    look.picture(ann, "covering")
+    ann.click(ann.node("#ask"), quiet=True)
+    scene.check("the dialog is asked for", len(ann.nodes("dialog:modal")) == 1)
+    shown = [ann.style(node)["display"] for node in ann.nodes("[popover], dialog")]
+    scene.check("neither popover nor dialogs are shown", shown == ["none"] * 3, shown)
+    look.picture(ann, "covering-dialog")
+    ann.go(look.base + "/page/index.md")
+    ann.press("Tab")
+    skip = ann.node("body > .skip:focus")
+    scene.check("the link that skips to the content stands over the bar", ann.node_at(30, 30) == skip)
+
+
 def check_plain(look, ann):
     """The plain form of a hostile page as a document: where Back may show what a picture has brought into the browser's cache, and where
     the browser is made to ask as for a picture."""
@@ -441,7 +487,7 @@ def main():
     check_heads(server.port)
     person = look.browser.window()
     person.looks()
-    for check in (check_guest, check_sign_in, check_navigation, check_lists, check_looks, check_hostile, check_plain):
+    for check in (check_guest, check_sign_in, check_navigation, check_lists, check_looks, check_hostile, check_covering, check_plain):
         try:
             check(look, person)
         except Failed as failed:

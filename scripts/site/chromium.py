@@ -213,6 +213,10 @@ class Window:
                 return node
         raise Failed(f"{self.path()}: no {selector} {text or ''}")
 
+    def node_at(self, x, y):
+        """The node that a click at a place would meet, of the document whose nodes were asked for last."""
+        return self.ask("DOM.getNodeForLocation", x=x, y=y)["nodeId"]
+
     def html_of(self, node):
         return self.ask("DOM.getOuterHTML", nodeId=node)["outerHTML"]
 

@@ -1,9 +1,7 @@
--- Examples: values of settings, and which Accept fields ask for the pages for people.
+-- Examples: values of settings.
 use Rattle.std.proofs.Common.{◌≡◌, [], ◌∷◌, true, false, replicate, refl}
 use Rattle.std.specs.Prelude.{codes}
 use Rattle.std.specs.Str.{chars}
-use Rattle.doc_page_parts.specs.Lines.{stripped}
-use Rattle.doc_people.specs.Accepts.{names_html}
 use Rattle.doc_people.specs.Settings.{is_title, is_language}
 
 -- ---- titles
@@ -40,20 +38,3 @@ languages :
     × (is_language (codes "aa-bbbbbbbb-cccccccc-dddddddd-eeeeee") ≡ false)
 unfolding is_language
 languages = (refl, refl, refl, refl, refl, refl, refl, refl, refl, refl, refl, refl)
-
--- ---- Accept fields
-
-accepts :
-    (names_html (codes "text/html" ∷ []) ≡ true)
-    × (names_html (codes "text/html;q=0" ∷ []) ≡ true)
-    × (names_html (codes "text/plain, \tTEXT/Html ;q=0.9,*/*" ∷ []) ≡ true)
-    × (names_html (codes "text/plain" ∷ codes "text/html" ∷ []) ≡ true)
-    × (names_html (codes "*/*" ∷ []) ≡ false)
-    × (names_html (codes "text/*" ∷ []) ≡ false)
-    × (names_html (codes "text/htmlx" ∷ []) ≡ false)
-    × (names_html (codes "text/plain;text/html" ∷ []) ≡ false)
-    × (names_html (codes "text / html" ∷ []) ≡ false)
-    × (names_html ([] ∷ []) ≡ false)
-    × (names_html [] ≡ false)
-unfolding names_html stripped
-accepts = (refl, refl, refl, refl, refl, refl, refl, refl, refl, refl, refl)

@@ -1,6 +1,5 @@
 pub mod Limits
 pub mod Settings
-pub mod Accepts
 pub mod Views
 pub mod Folders
 pub mod Inert

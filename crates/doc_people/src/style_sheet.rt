@@ -29,6 +29,8 @@ pub const STYLE_SHEET: &str = r##":root {
   }
 }
 * { box-sizing: border-box; }
+html, body { display: block !important; max-width: none !important; margin: 0 !important; padding: 0 !important; }
+[popover], dialog { display: none !important; }
 html { -webkit-text-size-adjust: 100%; text-size-adjust: 100%; scroll-padding-top: 1rem; }
 body {
   margin: 0;
@@ -45,8 +47,8 @@ a:focus-visible, button:focus-visible, input:focus-visible, summary:focus-visibl
 a.missing { color: var(--bad); text-decoration: underline dashed; cursor: help; }
 a.missing::after { content: "\2009?"; font-size: 0.8em; vertical-align: super; line-height: 0; }
 .sr { position: absolute; width: 1px; height: 1px; margin: -1px; overflow: hidden; clip-path: inset(50%); }
-.skip { position: absolute; left: -100rem; }
-.skip:focus { left: 0.5rem; top: 0.5rem; padding: 0.5rem 1rem; background: var(--ground); }
+body > .skip:first-child { position: absolute; left: -100rem; }
+body > .skip:first-child:focus { z-index: 2; left: 0.5rem; top: 0.5rem; padding: 0.5rem 1rem; background: var(--ground); }
 
 body > header {
   display: flex;
@@ -57,6 +59,7 @@ body > header {
   background: var(--bar);
   color: var(--on-bar);
 }
+body > :first-child + header { position: relative; z-index: 1; }
 body > header a { color: inherit; text-decoration: none; }
 body > header a:hover { text-decoration: underline; }
 body > header a:focus-visible, body > header button:focus-visible, body > header input:focus-visible {

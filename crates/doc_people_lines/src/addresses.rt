@@ -2,6 +2,7 @@
 
 ghost use Rattle.std.specs.Prelude.{◌≡◌, ◌++◌, string_bytes, OnOk};
 ghost use Rattle.doc_people.specs.Folders.{contents_href, folder_href, page_href};
+ghost use Rattle.doc_people.specs.Pages.{backlinks_href};
 
 use crate::texts::index_of;
 use doc_page_encoding::encoding::push_encoded_path;
@@ -17,9 +18,18 @@ pub fn push_page_href(out: &mut String, path: &str) -> Result<(), Memory>
     push_encoded_path(out, path)
 }
 
+/// Writes the address of the list of all pages that link to a page.
+pub fn push_backlinks_href(out: &mut String, path: &str) -> Result<(), Memory>
+    ensures { OnOk result (string_bytes out.new ≡ string_bytes out.old ++ backlinks_href path.now) }
+{
+    out.push_str("/backlinks/")?;
+    push_encoded_path(out, path)
+}
+
 /// Writes the address of the contents of a folder.
 pub fn push_contents_href(out: &mut String, folder: &str) -> Result<(), Memory>
-    ensures { OnOk result (string_bytes out.new ≡ string_bytes out.old ++ contents_href folder.now) }
+    ensures { OnOk result (string_bytes out.new
+        ≡ string_bytes out.old ++ contents_href folder.now) }
 {
     if folder.is_empty() {
         out.push_str("/contents")?;

@@ -90,7 +90,8 @@ fn first_characters(heap: Heap, text: &str) -> Result<String, Memory>
 
 /// Writes a text, shortened, and escaped.
 pub fn push_escaped_short(out: &mut String, heap: Heap, text: &str) -> Result<(), Memory>
-    ensures { OnOk result (string_bytes out.new ≡ string_bytes out.old ++ escaped (short text.now)) }
+    ensures { OnOk result (string_bytes out.new
+        ≡ string_bytes out.old ++ escaped (short text.now)) }
 {
     let text = short(heap, text)?;
     push_escaped(out, text.get())

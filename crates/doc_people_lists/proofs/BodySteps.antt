@@ -64,7 +64,8 @@ module _ (render : Renders) (view : View) where
         (main_is
         ∙ ap (λ t. contents_with render view folder from t keys) written_is
         ∙ ap (contents_main render view folder from) keys_are ∙ contents_shown folder from (contents_from view folder from))
-        ∙ ap (λ t. shell render settings offers view t (Some folder) (contents_main render view folder from (contents_from view folder from)) [])
+        ∙ ap (λ t. shell render settings offers view t (Some folder)
+        (contents_main render view folder from (contents_from view folder from)) [])
         title_is
 
     pub backlinks_made : (path from title folder main : List ℕ) (sources : List (List ℕ × ℕ))

@@ -24,7 +24,8 @@ after_first : (x y : Broken) (ys : List Broken) → by_source (y ∷ ys)
     ∷ by_source (drop (cond same (1 + prefix_len (is_of x.source) ys) 0) (y ∷ ys))
 after_first x y ys split true is =
     let e : y.source ≡ x.source = bytes_eq_true y.source x.source is in
-    ap (λ (source : List ℕ). (source, x ∷ y ∷ take (prefix_len (is_of source) ys) ys) ∷ by_source (drop (prefix_len (is_of source) ys) ys)) e
+    ap (λ (source : List ℕ). (source, x ∷ y ∷ take (prefix_len (is_of source) ys) ys)
+    ∷ by_source (drop (prefix_len (is_of source) ys) ys)) e
     ∙ ap (λ n. (x.source, x ∷ take n (y ∷ ys)) ∷ by_source (drop n (y ∷ ys))) (sym (one-add (prefix_len (is_of x.source) ys)))
 after_first x y ys split false is = ap (λ groups. (x.source, x ∷ []) ∷ groups) (sym split)
 
@@ -83,7 +84,8 @@ pub group_written : (html : Group → List ℕ) (all : List Group) (k : ℕ) (re
     → front ≡ take n rest → behind ≡ drop n rest → named ≡ x.source → out ≡ old ++ flat_map html (take k all)
     → new ≡ out ++ html (named, front)
     → (new ≡ old ++ flat_map html (take (k + 1) all)) × (by_source behind ≡ drop (k + 1) all)
-group_written html all k rest front behind x n source named old out new left is source_is counted front_is behind_is named_is so_far written =
+group_written html all k rest front behind x n source named old out new left is source_is counted front_is behind_is named_is so_far
+    written =
     let group = next_group rest x n is (counted ∙ ap (λ s. prefix_len (is_of s) rest) source_is) in
     let step = groups_more html all k (x.source, take n rest) (by_source (drop n rest)) old out new (sym left ∙ group) so_far
     (written ∙ ap (λ s. out ++ html (s, front)) named_is ∙ ap (λ ls. out ++ html (x.source, ls)) front_is) in
@@ -109,7 +111,8 @@ some_groups render view note (x ∷ xs) some =
     ∙ ap (λ groups. broken_head ++ flat_map (broken_group render view) (take 50 groups) ++ codes "</table>\n") (sym is)
 
 front_source : (links : List Broken)
-    → option_map (λ (link : Broken). link.source) (slice_get links 0) ≡ option_map (λ (group : Group). group.0) (slice_get (by_source links) 0)
+    → option_map (λ (link : Broken). link.source) (slice_get links 0)
+    ≡ option_map (λ (group : Group). group.0) (slice_get (by_source links) 0)
 front_source [] = refl
 front_source (x ∷ xs) = sym (ap (λ groups. option_map (λ (group : Group). group.0) (slice_get groups 0)) (first_group x xs))
 

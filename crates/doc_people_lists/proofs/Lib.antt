@@ -2,4 +2,3 @@ mod BodySteps
 mod GroupSteps
 mod PartSteps
 mod SeenSteps
-mod WriteSteps

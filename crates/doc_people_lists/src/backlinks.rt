@@ -12,12 +12,12 @@ ghost use Rattle.doc_store_readers.specs.Sites.{page_at};
 
 use crate::fronts::{ENTRY_ROOM, LIST_LIMIT, next_source, shown_sources};
 use crate::parts::{push_list_end, push_list_start, push_note_from, push_pager};
-use doc_page_encoding::encoding::push_encoded_path;
 use doc_page_parts::failure::Memory;
 use doc_page_parts::heap::{Heap, String};
 use doc_page_parts::path::Path;
 use doc_page_parts::text::Text;
 use doc_people::viewed::Viewed;
+use doc_people_lines::addresses::push_backlinks_href;
 use doc_people_lines::links::{push_page_and_path, push_page_link};
 use doc_people_lines::number::push_number;
 use doc_people_lines::texts::folder_of;
@@ -148,17 +148,11 @@ fn push_backlinks_pager(
     push_pager(out, address.as_str(), from, next)
 }
 
-fn push_backlinks_href(out: &mut String, path: &str) -> Result<(), Memory>
-    ensures { OnOk result (string_bytes out.new ≡ string_bytes out.old ++ backlinks_href path.now) }
-{
-    out.push_str("/backlinks/")?;
-    push_encoded_path(out, path)
-}
-
 /// The title of the list.
 fn backlinks_title<V: Viewed>(heap: Heap, view: &V, path: &str) -> Result<Text, Memory>
     ensures { IfOk result (λ title.
-        title ≡ codes "Pages that link to " ++ label (V.render view.now) (V.view view.now) path.now) }
+        title ≡ codes "Pages that link to "
+        ++ label (V.render view.now) (V.view view.now) path.now) }
 {
     let label = label(heap, view, path)?;
     let mut title = String::from_str(heap, "Pages that link to ")?;

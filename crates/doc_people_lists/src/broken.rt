@@ -85,7 +85,8 @@ fn push_table<'a, V: Viewed>(
         (V.render view.now) (V.view view.now)
         (note_from from.now (codes "No link is broken on the pages that you may read."))
         (take source_limit (by_source links.now))) }
-    ensures left { IfOk result (λ left. by_source left.now ≡ drop source_limit (by_source links.now)) }
+    ensures left { IfOk result (λ left. by_source left.now
+        ≡ drop source_limit (by_source links.now)) }
 {
     if links.is_empty() {
         push_note_from(
@@ -119,8 +120,10 @@ fn push_groups<'a, V: Viewed>(
     links: &'a [Broken],
 ) -> Result<&'a [Broken], Memory>
     ensures written { OnOk result (string_bytes out.new ≡ string_bytes out.old ++ flat_map
-        (broken_group (V.render view.now) (V.view view.now)) (take source_limit (by_source links.now))) }
-    ensures left { IfOk result (λ left. by_source left.now ≡ drop source_limit (by_source links.now)) }
+        (broken_group (V.render view.now) (V.view view.now))
+        (take source_limit (by_source links.now))) }
+    ensures left { IfOk result (λ left. by_source left.now
+        ≡ drop source_limit (by_source links.now)) }
 {
     let mut rest = links;
     for _shown in 0..SOURCE_LIMIT {
@@ -270,7 +273,8 @@ fn push_missing_heading<V: Viewed>(
     target: &str,
 ) -> Result<(), Memory>
     ensures { OnOk result (string_bytes out.new ≡ string_bytes out.old
-        ++ missing_heading (V.view view.now) (written_path target.now) (written_anchor target.now)) }
+        ++ missing_heading (V.view view.now) (written_path target.now)
+        (written_anchor target.now)) }
 {
     let (path, anchor) = parts_of(target);
     let anchor = decoded_text(heap, anchor)?;

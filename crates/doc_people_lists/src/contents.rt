@@ -184,7 +184,8 @@ fn push_contents_main<V: Viewed>(
     ensures { OnOk result (string_bytes out.new ≡ string_bytes out.old
         ++ (codes "<h1>" ++ escaped title.now ++ codes "</h1>\n"
         ++ list_or_note (contents_line (V.render view.now) (V.view view.now))
-        (note_from from.now (codes "There is no page that you may read.")) (take list_limit keys.now)
+        (note_from from.now (codes "There is no page that you may read."))
+        (take list_limit keys.now)
         ++ pager (contents_href folder.now) from.now (slice_get keys.now list_limit))) }
 {
     push_heading(out, title)?;

@@ -45,7 +45,8 @@ pub(crate) fn shown_sources(sources: &[(Path, u64)]) -> &[(Path, u64)]
 
 /// The page behind those that are shown.
 pub(crate) fn next_source(sources: &[(Path, u64)]) -> Option<&str>
-    ensures { option_copied result ≡ option_map (λ source. source.0) (slice_get sources.now list_limit) }
+    ensures { option_copied result
+        ≡ option_map (λ source. source.0) (slice_get sources.now list_limit) }
 {
     match sources.get(LIST_LIMIT) {
         Some(source) => Some(source.0.text()),

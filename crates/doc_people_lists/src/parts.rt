@@ -9,7 +9,8 @@ use doc_page_parts::heap::String;
 
 /// Writes what is said of a list that has nothing from a text on, by what is said of one that has nothing at all.
 pub(crate) fn push_note_from(out: &mut String, from: &str, note: &str) -> Result<(), Memory>
-    ensures { OnOk result (string_bytes out.new ≡ string_bytes out.old ++ note_from from.now note.now) }
+    ensures { OnOk result (string_bytes out.new
+        ≡ string_bytes out.old ++ note_from from.now note.now) }
 {
     if !from.is_empty() {
         out.push_str("<p>Nothing follows.</p>\n")?;
@@ -38,7 +39,7 @@ pub(crate) fn push_list_end(out: &mut String) -> Result<(), Memory>
     Ok(())
 }
 
-/// Writes the links to the other parts of the list at an address: the part that begins at `from` is shown, and `next` is the text behind it.
+/// Writes the links to the other parts of the list at an address: the part from `from` on is shown, and `next` is the text behind it.
 pub(crate) fn push_pager(
     out: &mut String,
     address: &str,

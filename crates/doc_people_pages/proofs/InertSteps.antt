@@ -51,7 +51,8 @@ starts b rest begins =
 
 -- at a place of a text
 pub starts_at : (text : List ℕ) (i : ℕ) → i < length text → begins_form_or_frame (drop i text) ≡ true → get_or text i 0 ≡ 60
-starts_at text i within begins = starts (get_or text i 0) (drop (i + 1) text) (sym (ap begins_form_or_frame (drop_more text i 0 within)) ∙ begins)
+starts_at text i within begins = starts (get_or text i 0) (drop (i + 1) text)
+    (sym (ap begins_form_or_frame (drop_more text i 0 within)) ∙ begins)
 
 pub begins_not : (text : List ℕ) (i : ℕ) → i < length text → get_or text i 0 ≢ 60 → false ≡ begins_form_or_frame (drop i text)
 begins_not text i within other =

@@ -2,4 +2,3 @@ mod HeadingSteps
 mod InertSteps
 mod LinkedSteps
 mod PageSteps
-mod WriteSteps

@@ -11,7 +11,7 @@ use doc_page_parts::heap::String;
 use doc_page_parts::rendered::Heading;
 
 /// Writes a page between its tags, from its headings and its HTML: inert, and behind the heading of level 1 that it hasn't itself.
-pub(crate) fn push_article(
+pub fn push_article(
     out: &mut String,
     path: &str,
     headings: &[Heading],

@@ -104,7 +104,8 @@ fn push_heading_items(out: &mut String, heap: Heap, headings: &[Heading]) -> Res
 }
 
 fn push_heading_item(out: &mut String, heap: Heap, heading: &Heading) -> Result<(), Memory>
-    ensures { OnOk result (string_bytes out.new ≡ string_bytes out.old ++ heading_item heading.now) }
+    ensures { OnOk result (string_bytes out.new
+        ≡ string_bytes out.old ++ heading_item heading.now) }
 {
     push_item_start(out, heading.level)?;
     push_heading_link(out, heap, heading)?;
@@ -140,8 +141,8 @@ fn push_heading_address(out: &mut String, anchor: &str) -> Result<(), Memory>
     push_encoded(out, anchor)
 }
 
-/// Writes the heading of level 1 that the page hasn't itself: for all its path, where no heading has a text, and else the first of these for
-/// those who hear the page.
+/// Writes the heading of level 1 that the page hasn't itself: for all its path, where no heading has a text, and else the first of these
+/// for those who hear the page.
 pub(crate) fn push_heading_line(
     out: &mut String,
     path: &str,
@@ -160,7 +161,8 @@ pub(crate) fn push_heading_line(
 }
 
 fn push_path_heading(out: &mut String, path: &str) -> Result<(), Memory>
-    ensures { OnOk result (string_bytes out.new ≡ string_bytes out.old ++ heading_by path.now None) }
+    ensures { OnOk result (string_bytes out.new
+        ≡ string_bytes out.old ++ heading_by path.now None) }
 {
     out.push_str("<h1>")?;
     push_escaped(out, path)?;

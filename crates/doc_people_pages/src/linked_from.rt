@@ -9,11 +9,11 @@ ghost use Rattle.doc_people.specs.Sources.{sources_of};
 ghost use Rattle.doc_store_readers.specs.Pages.{Page};
 ghost use Rattle.doc_store_readers.specs.Sites.{page_at};
 
-use doc_page_encoding::encoding::push_encoded_path;
 use doc_page_parts::failure::Memory;
 use doc_page_parts::heap::{Heap, String};
 use doc_page_parts::path::Path;
 use doc_people::viewed::Viewed;
+use doc_people_lines::addresses::push_backlinks_href;
 use doc_people_lines::lines::{push_link_end, push_link_start};
 use doc_people_lines::links::push_page_link;
 
@@ -135,12 +135,4 @@ fn push_all_sources_link(out: &mut String, path: &str) -> Result<(), Memory>
     push_link_start(out)?;
     push_backlinks_href(out, path)?;
     push_link_end(out, false, "All that link here")
-}
-
-/// Writes the address of the list of all pages that link to a page.
-fn push_backlinks_href(out: &mut String, path: &str) -> Result<(), Memory>
-    ensures { OnOk result (string_bytes out.new ≡ string_bytes out.old ++ backlinks_href path.now) }
-{
-    out.push_str("/backlinks/")?;
-    push_encoded_path(out, path)
 }

@@ -26,7 +26,8 @@ const ROOM: usize = 512;
 /// The page for people that shows the page at a path, where one is seen there.
 pub fn page_body<V: Viewed>(frame: Frame<'_>, view: &V, path: &Path) -> Result<Option<Text>, Memory>
     ensures { IfOk result (λ text. text ≡ option_map
-        (page_body (V.render view.now) frame.entry.browse.now frame.entry.offers (V.view view.now) path.now)
+        (page_body (V.render view.now) frame.entry.browse.now frame.entry.offers
+        (V.view view.now) path.now)
         (rendered_at (V.render view.now) (V.view view.now) path.now)) }
 {
     let Some(html) = view.html(path)? else {

@@ -11,7 +11,8 @@ use Rattle.doc_people_search.specs.Reading.{is_read, least_of}
 
 -- ---- the texts that are read
 
-here : (texts : List (List ℕ)) (i : ℕ) (text : List ℕ) → i < length texts → text ≡ get_or texts i text → drop i texts ≡ text ∷ drop (i + 1) texts
+here : (texts : List (List ℕ)) (i : ℕ) (text : List ℕ) → i < length texts → text ≡ get_or texts i text
+    → drop i texts ≡ text ∷ drop (i + 1) texts
 here texts i text low is = drop_more texts i text low ∙ ap (λ t. t ∷ drop (i + 1) texts) (sym is)
 
 one_taken : (texts : List (List ℕ)) (i : ℕ) (text : List ℕ) → i < length texts → text ≡ get_or texts i text

@@ -43,7 +43,8 @@ one_written write old so_far new xs i x low is so more =
     more ∙ ap (λ o. o ++ write x) so ∙ flat_map_more write old (take i xs) x
     ∙ ap (λ ys. old ++ flat_map write ys) (sym (take_more xs i x low ∙ ap (λ y. take i xs ++ y ∷ []) (sym is)))
 
-pub line_written : (front page middle piece close end old o1 o2 o3 o4 o5 o6 : List ℕ) → o1 ≡ old ++ front → o2 ≡ o1 ++ page → o3 ≡ o2 ++ middle
+pub line_written : (front page middle piece close end old o1 o2 o3 o4 o5 o6 : List ℕ) → o1 ≡ old ++ front → o2 ≡ o1 ++ page
+    → o3 ≡ o2 ++ middle
     → o4 ≡ o3 ++ piece → o5 ≡ o4 ++ close → o6 ≡ o5 ++ end
     → o6 ≡ old ++ (front ++ (page ++ middle ++ piece ++ close) ++ end)
 line_written front page middle piece close end old o1 o2 o3 o4 o5 o6 e1 e2 e3 e4 e5 e6 =
@@ -52,7 +53,8 @@ line_written front page middle piece close end old o1 o2 o3 o4 o5 o6 e1 e2 e3 e4
     (e2 ∙ ap (λ o. o ++ page) e1)))) in
     all ∙ simp append_assoc
 
-pub list_written : (front count best middle lines end old o1 o2 o3 o4 o5 o6 : List ℕ) → o1 ≡ old ++ front → o2 ≡ o1 ++ count → o3 ≡ o2 ++ best
+pub list_written : (front count best middle lines end old o1 o2 o3 o4 o5 o6 : List ℕ) → o1 ≡ old ++ front → o2 ≡ o1 ++ count
+    → o3 ≡ o2 ++ best
     → o4 ≡ o3 ++ middle → o5 ≡ o4 ++ lines → o6 ≡ o5 ++ end
     → o6 ≡ old ++ (front ++ count ++ best ++ middle ++ lines ++ end)
 list_written front count best middle lines end old o1 o2 o3 o4 o5 o6 e1 e2 e3 e4 e5 e6 =

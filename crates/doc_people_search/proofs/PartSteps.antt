@@ -85,7 +85,8 @@ part_is [] front rest n some is f r = absurd (omega arith)
 part_is (c ∷ cs) front rest n some is f r =
     first_is c cs n is ∙ ap (λ p. p ∷ parts (drop n (c ∷ cs))) (sym f) ∙ ap (λ b. front ∷ parts b) (sym r)
 
-pub part_stands : (cs front : List ℕ) (n : ℕ) → 0 < length cs → n ≡ max (prefix_len is_word_char cs) 1 → front ≡ take n cs → 0 < length front
+pub part_stands : (cs front : List ℕ) (n : ℕ) → 0 < length cs → n ≡ max (prefix_len is_word_char cs) 1 → front ≡ take n cs
+    → 0 < length front
 part_stands cs front n some is f = let e : length front ≡ length (take n cs) = ap length f in omega (arith, length-take n cs)
 
 -- ---- how many characters were read

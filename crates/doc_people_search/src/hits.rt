@@ -142,7 +142,8 @@ fn push_snippet_at<V: Viewed>(
     terms: &[Term],
     path: &Path,
 ) -> Result<(), Memory>
-    ensures { OnOk result (string_bytes out.new ≡ string_bytes out.old ++ snippet_by terms.now path.now
+    ensures { OnOk result (string_bytes out.new
+        ≡ string_bytes out.old ++ snippet_by terms.now path.now
         (rendered_at (V.render view.now) (V.view view.now) path.now)) }
 {
     let texts = view.texts(path)?;

@@ -43,7 +43,8 @@ pub fn split_at(text: &str, count: usize) -> (&str, &str)
 
 /// The first part of a text, and the text behind it.
 pub fn first_part(text: &str) -> Option<(&str, &str)>
-    ensures none { MatchOption result (chars text.now ≡ []) (λ part. 0 < length (chars part.0.now)) }
+    ensures none { MatchOption result (chars text.now ≡ [])
+        (λ part. 0 < length (chars part.0.now)) }
     ensures whole { MatchOption result (chars text.now ≡ [])
         (λ part. chars text.now ≡ chars part.0.now ++ chars part.1.now) }
     ensures part { MatchOption result (chars text.now ≡ [])

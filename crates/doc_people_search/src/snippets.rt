@@ -54,7 +54,8 @@ fn push_piece(
     end: usize,
 ) -> Result<(), Memory>
     ensures { OnOk result
-        (string_bytes out.new ≡ string_bytes out.old ++ piece terms.now (chars text.now) start end) }
+        (string_bytes out.new ≡ string_bytes out.old
+        ++ piece terms.now (chars text.now) start end) }
 {
     let (_, from) = split_at(text, start);
     let (piece, _) = split_at(from, end.saturating_sub(start));

@@ -15,7 +15,8 @@ left f place i = flat_map f (folders_behind (take i place) (drop i place))
 
 -- one byte further
 further : (f : List ℕ → List ℕ) (place : List ℕ) (i : ℕ) → i < length place
-    → left f place i ≡ flat_map f ((if is_slash (get_or place i 0) then take (i + 1) place ∷ [] else []) ++ folders_behind (take (i + 1) place) (drop (i + 1) place))
+    → left f place i ≡ flat_map f ((if is_slash (get_or place i 0) then take (i + 1) place ∷ [] else [])
+    ++ folders_behind (take (i + 1) place) (drop (i + 1) place))
 further f place i within =
     ap (λ l. flat_map f (folders_behind (take i place) l)) (drop_more place i 0 within)
     ∙ ap (λ l. flat_map f ((if is_slash (get_or place i 0) then l ∷ [] else []) ++ folders_behind l (drop (i + 1) place)))
@@ -30,7 +31,8 @@ pub passed : (f : List ℕ → List ℕ) (place bytes : List ℕ) (i : ℕ) (out
 passed f place bytes i out all same within other so =
     let inside : i < length place = omega (arith, within, ap length same) in
     let goes : is_slash (get_or place i 0) ≡ false = ap is_slash (read_at place bytes i same) ∙ ne_eqb _ 47 other in
-    ap (λ t. out ++ flat_map f ((if t then take (i + 1) place ∷ [] else []) ++ folders_behind (take (i + 1) place) (drop (i + 1) place))) (sym goes)
+    ap (λ t. out ++ flat_map f ((if t then take (i + 1) place ∷ [] else [])
+    ++ folders_behind (take (i + 1) place) (drop (i + 1) place))) (sym goes)
     ∙ ap (λ l. out ++ l) (sym (further f place i inside)) ∙ so
 
 pub written : (f : List ℕ → List ℕ) (place bytes : List ℕ) (i : ℕ) (out new all folder : List ℕ) → bytes ≡ place → i < length bytes
@@ -40,7 +42,8 @@ written f place bytes i out new all folder same within slash cut more so =
     let inside : i < length place = omega (arith, within, ap length same) in
     let ends : is_slash (get_or place i 0) ≡ true = ap is_slash (read_at place bytes i same) ∙ eq-eqb _ 47 slash in
     ap (λ l. l ++ left f place (i + 1)) (more ∙ ap (λ l. out ++ f l) cut) ∙ append_assoc out (f (take (i + 1) place)) (left f place (i + 1))
-    ∙ ap (λ t. out ++ flat_map f ((if t then take (i + 1) place ∷ [] else []) ++ folders_behind (take (i + 1) place) (drop (i + 1) place))) (sym ends)
+    ∙ ap (λ t. out ++ flat_map f ((if t then take (i + 1) place ∷ [] else [])
+    ++ folders_behind (take (i + 1) place) (drop (i + 1) place))) (sym ends)
     ∙ ap (λ l. out ++ l) (sym (further f place i inside)) ∙ so
 
 -- a place may be cut behind a `/`
@@ -55,6 +58,7 @@ pub ended : (f : List ℕ → List ℕ) (place : List ℕ) (i : ℕ) (out all : 
 ended f place i out all past so =
     sym (append-nil out) ∙ ap (λ l. out ++ flat_map f (folders_behind (take i place) l)) (sym (drop_all i place past)) ∙ so
 
-pub first_one : (f : List ℕ → List ℕ) (place out new : List ℕ) → new ≡ out ++ f [] → new ++ left f place 0 ≡ out ++ flat_map f (folders_to place)
+pub first_one : (f : List ℕ → List ℕ) (place out new : List ℕ) → new ≡ out ++ f []
+    → new ++ left f place 0 ≡ out ++ flat_map f (folders_to place)
 unfolding folders_to
 first_one f place out new one = ap (λ l. l ++ left f place 0) one ∙ append_assoc out (f []) (left f place 0)

@@ -78,9 +78,11 @@ pub(crate) fn keys_around<V: Viewed>(
     at: Option<&str>,
 ) -> Result<Around, Memory>
     ensures shown { IfOk result (λ around. shown_of around.before around.from
-        ≡ window (option_copied at.entry) (keys (V.view view.now) (folder_at (option_copied at.entry)))) }
+        ≡ window (option_copied at.entry)
+        (keys (V.view view.now) (folder_at (option_copied at.entry)))) }
     ensures cut { IfOk result (λ around. is_more around.before around.from
-        ≡ is_cut (option_copied at.entry) (keys (V.view view.now) (folder_at (option_copied at.entry)))) }
+        ≡ is_cut (option_copied at.entry)
+        (keys (V.view view.now) (folder_at (option_copied at.entry)))) }
 {
     match at {
         Some(place) => around_place(heap, view, place),

@@ -49,7 +49,8 @@ fn push_shell<V: Viewed>(
     aside: &str,
 ) -> Result<(), Memory>
     ensures { OnOk result (string_bytes out.new ≡ string_bytes out.old
-        ++ shell (V.render view.now) frame.entry.browse.now frame.entry.offers (V.view view.now) title.now
+        ++ shell (V.render view.now) frame.entry.browse.now frame.entry.offers
+        (V.view view.now) title.now
         (option_copied at.entry) main.now aside.now) }
 {
     push_top(out, frame, title)?;

@@ -8,5 +8,6 @@ pub returns : goal.returns
 returns c =
     IfOk-at_ok (λ t. string_bytes t ≡ encode_utf8_all (take 79 (chars c.args.text.now))) c.in_ok-collect.was
     (text_from_collect {s = c.take.result} _ c.collect.ensures.ran
-    (YieldsList-from_take 79 (YieldsList-from_chars c.args.text.now c.utf8.text (ap chars_rest c.take.ensures.source ∙ c.chars.ensures.rest))
+    (YieldsList-from_take 79 (YieldsList-from_chars c.args.text.now c.utf8.text
+    (ap chars_rest c.take.ensures.source ∙ c.chars.ensures.rest))
     c.take.ensures.count))

@@ -2,7 +2,7 @@ use Rattle.std.proofs.Common.{◌≡◌, ◌++◌, ap, sym, ◌∙◌}
 use Rattle.std.specs.Prelude.{option_copied}
 use Rattle.doc_people.specs.Lists.{pager}
 use Rattle.doc_people.specs.Pages.{backlinks_href}
-use Rattle.doc_people_lists.proofs.WriteSteps.{as_told}
+use Rattle.doc_people_lines.proofs.WriteSteps.{as_told}
 use Rattle.doc_people_lists.proofs.backlinks.push_backlinks_pager.Goals as goal
 
 pub returns : goal.returns

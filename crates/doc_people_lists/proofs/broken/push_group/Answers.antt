@@ -1,7 +1,7 @@
 use Rattle.std.proofs.Common.{◌++◌, ap, codes, string_bytes, take, ◌∙◌}
 use Rattle.std.specs.List.{flat_map}
 use Rattle.doc_people.specs.BrokenLinks.{broken_row, more_row, source_row}
-use Rattle.doc_people_lists.proofs.WriteSteps.{fivefold}
+use Rattle.doc_people_lines.proofs.WriteSteps.{fivefold}
 use Rattle.doc_people_lists.proofs.broken.push_group.Goals as goal
 
 pub returns : goal.returns

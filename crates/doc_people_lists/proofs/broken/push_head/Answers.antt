@@ -1,5 +1,5 @@
 use Rattle.std.proofs.Common.{codes}
-use Rattle.doc_people_lists.proofs.WriteSteps.{twofold}
+use Rattle.doc_people_lines.proofs.WriteSteps.{twofold}
 use Rattle.doc_people_lists.proofs.broken.push_head.Goals as goal
 
 pub returns : goal.returns

@@ -3,7 +3,7 @@ use Rattle.std.specs.Prelude.{option_map, slice_get}
 use Rattle.doc_people.specs.BrokenLinks.{by_source, table_or_note}
 use Rattle.doc_people.specs.Lists.{note_from, pager}
 use Rattle.doc_people_lists.proofs.GroupSteps.{next_page}
-use Rattle.doc_people_lists.proofs.WriteSteps.{third_written}
+use Rattle.doc_people_lines.proofs.WriteSteps.{third_written}
 use Rattle.doc_people_lists.proofs.broken.push_main.Goals as goal
 
 pub returns : goal.returns

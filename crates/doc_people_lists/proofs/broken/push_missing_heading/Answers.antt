@@ -3,7 +3,7 @@ use Rattle.doc_page_parts.specs.Escaping.{escaped}
 use Rattle.doc_people.specs.BrokenLinks.{goal_href, written_anchor, written_path}
 use Rattle.doc_people.specs.Folders.{short}
 use Rattle.doc_resolve.specs.Links.{decoded_text}
-use Rattle.doc_people_lists.proofs.WriteSteps.{fivefold}
+use Rattle.doc_people_lines.proofs.WriteSteps.{fivefold}
 use Rattle.doc_people_lists.proofs.broken.push_missing_heading.Goals as goal
 
 pub returns : goal.returns

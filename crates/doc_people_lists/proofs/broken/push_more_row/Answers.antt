@@ -1,6 +1,6 @@
 use Rattle.std.proofs.Common.{◌-◌, codes, decimal, length}
 use Rattle.doc_people_lists.proofs.GroupSteps.{more_told}
-use Rattle.doc_people_lists.proofs.WriteSteps.{threefold}
+use Rattle.doc_people_lines.proofs.WriteSteps.{threefold}
 use Rattle.doc_people_lists.proofs.broken.push_more_row.Goals as goal
 
 pub returns : goal.returns

@@ -1,6 +1,6 @@
 use Rattle.std.proofs.Common.{◌++◌, ap, codes, decimal, string_bytes, ◌∙◌}
 use Rattle.doc_people.specs.BrokenLinks.{goal_cell, reason_text}
-use Rattle.doc_people_lists.proofs.WriteSteps.{sevenfold}
+use Rattle.doc_people_lines.proofs.WriteSteps.{sevenfold}
 use Rattle.doc_people_lists.proofs.broken.push_row.Goals as goal
 
 pub returns : goal.returns

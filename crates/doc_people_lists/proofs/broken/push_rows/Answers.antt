@@ -1,5 +1,5 @@
 use Rattle.doc_people.specs.BrokenLinks.{broken_row}
-use Rattle.doc_people_lists.proofs.WriteSteps.{one_more}
+use Rattle.doc_people_lines.proofs.WriteSteps.{one_more}
 use Rattle.doc_people_lists.proofs.broken.push_rows.Goals as goal
 
 pub loop-link-preserved : goal.loop-link-preserved

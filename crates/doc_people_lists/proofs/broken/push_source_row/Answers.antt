@@ -1,6 +1,6 @@
 use Rattle.std.proofs.Common.{codes}
 use Rattle.doc_people.specs.Lists.{page_and_path}
-use Rattle.doc_people_lists.proofs.WriteSteps.{threefold}
+use Rattle.doc_people_lines.proofs.WriteSteps.{threefold}
 use Rattle.doc_people_lists.proofs.broken.push_source_row.Goals as goal
 
 pub returns : goal.returns

@@ -1,6 +1,6 @@
 use Rattle.std.proofs.Common.{codes}
 use Rattle.doc_page_encoding.specs.Encoding.{encoded}
-use Rattle.doc_people_lists.proofs.WriteSteps.{fivefold}
+use Rattle.doc_people_lines.proofs.WriteSteps.{fivefold}
 use Rattle.doc_people_lists.proofs.parts.push_next_link.Goals as goal
 
 pub returns : goal.returns

@@ -2,7 +2,7 @@ use Rattle.std.proofs.Common.{codes}
 use Rattle.std.specs.Prelude.{option_copied}
 use Rattle.doc_people.specs.Lists.{more_link, start_link}
 use Rattle.doc_people_lists.proofs.PartSteps.{some_parts}
-use Rattle.doc_people_lists.proofs.WriteSteps.{fourfold}
+use Rattle.doc_people_lines.proofs.WriteSteps.{fourfold}
 use Rattle.doc_people_lists.proofs.parts.push_pager.Goals as goal
 
 pub returns : goal.returns

@@ -9,7 +9,8 @@ use Rattle.doc_people_pages.proofs.HeadingSteps.{all_given, heading_more}
 use Rattle.doc_people_pages.proofs.headings.push_heading_items.Goals as goal
 
 pub loop-heading-preserved : goal.loop-heading-preserved
-loop-heading-preserved c = heading_more _ _ _ c.loop-heading.yielded c.in-Some.heading c.loop-heading.invariant c.in_ok-push_heading_item.ensures
+loop-heading-preserved c = heading_more _ _ _ c.loop-heading.yielded c.in-Some.heading c.loop-heading.invariant
+    c.in_ok-push_heading_item.ensures
 
 pub returns : goal.returns
 returns c =

@@ -1,6 +1,6 @@
 use Rattle.std.proofs.Common.{codes}
 use Rattle.doc_page_parts.specs.Escaping.{escaped}
-use Rattle.doc_people_pages.proofs.WriteSteps.{threefold}
+use Rattle.doc_people_lines.proofs.WriteSteps.{threefold}
 use Rattle.doc_people_pages.proofs.headings.push_heard_heading.Goals as goal
 
 pub returns : goal.returns

@@ -1,5 +1,5 @@
 use Rattle.std.proofs.Common.{◌++◌, ap, codes, decimal, string_bytes, ◌∙◌}
-use Rattle.doc_people_pages.proofs.WriteSteps.{threefold}
+use Rattle.doc_people_lines.proofs.WriteSteps.{threefold}
 use Rattle.doc_people_pages.proofs.headings.push_item_start.Goals as goal
 
 pub returns : goal.returns

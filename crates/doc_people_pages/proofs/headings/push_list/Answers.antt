@@ -3,7 +3,7 @@ use Rattle.std.specs.Prelude.{filter}
 use Rattle.std.specs.List.{flat_map}
 use Rattle.doc_people.specs.Pages.{heading_item}
 use Rattle.doc_people_pages.specs.Listed.{is_listed}
-use Rattle.doc_people_pages.proofs.WriteSteps.{threefold}
+use Rattle.doc_people_lines.proofs.WriteSteps.{threefold}
 use Rattle.doc_people_pages.proofs.headings.push_list.Goals as goal
 
 pub returns : goal.returns

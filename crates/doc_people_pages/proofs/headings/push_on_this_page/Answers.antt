@@ -1,5 +1,5 @@
 use Rattle.doc_people_pages.proofs.HeadingSteps.{none_listed, nothing_told, some_listed}
-use Rattle.doc_people_pages.proofs.WriteSteps.{as_told}
+use Rattle.doc_people_lines.proofs.WriteSteps.{as_told}
 use Rattle.doc_people_pages.proofs.headings.push_on_this_page.Goals as goal
 
 pub returns-then-not-has_listed : goal.returns-then-not-has_listed

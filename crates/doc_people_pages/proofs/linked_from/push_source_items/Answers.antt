@@ -1,8 +1,10 @@
 use Rattle.doc_people.specs.Pages.{source_item}
-use Rattle.doc_people_pages.proofs.WriteSteps.{one_more}
+use Rattle.doc_people_lines.proofs.WriteSteps.{one_more}
 use Rattle.doc_people_pages.proofs.linked_from.push_source_items.Goals as goal
 
 pub loop-source-preserved : goal.loop-source-preserved
 loop-source-preserved g c =
-    one_more (source_item (g.V.Viewed.render c.args.view.now) (g.V.Viewed.view c.args.view.now)) _ _ _ c.args.sources.now _ c.source-item.result c.loop-source-test.true c.source-item.is
+    let render = g.V.Viewed.render c.args.view.now in
+    let view = g.V.Viewed.view c.args.view.now in
+    one_more (source_item render view) _ _ _ c.args.sources.now _ c.source-item.result c.loop-source-test.true c.source-item.is
     c.loop-source.invariant c.in_ok-push_source_item.ensures

@@ -5,5 +5,6 @@ use Rattle.doc_people_search.proofs.places.last_word_len.Goals as goal
 pub overflow_add-count : goal.overflow_add-count
 overflow_add-count c =
     let fits : c.loop-rest.count + 1 ≤ length c.args.text.now =
-    word_fits c.loop-rest.count _ c.args.text.now (chars c.loop-rest.front.now) _ c.utf8.text c.loop-rest.invariant.read c.in-Some.ensures in
+    word_fits c.loop-rest.count _ c.args.text.now (chars c.loop-rest.front.now) _ c.utf8.text c.loop-rest.invariant.read
+    c.in-Some.ensures in
     omega arith

@@ -35,9 +35,16 @@ item_of_two a b c d old one two three four first second third fourth =
     threefold a (b ++ c) d old one three four first (twofold b c one two three second third) fourth
 
 -- what is written is what is told, also where that is another text
-pub as_told : {T E : Type 0} (r : Result T E) (old new told text : List ℕ) → text ≡ told → OnOk r (new ≡ old ++ told) → OnOk r (new ≡ old ++ text)
+pub as_told : {T E : Type 0} (r : Result T E) (old new told text : List ℕ) → text ≡ told → OnOk r (new ≡ old ++ told)
+    → OnOk r (new ≡ old ++ text)
 as_told (Ok x) old new told text same written = written ∙ ap (λ t. old ++ t) (sym same)
 as_told (Err e) old new told text same written = tt
+
+-- the last part of two is written by a call
+pub second_written : {T E : Type 0} (r : Result T E) (a b old one two : List ℕ) → one ≡ old ++ a → OnOk r (two ≡ one ++ b)
+    → OnOk r (two ≡ old ++ (a ++ b))
+second_written (Ok x) a b old one two first second = twofold a b old one two first second
+second_written (Err e) a b old one two first second = tt
 
 -- the last part of three is written by a call
 pub third_written : {T E : Type 0} (r : Result T E) (a b c old one two three : List ℕ) → one ≡ old ++ a → two ≡ one ++ b
