@@ -50,7 +50,7 @@ def clauses_and_comments(path):
         clause = clause or re.match(r"(requires|ensures|invariant)\b", text) is not None
         if clause and len(line) > 100:
             yield f"{path}:{number}: a clause of {len(line)} columns"
-        if clause and (text.endswith("}") or text.endswith("{")):
+        if clause and text.endswith(("}", "};", "{")):
             clause = False
         if re.match(r"(pub(\(crate\))? )?(const |unsafe )*fn \w", text) and re.match(r"//($|[^/!])", before):
             yield f"{path}:{number}: a comment without ///: {text[:60]}"

@@ -17,7 +17,8 @@ use Rattle.doc_page_parts.specs.Tokens.{is_token}
 
 -- one name to unfold where an example computes
 unfoldable computing : Unit {0}
-unfolding names_html stripped trim_ows head_limit head_span_of next_behind framing_of body_limit encoded_limit extent_in data_in reading_of is_token
+unfolding names_html stripped trim_ows head_limit head_span_of next_behind framing_of body_limit encoded_limit extent_in data_in
+    reading_of is_token
 computing = tt
 
 -- ---- heads

@@ -48,7 +48,8 @@ ok_from_some (Err error) bytes is = cc
 
 spelled : (text bytes : List ℕ) → IsBytes text → decoded_of standard text ≡ Some bytes → text ≡ encode_of standard bytes
 unfolding decoded_of
-spelled text bytes is_bytes is = decode_of_strict standard text bytes (refl, refl) is_bytes (ok_from_some (decode_of standard text) bytes is)
+spelled text bytes is_bytes is = decode_of_strict standard text bytes (refl, refl) is_bytes
+    (ok_from_some (decode_of standard text) bytes is)
 
 pub spelled_in_one_way : (a b bytes : List ℕ) → IsBytes a → IsBytes b → decoded_of standard a ≡ Some bytes
     → decoded_of standard b ≡ Some bytes → a ≡ b

@@ -34,7 +34,8 @@ a_folder bytes utf8 ends =
     ∙ ap (λ b. cond b (Some bytes) None) ends)
 
 -- a test of parts, as references are read
-any_read : (parts : List (Bor (List ℕ))) → list_any holds_slash (map (λ part. part.now) parts) ≡ list_any (λ (part : Bor (List ℕ)). holds_slash part.now) parts
+any_read : (parts : List (Bor (List ℕ))) → list_any holds_slash (map (λ part. part.now) parts)
+    ≡ list_any (λ (part : Bor (List ℕ)). holds_slash part.now) parts
 any_read [] = refl
 any_read (part ∷ parts) = ap (λ b. holds_slash part.now || b) (any_read parts)
 

@@ -37,7 +37,8 @@ impl Routes {
 
     /// What it asks for that other requests may ask for too.
     fn plain_route<'a>(&self, target: &'a str) -> Option<PeopleRoute<'a>>
-        ensures { option_map people_route_shown result ≡ option_map people_targets.Plain (route_of target.now) }
+        ensures { option_map people_route_shown result
+            ≡ option_map people_targets.Plain (route_of target.now) }
     {
         match self.route(target) {
             Some(route) => Some(PeopleRoute::Plain(route)),
@@ -79,7 +80,8 @@ fn for_people_at(path: &str) -> Option<PeopleRoute<'_>>
 
 /// The folder of a path that asks for one.
 fn folder_at(path: &str) -> Option<PeopleRoute<'_>>
-    ensures { option_map people_route_shown result ≡ option_map people_targets.Folder (rest_behind (codes "/contents/") path.now) }
+    ensures { option_map people_route_shown result
+        ≡ option_map people_targets.Folder (rest_behind (codes "/contents/") path.now) }
 {
     let rest = path.strip_prefix("/contents/")?;
     if rest.is_empty() {

@@ -51,7 +51,8 @@ use Rattle.doc_hub_answers.specs.declared.edit.Edit.TheVariants as edits
 unfoldable computing : Unit {0}
 unfolding digits chars is_utf8 encode percent_decode percent_encode_byte encoded encoded_path kind_on target_path_written put_all reference
     resolve without_dots escaped lines without_ending stripped filled is_path paragraphs plain_html reason_of field_line reply_head
-    reply_bytes dressed_head dressed_bytes answer_of origin_form route_of path_written value_of raw_pairs split utf8_lossy utf8_valid_len groups_of_names text_limit
+    reply_bytes dressed_head dressed_bytes answer_of origin_form route_of path_written value_of raw_pairs split utf8_lossy utf8_valid_len
+    groups_of_names text_limit
     page_limit backlog_limit kinds backlinks broken contents backlinks_text entry_lines heading_line report_text
 computing = tt
 

@@ -55,7 +55,8 @@ abbrev pub makings : Site → ℕ
 makings site = map.len site.pages + map.len site.aliases
 
 -- a run of nothing else makes the fresh server of a new hub with that reader alone
-pub record IsMade (render : Renders) (site : Site) (token : Option (List ℕ)) (reader : Option Reader) (settings : Settings) (unread : List ℕ)
+pub record IsMade (render : Renders) (site : Site) (token : Option (List ℕ)) (reader : Option Reader) (settings : Settings)
+    (unread : List ℕ)
     : Type 0 where
   pub run : List Happened
   pub making : All IsMaking run

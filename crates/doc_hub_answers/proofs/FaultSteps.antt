@@ -5,7 +5,8 @@ use Rattle.doc_http_replies.specs.Replies.{reply_bytes, reply_head}
 use Rattle.doc_http_replies.specs.declared.reply.Reply.{Reply}
 use Rattle.doc_hub_answers.specs.Replies.{fault_bytes, status_reply}
 
-nothing_is_added : (reply : Reply) (head_only close : Bool) → dressed_bytes undressed reply head_only close ≡ reply_bytes reply head_only close
+nothing_is_added : (reply : Reply) (head_only close : Bool)
+    → dressed_bytes undressed reply head_only close ≡ reply_bytes reply head_only close
 unfolding dressed_bytes dressed_head reply_bytes reply_head
 nothing_is_added reply head_only close = refl
 

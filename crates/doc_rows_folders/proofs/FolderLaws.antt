@@ -72,7 +72,8 @@ module _ (folder : List ℕ) where
   source (x ∷ ps) k =
       cond_both (is_below folder x) (x ∷ filter (is_below folder) ps) (filter (is_below folder) ps)
       (λ them. is_one (mapped (key folder) them) k ≡ true → Source (x ∷ ps) k)
-      (λ inside one. either_true (same_key k (key folder x)) (is_one (mapped (key folder) (filter (is_below folder) ps)) k) (Source (x ∷ ps) k)
+      (λ inside one. either_true (same_key k (key folder x)) (is_one (mapped (key folder) (filter (is_below folder) ps)) k)
+      (Source (x ∷ ps) k)
       (λ same. (x, or_left (same_key x x) (is_one ps x) (same_itself x), inside, same_from k (key folder x) same))
       (λ other. more_sources x ps k (source ps k other)) one)
       (λ other one. more_sources x ps k (source ps k one))
@@ -214,7 +215,8 @@ module _ (view : View) (folder t : List ℕ) (sorted : IsStrictlySortedBy (slice
       (λ less. look_first view folder t folder sorted (none_before folder t less)
       (λ q p below high low. between folder folder q p (below_itself folder) below low high))
       (λ more. look_first view folder t t sorted
-      (λ q below. all_before folder t other more (key folder q) (key_is_below folder q below) ∙ sym (all_before folder t other more q below))
+      (λ q below. all_before folder t other more (key folder q) (key_is_below folder q below)
+      ∙ sym (all_before folder t other more q below))
       (λ q p below high low. absurd (clash (is_before q t) (all_before folder t other more q below) (at_most_trans t p q low high)))))
 
   -- the last key before a text, of the empty folder or of one that ends in a slash

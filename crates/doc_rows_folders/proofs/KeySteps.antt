@@ -18,7 +18,8 @@ module _ (site : Site) (reader : Reader) (folder : List ℕ) where
 
   from_start : (ks : List (List ℕ)) → from_text [] ks ≡ ks
   from_start [] = refl
-  from_start (k ∷ ks) = ap (λ b. cond (not b) (k ∷ from_text [] ks) (from_text [] ks)) (nothing_before k) ∙ ap (λ xs. k ∷ xs) (from_start ks)
+  from_start (k ∷ ks) = ap (λ b. cond (not b) (k ∷ from_text [] ks) (from_text [] ks)) (nothing_before k)
+      ∙ ap (λ xs. k ∷ xs) (from_start ks)
 
   -- all keys, and the last of those that come before a text
   pub last_of_all : (max most n : ℕ) (text : List ℕ) (all found tail : List (List ℕ)) → all ≡ take max (from_text [] all_keys)
@@ -26,7 +27,8 @@ module _ (site : Site) (reader : Reader) (folder : List ℕ) where
       → tail ≡ last_ones most (before_text text all_keys)
   last_of_all max most n text all found tail every few kept at rest =
       rest ∙ ap (λ m. drop m found) at
-      ∙ ap (last_ones most) (kept ∙ ap (before_text text) (every ∙ ap (take max) (from_start all_keys) ∙ take_all max all_keys (within every)))
+      ∙ ap (last_ones most) (kept ∙ ap (before_text text)
+      (every ∙ ap (take max) (from_start all_keys) ∙ take_all max all_keys (within every)))
     where
       within : all ≡ take max (from_text [] all_keys) → length all_keys ≤ max
       within every =

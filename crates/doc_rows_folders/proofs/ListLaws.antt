@@ -133,7 +133,8 @@ less_than_found x t k less a found =
     true_by (is_before x k) (λ e. clash (is_before k t) (le_then_less k x t e less)
     (not_true (is_before k t) (split_and a (is_from t k) found).1))
 
-all_above : (x : List ℕ) (xs : List (List ℕ)) → AllByRecursion (λ y. cmp x y ≡ Less) xs → (k : List ℕ) → is_one xs k ≡ true → is_before x k ≡ true
+all_above : (x : List ℕ) (xs : List (List ℕ)) → AllByRecursion (λ y. cmp x y ≡ Less) xs → (k : List ℕ) → is_one xs k ≡ true
+    → is_before x k ≡ true
 all_above x [] all k one = absurd (true≢false (sym one))
 all_above x (y ∷ xs) all k one =
     either_true (same_key k y) (is_one xs k) (is_before x k ≡ true) (λ same. ap (is_before x) (same_from k y same) ∙ ap is_lt all.0)
@@ -169,7 +170,8 @@ unfolding IsStrictlySortedBy
 before_step [] sorted t k e = absurd (none-some k e)
 before_step (x ∷ xs) sorted t k e = by (before_step xs sorted.1 t k) (is_before x t) refl (last_before t xs) refl e
   where
-    by : (last_before t xs ≡ Some k → before_text t xs ≡ before_text k xs ++ k ∷ []) → (b : Bool) → is_before x t ≡ b → (o : Option (List ℕ)) → last_before t xs ≡ o
+    by : (last_before t xs ≡ Some k → before_text t xs ≡ before_text k xs ++ k ∷ []) → (b : Bool) → is_before x t ≡ b
+        → (o : Option (List ℕ)) → last_before t xs ≡ o
         → last_of (cond b (x ∷ before_text t xs) (before_text t xs)) ≡ Some k
         → cond (is_before x t) (x ∷ before_text t xs) (before_text t xs) ≡ before_text k (x ∷ xs) ++ k ∷ []
     by rest true less None none e =
@@ -214,7 +216,8 @@ one_found most n found left rest all k less step is =
 
 pub found_all : (most n : ℕ) (found left all : List (List ℕ)) → left ≡ [] → IsFound most n found left all → found ≡ take most all
 unfolding IsFound
-found_all most n found left all none is = sym (is ∙ ap (λ ys. found ++ take (most - n) ys) none ∙ ap (λ ys. found ++ ys) (nothing (most - n)) ∙ append-nil found)
+found_all most n found left all none is = sym (is ∙ ap (λ ys. found ++ take (most - n) ys) none
+    ∙ ap (λ ys. found ++ ys) (nothing (most - n)) ∙ append-nil found)
   where
     nothing : (n : ℕ) → take {A = List ℕ} n [] ≡ []
     nothing zero = refl

@@ -103,13 +103,17 @@ start_alike (x ∷ r) (b ∷ t) = by (start_alike r t) (is_slash b) refl
         ∙ ap (λ s. is_before (if s then [] else through_slash r) (c ∷ t)) (ap is_slash same ∙ slashed)
         ∙ sym (below_next x r (omega arith))
 
-    more : (t : List ℕ) → is_slash b ≡ true → is_before (x ∷ behind x r) (b ∷ t) ≡ is_before (x ∷ r) (if is_empty t then b ∷ [] else 48 ∷ [])
+    more : (t : List ℕ) → is_slash b ≡ true → is_before (x ∷ behind x r) (b ∷ t)
+        ≡ is_before (x ∷ r) (if is_empty t then b ∷ [] else 48 ∷ [])
     more [] slashed = ends (nat_cmp x b) refl
     more (c ∷ t) slashed = goes c t (nat_cmp x b) refl slashed
 
-    by : is_before (through_slash r) t ≡ is_before r (start_in t) → (s : Bool) → is_slash b ≡ s → is_before (x ∷ behind x r) (b ∷ t) ≡ is_before (x ∷ r) (start_behind b t)
-    by rest true slashed = more t slashed ∙ ap (λ s. is_before (x ∷ r) (if s then (if is_empty t then b ∷ [] else 48 ∷ []) else b ∷ start_in t)) (sym slashed)
-    by rest false none = same rest (nat_cmp x b) refl none ∙ ap (λ s. is_before (x ∷ r) (if s then (if is_empty t then b ∷ [] else 48 ∷ []) else b ∷ start_in t)) (sym none)
+    by : is_before (through_slash r) t ≡ is_before r (start_in t) → (s : Bool) → is_slash b ≡ s
+        → is_before (x ∷ behind x r) (b ∷ t) ≡ is_before (x ∷ r) (start_behind b t)
+    by rest true slashed = more t slashed
+        ∙ ap (λ s. is_before (x ∷ r) (if s then (if is_empty t then b ∷ [] else 48 ∷ []) else b ∷ start_in t)) (sym slashed)
+    by rest false none = same rest (nat_cmp x b) refl none
+        ∙ ap (λ s. is_before (x ∷ r) (if s then (if is_empty t then b ∷ [] else 48 ∷ []) else b ∷ start_in t)) (sym none)
 
 -- ---- of a folder
 
@@ -148,7 +152,8 @@ start_of_part : (r : List ℕ) → start_in (through_slash r) ≡ through_slash 
 start_of_part [] = refl
 start_of_part (b ∷ r) = by (start_of_part r) (is_slash b) refl
   where
-    by : start_in (through_slash r) ≡ through_slash r → (s : Bool) → is_slash b ≡ s → start_in (b ∷ (if s then [] else through_slash r)) ≡ b ∷ (if s then [] else through_slash r)
+    by : start_in (through_slash r) ≡ through_slash r → (s : Bool) → is_slash b ≡ s
+        → start_in (b ∷ (if s then [] else through_slash r)) ≡ b ∷ (if s then [] else through_slash r)
     by rest true e = ap (λ s. if s then b ∷ [] else b ∷ []) e
     by rest false e = ap (λ s. if s then (if is_empty (through_slash r) then b ∷ [] else 48 ∷ []) else b ∷ start_in (through_slash r)) e
         ∙ ap (λ t. b ∷ t) rest

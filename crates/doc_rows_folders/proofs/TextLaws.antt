@@ -173,7 +173,8 @@ stripped folder text (Some x) h =
 pub start_at_slash : (before behind : List ℕ) → HasNone before → (length behind == 0) ≡ true
     → start_in (before ++ 47 ∷ behind) ≡ before ++ 47 ∷ []
 start_at_slash before [] none empty = start_at_end before none
-start_at_slash before (c ∷ behind) none empty = let zero : length (c ∷ behind) ≡ 0 = eqb-true (length (c ∷ behind)) 0 empty in absurd (omega arith)
+start_at_slash before (c ∷ behind) none empty =
+    let zero : length (c ∷ behind) ≡ 0 = eqb-true (length (c ∷ behind)) 0 empty in absurd (omega arith)
 
 pub start_past_slash : (before behind : List ℕ) → HasNone before → (length behind == 0) ≡ false
     → start_in (before ++ 47 ∷ behind) ≡ before ++ 48 ∷ []

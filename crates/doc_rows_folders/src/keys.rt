@@ -121,7 +121,8 @@ fn keys_before_of_all(
 
 /// Those of some texts that come before another.
 fn keys_up_to(heap: Heap, keys: &[Text], before: &str) -> Result<Vec<Text>, Memory>
-    ensures { IfOk result (λ found. found.items ≡ filter (λ key. is_before key before.now) keys.now) }
+    ensures { IfOk result (λ found.
+        found.items ≡ filter (λ key. is_before key before.now) keys.now) }
 {
     let mut found = Vec::new(heap);
     for key in keys {

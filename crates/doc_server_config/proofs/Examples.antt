@@ -13,7 +13,8 @@ use Rattle.doc_server_config.specs.declared.page_row.Source.TheVariants.{Text, F
 use Rattle.doc_server_config.specs.Configurations.{config_of}
 
 -- nothing is said: connections are kept, and so are 64 filled pages; there are no readers and no pages
-empty_text : config_of (codes "") ≡ Ok (record { keep_alive = true; cache = 64; entities = None; readers = map.empty; pages = []; browse = None })
+empty_text : config_of (codes "")
+    ≡ Ok (record { keep_alive = true; cache = 64; entities = None; readers = map.empty; pages = []; browse = None })
 unfolding toml_on_literals
 empty_text = refl
 

@@ -148,4 +148,5 @@ response_fits render view (Some reader) left request = route_fits view left rend
 pub answer_fits : (render : Renders) (settings : Settings) (view : View) (asking : Asking) (left : Bool) (request : Request)
     → FitsWith request.body (answer_of settings render view asking left request).edit
 answer_fits render settings view asking left request =
-    answer_holds (FitsWith request.body) tt render view asking left request (response_fits render view (row_of asking) left request) settings
+    answer_holds (FitsWith request.body) tt render view asking left request
+    (response_fits render view (row_of asking) left request) settings

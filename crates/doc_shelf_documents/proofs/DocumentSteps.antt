@@ -87,7 +87,8 @@ module _ (render : Renders) (store : StoreState) (kept : Kept) (cache : Cached) 
         ≡ Some (made_of dress head_only close (document_of render goals path page))
     made_is dress head_only close =
         ap (option_map (λ found. made_of dress head_only close (body_of path (shown goals path) found))) rendering_kept
-        ∙ ap (λ document. Some (made_of dress head_only close document)) (bare_document kept.with_texts path (shown goals path) (render page.text))
+        ∙ ap (λ document. Some (made_of dress head_only close document))
+        (bare_document kept.with_texts path (shown goals path) (render page.text))
 
     pub making_gives : (dress : Dress) (head_only close : Bool) (made : Made)
         → Some made ≡ made_of_kept dress head_only close kept goals path stamp
