@@ -9,6 +9,8 @@ use Rattle.doc_http.specs.declared.head.HeadSpan.TheVariants.{Unfinished, At}
 use Rattle.doc_http.specs.declared.request.Next.TheVariants as next
 use Rattle.doc_http.specs.Accepts.{names_html}
 use Rattle.doc_http.specs.Bearers.{bearer_in}
+use Rattle.doc_http.specs.Conditions.{joined_values}
+use Rattle.doc_http.specs.ContentTypes.{names_markdown}
 use Rattle.doc_http.specs.Fields.{lists_close}
 use Rattle.doc_http.specs.Heads.{head_limit, head_span_of, has_bare_line_feed}
 use Rattle.doc_http.specs.Requests.{next_behind, request_of}
@@ -17,8 +19,8 @@ use Rattle.doc_page_parts.specs.Tokens.{is_token}
 
 -- one name to unfold where an example computes
 unfoldable computing : Unit {0}
-unfolding names_html stripped trim_ows head_limit head_span_of next_behind framing_of body_limit encoded_limit extent_in data_in
-    reading_of is_token
+unfolding names_html joined_values names_markdown stripped trim_ows head_limit head_span_of next_behind framing_of body_limit encoded_limit
+    extent_in data_in reading_of is_token
 computing = tt
 
 -- ---- heads
@@ -70,6 +72,9 @@ a_request : request_of (codes "GET /page/a.md HTTP/1.1\r\nHost: docs\r\nAuthoriz
       authorization = Some (codes "Bearer tok-ann");
       close = false;
       html = false;
+      markdown = false;
+      if_match = None;
+      if_none_match = None;
       body = [];
     })
 unfolding computing
@@ -92,6 +97,9 @@ a_request_and_more : request_of (codes "GET /page/a.md HTTP/1.1\r\nHost: docs\r\
       authorization = Some (codes "Bearer tok-ann");
       close = false;
       html = false;
+      markdown = false;
+      if_match = None;
+      if_none_match = None;
       body = [];
     })
 unfolding computing
@@ -107,7 +115,17 @@ without_authorization : request_of (codes "GET /page/a.md HTTP/1.1\r\nHost: docs
       fields = record { name = codes "Host"; raw = codes " docs"; end = crlf } ∷ [];
       last = crlf;
     }))
-    ≡ next.Request 39 (record { method = codes "GET"; target = codes "/page/a.md"; authorization = None; close = false; html = false; body = [] })
+    ≡ next.Request 39 (record {
+      method = codes "GET";
+      target = codes "/page/a.md";
+      authorization = None;
+      close = false;
+      html = false;
+      markdown = false;
+      if_match = None;
+      if_none_match = None;
+      body = [];
+    })
 unfolding computing
 without_authorization = refl
 
@@ -170,6 +188,9 @@ the_older_version : request_of (codes "GET /page/a.md HTTP/1.0\r\nAuthorization:
       authorization = Some (codes "Bearer tok-ann");
       close = true;
       html = false;
+      markdown = false;
+      if_match = None;
+      if_none_match = None;
       body = [];
     })
 unfolding computing
@@ -186,7 +207,17 @@ close_asked : request_of (codes "GET / HTTP/1.1\r\nHost: docs\r\nCONNECTION: kee
           record { name = codes "CONNECTION"; raw = codes " keep-alive,\tClose "; end = crlf } ∷ [];
       last = crlf;
     }))
-    ≡ next.Request 62 (record { method = codes "GET"; target = codes "/"; authorization = None; close = true; html = false; body = [] })
+    ≡ next.Request 62 (record {
+      method = codes "GET";
+      target = codes "/";
+      authorization = None;
+      close = true;
+      html = false;
+      markdown = false;
+      if_match = None;
+      if_none_match = None;
+      body = [];
+    })
 unfolding computing
 close_asked = refl
 
@@ -202,7 +233,17 @@ html_asked : request_of (codes "GET / HTTP/1.1\r\nHost: docs\r\nACCEPT: */*\r\nA
           record { name = codes "Accept"; raw = codes " text/plain;q=1,\tTEXT/html ;q=0"; end = crlf } ∷ [];
       last = crlf;
     }))
-    ≡ next.Request 83 (record { method = codes "GET"; target = codes "/"; authorization = None; close = false; html = true; body = [] })
+    ≡ next.Request 83 (record {
+      method = codes "GET";
+      target = codes "/";
+      authorization = None;
+      close = false;
+      html = true;
+      markdown = false;
+      if_match = None;
+      if_none_match = None;
+      body = [];
+    })
 unfolding computing
 html_asked = refl
 
@@ -218,9 +259,122 @@ html_in_another_field : request_of (codes "GET / HTTP/1.1\r\nHost: docs\r\nAccep
           record { name = codes "Content-Type"; raw = codes " text/html"; end = crlf } ∷ [];
       last = crlf;
     }))
-    ≡ next.Request 68 (record { method = codes "GET"; target = codes "/"; authorization = None; close = false; html = false; body = [] })
+    ≡ next.Request 68 (record {
+      method = codes "GET";
+      target = codes "/";
+      authorization = None;
+      close = false;
+      html = false;
+      markdown = false;
+      if_match = None;
+      if_none_match = None;
+      body = [];
+    })
 unfolding computing
 html_in_another_field = refl
+
+conditions_joined : request_of (codes "GET / HTTP/1.1\r\nHost: docs\r\nIf-Match: \"a\"\r\nIF-MATCH: \"b\", \"c\"\r\n\r\n")
+    (Some (record {
+      blank = [];
+      method = codes "GET";
+      target = codes "/";
+      minor = 1;
+      line_end = crlf;
+      fields = record { name = codes "Host"; raw = codes " docs"; end = crlf } ∷
+          record { name = codes "If-Match"; raw = codes " \"a\""; end = crlf } ∷
+          record { name = codes "IF-MATCH"; raw = codes " \"b\", \"c\""; end = crlf } ∷ [];
+      last = crlf;
+    }))
+    ≡ next.Request 65 (record {
+      method = codes "GET";
+      target = codes "/";
+      authorization = None;
+      close = false;
+      html = false;
+      markdown = false;
+      if_match = Some (codes "\"a\", \"b\", \"c\"");
+      if_none_match = None;
+      body = [];
+    })
+unfolding computing
+conditions_joined = refl
+
+an_empty_condition : request_of (codes "GET / HTTP/1.1\r\nHost: docs\r\nIf-None-Match:\r\n\r\n")
+    (Some (record {
+      blank = [];
+      method = codes "GET";
+      target = codes "/";
+      minor = 1;
+      line_end = crlf;
+      fields = record { name = codes "Host"; raw = codes " docs"; end = crlf } ∷
+          record { name = codes "If-None-Match"; raw = codes ""; end = crlf } ∷ [];
+      last = crlf;
+    }))
+    ≡ next.Request 46 (record {
+      method = codes "GET";
+      target = codes "/";
+      authorization = None;
+      close = false;
+      html = false;
+      markdown = false;
+      if_match = None;
+      if_none_match = Some [];
+      body = [];
+    })
+unfolding computing
+an_empty_condition = refl
+
+markdown_sent : request_of (codes "GET / HTTP/1.1\r\nHost: docs\r\ncontent-type: Text/Markdown; charset=utf-8\r\n\r\n")
+    (Some (record {
+      blank = [];
+      method = codes "GET";
+      target = codes "/";
+      minor = 1;
+      line_end = crlf;
+      fields = record { name = codes "Host"; raw = codes " docs"; end = crlf } ∷
+          record { name = codes "content-type"; raw = codes " Text/Markdown; charset=utf-8"; end = crlf } ∷ [];
+      last = crlf;
+    }))
+    ≡ next.Request 74 (record {
+      method = codes "GET";
+      target = codes "/";
+      authorization = None;
+      close = false;
+      html = false;
+      markdown = true;
+      if_match = None;
+      if_none_match = None;
+      body = [];
+    })
+unfolding computing
+markdown_sent = refl
+
+markdown_sent_twice : request_of
+    (codes "GET / HTTP/1.1\r\nHost: docs\r\nContent-Type: text/markdown\r\nContent-Type: text/markdown\r\n\r\n")
+    (Some (record {
+      blank = [];
+      method = codes "GET";
+      target = codes "/";
+      minor = 1;
+      line_end = crlf;
+      fields = record { name = codes "Host"; raw = codes " docs"; end = crlf } ∷
+          record { name = codes "Content-Type"; raw = codes " text/markdown"; end = crlf } ∷
+          record { name = codes "Content-Type"; raw = codes " text/markdown"; end = crlf } ∷ [];
+      last = crlf;
+    }))
+    ≡ next.Request 88 (record {
+      method = codes "GET";
+      target = codes "/";
+      authorization = None;
+      close = false;
+      html = false;
+      markdown = false;
+      if_match = None;
+      if_none_match = None;
+      body = [];
+    })
+unfolding computing
+markdown_sent_twice = refl
 
 a_length : request_of (codes "PUT /page/a.md HTTP/1.1\r\nHost: docs\r\nContent-Length: 1\r\n\r\nxGET")
     (Some (record {
@@ -233,7 +387,17 @@ a_length : request_of (codes "PUT /page/a.md HTTP/1.1\r\nHost: docs\r\nContent-L
           record { name = codes "Content-Length"; raw = codes " 1"; end = crlf } ∷ [];
       last = crlf;
     }))
-    ≡ next.Request 59 (record { method = codes "PUT"; target = codes "/page/a.md"; authorization = None; close = false; html = false; body = codes "x" })
+    ≡ next.Request 59 (record {
+      method = codes "PUT";
+      target = codes "/page/a.md";
+      authorization = None;
+      close = false;
+      html = false;
+      markdown = false;
+      if_match = None;
+      if_none_match = None;
+      body = codes "x";
+    })
 unfolding computing
 a_length = refl
 
@@ -304,7 +468,17 @@ chunks : request_of (codes "PUT /page/a.md HTTP/1.1\r\nHost: docs\r\nTransfer-En
           record { name = codes "Transfer-Encoding"; raw = codes " Chunked"; end = crlf } ∷ [];
       last = crlf;
     }))
-    ≡ next.Request 84 (record { method = codes "PUT"; target = codes "/page/a.md"; authorization = None; close = false; html = false; body = codes "hi" })
+    ≡ next.Request 84 (record {
+      method = codes "PUT";
+      target = codes "/page/a.md";
+      authorization = None;
+      close = false;
+      html = false;
+      markdown = false;
+      if_match = None;
+      if_none_match = None;
+      body = codes "hi";
+    })
 unfolding computing
 chunks = refl
 
@@ -445,6 +619,34 @@ accepts :
     × (names_html [] ≡ false)
 unfolding computing
 accepts = (refl, refl, refl, refl, refl, refl, refl, refl, refl, refl, refl)
+
+-- ---- conditions
+
+conditions :
+    (joined_values [] ≡ None)
+    × (joined_values ([] ∷ []) ≡ Some [])
+    × (joined_values (codes "*" ∷ []) ≡ Some (codes "*"))
+    × (joined_values ([] ∷ [] ∷ []) ≡ Some (codes ", "))
+    × (joined_values (codes "\"a\"" ∷ codes "\"b\", \"c\"" ∷ []) ≡ Some (codes "\"a\", \"b\", \"c\""))
+    × (joined_values (codes "a" ∷ codes "b" ∷ codes "c" ∷ []) ≡ Some (codes "a, b, c"))
+unfolding computing
+conditions = (refl, refl, refl, refl, refl, refl)
+
+-- ---- Content-Type fields
+
+content_types :
+    (names_markdown (codes "text/markdown" ∷ []) ≡ true)
+    × (names_markdown (codes "Text/Markdown; charset=utf-8" ∷ []) ≡ true)
+    × (names_markdown (codes "text/markdown\t;variant=CommonMark" ∷ []) ≡ true)
+    × (names_markdown (codes "text/plain" ∷ []) ≡ false)
+    × (names_markdown (codes "text/markdownx" ∷ []) ≡ false)
+    × (names_markdown (codes "text/plain;text/markdown" ∷ []) ≡ false)
+    × (names_markdown (codes "text/plain, text/markdown" ∷ []) ≡ false)
+    × (names_markdown ([] ∷ []) ≡ false)
+    × (names_markdown (codes "text/markdown" ∷ codes "text/markdown" ∷ []) ≡ false)
+    × (names_markdown [] ≡ false)
+unfolding computing
+content_types = (refl, refl, refl, refl, refl, refl, refl, refl, refl, refl)
 
 -- ---- tokens
 

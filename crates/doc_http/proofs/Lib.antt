@@ -1,3 +1,5 @@
+mod ConditionLemmas
+mod ContentTypeLemmas
 mod Examples
 pub mod FaultLemmas
 mod HeadLemmas

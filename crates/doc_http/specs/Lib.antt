@@ -1,6 +1,9 @@
 pub mod Accepts
 pub mod Bearers
 pub mod BuildingSteps
+pub mod ConditionSteps
+pub mod Conditions
+pub mod ContentTypes
 pub mod Fields
 pub mod Heads
 pub mod KnowledgeSteps

@@ -16,6 +16,8 @@ use Rattle.doc_http.specs.declared.request.Request.{Request}
 use Rattle.doc_http.specs.declared.request.Next.{Next}
 use Rattle.doc_http.specs.declared.request.Next.TheVariants as next
 use Rattle.doc_http.specs.Accepts.{names_html}
+use Rattle.doc_http.specs.Conditions.{joined_values}
+use Rattle.doc_http.specs.ContentTypes.{names_markdown}
 use Rattle.doc_http.specs.Fields.{fields_of, value_named, has_good_counts, asks_close}
 use Rattle.doc_http.specs.Heads.{head_span_of, IsRead, has_bare_line_feed}
 
@@ -31,6 +33,9 @@ request_with method target minor fields body = record {
   authorization = value_named (codes "authorization") fields;
   close = asks_close minor fields;
   html = names_html (values_named (codes "accept") fields);
+  markdown = names_markdown (values_named (codes "content-type") fields);
+  if_match = joined_values (values_named (codes "if-match") fields);
+  if_none_match = joined_values (values_named (codes "if-none-match") fields);
   body = body;
 }
 

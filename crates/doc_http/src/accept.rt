@@ -41,7 +41,7 @@ fn is_html(part: &[u8]) -> bool
 }
 
 /// The media range of a part, without its parameters.
-fn media_range(part: &[u8]) -> &[u8]
+pub fn media_range(part: &[u8]) -> &[u8]
     ensures { result.now ≡ media_range part.now }
 {
     trim_blanks(before_parameters(part))

@@ -7,6 +7,8 @@ ghost use Rattle.doc_http.specs.Requests.{is_bare as bare_test, IsRequest};
 ghost use Rattle.doc_http.specs.BuildingSteps.{EndsWithin, request_at_spans, next_at_spans};
 
 use crate::accept::asks_html;
+use crate::conditions::joined_values;
+use crate::content_type::sends_markdown;
 use crate::fields::{asks_close, value_named};
 use crate::request::{Next, Request};
 use doc_http_bodies::fault::Fault;
@@ -98,12 +100,17 @@ fn request_of(
         Some(value) => Some(Bytes::copy_of(heap, value)?),
         None => None,
     };
+    let if_match = joined_values(heap, text, headers, b"if-match")?;
+    let if_none_match = joined_values(heap, text, headers, b"if-none-match")?;
     Ok(Request {
         method,
         target,
         authorization,
         close: asks_close(text, headers, spans.version),
         html: asks_html(text, headers),
+        markdown: sends_markdown(text, headers),
+        if_match,
+        if_none_match,
         body,
     })
 }

@@ -5,6 +5,8 @@
 mod accept;
 pub mod bearer;
 mod building;
+mod conditions;
+mod content_type;
 mod fields;
 mod head;
 pub mod laws;

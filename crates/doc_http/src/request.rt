@@ -24,6 +24,13 @@ pub struct Request {
     /// Whether some Accept field has a part that names `text/html` in any case, with any parameters (RFC
     /// 9110, section 12.5.1). `*/*` and `text/*` don't.
     pub html: bool,
+    /// Whether it has one Content-Type field, and that one's media type is `text/markdown` in any case, with
+    /// any parameters (RFC 9110, section 8.3; RFC 7763).
+    pub markdown: bool,
+    /// The values of all its If-Match fields in their order, joined by `, ` (RFC 9110, sections 5.3 and 13.1.1).
+    pub if_match: Option<Bytes>,
+    /// The same of its If-None-Match fields (RFC 9110, section 13.1.2).
+    pub if_none_match: Option<Bytes>,
     /// Decoded: of a chunked body the data of its chunks.
     pub body: Bytes,
 }

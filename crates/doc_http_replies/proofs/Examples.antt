@@ -1,8 +1,8 @@
 -- Worked examples: the definitions on literal replies.
-use Rattle.std.proofs.Common.{◌≡◌, [], true, false, codes, refl}
+use Rattle.std.proofs.Common.{◌≡◌, ◌++◌, [], true, false, codes, refl}
 use Rattle.std.specs.Prelude.{Some, None}
 use Rattle.std.specs.Fmt.{digits}
-use Rattle.doc_http_replies.specs.declared.reply.Allow.TheVariants.{Page, Read}
+use Rattle.doc_http_replies.specs.declared.reply.Allow.TheVariants.{Page, Read, Write, Post}
 use Rattle.doc_http_replies.specs.declared.reply_form.ReplyForm.TheVariants as forms
 use Rattle.doc_http_replies.specs.declared.status.Status.TheVariants as statuses
 use Rattle.doc_http_replies.specs.Replies.{reason_of, field_line, reply_head, reply_bytes}
@@ -79,6 +79,18 @@ a_resource_to_read : reply_bytes (record { code = 405; html = false; allow = Som
 unfolding computing
 a_resource_to_read = refl
 
+a_resource_to_write : reply_bytes (record { code = 405; html = false; allow = Some Write; location = None; body = [] }) false false
+    ≡ codes "HTTP/1.1 405 Method Not Allowed\r\nContent-Type: text/plain; charset=utf-8\r\nContent-Length: 23\r\n"
+    ++ codes "Allow: PUT\r\n\r\n405 Method Not Allowed\n"
+unfolding computing
+a_resource_to_write = refl
+
+a_resource_to_send_to : reply_bytes (record { code = 405; html = false; allow = Some Post; location = None; body = [] }) false false
+    ≡ codes "HTTP/1.1 405 Method Not Allowed\r\nContent-Type: text/plain; charset=utf-8\r\nContent-Length: 23\r\n"
+    ++ codes "Allow: POST\r\n\r\n405 Method Not Allowed\n"
+unfolding computing
+a_resource_to_send_to = refl
+
 moved : reply_bytes (record { code = 301; html = false; allow = None; location = Some (codes "/page/b.md"); body = [] }) false false
     ≡ codes "HTTP/1.1 301 Moved Permanently\r\nContent-Type: text/plain; charset=utf-8\r\nContent-Length: 22\r\nLocation: /page/b.md\r\n\r\n301 Moved Permanently\n"
 unfolding computing
@@ -90,6 +102,12 @@ a_full_store : reply_bytes (reply_of (forms.Status statuses.InsufficientStorage)
     ≡ codes "HTTP/1.1 507 Insufficient Storage\r\nContent-Type: text/plain; charset=utf-8\r\nContent-Length: 25\r\n\r\n507 Insufficient Storage\n"
 unfolding computing
 a_full_store = refl
+
+another_type : reply_bytes (reply_of (forms.Status statuses.UnsupportedMediaType)) false false
+    ≡ codes "HTTP/1.1 415 Unsupported Media Type\r\nContent-Type: text/plain; charset=utf-8\r\nContent-Length: 27\r\n\r\n"
+    ++ codes "415 Unsupported Media Type\n"
+unfolding computing
+another_type = refl
 
 moved_by_its_head : reply_bytes (reply_of (forms.Moved (codes "/page/b.md"))) true true
     ≡ codes "HTTP/1.1 301 Moved Permanently\r\nContent-Type: text/plain; charset=utf-8\r\nContent-Length: 22\r\nLocation: /page/b.md\r\nConnection: close\r\n\r\n"

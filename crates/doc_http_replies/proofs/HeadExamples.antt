@@ -28,7 +28,7 @@ a_notice title site text =
     codes "<!DOCTYPE html>\n<html lang=\"en\">\n<head>\n<meta charset=\"utf-8\">\n"
     ++ codes "<meta name=\"viewport\" content=\"width=device-width, initial-scale=1\">\n"
     ++ codes "<meta name=\"color-scheme\" content=\"light dark\">\n<title>" ++ title ++ codes " " ++ dot ++ codes " " ++ site
-    ++ codes "</title>\n<link rel=\"icon\" href=\"data:,\">\n<link rel=\"stylesheet\" href=\"/style.css?1\">\n</head>\n<body>\n"
+    ++ codes "</title>\n<link rel=\"icon\" href=\"data:,\">\n<link rel=\"stylesheet\" href=\"/style.css?3\">\n</head>\n<body>\n"
     ++ codes "<div class=\"frame bare\">\n<main id=\".main\">\n<h1>" ++ title ++ codes "</h1>\n" ++ text
     ++ codes "</main>\n</div>\n</body>\n</html>\n"
 
@@ -71,6 +71,7 @@ the_front_is_elsewhere : people_bytes (record {
   code = 301;
   location = Some (codes "/contents");
   realm = None;
+  policy = policy;
   body = a_notice (codes "Moved") (codes "Handbook")
       (codes "<p>The page stands at another address now:</p>\n<p><a href=\"/contents\">/contents</a></p>\n");
 }) true false
@@ -82,13 +83,20 @@ without_a_token : people_bytes (record {
   code = 401;
   location = None;
   realm = None;
+  policy = policy;
   body = a_notice (codes "Not signed in") (codes "Handbook") not_signed_in;
 }) true false
     ≡ codes "HTTP/1.1 401 Unauthorized\r\nContent-Type: text/html; charset=utf-8\r\nContent-Length: 502\r\nWWW-Authenticate: Bearer realm=\"docs\"\r\n" ++ lines_of_people ++ codes "\r\n"
 unfolding computing
 without_a_token = refl
 
-no_page_and_the_end : people_bytes (record { code = 404; location = None; realm = None; body = codes "<h1>Not found</h1>\n" }) false true
+no_page_and_the_end : people_bytes (record {
+  code = 404;
+  location = None;
+  realm = None;
+  policy = policy;
+  body = codes "<h1>Not found</h1>\n";
+}) false true
     ≡ codes "HTTP/1.1 404 Not Found\r\nContent-Type: text/html; charset=utf-8\r\nContent-Length: 19\r\n" ++ lines_of_people ++ codes "Connection: close\r\n\r\n<h1>Not found</h1>\n"
 unfolding computing
 no_page_and_the_end = refl
@@ -97,11 +105,26 @@ a_guest_signs_in : people_bytes (record {
   code = 401;
   location = None;
   realm = Some a_title;
+  policy = policy;
   body = a_notice (codes "Not signed in") (codes "The &quot;Blue&quot; Handbook " ++ dash ++ codes " A\\B") not_signed_in;
 }) true false
     ≡ codes "HTTP/1.1 401 Unauthorized\r\nContent-Type: text/html; charset=utf-8\r\nContent-Length: 531\r\nWWW-Authenticate: Basic realm=\"The \\\"Blue\\\" Handbook ? A\\\\B\", charset=\"UTF-8\"\r\n" ++ lines_of_people ++ codes "\r\n"
 unfolding computing
 a_guest_signs_in = refl
+
+a_policy_of_its_own : people_bytes (record {
+  code = 200;
+  location = None;
+  realm = None;
+  policy = codes "default-src 'none'; sandbox";
+  body = codes "<p>Hello</p>\n";
+}) false false
+    ≡ codes "HTTP/1.1 200 OK\r\nContent-Type: text/html; charset=utf-8\r\nContent-Length: 13\r\n"
+    ++ codes "Content-Security-Policy: default-src 'none'; sandbox\r\n"
+    ++ codes "X-Content-Type-Options: nosniff\r\nReferrer-Policy: same-origin\r\nCache-Control: private, no-cache\r\n"
+    ++ codes "Vary: Accept, Authorization\r\n\r\n<p>Hello</p>\n"
+unfolding computing
+a_policy_of_its_own = refl
 
 -- ---- plain replies of a site with settings
 

@@ -6,7 +6,7 @@ use Rattle.std.proofs.lemmas.List.{append_assoc}
 use Rattle.doc_http_replies.specs.Heads.{Dress, challenge_lines, dressed_bytes, dressed_head, guard_lines, is_html, nosniff_line, policy_line, private_lines, referrer_line, undressed}
 use Rattle.doc_http_replies.specs.Laws.{NoHtmlWithoutAPolicy, NoPersonsPageWithoutAPolicy, NothingIsAdded}
 use Rattle.doc_http_replies.specs.PeopleReplies.{people_bytes, people_challenge_line, typed_lines}
-use Rattle.doc_http_replies.specs.Replies.{allow_line, close_line, content_lines, content_of, content_type, location_line, reply_bytes, reply_head, status_of, where_true}
+use Rattle.doc_http_replies.specs.Replies.{allow_line, close_line, content_lines, content_of, content_type, field_line, location_line, reply_bytes, reply_head, status_of, where_true}
 use Rattle.doc_http_replies.specs.declared.reply.Reply.{Reply}
 
 pub nothing_is_added : NothingIsAdded
@@ -63,5 +63,6 @@ no_persons_page_without_a_policy reply head_only close =
     ++ people_challenge_line reply.realm reply.code in
     let content = where_true (not head_only) reply.body in (
       (nosniff_line ++ referrer_line ++ private_lines) ++ close_line close ++ codes "\r\n" ++ content,
-      ends_a_front_too start front policy_line nosniff_line referrer_line private_lines (close_line close) (codes "\r\n") content,
+      ends_a_front_too start front (field_line (codes "Content-Security-Policy") reply.policy) nosniff_line referrer_line private_lines
+          (close_line close) (codes "\r\n") content,
     )

@@ -1,4 +1,7 @@
 mod Examples
 mod HeadExamples
 mod HeadLaws
+mod EditExamples
+mod EditLaws
 mod ReplyLemmas
+mod StatusLemmas

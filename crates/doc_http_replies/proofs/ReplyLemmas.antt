@@ -1,24 +1,12 @@
 -- How long the content of a reply is.
-use Rattle.std.proofs.Common.{◌≡◌, ◌≢◌, ℕ, ◌+◌, ◌/◌, ◌%◌, ◌<◌, ◌≤◌, ◌==◌, true, false, List, [], ◌∷◌, ◌++◌, length, codes, refl, ap, ◌∙◌}
+use Rattle.std.proofs.Common.{◌≡◌, ◌≢◌, ℕ, ◌+◌, ◌<◌, ◌≤◌, ◌==◌, true, false, List, ◌++◌, length, codes, refl, ap, ◌∙◌}
 use Rattle.std.proofs.Common.{sym, arith, length-append}
 use Rattle.std.specs.Prelude.{decimal, if◌then◌else◌}
 use Rattle.std.proofs.lemmas.Bool.Decides.{nat_tests}
 use Rattle.std.proofs.lemmas.List.{append_assoc}
-use Rattle.std.proofs.lemmas.Fmt.{decimal_digit, decimal_step}
+use Rattle.doc_http_replies.proofs.StatusLemmas.{three_digits}
 use Rattle.doc_http_replies.specs.declared.reply.Reply.{Reply}
 use Rattle.doc_http_replies.specs.Replies.{is_reply_code, reason_of, status_of, content_of, content_type, content_lines, field_line}
-
-one_longer : (n : ℕ) → 10 ≤ n → n < 1000 → length (decimal n) ≡ length (decimal (n / 10)) + 1
-one_longer n low high =
-    ap length (decimal_step n low (omega (arith, high))) ∙ length-append (decimal (n / 10)) ((48 + n % 10) ∷ [])
-
--- a number from 100 to 999 has three digits
-three_digits : (n : ℕ) → 100 ≤ n → n < 1000 → length (decimal n) ≡ 3
-three_digits n low high =
-    let tens = one_longer n (omega arith) high in
-    let hundreds = one_longer (n / 10) (omega arith) (omega arith) in
-    let first = ap length (decimal_digit (n / 10 / 10) (omega arith)) in
-    omega arith
 
 in_range : (code : ℕ) → is_reply_code code ≡ true → (100 ≤ code) × (code < 1000)
 in_range code known = (grind (arith, nat_tests), grind (arith, nat_tests))
@@ -54,6 +42,11 @@ content_lines_after reply start typed kind len other kind_is typed_is len_is =
 
 pub two_written : (old first second a b : List ℕ) → first ≡ old ++ a → second ≡ first ++ b → second ≡ old ++ (a ++ b)
 two_written old first second a b one two = rw (two, one, append_assoc) refl
+
+pub four_written : (old first second third fourth a b c d : List ℕ) → first ≡ old ++ a → second ≡ first ++ b → third ≡ second ++ c
+    → fourth ≡ third ++ d → fourth ≡ old ++ (a ++ b ++ c ++ d)
+four_written old first second third fourth a b c d one two three four =
+    four ∙ ap (λ t. t ++ d) (three ∙ ap (λ t. t ++ c) (two ∙ ap (λ t. t ++ b) one)) ∙ simp append_assoc
 
 pub five_written : (old first second third fourth fifth a b c d e : List ℕ) → first ≡ old ++ a → second ≡ first ++ b → third ≡ second ++ c
     → fourth ≡ third ++ d → fifth ≡ fourth ++ e → fifth ≡ old ++ (a ++ b ++ c ++ (d ++ e))

@@ -4,5 +4,6 @@ pub mod ReplyForms
 pub mod ReplySteps
 pub mod Heads
 pub mod PeopleReplies
+pub mod EditReplies
 pub mod Manners
 pub mod Laws

@@ -4,23 +4,24 @@ use Rattle.std.specs.List.{list_any}
 use Rattle.doc_http_replies.specs.Challenges.{bearer_challenge}
 use Rattle.doc_http_replies.specs.declared.reply.Reply.{Reply}
 use Rattle.doc_http_replies.specs.declared.reply.Allow.{Allow}
-use Rattle.doc_http_replies.specs.declared.reply.Allow.TheVariants.{Page, Read}
+use Rattle.doc_http_replies.specs.declared.reply.Allow.TheVariants.{Page, Read, Write, Post}
 
 -- the reason phrase of a code (RFC 9110, section 15; 431: RFC 6585, section 5; 507: RFC 4918, section 11.5)
 unfoldable pub reason_of : ℕ → List ℕ
 reason_of code =
     if code == 200 then codes "OK" else (if code == 201 then codes "Created" else (if code == 204 then codes "No Content"
-    else (if code == 301 then codes "Moved Permanently" else
+    else (if code == 301 then codes "Moved Permanently" else (if code == 304 then codes "Not Modified" else
     (if code == 400 then codes "Bad Request" else (if code == 401 then codes "Unauthorized" else (if code == 403 then codes "Forbidden"
     else (if code == 404 then codes "Not Found" else (if code == 405 then codes "Method Not Allowed" else
-    (if code == 413 then codes "Content Too Large"
+    (if code == 409 then codes "Conflict" else (if code == 412 then codes "Precondition Failed" else
+    (if code == 413 then codes "Content Too Large" else (if code == 415 then codes "Unsupported Media Type"
     else (if code == 431 then codes "Request Header Fields Too Large" else (if code == 501 then codes "Not Implemented"
-    else (if code == 507 then codes "Insufficient Storage" else []))))))))))))
+    else (if code == 507 then codes "Insufficient Storage" else []))))))))))))))))
 
--- whether a reply may have the code; this project's choice
+-- whether a `Reply` may have the code; this project's choice
 abbrev pub is_reply_code : ℕ → Bool
 is_reply_code code =
-    list_any (λ c. c == code) (200 ∷ 201 ∷ 204 ∷ 301 ∷ 400 ∷ 401 ∷ 403 ∷ 404 ∷ 405 ∷ 413 ∷ 431 ∷ 501 ∷ 507 ∷ [])
+    list_any (λ c. c == code) (200 ∷ 201 ∷ 204 ∷ 301 ∷ 400 ∷ 401 ∷ 403 ∷ 404 ∷ 405 ∷ 413 ∷ 415 ∷ 431 ∷ 501 ∷ 507 ∷ [])
 
 -- the codes of faults (RFC 9110, sections 15.5.1, 15.5.14 and 15.6.2; RFC 6585, section 5)
 abbrev pub is_fault_code : ℕ → Bool
@@ -57,10 +58,12 @@ abbrev pub location_line : Option (List ℕ) → List ℕ
 location_line None = []
 location_line (Some location) = field_line (codes "Location") location
 
--- the methods of a resource: a page is written too, the others are read alone
+-- the methods of a resource: a page is read and written, of the others each is read, is written or takes texts, and no more
 abbrev pub allowed_methods : Allow → List ℕ
 allowed_methods Page = codes "GET, HEAD, PUT, DELETE"
 allowed_methods Read = codes "GET, HEAD"
+allowed_methods Write = codes "PUT"
+allowed_methods Post = codes "POST"
 
 -- the methods that a resource has (RFC 9110, section 10.2.1)
 abbrev pub allow_line : Option Allow → List ℕ

@@ -16,6 +16,7 @@ code_of statuses.Unauthorized = 401
 code_of statuses.Forbidden = 403
 code_of statuses.NotFound = 404
 code_of statuses.ContentTooLarge = 413
+code_of statuses.UnsupportedMediaType = 415
 code_of statuses.RequestHeaderFieldsTooLarge = 431
 code_of statuses.NotImplemented = 501
 code_of statuses.InsufficientStorage = 507

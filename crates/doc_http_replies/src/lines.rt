@@ -1,10 +1,11 @@
 //! Lines of heads, each written at the end of a buffer.
 
-ghost use Rattle.std.specs.Prelude.{◌≡◌, ◌++◌, OnOk, string_bytes, codes, decimal, option_copied};
+ghost use Rattle.std.specs.Prelude.{◌≡◌, ◌++◌, ◌<◌, ◌≤◌, length, OnOk, string_bytes, codes, decimal, option_copied};
 ghost use Rattle.doc_http_replies.specs.Heads.{cache_line, guard_lines, nosniff_line, policy_line, private_lines, vary_line};
 ghost use Rattle.doc_http_replies.specs.PeopleReplies.{typed_lines};
 ghost use Rattle.doc_http_replies.specs.Replies.{close_line, field_line, location_line, reason_of, status_of};
 
+use crate::policies::page_policy;
 use doc_page_parts::failure::Memory;
 use doc_page_parts::heap::String;
 use std::fmt::Write;
@@ -12,15 +13,11 @@ use std::fmt::Write;
 /// Room for the head of a reply without settings, and for a content of one line.
 pub const HEAD_ROOM: usize = 256;
 
-/// Room for the lines that guard a page, one for people too.
+/// Room for the lines that guard a page of a site with settings.
 pub const GUARD_ROOM: usize = 384;
 
 /// Room for those that keep a reply from shared caches.
 pub const PRIVATE_ROOM: usize = 64;
-
-/// What the HTML of a page may do.
-const POLICY: &str =
-    "default-src 'none'; style-src 'self'; img-src 'self' https: data:; form-action 'self'; base-uri 'none'; frame-ancestors 'none'; sandbox allow-same-origin allow-forms allow-popups allow-popups-to-escape-sandbox allow-downloads";
 
 /// Adds a field line.
 #[tactic(auto, unfolding(crate::specs::Replies::field_line))]
@@ -52,6 +49,28 @@ pub fn push_status(out: &mut String, code: u16) -> Result<(), Memory>
 {
     write!(out, "{} {}", code, reason(code))?;
     Ok(())
+}
+
+/// The length of the code and its reason.
+pub fn status_len(code: u16) -> usize
+    ensures len { result ≡ length (status_of code) }
+    ensures short { result < 64 }
+{
+    digits_len(code) + 1 + reason(code).len()
+}
+
+/// The number of digits of a code.
+fn digits_len(code: u16) -> usize
+    ensures len { result ≡ length (decimal code) }
+    ensures few { result ≤ 5 }
+{
+    match code {
+        0..=9 => 1,
+        10..=99 => 2,
+        100..=999 => 3,
+        1000..=9999 => 4,
+        _ => 5,
+    }
 }
 
 /// Adds the status line.
@@ -88,11 +107,11 @@ pub fn push_typed_lines(out: &mut String, kind: &str, content: &[u8]) -> Result<
 }
 
 /// Adds what the HTML of a page may do.
-#[tactic(auto, unfolding(crate::specs::Heads::policy_line, crate::specs::Heads::policy))]
+#[tactic(auto, unfolding(crate::specs::Heads::policy_line))]
 pub fn push_policy(out: &mut String) -> Result<(), Memory>
     ensures { OnOk result (string_bytes out.new ≡ string_bytes out.old ++ policy_line) }
 {
-    push_field(out, "Content-Security-Policy", POLICY)
+    push_field(out, "Content-Security-Policy", page_policy())
 }
 
 /// Adds that the content is what its type says.
@@ -111,8 +130,9 @@ pub fn push_privacy(out: &mut String) -> Result<(), Memory>
     push_vary(out)
 }
 
+/// Adds that no shared cache keeps the reply, and that a browser asks anew.
 #[tactic(auto, unfolding(crate::specs::Heads::cache_line))]
-fn push_cache(out: &mut String) -> Result<(), Memory>
+pub fn push_cache(out: &mut String) -> Result<(), Memory>
     ensures { OnOk result (string_bytes out.new ≡ string_bytes out.old ++ cache_line) }
 {
     push_field(out, "Cache-Control", "private, no-cache")
@@ -162,12 +182,16 @@ pub fn reason(code: u16) -> &'static str
         201 => "Created",
         204 => "No Content",
         301 => "Moved Permanently",
+        304 => "Not Modified",
         400 => "Bad Request",
         401 => "Unauthorized",
         403 => "Forbidden",
         404 => "Not Found",
         405 => "Method Not Allowed",
+        409 => "Conflict",
+        412 => "Precondition Failed",
         413 => "Content Too Large",
+        415 => "Unsupported Media Type",
         431 => "Request Header Fields Too Large",
         501 => "Not Implemented",
         507 => "Insufficient Storage",

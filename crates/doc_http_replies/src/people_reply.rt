@@ -8,12 +8,15 @@ ghost use Rattle.doc_http_replies.specs.PeopleReplies.{people_bytes, people_guar
 use crate::challenges::{challenge_room, push_people_challenge};
 use crate::ending::with_content;
 use crate::lines::{
-    GUARD_ROOM, HEAD_ROOM, push_close, push_field, push_location, push_nosniff, push_policy,
-    push_privacy, push_status_line, push_typed_lines,
+    HEAD_ROOM, push_close, push_field, push_location, push_nosniff, push_privacy, push_status_line,
+    push_typed_lines,
 };
 use doc_page_parts::bytes::Bytes;
 use doc_page_parts::failure::Memory;
 use doc_page_parts::heap::{Heap, String};
+
+/// Room for the lines that guard a page for people, but for its policy.
+const PEOPLE_GUARD_ROOM: usize = 160;
 
 /// A reply to a person, its parts borrowed. Its body is a page of HTML, whatever the code.
 #[derive(Clone, Copy)]
@@ -23,6 +26,8 @@ pub struct PeopleParts<'a> {
     pub location: Option<&'a str>,
     /// With 401, the title of the site, where readers may sign in as browsers do.
     pub realm: Option<&'a str>,
+    /// What the HTML of the page may do: the value of its Content-Security-Policy, whose bytes are written as they are.
+    pub policy: &'a str,
     pub body: &'a [u8],
 }
 
@@ -43,7 +48,8 @@ impl PeopleParts<'_> {
     fn room(&self, head_only: bool) -> usize {
         let content = if head_only { 0 } else { self.body.len() };
         let location = self.location.map_or(0, |location| location.len());
-        (HEAD_ROOM + GUARD_ROOM)
+        (HEAD_ROOM + PEOPLE_GUARD_ROOM)
+            .saturating_add(self.policy.len())
             .saturating_add(location)
             .saturating_add(challenge_room(self.code, self.realm))
             .saturating_add(content)
@@ -68,16 +74,16 @@ impl PeopleParts<'_> {
         push_typed_lines(out, "text/html; charset=utf-8", self.body)?;
         push_location(out, self.location)?;
         push_people_challenge(out, self.code, self.realm)?;
-        push_people_guards(out)?;
+        push_people_guards(out, self.policy)?;
         push_close(out, close)
     }
 }
 
 /// Adds what keeps a page to its reader, its HTML from acting by itself, and its address in the site.
-fn push_people_guards(out: &mut String) -> Result<(), Memory>
-    ensures { OnOk result (string_bytes out.new ≡ string_bytes out.old ++ people_guards) }
+fn push_people_guards(out: &mut String, policy: &str) -> Result<(), Memory>
+    ensures { OnOk result (string_bytes out.new ≡ string_bytes out.old ++ people_guards policy.now) }
 {
-    push_policy(out)?;
+    push_field(out, "Content-Security-Policy", policy)?;
     push_nosniff(out)?;
     push_referrer(out)?;
     push_privacy(out)

@@ -35,6 +35,10 @@ pub enum Allow {
     Page,
     /// What is only read: GET and HEAD.
     Read,
+    /// What is only written: PUT.
+    Write,
+    /// What texts are sent to: POST.
+    Post,
 }
 
 impl Reply {
@@ -78,6 +82,8 @@ impl Allow {
         match self {
             Allow::Page => "GET, HEAD, PUT, DELETE",
             Allow::Read => "GET, HEAD",
+            Allow::Write => "PUT",
+            Allow::Post => "POST",
         }
     }
 }

@@ -4,7 +4,7 @@ use Rattle.std.proofs.Common.{None, Result, Ok, Err, option_map, codes, refl, sy
 use Rattle.std.specs.Bool.{⊤}
 use Rattle.std.specs.Option.{option_or}
 use Rattle.std.specs.Str.{bytes_eq}
-use Rattle.std.proofs.lemmas.Bool.{and_parts, cond_both, cases_eq, false_from_ne_true, not-true}
+use Rattle.std.proofs.lemmas.Bool.{and_parts, cases_eq, false_from_ne_true, not-true}
 use Rattle.std.proofs.lemmas.Bool.Decides.{Decides-eqb}
 use Rattle.matchit.specs.Route.{Scan}
 use Rattle.matchit.specs.Router.{RouteOf, InsertsRead}
@@ -12,6 +12,7 @@ use Rattle.matchit.specs.Rows.{RowsOf, catch_all_token, param_token}
 use Rattle.matchit.specs.Seek.{seek, step, or_else, param_step, has_slash}
 use Rattle.matchit.specs.declared.error.InsertError.{InsertError}
 use Rattle.matchit.specs.declared.error.InsertError.TheVariants.{Conflict, InvalidParam, InvalidParamSegment, InvalidCatchAll, OutOfMemory}
+use Rattle.doc_http_targets.proofs.Fronts.{after-append}
 use Rattle.doc_http_targets.specs.RouteSteps.{CanStand, leads_to, place_of, route_table}
 use Rattle.doc_http_targets.specs.Targets.{Route, after, at_path, if_not_empty, route_at}
 use Rattle.doc_http_targets.specs.Targets as targets
@@ -210,14 +211,6 @@ place_of-closed (b ∷ path) =
       | inl e ↦ subst P e (slash path)
       | inr n ↦ rw (unequal n) (ap value_of (no_rows 0 path))
     ]
-
--- a text that has a prefix is that prefix and the rest
-after-append : (front text rest : List ℕ) → after front text ≡ Some rest → text ≡ front ++ rest
-after-append [] text rest e = cc
-after-append (x ∷ front) [] rest e = absurd (cc)
-after-append (x ∷ front) (b ∷ text) rest e =
-    cond_both (x == b) (after front text) None (λ o. o ≡ Some rest → b ∷ text ≡ x ∷ (front ++ rest))
-    (λ same h. let head = (Decides-eqb x b).0 same in let tail = after-append front text rest h in cc) (λ _ h. absurd (cc)) e
 
 -- ---- what the places ask for
 

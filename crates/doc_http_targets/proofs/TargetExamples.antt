@@ -7,7 +7,7 @@ use Rattle.form_urlencoded.specs.Form.{raw_pairs, split}
 use Rattle.percent_encoding.specs.Percent.{percent_decode}
 use Rattle.doc_page_parts.specs.Paths.{is_path}
 use Rattle.doc_resolve.specs.WrittenPaths.{path_written as path_of_segments}
-use Rattle.doc_http_targets.specs.Queries.{parameter, value_of}
+use Rattle.doc_http_targets.specs.Queries.{optional_parameter, parameter, value_of}
 use Rattle.doc_http_targets.specs.Targets.{origin_form, route_of, Page, Backlinks, Contents, Search, Broken}
 use Rattle.doc_http_targets.specs.WrittenPaths.{path_written}
 
@@ -184,6 +184,36 @@ empty_value = refl
 first_of_two : parameter (codes "/search?p=a&q=b&q=c") (codes "q") ≡ codes "b"
 unfolding value_of raw_pairs split percent_decode utf8_lossy utf8_valid_len is_utf8 chars encode
 first_of_two = refl
+
+-- ---- parameters that may be absent
+
+optional : optional_parameter (codes "/search?q=kiwi") (codes "q") ≡ Some (codes "kiwi")
+unfolding value_of raw_pairs split percent_decode utf8_lossy utf8_valid_len is_utf8 chars encode
+optional = refl
+
+optional_absent : optional_parameter (codes "/search") (codes "q") ≡ None
+unfolding value_of raw_pairs split percent_decode utf8_lossy utf8_valid_len is_utf8 chars encode
+optional_absent = refl
+
+optional_of_another_name : optional_parameter (codes "/search?p=a") (codes "q") ≡ None
+unfolding value_of raw_pairs split percent_decode utf8_lossy utf8_valid_len is_utf8 chars encode
+optional_of_another_name = refl
+
+optional_without_value : optional_parameter (codes "/search?q") (codes "q") ≡ Some (codes "")
+unfolding value_of raw_pairs split percent_decode utf8_lossy utf8_valid_len is_utf8 chars encode
+optional_without_value = refl
+
+optional_empty_value : optional_parameter (codes "/search?q=") (codes "q") ≡ Some (codes "")
+unfolding value_of raw_pairs split percent_decode utf8_lossy utf8_valid_len is_utf8 chars encode
+optional_empty_value = refl
+
+optional_first_of_two : optional_parameter (codes "/search?q=&q=c") (codes "q") ≡ Some (codes "")
+unfolding value_of raw_pairs split percent_decode utf8_lossy utf8_valid_len is_utf8 chars encode
+optional_first_of_two = refl
+
+optional_with_spaces : optional_parameter (codes "/move/a.md?to=two+words%21") (codes "to") ≡ Some (codes "two words!")
+unfolding value_of raw_pairs split percent_decode utf8_lossy utf8_valid_len is_utf8 chars encode
+optional_with_spaces = refl
 
 -- ---- the path that is written
 

@@ -1,3 +1,5 @@
+pub mod EditTargets
+pub mod Laws
 pub mod PeopleTargets
 pub mod Queries
 pub mod RouteSteps

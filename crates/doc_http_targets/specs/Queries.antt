@@ -22,6 +22,10 @@ first_value name (pair ∷ pairs) = if bytes_eq (text_of pair.0) name then Some 
 unfoldable pub value_of : List ℕ → List ℕ → Option (List ℕ)
 value_of query name = first_value name (raw_pairs query)
 
--- the same in a target's query; empty where there is none
+-- the same in a target's query
+abbrev pub optional_parameter : List ℕ → List ℕ → Option (List ℕ)
+optional_parameter target name = value_of (query_of target) name
+
+-- the same; empty where there is none
 abbrev pub parameter : List ℕ → List ℕ → List ℕ
-parameter target name = unwrap_or (value_of (query_of target) name) []
+parameter target name = unwrap_or (optional_parameter target name) []

@@ -1,7 +1,8 @@
 //! The parts of a request's target.
 
 ghost use Rattle.std.specs.Prelude.{◌≡◌, option_copied};
-ghost use Rattle.doc_http_targets.specs.Targets.{ends_authority, after_authority, after_http, if_rooted, path_part};
+ghost use Rattle.doc_http_targets.specs.PeopleTargets.{path_behind, target_path};
+ghost use Rattle.doc_http_targets.specs.Targets.{ends_authority, after, after_authority, after_http, if_rooted, path_part, rest_behind};
 ghost use Rattle.doc_http_targets.specs.TargetSteps.{origin_part, after_slash};
 
 const HTTP: &str = "http://";
@@ -20,6 +21,28 @@ pub fn origin_part(target: &str) -> Option<&str>
     if_rooted(text)
 }
 
+/// The path of a target.
+#[tactic(auto, unfolding(crate::specs::PeopleTargets::target_path))]
+pub fn target_path(target: &str) -> Option<&str>
+    ensures { option_copied result ≡ target_path target.now }
+{
+    match after_http(target) {
+        Some(rest) => path_behind(after_authority(rest)),
+        None => Some(path_part(if_rooted(target)?)),
+    }
+}
+
+/// The path of what stands behind an authority.
+fn path_behind(text: &str) -> Option<&str>
+    ensures { option_copied result ≡ path_behind text.now }
+{
+    match text.as_bytes().first() {
+        None | Some(b'?') => Some("/"),
+        Some(b'/') => Some(path_part(text)),
+        Some(_) => None,
+    }
+}
+
 /// The path, without the query.
 pub fn path_part(target: &str) -> &str
     ensures { result.now ≡ path_part target.now }
@@ -28,6 +51,24 @@ pub fn path_part(target: &str) -> &str
         Some((path, _)) => path,
         None => target,
     }
+}
+
+/// What follows a front, where the path has it.
+pub fn after<'a>(front: &str, path: &'a str) -> Option<&'a str>
+    ensures { option_copied result ≡ after front.now path.now }
+{
+    path.strip_prefix(front)
+}
+
+/// The same, where it isn't empty.
+pub fn rest_behind<'a>(front: &str, path: &'a str) -> Option<&'a str>
+    ensures { option_copied result ≡ rest_behind front.now path.now }
+{
+    let rest = after(front, path)?;
+    if rest.is_empty() {
+        return None;
+    }
+    Some(rest)
 }
 
 /// What follows the first `/`.

@@ -1,12 +1,12 @@
 //! What the target of a request for people asks for.
 
-ghost use Rattle.std.specs.Prelude.{◌≡◌, option_copied, option_map};
+ghost use Rattle.std.specs.Prelude.{◌≡◌, option_map};
 ghost use Rattle.std.specs.Prelude.{codes};
 ghost use Rattle.doc_http_targets.specs.PeopleTargets as people_targets;
-ghost use Rattle.doc_http_targets.specs.PeopleTargets.{for_people_at, for_people_in, is_style_sheet, path_behind, people_route_of, people_route_shown, target_path};
+ghost use Rattle.doc_http_targets.specs.PeopleTargets.{for_people_at, for_people_in, is_style_sheet, people_route_of, people_route_shown, target_path};
 ghost use Rattle.doc_http_targets.specs.Targets.{rest_behind, route_of};
 
-use crate::origin_form::{after_authority, after_http, if_rooted, path_part};
+use crate::origin_form::{rest_behind, target_path};
 use crate::route::Route;
 use crate::routes::Routes;
 
@@ -83,31 +83,5 @@ fn folder_at(path: &str) -> Option<PeopleRoute<'_>>
     ensures { option_map people_route_shown result
         ≡ option_map people_targets.Folder (rest_behind (codes "/contents/") path.now) }
 {
-    let rest = path.strip_prefix("/contents/")?;
-    if rest.is_empty() {
-        return None;
-    }
-    Some(PeopleRoute::Folder(rest))
-}
-
-/// The path of a target.
-#[tactic(auto, unfolding(crate::specs::PeopleTargets::target_path))]
-fn target_path(target: &str) -> Option<&str>
-    ensures { option_copied result ≡ target_path target.now }
-{
-    match after_http(target) {
-        Some(rest) => path_behind(after_authority(rest)),
-        None => Some(path_part(if_rooted(target)?)),
-    }
-}
-
-/// The path of what stands behind an authority.
-fn path_behind(text: &str) -> Option<&str>
-    ensures { option_copied result ≡ path_behind text.now }
-{
-    match text.as_bytes().first() {
-        None | Some(b'?') => Some("/"),
-        Some(b'/') => Some(path_part(text)),
-        Some(_) => None,
-    }
+    Some(PeopleRoute::Folder(rest_behind("/contents/", path)?))
 }

@@ -1,7 +1,7 @@
 //! What the query of a target asks for.
 
 ghost use Rattle.std.specs.Prelude.{◌≡◌, IfOk, option_map, string_bytes};
-ghost use Rattle.doc_http_targets.specs.Queries.{parameter, query_of, value_of};
+ghost use Rattle.doc_http_targets.specs.Queries.{optional_parameter, parameter, query_of, value_of};
 
 use doc_page_parts::failure::Memory;
 use doc_page_parts::heap::{Heap, String};
@@ -13,9 +13,20 @@ use doc_page_parts::text::Text;
 pub fn parameter(heap: Heap, target: &str, name: &str) -> Result<Text, Memory>
     ensures { IfOk result (λ value. value ≡ parameter target.now name.now) }
 {
-    match value_in(heap, query(target), name)? {
-        Some(value) => Ok(Text::new(value)),
+    match optional_parameter(heap, target, name)? {
+        Some(value) => Ok(value),
         None => Ok(Text::new(String::new(heap))),
+    }
+}
+
+/// The value of the first pair of this name in a target's query, read as [`parameter`] reads it; `None` where there is none, so that a
+/// pair without a value isn't taken for one that is absent.
+pub fn optional_parameter(heap: Heap, target: &str, name: &str) -> Result<Option<Text>, Memory>
+    ensures { IfOk result (λ value. value ≡ optional_parameter target.now name.now) }
+{
+    match value_in(heap, query(target), name)? {
+        Some(value) => Ok(Some(Text::new(value))),
+        None => Ok(None),
     }
 }
 

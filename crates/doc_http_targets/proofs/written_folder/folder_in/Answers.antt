@@ -1,8 +1,4 @@
-use Rattle.std.proofs.Common.{◌≡◌, ◌∙◌, refl, sym, ap, Some, None, Bool, true, false, cond, ◌&&◌, length, ◌-◌, slice_get, not, List, ℕ}
-use Rattle.std.specs.Str.{IsUtf8, is_utf8}
-use Rattle.std.proofs.lemmas.Bool.{cond_both}
-use Rattle.std.proofs.lemmas.Str.{IsUtf8-from_is_utf8, is_utf8-from_IsUtf8}
-use Rattle.doc_http_targets.specs.WrittenFolders.{if_folder, is_slash_at}
+use Rattle.std.proofs.Common.{◌∙◌, sym, ap, Some}
 use Rattle.doc_http_targets.proofs.FolderSteps.{no_text, no_slash, a_folder}
 use Rattle.doc_http_targets.proofs.written_folder.folder_in.Goals as goal
 
