@@ -2,8 +2,8 @@
 use Rattle.std.proofs.Common.{◌≡◌, [], ◌∷◌, ◌++◌, true, false, replicate, refl}
 use Rattle.std.specs.Prelude.{codes}
 use Rattle.doc_store_readers.specs.Sites.{View}
-use Rattle.doc_people.specs.Folders.{contents_href, folder_href, folder_label, folder_of, is_folder, key, keys, label, name, page_href}
-use Rattle.doc_people.specs.Folders.{parent, sees_folder, short, title}
+use Rattle.doc_people.specs.Folders.{contents_href, edit_href, folder_href, folder_label, folder_of, is_folder, key, keys, label, name}
+use Rattle.doc_people.specs.Folders.{page_href, parent, sees_folder, short, title}
 use Rattle.doc_people.proofs.Computing.{shell_words}
 use Rattle.doc_people.proofs.Sites.{titled, view_of_paths}
 
@@ -91,5 +91,8 @@ addresses :
     × (folder_href some_pages [] ≡ codes "/page/index.md")
     × (folder_href some_pages (codes "e/") ≡ codes "/contents/e/")
     × (folder_href some_pages (codes "e/f/") ≡ codes "/page/e/f/index.md")
+    × (edit_href (codes "e f/a&b.md") ≡ codes "/edit/e%20f/a%26b.md")
+    × (edit_href (codes "e f/g/") ≡ codes "/edit/e%20f/g/")
+    × (edit_href [] ≡ codes "/edit/")
 unfolding shell_words
-addresses = (refl, refl, refl, refl, refl, refl)
+addresses = (refl, refl, refl, refl, refl, refl, refl, refl, refl)

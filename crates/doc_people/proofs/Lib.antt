@@ -6,6 +6,7 @@ mod SettingExamples
 mod FolderExamples
 mod InertExamples
 mod NavigationExamples
+mod ToolExamples
 mod StatusExamples
 mod PageExamples
 mod ListExamples

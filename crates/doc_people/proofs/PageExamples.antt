@@ -3,7 +3,7 @@ use Rattle.std.proofs.Common.{◌≡◌, ◌++◌, codes, refl}
 use Rattle.doc_people.specs.Pages.{page_body}
 use Rattle.doc_people.proofs.Bodies.{bar, front}
 use Rattle.doc_people.proofs.Computing.{page_words}
-use Rattle.doc_people.proofs.Sites.{defaults, no_offers, demo, for_ann, for_ann_later, for_owner, guide, two_links}
+use Rattle.doc_people.proofs.Sites.{defaults, no_offers, with_tools, demo, for_ann, for_ann_later, for_owner, guide, two_links}
 
 -- a page, with links that lead nowhere for its reader
 links_that_lead_nowhere :
@@ -20,6 +20,24 @@ links_that_lead_nowhere = refl
 
 -- the same by an owner, who sees where one leads
 a_link_that_leads_to_a_page :
+    page_body demo defaults with_tools for_owner (codes "b.md") (demo two_links)
+    ≡
+    front (codes "b.md") ++ bar ++ codes "<div class=\"over\">\n<nav class=\"crumbs\" aria-label=\"Folders\">\n<ol>\n"
+    ++ codes "<li><a href=\"/contents\">Home</a></li>\n</ol>\n</nav>\n<p class=\"tools\">\n"
+    ++ codes "<a href=\"/edit/b.md\">Edit</a>\n<a href=\"/edit/\">New page</a>\n</p>\n</div>\n"
+    ++ codes "<main id=\".main\">\n<article>\n<h1>b.md</h1>\n"
+    ++ codes "<p><a href=\"/page/c.md\">c</a> <a class=\"missing\">d</a></p>\n</article>\n</main>\n"
+    ++ codes "<aside aria-label=\"About this page\">\n<h2>Linked from</h2>\n<ul>\n<li><a href=\"/page/c.md\">c.md</a></li>\n"
+    ++ codes "</ul>\n</aside>\n<nav class=\"tree\" id=\".pages\" aria-label=\"Pages\">\n"
+    ++ codes "<p class=\"top\"><a href=\"/contents\">Home</a></p>\n<ul>\n<li><a href=\"/page/a.md\">a.md</a></li>\n"
+    ++ codes "<li><a href=\"/page/b.md\" aria-current=\"page\">b.md</a></li>\n<li><a href=\"/page/c.md\">c.md</a></li>\n"
+    ++ codes "</ul>\n</nav>\n</div>\n<footer>\n<p><code>b.md</code></p>\n<p class=\"tools\">\n"
+    ++ codes "<a href=\"/edit/b.md\">Edit</a>\n<a href=\"/edit/\">New page</a>\n</p>\n</footer>\n</body>\n</html>\n"
+unfolding page_words
+a_link_that_leads_to_a_page = refl
+
+-- where editing is off, nothing of it is shown
+an_owners_page_without_tools :
     page_body demo defaults no_offers for_owner (codes "b.md") (demo two_links)
     ≡
     front (codes "b.md") ++ bar ++ codes "<div class=\"over\">\n<nav class=\"crumbs\" aria-label=\"Folders\">\n<ol>\n"
@@ -31,7 +49,7 @@ a_link_that_leads_to_a_page :
     ++ codes "<li><a href=\"/page/b.md\" aria-current=\"page\">b.md</a></li>\n<li><a href=\"/page/c.md\">c.md</a></li>\n"
     ++ codes "</ul>\n</nav>\n</div>\n<footer>\n<p><code>b.md</code></p>\n</footer>\n</body>\n</html>\n"
 unfolding page_words
-a_link_that_leads_to_a_page = refl
+an_owners_page_without_tools = refl
 
 -- a page in a folder, with headings, with a link to it, and with HTML of its own
 a_page_in_a_folder :

@@ -1,6 +1,6 @@
 -- Views and renderers of the examples.
 use Rattle.std.proofs.Common.{ℕ, List, [], ◌∷◌, codes}
-use Rattle.std.specs.Prelude.{None, false, bytes_eq, if◌then◌else◌, map as mapped}
+use Rattle.std.specs.Prelude.{None, true, false, bytes_eq, if◌then◌else◌, map as mapped}
 use Rattle.doc_page_parts.specs.declared.rendered.Piece.{Piece}
 use Rattle.doc_page_parts.specs.declared.rendered.Piece.TheVariants.{Html, Link}
 use Rattle.doc_page_parts.specs.declared.rendered.Rendered.{Rendered}
@@ -13,11 +13,15 @@ use Rattle.doc_people.specs.declared.settings.Offers.{Offers}
 -- the settings where none is given
 abbrev pub defaults : Browse
 defaults =
-    record { title = codes "Handbook"; language = codes "en"; home = codes "index.md"; guest = None; login = false }
+    record { title = codes "Handbook"; language = codes "en"; home = codes "index.md"; guest = None; login = false; editing = true }
 
 -- what readers are offered
 abbrev pub no_offers : Offers
-no_offers = record { sign_in = false }
+no_offers = record { sign_in = false; tools = false }
+
+-- and owners, where editing is on
+abbrev pub with_tools : Offers
+with_tools = record { sign_in = false; tools = true }
 
 -- ---- pages that have their paths as their texts
 

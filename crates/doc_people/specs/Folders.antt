@@ -129,3 +129,7 @@ contents_href (b ∷ rest) = codes "/contents/" ++ encoded_path (b ∷ rest)
 -- a folder: the page that stands for it, where it is seen, and else its contents
 abbrev pub folder_href : View → List ℕ → List ℕ
 folder_href view folder = if sees view (index_of folder) then page_href (index_of folder) else contents_href folder
+
+-- where a page or a folder is edited, or a page begun; of a folder, what begins a page in it
+abbrev pub edit_href : List ℕ → List ℕ
+edit_href place = codes "/edit/" ++ encoded_path place

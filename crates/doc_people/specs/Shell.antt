@@ -1,7 +1,9 @@
 -- The templates that the pages for people stand in. All of this is this project's choice.
-use Rattle.std.specs.Prelude.{ℕ, Bool, true, false, List, [], ◌∷◌, ◌++◌, codes, Option, Some, None}
+use Rattle.std.specs.Prelude.{ℕ, Bool, true, false, List, [], ◌∷◌, ◌++◌, codes, Option, Some, None, if◌then◌else◌}
 use Rattle.doc_page_parts.specs.Escaping.{escaped}
 use Rattle.doc_store_readers.specs.Sites.{View}
+use Rattle.doc_people.specs.Folders.{edit_href, folder_of, is_folder}
+use Rattle.doc_people.specs.Lines.{link}
 use Rattle.doc_people.specs.Navigation.{crumbs, tree}
 use Rattle.doc_people.specs.Views.{Renders}
 use Rattle.doc_people.specs.declared.settings.Browse.{Browse}
@@ -13,7 +15,7 @@ middle_dot = codes " " ++ 0xC2 ∷ 0xB7 ∷ codes " "
 
 -- the address of the style sheet, with its number, which is raised with each change of it
 abbrev pub style_sheet_href : List ℕ
-style_sheet_href = codes "/style.css?2"
+style_sheet_href = codes "/style.css?3"
 
 -- what stands before the language
 abbrev pub head_start : List ℕ
@@ -80,27 +82,47 @@ bar settings offers =
     bar_start ++ escaped settings.title ++ codes "</a>\n<a class=\"menu\" href=\"#.pages\">Pages</a>\n"
     ++ search_form ++ site_links offers ++ codes "</header>\n"
 
--- the folders that lead to the place, above the page; nothing at none
-abbrev pub over : Renders → View → Option (List ℕ) → List ℕ
-over render view None = []
-over render view (Some place) =
+-- the link that edits a page; a folder has none
+abbrev pub edit_link : List ℕ → List ℕ
+edit_link place = if is_folder place then [] else link (edit_href place) (codes "Edit") ++ codes "\n"
+
+-- where they are offered: the links that edit the page at the place, and begin one beside it; nothing at none
+abbrev pub tools : Bool → Option (List ℕ) → List ℕ
+tools false at = []
+tools true None = []
+tools true (Some place) =
+    codes "<p class=\"tools\">\n" ++ edit_link place ++ link (edit_href (folder_of place)) (codes "New page") ++ codes "\n</p>\n"
+
+-- the folders that lead to the place, and the tools, above the page; nothing at none
+abbrev pub over : Renders → Offers → View → Option (List ℕ) → List ℕ
+over render offers view None = []
+over render offers view (Some place) =
     codes "<div class=\"over\">\n<nav class=\"crumbs\" aria-label=\"Folders\">\n<ol>\n" ++ crumbs render view place
-    ++ codes "</ol>\n</nav>\n</div>\n"
+    ++ codes "</ol>\n</nav>\n" ++ tools offers.tools (Some place) ++ codes "</div>\n"
 
 -- what stands beside the main part, where there is something
 abbrev pub aside_part : List ℕ → List ℕ
 aside_part [] = []
 aside_part (b ∷ aside) = codes "<aside aria-label=\"About this page\">\n" ++ (b ∷ aside) ++ codes "</aside>\n"
 
--- the place, below the page; nothing at none and at the empty folder
-abbrev pub foot : Option (List ℕ) → List ℕ
-foot None = []
-foot (Some []) = []
-foot (Some (b ∷ place)) = codes "<footer>\n<p><code>" ++ escaped (b ∷ place) ++ codes "</code></p>\n</footer>\n"
+-- the place; nothing at none and at the empty folder
+abbrev pub place_line : Option (List ℕ) → List ℕ
+place_line None = []
+place_line (Some []) = []
+place_line (Some (b ∷ place)) = codes "<p><code>" ++ escaped (b ∷ place) ++ codes "</code></p>\n"
+
+-- lines below the page, where there is something
+abbrev pub foot_part : List ℕ → List ℕ
+foot_part [] = []
+foot_part (b ∷ lines) = codes "<footer>\n" ++ (b ∷ lines) ++ codes "</footer>\n"
+
+-- the place and the tools, below the page
+abbrev pub foot : Offers → Option (List ℕ) → List ℕ
+foot offers at = foot_part (place_line at ++ tools offers.tools at)
 
 -- a page by its title, the place that it stands at, its main part and what stands beside
 unfoldable pub shell : Renders → Browse → Offers → View → List ℕ → Option (List ℕ) → List ℕ → List ℕ → List ℕ
 shell render settings offers view title at main aside =
     head settings title ++ bar settings offers ++ codes "<div class=\"frame\">\n"
-    ++ over render view at ++ main_part main ++ aside_part aside ++ tree render view at
-    ++ codes "</div>\n" ++ foot at ++ foot_end
+    ++ over render offers view at ++ main_part main ++ aside_part aside ++ tree render view at
+    ++ codes "</div>\n" ++ foot offers at ++ foot_end

@@ -1,7 +1,8 @@
 -- The pages that say no more than a status. All of this is this project's choice; the codes are those of RFC 9110, section 15.
-use Rattle.std.specs.Prelude.{ℕ, List, [], ◌++◌, ◌==◌, codes, None, if◌then◌else◌}
+use Rattle.std.specs.Prelude.{ℕ, List, [], ◌++◌, ◌==◌, Bool, true, false, codes, Option, Some, None, if◌then◌else◌}
 use Rattle.doc_page_parts.specs.Escaping.{escaped}
 use Rattle.doc_store_readers.specs.Sites.{View}
+use Rattle.doc_people.specs.Folders.{edit_href}
 use Rattle.doc_people.specs.Lines.{link}
 use Rattle.doc_people.specs.Shell.{bare, shell}
 use Rattle.doc_people.specs.Views.{Renders}
@@ -45,11 +46,18 @@ moved_body settings location =
 unfoldable pub not_signed_in_body : Browse → List ℕ
 not_signed_in_body settings = bare settings (status_title 401) (notice 401 [])
 
--- 404
-unfoldable pub not_found_body : Renders → Browse → Offers → View → List ℕ
-not_found_body render settings offers view =
+-- where tools are offered, and a page may be begun at a path: what begins it
+abbrev pub begin_line : Bool → Option (List ℕ) → List ℕ
+begin_line false new = []
+begin_line true None = []
+begin_line true (Some path) =
+    codes "<p>" ++ link (edit_href path) (codes "New page") ++ codes " at <code>" ++ escaped path ++ codes "</code></p>\n"
+
+-- 404, by the path that a page may be begun at
+unfoldable pub not_found_body : Renders → Browse → Offers → View → Option (List ℕ) → List ℕ
+not_found_body render settings offers view new =
     shell render settings offers view (status_title 404) None
-    (notice 404 (codes "<p>" ++ link (codes "/contents") (codes "Contents") ++ codes "</p>\n")) []
+    (notice 404 (codes "<p>" ++ link (codes "/contents") (codes "Contents") ++ codes "</p>\n" ++ begin_line offers.tools new)) []
 
 -- 400, 403, 405 and 507
 unfoldable pub refused_body : Renders → Browse → Offers → View → ℕ → List ℕ

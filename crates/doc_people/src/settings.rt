@@ -21,6 +21,8 @@ pub struct Browse {
     pub guest: Option<Groups>,
     /// Whether readers may sign in as browsers do (RFC 7617).
     pub login: bool,
+    /// Whether owners edit pages by requests with conditions, and in a browser.
+    pub editing: bool,
 }
 
 impl Browse {
@@ -33,6 +35,7 @@ impl Browse {
             home: self.home.copy(heap)?,
             guest: copied(heap, self.guest.as_ref())?,
             login: self.login,
+            editing: self.editing,
         })
     }
 }
@@ -61,4 +64,6 @@ pub struct Settings {
 pub struct Offers {
     /// A link to sign in.
     pub sign_in: bool,
+    /// Links that edit pages and begin new ones.
+    pub tools: bool,
 }

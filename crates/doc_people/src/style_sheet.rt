@@ -196,4 +196,20 @@ body > footer .tools { margin-left: auto; }
   pre { white-space: pre-wrap; }
   a { color: inherit; }
 }
+textarea {
+  width: 100%;
+  padding: 0.5rem 0.6rem;
+  font: 0.9rem/1.5 ui-monospace, SFMono-Regular, Menlo, Consolas, "DejaVu Sans Mono", monospace;
+  border-radius: 0.4rem;
+  border: 1px solid var(--line);
+  background: var(--ground);
+  color: var(--text);
+}
+textarea:focus-visible { outline: 3px solid var(--link); outline-offset: 2px; }
+textarea[readonly] { background: var(--soft); }
+button:disabled { opacity: 0.5; cursor: default; }
+#said { min-height: 1.6em; font-weight: 600; }
+#other { margin: 1rem 0; padding: 0 1rem; border-left: 4px solid var(--bad); }
+#other h2 { margin-top: 0; }
+#shown { border: 1px solid var(--line); border-radius: 0.4rem; }
 "##;

@@ -1,6 +1,6 @@
 -- The site of the examples, and what their bodies begin with.
 use Rattle.std.proofs.Common.{ℕ, List, [], ◌∷◌, ◌++◌, codes}
-use Rattle.std.specs.Prelude.{None, false}
+use Rattle.std.specs.Prelude.{None, true, false}
 use Rattle.doc_store_readers.specs.Pages.{Page}
 use Rattle.doc_store_readers.specs.Sites.{View}
 use Rattle.doc_people.specs.Views.{Renders}
@@ -9,11 +9,15 @@ use Rattle.doc_people.specs.declared.settings.Offers.{Offers}
 
 -- the settings where none is given
 abbrev pub defaults : Browse
-defaults = record { title = codes "Handbook"; language = codes "en"; home = codes "index.md"; guest = None; login = false }
+defaults = record { title = codes "Handbook"; language = codes "en"; home = codes "index.md"; guest = None; login = false; editing = true }
 
 -- what readers are offered
 abbrev pub no_offers : Offers
-no_offers = record { sign_in = false }
+no_offers = record { sign_in = false; tools = false }
+
+-- and owners, where editing is on
+abbrev pub with_tools : Offers
+with_tools = record { sign_in = false; tools = true }
 
 -- pages without headings
 abbrev pub untitled : Renders
@@ -34,7 +38,7 @@ front title =
     ++ codes "<meta name=\"color-scheme\" content=\"light dark\">\n<title>"
     ++ title
     ++ codes " " ++ (0xC2 ∷ 0xB7 ∷ [])
-    ++ codes " Handbook</title>\n<link rel=\"icon\" href=\"data:,\">\n<link rel=\"stylesheet\" href=\"/style.css?2\">\n"
+    ++ codes " Handbook</title>\n<link rel=\"icon\" href=\"data:,\">\n<link rel=\"stylesheet\" href=\"/style.css?3\">\n"
     ++ codes "</head>\n<body>\n"
 
 -- and the bar at the top, with the frame that begins behind it

@@ -1,7 +1,7 @@
 //! Addresses of pages and folders, which need no escaping.
 
 ghost use Rattle.std.specs.Prelude.{◌≡◌, ◌++◌, string_bytes, OnOk};
-ghost use Rattle.doc_people.specs.Folders.{contents_href, folder_href, page_href};
+ghost use Rattle.doc_people.specs.Folders.{contents_href, edit_href, folder_href, page_href};
 ghost use Rattle.doc_people.specs.Pages.{backlinks_href};
 
 use crate::texts::index_of;
@@ -54,4 +54,12 @@ pub fn push_folder_href<V: Viewed>(
         return push_page_href(out, index.get());
     }
     push_contents_href(out, folder)
+}
+
+/// Writes where a page is edited, or begun; of a folder, what begins a page in it.
+pub fn push_edit_href(out: &mut String, place: &str) -> Result<(), Memory>
+    ensures { OnOk result (string_bytes out.new ≡ string_bytes out.old ++ edit_href place.now) }
+{
+    out.push_str("/edit/")?;
+    push_encoded_path(out, place)
 }

@@ -1,11 +1,11 @@
 //! Links to pages and folders, with their labels.
 
 ghost use Rattle.std.specs.Prelude.{◌≡◌, ◌++◌, string_bytes, OnOk};
-ghost use Rattle.doc_people.specs.Folders.{contents_href, folder_href, folder_label, label, page_href};
+ghost use Rattle.doc_people.specs.Folders.{contents_href, edit_href, folder_href, folder_label, label, page_href};
 ghost use Rattle.doc_people.specs.Lines.{link, link_or_current};
 ghost use Rattle.doc_people.specs.Lists.{page_and_path};
 
-use crate::addresses::{push_contents_href, push_folder_href, push_page_href};
+use crate::addresses::{push_contents_href, push_edit_href, push_folder_href, push_page_href};
 use crate::lines::{push_link_end, push_link_start, push_path_span};
 use crate::titles::{folder_label, label};
 use doc_page_parts::failure::Memory;
@@ -77,4 +77,14 @@ pub fn push_page_and_path<V: Viewed>(
 {
     push_page_link(out, heap, view, path, false)?;
     push_path_span(out, path)
+}
+
+/// Writes a link to where a page is edited, or begun; its text is escaped.
+pub fn push_edit_link(out: &mut String, place: &str, text: &str) -> Result<(), Memory>
+    ensures { OnOk result (string_bytes out.new
+        ≡ string_bytes out.old ++ link (edit_href place.now) text.now) }
+{
+    push_link_start(out)?;
+    push_edit_href(out, place)?;
+    push_link_end(out, false, text)
 }

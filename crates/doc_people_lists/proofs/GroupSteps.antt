@@ -11,6 +11,7 @@ use Rattle.doc_links_pages.specs.declared.answers.Broken.{Broken}
 use Rattle.doc_store_readers.specs.Sites.{View}
 use Rattle.doc_people.specs.BrokenLinks.{Group, broken_group, broken_head, by_source, more_row, onto_group, table_or_note}
 use Rattle.doc_people.specs.Views.{Renders}
+use Rattle.doc_people.specs.declared.settings.Offers.{Offers}
 use Rattle.doc_people_lists.specs.Fronts.{is_of}
 
 -- the links of the first page, and those behind them
@@ -99,16 +100,16 @@ none_left all k (x ∷ xs) none left le = cc
 
 -- ---- the table, and the page behind it
 
-pub some_groups : (render : Renders) (view : View) (note : List ℕ) (links : List Broken) → length links ≢ 0
-    → table_or_note render view note (take 50 (by_source links))
-    ≡ broken_head ++ flat_map (broken_group render view) (take 50 (by_source links)) ++ codes "</table>\n"
-some_groups render view note [] some = absurd (some refl)
-some_groups render view note (x ∷ xs) some =
+pub some_groups : (render : Renders) (offers : Offers) (view : View) (note : List ℕ) (links : List Broken) → length links ≢ 0
+    → table_or_note render offers view note (take 50 (by_source links))
+    ≡ broken_head ++ flat_map (broken_group render offers view) (take 50 (by_source links)) ++ codes "</table>\n"
+some_groups render offers view note [] some = absurd (some refl)
+some_groups render offers view note (x ∷ xs) some =
     let is = first_group x xs in
     let group : Group = (x.source, x ∷ take (prefix_len (is_of x.source) xs) xs) in
     let behind : List Group = by_source (drop (prefix_len (is_of x.source) xs) xs) in
-    ap (λ groups. table_or_note render view note (take 50 groups)) is
-    ∙ ap (λ groups. broken_head ++ flat_map (broken_group render view) (take 50 groups) ++ codes "</table>\n") (sym is)
+    ap (λ groups. table_or_note render offers view note (take 50 groups)) is
+    ∙ ap (λ groups. broken_head ++ flat_map (broken_group render offers view) (take 50 groups) ++ codes "</table>\n") (sym is)
 
 front_source : (links : List Broken)
     → option_map (λ (link : Broken). link.source) (slice_get links 0)

@@ -4,8 +4,8 @@ ghost use Rattle.std.specs.Prelude.{◌≡◌, ◌++◌, ◌-◌, codes, decimal
 ghost use Rattle.std.specs.List.{after_first, before_first, flat_map};
 ghost use Rattle.doc_page_parts.specs.Escaping.{escaped};
 ghost use Rattle.doc_resolve.specs.Links.{decoded_text};
-ghost use Rattle.doc_people.specs.BrokenLinks.{broken_body, broken_group, broken_head, broken_main, broken_row, by_source, goal_cell, goal_href, is_hash, missing_heading};
-ghost use Rattle.doc_people.specs.BrokenLinks.{more_row, reason_text, source_row, table_or_note, written_anchor, written_path};
+ghost use Rattle.doc_people.specs.BrokenLinks.{begin_link, broken_body, broken_group, broken_head, broken_main, broken_row, by_source, goal_cell, goal_href, is_hash};
+ghost use Rattle.doc_people.specs.BrokenLinks.{missing_heading, more_row, reason_text, source_row, table_or_note, written_anchor, written_path};
 ghost use Rattle.doc_people.specs.Limits.{link_limit, source_limit};
 ghost use Rattle.doc_people.specs.Lists.{note_from};
 
@@ -19,7 +19,7 @@ use doc_page_parts::path::{Path, PathError};
 use doc_page_parts::text::Text;
 use doc_people::viewed::Viewed;
 use doc_people_lines::addresses::push_page_href;
-use doc_people_lines::links::push_page_and_path;
+use doc_people_lines::links::{push_edit_link, push_page_and_path};
 use doc_people_lines::number::push_number;
 use doc_people_lines::titles::push_escaped_short;
 use doc_people_shell::frame::Frame;
@@ -43,23 +43,24 @@ pub fn broken_body<V: Viewed>(frame: Frame<'_>, view: &V, from: &str) -> Result<
     let links = view.broken_from(from)?;
     let rows = links.get().len().min(SOURCE_LIMIT * LINK_LIMIT);
     let mut main = String::with_capacity(frame.heap, rows.saturating_mul(ROW_ROOM))?;
-    push_main(&mut main, frame.heap, view, from, links.get())?;
+    push_main(&mut main, frame, view, from, links.get())?;
     shell(frame, view, "Broken links", None, main.as_str(), "")
 }
 
 /// Writes the main part of the broken links of the pages from a text on.
 fn push_main<V: Viewed>(
     out: &mut String,
-    heap: Heap,
+    frame: Frame<'_>,
     view: &V,
     from: &str,
     links: &[Broken],
 ) -> Result<(), Memory>
     ensures { OnOk result (string_bytes out.new ≡ string_bytes out.old
-        ++ broken_main (V.render view.now) (V.view view.now) from.now (by_source links.now)) }
+        ++ broken_main (V.render view.now) frame.entry.offers (V.view view.now) from.now
+        (by_source links.now)) }
 {
     out.push_str("<h1>Broken links</h1>\n<p>A page that you may not read counts as none.</p>\n")?;
-    let left = push_table(out, heap, view, from, links)?;
+    let left = push_table(out, frame, view, from, links)?;
     push_pager(out, "/broken", from, first_page(left))
 }
 
@@ -76,13 +77,13 @@ fn first_page(links: &[Broken]) -> Option<&str>
 /// Writes the table of the first pages with broken links, or in its place that there are none, and says which links are left.
 fn push_table<'a, V: Viewed>(
     out: &mut String,
-    heap: Heap,
+    frame: Frame<'_>,
     view: &V,
     from: &str,
     links: &'a [Broken],
 ) -> Result<&'a [Broken], Memory>
     ensures written { OnOk result (string_bytes out.new ≡ string_bytes out.old ++ table_or_note
-        (V.render view.now) (V.view view.now)
+        (V.render view.now) frame.entry.offers (V.view view.now)
         (note_from from.now (codes "No link is broken on the pages that you may read."))
         (take source_limit (by_source links.now))) }
     ensures left { IfOk result (λ left. by_source left.now
@@ -97,7 +98,7 @@ fn push_table<'a, V: Viewed>(
         return Ok(links);
     }
     push_head(out)?;
-    let left = push_groups(out, heap, view, links)?;
+    let left = push_groups(out, frame, view, links)?;
     out.push_str("</table>\n")?;
     Ok(left)
 }
@@ -115,12 +116,12 @@ fn push_head(out: &mut String) -> Result<(), Memory>
 /// Writes the first pages with broken links, and says which links are left.
 fn push_groups<'a, V: Viewed>(
     out: &mut String,
-    heap: Heap,
+    frame: Frame<'_>,
     view: &V,
     links: &'a [Broken],
 ) -> Result<&'a [Broken], Memory>
     ensures written { OnOk result (string_bytes out.new ≡ string_bytes out.old ++ flat_map
-        (broken_group (V.render view.now) (V.view view.now))
+        (broken_group (V.render view.now) frame.entry.offers (V.view view.now))
         (take source_limit (by_source links.now))) }
     ensures left { IfOk result (λ left. by_source left.now
         ≡ drop source_limit (by_source links.now)) }
@@ -131,7 +132,7 @@ fn push_groups<'a, V: Viewed>(
             return Ok(rest);
         };
         let (group, behind) = rest.split_at(front_len(rest, first.source.text()));
-        push_group(out, heap, view, first.source.text(), group)?;
+        push_group(out, frame, view, first.source.text(), group)?;
         rest = behind;
     }
     Ok(rest)
@@ -140,17 +141,18 @@ fn push_groups<'a, V: Viewed>(
 /// Writes a page and its broken links.
 fn push_group<V: Viewed>(
     out: &mut String,
-    heap: Heap,
+    frame: Frame<'_>,
     view: &V,
     source: &str,
     links: &[Broken],
 ) -> Result<(), Memory>
     ensures { OnOk result (string_bytes out.new ≡ string_bytes out.old
-        ++ broken_group (V.render view.now) (V.view view.now) (source.now, links.now)) }
+        ++ broken_group (V.render view.now) frame.entry.offers (V.view view.now)
+        (source.now, links.now)) }
 {
     out.push_str("<tbody>\n")?;
-    push_source_row(out, heap, view, source)?;
-    push_rows(out, heap, view, shown_links(links))?;
+    push_source_row(out, frame.heap, view, source)?;
+    push_rows(out, frame, view, shown_links(links))?;
     push_more_row(out, links)?;
     out.push_str("</tbody>\n")?;
     Ok(())
@@ -196,28 +198,33 @@ fn push_more_row(out: &mut String, links: &[Broken]) -> Result<(), Memory>
 
 fn push_rows<V: Viewed>(
     out: &mut String,
-    heap: Heap,
+    frame: Frame<'_>,
     view: &V,
     links: &[Broken],
 ) -> Result<(), Memory>
     ensures { OnOk result (string_bytes out.new ≡ string_bytes out.old
-        ++ flat_map (broken_row (V.view view.now)) links.now) }
+        ++ flat_map (broken_row frame.entry.offers (V.view view.now)) links.now) }
 {
     for link in links {
-        push_row(out, heap, view, link)?;
+        push_row(out, frame, view, link)?;
     }
     Ok(())
 }
 
 /// Writes a broken link: its place on its page, what it leads to, and why it is broken.
-fn push_row<V: Viewed>(out: &mut String, heap: Heap, view: &V, link: &Broken) -> Result<(), Memory>
+fn push_row<V: Viewed>(
+    out: &mut String,
+    frame: Frame<'_>,
+    view: &V,
+    link: &Broken,
+) -> Result<(), Memory>
     ensures { OnOk result (string_bytes out.new
-        ≡ string_bytes out.old ++ broken_row (V.view view.now) link.now) }
+        ≡ string_bytes out.old ++ broken_row frame.entry.offers (V.view view.now) link.now) }
 {
     out.push_str("<tr><td>")?;
     push_number(out, link.place)?;
     out.push_str("</td><td>")?;
-    push_goal_cell(out, heap, view, link.reason, link.target.get())?;
+    push_goal_cell(out, frame, view, link.reason, link.target.get())?;
     out.push_str("</td><td>")?;
     out.push_str(reason_text(link.reason))?;
     out.push_str("</td></tr>\n")?;
@@ -237,22 +244,44 @@ fn reason_text(reason: Reason) -> &'static str
 /// Writes what a link leads to, by the reason that it is broken for.
 fn push_goal_cell<V: Viewed>(
     out: &mut String,
-    heap: Heap,
+    frame: Frame<'_>,
     view: &V,
     reason: Reason,
     target: &str,
 ) -> Result<(), Memory>
     ensures { OnOk result (string_bytes out.new ≡ string_bytes out.old
-        ++ goal_cell (V.view view.now) reason target.now) }
+        ++ goal_cell frame.entry.offers (V.view view.now) reason target.now) }
 {
     match reason {
-        Reason::Page => push_code(out, target),
-        Reason::Anchor => push_missing_heading(out, heap, view, target),
+        Reason::Page => push_missing_page(out, frame.offers.tools, target),
+        Reason::Anchor => push_missing_heading(out, frame.heap, view, target),
         Reason::Path => {
             out.push_str("\u{2013}")?;
             Ok(())
         }
     }
+}
+
+/// Writes a page that isn't there, and what begins it, where tools are offered.
+fn push_missing_page(out: &mut String, offered: bool, target: &str) -> Result<(), Memory>
+    ensures { OnOk result (string_bytes out.new ≡ string_bytes out.old
+        ++ (codes "<code>" ++ escaped target.now ++ codes "</code>"
+        ++ begin_link offered target.now)) }
+{
+    push_code(out, target)?;
+    push_begin_link(out, offered, target)
+}
+
+/// Writes what begins a page, where tools are offered.
+fn push_begin_link(out: &mut String, offered: bool, path: &str) -> Result<(), Memory>
+    ensures { OnOk result (string_bytes out.new
+        ≡ string_bytes out.old ++ begin_link offered path.now) }
+{
+    if !offered {
+        return Ok(());
+    }
+    out.push_str(" ")?;
+    push_edit_link(out, path, "New page")
 }
 
 fn push_code(out: &mut String, target: &str) -> Result<(), Memory>

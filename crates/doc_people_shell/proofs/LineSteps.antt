@@ -7,7 +7,7 @@ use Rattle.doc_store_readers.specs.Sites.{View}
 use Rattle.doc_people.specs.Folders.{contents_href, folder_href, folder_label, index_of, parent}
 use Rattle.doc_people.specs.Lines.{link, link_or_current}
 use Rattle.doc_people.specs.Navigation.{folder_at, is_at, up_line}
-use Rattle.doc_people.specs.Shell.{aside_part, foot}
+use Rattle.doc_people.specs.Shell.{aside_part, foot_part, place_line}
 use Rattle.doc_people.specs.Views.{Renders}
 use Rattle.doc_people_shell.specs.Items.{all_line_if}
 
@@ -16,10 +16,14 @@ pub aside_is : (aside : List ℕ) → false ≡ (length aside == 0)
 aside_is [] none = absurd (true≢false (sym none))
 aside_is (b ∷ aside) some = refl
 
-pub foot_is : (place : List ℕ) → false ≡ (length place == 0)
-    → foot (Some place) ≡ codes "<footer>\n<p><code>" ++ escaped place ++ codes "</code></p>\n</footer>\n"
+pub foot_is : (lines : List ℕ) → false ≡ (length lines == 0) → foot_part lines ≡ codes "<footer>\n" ++ lines ++ codes "</footer>\n"
 foot_is [] none = absurd (true≢false (sym none))
-foot_is (b ∷ place) some = refl
+foot_is (b ∷ lines) some = refl
+
+pub place_is : (place : List ℕ) → false ≡ (length place == 0)
+    → place_line (Some place) ≡ codes "<p><code>" ++ escaped place ++ codes "</code></p>\n"
+place_is [] none = absurd (true≢false (sym none))
+place_is (b ∷ place) some = refl
 
 pub up_is : (render : Renders) (view : View) (folder up : List ℕ) → false ≡ (length folder == 0) → up ≡ parent folder
     → codes "<p class=\"up\">" ++ link (folder_href view up) (folder_label render view up) ++ codes "</p>\n" ≡ up_line render view folder

@@ -6,41 +6,45 @@ ghost use Rattle.doc_people.specs.Lines.{link_or_current};
 ghost use Rattle.doc_people.specs.Navigation.{crumb, crumb_href, crumbs, is_of};
 ghost use Rattle.doc_people.specs.Shell.{over};
 
+use crate::frame::Frame;
+use crate::tools::push_tools;
 use doc_page_parts::failure::Memory;
 use doc_page_parts::heap::{Heap, String};
 use doc_people::viewed::Viewed;
 use doc_people_lines::links::{push_contents_link, push_folder_link};
 use doc_people_lines::texts::index_of;
 
-/// Writes the folders that lead to a place, above the page; nothing at none.
+/// Writes the folders that lead to a place, and the tools, above the page; nothing at none.
 pub(crate) fn push_over<V: Viewed>(
     out: &mut String,
-    heap: Heap,
+    frame: Frame<'_>,
     view: &V,
     at: Option<&str>,
 ) -> Result<(), Memory>
-    ensures { OnOk result (string_bytes out.new ≡ string_bytes out.old
-        ++ over (V.render view.now) (V.view view.now) (option_copied at.entry)) }
+    ensures { OnOk result (string_bytes out.new ≡ string_bytes out.old ++ over
+        (V.render view.now) frame.entry.offers (V.view view.now) (option_copied at.entry)) }
 {
     match at {
-        Some(place) => push_folders(out, heap, view, place),
+        Some(place) => push_over_at(out, frame, view, place),
         None => Ok(()),
     }
 }
 
-/// Writes the folders that lead to a place, above the page.
-fn push_folders<V: Viewed>(
+/// Writes what stands above the page at a place.
+fn push_over_at<V: Viewed>(
     out: &mut String,
-    heap: Heap,
+    frame: Frame<'_>,
     view: &V,
     place: &str,
 ) -> Result<(), Memory>
-    ensures { OnOk result (string_bytes out.new ≡ string_bytes out.old
-        ++ over (V.render view.now) (V.view view.now) (Some place.now)) }
+    ensures { OnOk result (string_bytes out.new ≡ string_bytes out.old ++ over
+        (V.render view.now) frame.entry.offers (V.view view.now) (Some place.now)) }
 {
     out.push_str("<div class=\"over\">\n<nav class=\"crumbs\" aria-label=\"Folders\">\n<ol>\n")?;
-    push_crumbs(out, heap, view, place)?;
-    out.push_str("</ol>\n</nav>\n</div>\n")?;
+    push_crumbs(out, frame.heap, view, place)?;
+    out.push_str("</ol>\n</nav>\n")?;
+    push_tools(out, frame.offers.tools, Some(place))?;
+    out.push_str("</div>\n")?;
     Ok(())
 }
 

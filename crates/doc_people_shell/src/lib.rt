@@ -10,4 +10,5 @@ pub mod frame;
 mod head;
 pub mod shell;
 pub mod statuses;
+mod tools;
 mod tree;

@@ -54,12 +54,12 @@ fn push_shell<V: Viewed>(
         (option_copied at.entry) main.now aside.now) }
 {
     push_top(out, frame, title)?;
-    push_over(out, frame.heap, view, at)?;
+    push_over(out, frame, view, at)?;
     push_main(out, main)?;
     push_aside(out, aside)?;
     push_tree(out, frame.heap, view, at)?;
     out.push_str("</div>\n")?;
-    push_foot(out, at)?;
+    push_foot(out, frame, at)?;
     out.push_str("</body>\n</html>\n")?;
     Ok(())
 }

@@ -1,9 +1,9 @@
 //! The pages that say no more than a status. The codes are those of RFC 9110, section 15.
 
-ghost use Rattle.std.specs.Prelude.{◌≡◌, ◌++◌, codes, string_bytes, IfOk, OnOk};
+ghost use Rattle.std.specs.Prelude.{◌≡◌, ◌++◌, codes, option_copied, string_bytes, true, IfOk, OnOk, Some};
 ghost use Rattle.doc_page_parts.specs.Escaping.{escaped};
 ghost use Rattle.doc_people.specs.Lines.{link};
-ghost use Rattle.doc_people.specs.Statuses.{moved_body, not_found_body, not_signed_in_body, notice, refused_body, status_text, status_title};
+ghost use Rattle.doc_people.specs.Statuses.{begin_line, moved_body, not_found_body, not_signed_in_body, notice, refused_body, status_text, status_title};
 
 use crate::frame::Frame;
 use crate::shell::{bare, shell};
@@ -14,6 +14,7 @@ use doc_page_parts::text::Text;
 use doc_people::settings::Browse;
 use doc_people::viewed::Viewed;
 use doc_people_lines::lines::push_link;
+use doc_people_lines::links::push_edit_link;
 
 /// The page of 301, by the value of the Location field.
 #[tactic(auto, unfolding(doc_people::specs::Statuses::moved_body))]
@@ -49,15 +50,21 @@ pub fn not_signed_in_body(heap: Heap, browse: &Browse) -> Result<Text, Memory>
     bare(heap, browse, status_title(401), main.get())
 }
 
-/// The page of 404.
+/// The page of 404, by the path that a page may be begun at: readers who are offered tools are told it.
 #[tactic(auto, unfolding(doc_people::specs::Statuses::not_found_body))]
-pub fn not_found_body<V: Viewed>(frame: Frame<'_>, view: &V) -> Result<Text, Memory>
+pub fn not_found_body<V: Viewed>(
+    frame: Frame<'_>,
+    view: &V,
+    new: Option<&str>,
+) -> Result<Text, Memory>
     ensures { IfOk result (λ text. text ≡ not_found_body (V.render view.now)
-        frame.entry.browse.now frame.entry.offers (V.view view.now)) }
+        frame.entry.browse.now frame.entry.offers (V.view view.now)
+        (option_copied new.entry)) }
 {
-    let mut link = String::new(frame.heap);
-    push_contents(&mut link)?;
-    let main = notice(frame.heap, 404, link.as_str())?;
+    let mut behind = String::new(frame.heap);
+    push_contents(&mut behind)?;
+    push_begin_line(&mut behind, frame.offers.tools, new)?;
+    let main = notice(frame.heap, 404, behind.as_str())?;
     shell(frame, view, status_title(404), None, main.get(), "")
 }
 
@@ -69,6 +76,33 @@ fn push_contents(out: &mut String) -> Result<(), Memory>
     out.push_str("<p>")?;
     push_link(out, "/contents", "Contents")?;
     out.push_str("</p>\n")?;
+    Ok(())
+}
+
+/// Writes what begins a page, where tools are offered and there is a path for it.
+fn push_begin_line(out: &mut String, offered: bool, new: Option<&str>) -> Result<(), Memory>
+    ensures { OnOk result (string_bytes out.new
+        ≡ string_bytes out.old ++ begin_line offered (option_copied new.entry)) }
+{
+    if !offered {
+        return Ok(());
+    }
+    match new {
+        Some(path) => push_begin(out, path),
+        None => Ok(()),
+    }
+}
+
+/// Writes what begins a page at a path.
+fn push_begin(out: &mut String, path: &str) -> Result<(), Memory>
+    ensures { OnOk result (string_bytes out.new
+        ≡ string_bytes out.old ++ begin_line true (Some path.now)) }
+{
+    out.push_str("<p>")?;
+    push_edit_link(out, path, "New page")?;
+    out.push_str(" at <code>")?;
+    push_escaped(out, path)?;
+    out.push_str("</code></p>\n")?;
     Ok(())
 }
 

@@ -7,7 +7,7 @@ use Rattle.doc_page_parts.specs.Paths.{is_path}
 use Rattle.doc_people.specs.Settings.{is_title, is_language}
 use Rattle.doc_store_readers.specs.Groups.{groups_of_names}
 use Rattle.doc_server_config.specs.declared.browsing.BrowseError.TheVariants.{BadToml, BadBrowse, BadTitle, BadLanguage, BadHome, BadGuest}
-use Rattle.doc_server_config.specs.declared.browsing.BrowseError.TheVariants.{BadLogin}
+use Rattle.doc_server_config.specs.declared.browsing.BrowseError.TheVariants.{BadLogin, BadEditing}
 use Rattle.doc_server_config.specs.Browsing.{browse_of}
 
 -- ---- what is read
@@ -21,7 +21,7 @@ other_keys_of_the_document : browse_of (codes "title = 1\n[listen]\nconnections 
 unfolding toml_on_literals
 other_keys_of_the_document = refl
 
--- an empty table is a table: the pages are there, nobody is a guest, and nobody signs in as browsers do
+-- an empty table is a table: the pages are there, nobody is a guest, nobody signs in as browsers do, and owners edit pages
 empty_table : browse_of (codes "[browse]\n")
     ≡ Ok (Some (record {
       title = codes "Handbook";
@@ -29,6 +29,7 @@ empty_table : browse_of (codes "[browse]\n")
       home = codes "index.md";
       guest = None;
       login = false;
+      editing = true;
     }))
 unfolding toml_on_literals is_title is_language is_path chars
 empty_table = refl
@@ -40,17 +41,19 @@ empty_inline_table : browse_of (codes "browse = {}")
       home = codes "index.md";
       guest = None;
       login = false;
+      editing = true;
     }))
 unfolding toml_on_literals is_title is_language is_path chars
 empty_inline_table = refl
 
-all_keys : browse_of (codes "[browse]\nlogin = \"basic\"\nguest = [\"public\", \"ops\", \"public\"]\nhome = \"a/b.md\"\nlanguage = \"de-CH\"\ntitle = \"Our handbook\"\n")
+all_keys : browse_of (codes "[browse]\nediting = false\nlogin = \"basic\"\nguest = [\"public\", \"ops\", \"public\"]\nhome = \"a/b.md\"\nlanguage = \"de-CH\"\ntitle = \"Our handbook\"\n")
     ≡ Ok (Some (record {
       title = codes "Our handbook";
       language = codes "de-CH";
       home = codes "a/b.md";
       guest = Some (codes "ops" ∷ codes "public" ∷ []);
       login = true;
+      editing = false;
     }))
 unfolding toml_on_literals is_title is_language is_path chars groups_of_names
 all_keys = refl
@@ -63,9 +66,35 @@ guests_of_no_group : browse_of (codes "[browse]\nguest = []\n")
       home = codes "index.md";
       guest = Some [];
       login = false;
+      editing = true;
     }))
 unfolding toml_on_literals is_title is_language is_path chars groups_of_names
 guests_of_no_group = refl
+
+-- what `editing` holds
+editing_is_off : browse_of (codes "[browse]\nediting = false\n")
+    ≡ Ok (Some (record {
+      title = codes "Handbook";
+      language = codes "en";
+      home = codes "index.md";
+      guest = None;
+      login = false;
+      editing = false;
+    }))
+unfolding toml_on_literals is_title is_language is_path chars
+editing_is_off = refl
+
+editing_is_on : browse_of (codes "[browse]\nediting = true\n")
+    ≡ Ok (Some (record {
+      title = codes "Handbook";
+      language = codes "en";
+      home = codes "index.md";
+      guest = None;
+      login = false;
+      editing = true;
+    }))
+unfolding toml_on_literals is_title is_language is_path chars
+editing_is_on = refl
 
 -- a title of 100 bytes
 longest_title : browse_of (codes "browse.title = \"0123456789012345678901234567890123456789012345678901234567890123456789012345678901234567890123456789\"")
@@ -75,6 +104,7 @@ longest_title : browse_of (codes "browse.title = \"01234567890123456789012345678
       home = codes "index.md";
       guest = None;
       login = false;
+      editing = true;
     }))
 unfolding toml_on_literals is_title is_language is_path chars
 longest_title = refl
@@ -153,6 +183,14 @@ a_boolean_is_no_login : browse_of (codes "browse.login = true") ≡ Err BadLogin
 unfolding toml_on_literals is_title is_language is_path chars
 a_boolean_is_no_login = refl
 
+a_string_is_no_boolean : browse_of (codes "browse.editing = \"no\"") ≡ Err BadEditing
+unfolding toml_on_literals is_title is_language is_path chars
+a_string_is_no_boolean = refl
+
+a_number_is_no_boolean : browse_of (codes "browse.editing = 1") ≡ Err BadEditing
+unfolding toml_on_literals is_title is_language is_path chars
+a_number_is_no_boolean = refl
+
 -- ---- the first of two
 
 no_toml_comes_first : browse_of (codes "browse = 1\nx") ≡ Err BadToml
@@ -178,3 +216,7 @@ homes_come_before_guests = refl
 guests_come_before_logins : browse_of (codes "browse = { login = 1, guest = 1 }") ≡ Err BadGuest
 unfolding toml_on_literals is_title is_language is_path chars
 guests_come_before_logins = refl
+
+logins_come_before_editing : browse_of (codes "browse = { editing = 1, login = \"digest\" }") ≡ Err BadLogin
+unfolding toml_on_literals is_title is_language is_path chars
+logins_come_before_editing = refl

@@ -1,9 +1,9 @@
 -- The table `browse` of a configuration, a TOML 1.1 document: what whoever runs a site says of its pages for people. Its keys, what
--- stands for them and the order of the refusals are this project's choice: no TOML, the table, title, language, home, guest, login.
+-- stands for them and the order of the refusals are this project's choice: no TOML, the table, title, language, home, guest, login, editing.
 use Rattle.std.specs.Prelude.{ℕ, List, [], ◌∷◌, Bool, true, false, bytes_eq, codes, Option, Some, None, option_map, option_and_then}
 use Rattle.std.specs.Prelude.{Result, Ok, Err, if◌then◌else◌}
 use Rattle.std.specs.Result.{result_ok}
-use Rattle.toml.specs.Data.{Data, Members, get_member, as_str, as_table}
+use Rattle.toml.specs.Data.{Data, Members, get_member, as_str, as_bool, as_table}
 use Rattle.toml.specs.Parse.{parse_document}
 use Rattle.doc_page_parts.specs.Paths.{path_of}
 use Rattle.doc_people.specs.declared.settings.Browse.{Browse}
@@ -11,7 +11,7 @@ use Rattle.doc_people.specs.Settings.{is_title, is_language}
 use Rattle.doc_store_readers.specs.Readers.{groups_at}
 use Rattle.doc_server_config.specs.declared.browsing.BrowseError.{BrowseError}
 use Rattle.doc_server_config.specs.declared.browsing.BrowseError.TheVariants.{BadToml, BadBrowse, BadTitle, BadLanguage, BadHome, BadGuest}
-use Rattle.doc_server_config.specs.declared.browsing.BrowseError.TheVariants.{BadLogin}
+use Rattle.doc_server_config.specs.declared.browsing.BrowseError.TheVariants.{BadLogin, BadEditing}
 use Rattle.doc_server_config.specs.Keys.{has_only}
 
 -- the text of a key: what it holds, where that is a string; without the key the text missing
@@ -55,23 +55,31 @@ abbrev pub login_at : Option Data → Option Bool
 login_at None = Some false
 login_at (Some value) = option_and_then good_login (as_str value)
 
+-- whether owners edit pages by requests with conditions, and in a browser: what the key holds, where that is a boolean; without the key
+-- they do
+abbrev pub editing_at : Option Data → Option Bool
+editing_at None = Some true
+editing_at (Some value) = as_bool value
+
 -- what these parts are, the first of which comes first where several are bad
 abbrev pub browse_with : Option (List ℕ) → Option (List ℕ) → Option (List ℕ) → Option (Option (List (List ℕ))) → Option Bool
-    → Result Browse BrowseError
-browse_with None language home guest login = Err BadTitle
-browse_with (Some title) None home guest login = Err BadLanguage
-browse_with (Some title) (Some language) None guest login = Err BadHome
-browse_with (Some title) (Some language) (Some home) None login = Err BadGuest
-browse_with (Some title) (Some language) (Some home) (Some guest) None = Err BadLogin
-browse_with (Some title) (Some language) (Some home) (Some guest) (Some login) =
-    Ok (record { title = title; language = language; home = home; guest = guest; login = login })
+    → Option Bool → Result Browse BrowseError
+browse_with None language home guest login editing = Err BadTitle
+browse_with (Some title) None home guest login editing = Err BadLanguage
+browse_with (Some title) (Some language) None guest login editing = Err BadHome
+browse_with (Some title) (Some language) (Some home) None login editing = Err BadGuest
+browse_with (Some title) (Some language) (Some home) (Some guest) None editing = Err BadLogin
+browse_with (Some title) (Some language) (Some home) (Some guest) (Some login) None = Err BadEditing
+browse_with (Some title) (Some language) (Some home) (Some guest) (Some login) (Some editing) =
+    Ok (record { title = title; language = language; home = home; guest = guest; login = login; editing = editing })
 
--- what a table says, which has these five keys alone
+-- what a table says, which has these six keys alone
 abbrev pub browse_of_table : Members → Result Browse BrowseError
 browse_of_table table =
-    if has_only (codes "guest" ∷ codes "home" ∷ codes "language" ∷ codes "login" ∷ codes "title" ∷ []) table
+    if has_only (codes "editing" ∷ codes "guest" ∷ codes "home" ∷ codes "language" ∷ codes "login" ∷ codes "title" ∷ []) table
     then browse_with (title_at (get_member (codes "title") table)) (language_at (get_member (codes "language") table))
     (home_at (get_member (codes "home") table)) (guest_at (get_member (codes "guest") table)) (login_at (get_member (codes "login") table))
+    (editing_at (get_member (codes "editing") table))
     else Err BadBrowse
 
 -- the same where it may be refused

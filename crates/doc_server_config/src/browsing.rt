@@ -4,7 +4,7 @@ ghost use Rattle.std.specs.Prelude.{◌≡◌, ◌≢◌, Ok, Err, IfOk, IfErr};
 ghost use Rattle.toml.specs.View.{table_view};
 ghost use Rattle.doc_server_config.specs.Browsing.{browse_of, browse_of_document, browse_of_table};
 
-use crate::browsing_keys::{guest_in, home_in, language_in, login_in, title_in};
+use crate::browsing_keys::{editing_in, guest_in, home_in, language_in, login_in, title_in};
 use crate::table::{has_only, value_at};
 use doc_page_parts::failure::Memory;
 use doc_page_parts::heap::Heap;
@@ -20,7 +20,7 @@ pub enum BrowseError {
     /// The text is no TOML document.
     #[error("no TOML")]
     BadToml,
-    /// `browse` is no table, or has a key other than `title`, `language`, `home`, `guest` and `login`.
+    /// `browse` is no table, or has a key other than `title`, `language`, `home`, `guest`, `login` and `editing`.
     #[error("`browse` is bad")]
     BadBrowse,
     /// `title` is no string, or none that a site can have as its title.
@@ -38,6 +38,9 @@ pub enum BrowseError {
     /// `login` is anything but the string `basic`.
     #[error("`login` is bad")]
     BadLogin,
+    /// `editing` is no boolean.
+    #[error("`editing` is bad")]
+    BadEditing,
     #[error("{}", Memory)]
     Memory,
 }
@@ -54,10 +57,10 @@ impl From<Memory> for BrowseError {
 }
 
 /// What a TOML 1.1 document says of the pages for people: its table `browse` with `title` (else `Handbook`), `language` (else `en`),
-/// `home` (a path, else `index.md`), `guest` (an array of names of groups, else nobody is a guest) and `login` (`basic`, else readers
-/// don't sign in as browsers do). The table has no other keys; those of the document are not its concern. `None` says that there is
-/// no such table, and so no pages for people; an empty table is one. Refusals come in the order of [`BrowseError`], but that `Memory`
-/// may be answered before another one is found.
+/// `home` (a path, else `index.md`), `guest` (an array of names of groups, else nobody is a guest), `login` (`basic`, else readers
+/// don't sign in as browsers do) and `editing` (a boolean, else `true`). The table has no other keys; those of the document are not its
+/// concern. `None` says that there is no such table, and so no pages for people; an empty table is one. Refusals come in the order of
+/// [`BrowseError`], but that `Memory` may be answered before another one is found.
 pub fn browse_of(heap: Heap, text: &str) -> Result<Option<Browse>, BrowseError>
     ensures read { IfOk result (λ browse. browse_of text.now ≡ Ok browse) }
     ensures refused { IfErr result (λ e. e ≢ BrowseError.Memory → browse_of text.now ≡ Err e) }
@@ -92,7 +95,10 @@ fn browse_of_table(heap: Heap, table: &Table) -> Result<Browse, BrowseError>
     ensures refused { IfErr result (λ e. e ≢ BrowseError.Memory
         → browse_of_table (table_view table.now) ≡ Err e) }
 {
-    if !has_only(table, &["guest", "home", "language", "login", "title"]) {
+    if !has_only(
+        table,
+        &["editing", "guest", "home", "language", "login", "title"],
+    ) {
         return Err(BrowseError::BadBrowse);
     }
     let Some(title) = title_in(heap, table)? else {
@@ -110,11 +116,15 @@ fn browse_of_table(heap: Heap, table: &Table) -> Result<Browse, BrowseError>
     let Some(login) = login_in(table) else {
         return Err(BrowseError::BadLogin);
     };
+    let Some(editing) = editing_in(table) else {
+        return Err(BrowseError::BadEditing);
+    };
     Ok(Browse {
         title,
         language,
         home,
         guest,
         login,
+        editing,
     })
 }

@@ -5,7 +5,7 @@ ghost use Rattle.toml.specs.Data.{get_member};
 ghost use Rattle.toml.specs.View.{array_view, table_view, view};
 ghost use Rattle.doc_store_readers.specs.Groups.{texts_of};
 ghost use Rattle.doc_store_readers.specs.Readers.{groups_at, strings_in};
-ghost use Rattle.doc_server_config.specs.Browsing.{guest_at, home_at, language_at, login_at, text_at, title_at};
+ghost use Rattle.doc_server_config.specs.Browsing.{editing_at, guest_at, home_at, language_at, login_at, text_at, title_at};
 
 use crate::browsing_texts::{is_language, is_title};
 use crate::table::value_at;
@@ -85,6 +85,16 @@ pub(crate) fn login_in(table: &Table) -> Option<bool>
         return None;
     }
     Some(true)
+}
+
+/// Whether owners edit pages by requests with conditions, and in a browser, or `None` where the key holds no boolean.
+pub(crate) fn editing_in(table: &Table) -> Option<bool>
+    ensures { result ≡ editing_at (get_member (codes "editing") (table_view table.now)) }
+{
+    match value_at(table, "editing") {
+        None => Some(true),
+        Some(value) => value.as_bool(),
+    }
 }
 
 /// The text that a key holds, or the one that stands for it where the key is missing.
