@@ -1,20 +1,30 @@
--- The edit that goes with an answer: what holds of no edit and of that of the response holds of it.
-use Rattle.std.proofs.Common.{Bool, true, false}
-use Rattle.std.specs.Prelude.{not, ◌&&◌, ◌||◌, ◌==◌, Option, Some, None, if◌then◌else◌}
+-- The edit that goes with an answer: what holds of no edit, of that of the response, and of that of the response to a request that edits,
+-- holds of it.
+use Rattle.std.proofs.Common.{List, ℕ, Bool, true, false}
+use Rattle.std.specs.Prelude.{not, ◌&&◌, ◌||◌, ◌==◌, Option, Some, None, ⊤, if◌then◌else◌}
 use Rattle.doc_http.specs.declared.request.Request.{Request}
+use Rattle.doc_http_replies.specs.Heads.{Dress}
 use Rattle.doc_hub_answers.proofs.AnswerEdits.{response_can}
 use Rattle.doc_hub_answers.specs.Edits.{CanBeMade, puts_left}
 use Rattle.doc_hub_answers.specs.Replies.{Renders, Response, plain_answer, refused, response_to}
 use Rattle.doc_hub_answers.specs.declared.answer.Answer.{Answer}
 use Rattle.doc_hub_answers.specs.declared.edit.Edit.{Edit}
+use Rattle.doc_hub_editing.proofs.EditsCan.{EditingCan, edit_response_can}
+use Rattle.doc_hub_editing.specs.EditAnswers.{edit_response}
+use Rattle.doc_hub_editing.specs.EditResponses.{EditingResponse}
 use Rattle.doc_hub_people.specs.Asking.{Asking, is_guest, row_of}
 use Rattle.doc_hub_people.specs.PeopleAnswers.{people_reply}
-use Rattle.doc_hub_replies.specs.Answers.{answer_by, answer_of, asks_for_style, dress_for, is_for_people, kept_from_guests, people_answer}
-use Rattle.doc_hub_replies.specs.Answers.{style_answer}
+use Rattle.doc_hub_replies.specs.Answers.{answer_by, answer_of, asks_for_style, dress_for, edited_or, is_for_people, kept_from_guests}
+use Rattle.doc_hub_replies.specs.Answers.{people_answer, style_answer, unedited}
 use Rattle.doc_people.specs.declared.settings.Browse.{Browse}
 use Rattle.doc_people.specs.declared.settings.Settings.{Settings}
 use Rattle.doc_store.specs.Store.{StoreState}
 use Rattle.doc_store_readers.specs.Sites.{View, view_of}
+
+-- what holds of the edit of a response to a request that edits, where it is one
+abbrev pub HoldsFor : (Option Edit → Type 0) → Option EditingResponse → Type 0
+HoldsFor P None = ⊤
+HoldsFor P (Some response) = P response.edit
 
 module _ (P : Option Edit → Type 0) (nothing : P None) where
   abbrev Holds : Answer → Type 0
@@ -31,20 +41,38 @@ module _ (P : Option Edit → Type 0) (nothing : P None) where
   kept_if true response holds = nothing
   kept_if false response holds = holds
 
+  edited : (found : Option EditingResponse) (dress : Dress) (close : Bool) (request : Request) (other : Answer) → HoldsFor P found
+      → Holds other → Holds (edited_or found dress close request other)
+  edited None dress close request other holds also = also
+  edited (Some response) dress close request other holds also = holds
+
   module _ (render : Renders) (view : View) (asking : Asking) (left : Bool) (request : Request)
       (holds : HoldsBefore (response_to render view (row_of asking) left request)) where
-    by_browse : (browse : Option Browse) (close : Bool) → Holds (answer_by browse render view asking left close request)
-    by_browse None close = holds
-    by_browse (Some browse) close =
+    pub not_editing : (browse : Browse) (close : Bool) → Holds (unedited browse render view asking left close request)
+    not_editing browse close =
         let response : Response = response_to render view (row_of asking) left request in
         let plain : Answer = plain_answer (dress_for browse asking) (kept_from_guests (is_guest asking) response) close request in
         let page : Answer = people_answer (people_reply render browse view asking request) close request in
-        either (asks_for_style request) (style_answer close request) (if is_for_people request then page else plain) nothing
-        (either (is_for_people request) page plain nothing (kept_if (is_guest asking && response.reply.code == 403) response holds))
+        either (is_for_people request) page plain nothing (kept_if (is_guest asking && response.reply.code == 403) response holds)
 
-    pub answer_holds : (settings : Settings) → P (answer_of settings render view asking left request).edit
+    by_browse : ((browse : Browse) → HoldsFor P (edit_response render browse view asking left (is_for_people request) request))
+        → (browse : Option Browse) (close : Bool) → Holds (answer_by browse render view asking left close request)
+    by_browse edits None close = holds
+    by_browse edits (Some browse) close =
+        let found : Option EditingResponse = edit_response render browse view asking left (is_for_people request) request in
+        let other : Answer = unedited browse render view asking left close request in
+        either (asks_for_style request) (style_answer close request) (edited_or found (dress_for browse asking) close request other) nothing
+        (edited found (dress_for browse asking) close request other (edits browse) (not_editing browse close))
+
+    pub answer_holds : ((browse : Browse) → HoldsFor P (edit_response render browse view asking left (is_for_people request) request))
+        → (settings : Settings) → P (answer_of settings render view asking left request).edit
     unfolding answer_of
-    answer_holds settings = by_browse settings.browse (request.close || not settings.keep_alive)
+    answer_holds edits settings = by_browse edits settings.browse (request.close || not settings.keep_alive)
+
+can_holds : (store : StoreState) (text : List ℕ) (found : Option EditingResponse) → EditingCan store text found
+    → HoldsFor (CanBeMade store text) found
+can_holds store text None can = tt
+can_holds store text (Some response) can = can
 
 -- the edit can be made
 pub answer_can_be_made : (render : Renders) (settings : Settings) (store : StoreState) (asking : Asking) (request : Request)
@@ -52,4 +80,7 @@ pub answer_can_be_made : (render : Renders) (settings : Settings) (store : Store
     (answer_of settings render (view_of store.site (row_of asking)) asking (puts_left store.puts) request).edit
 answer_can_be_made render settings store asking request =
     answer_holds (CanBeMade store request.body) tt render (view_of store.site (row_of asking)) asking (puts_left store.puts) request
-    (response_can render store (row_of asking) request) settings
+    (response_can render store (row_of asking) request)
+    (λ browse. can_holds store request.body
+    (edit_response render browse (view_of store.site (row_of asking)) asking (puts_left store.puts) (is_for_people request) request)
+    (edit_response_can render browse store asking (is_for_people request) request)) settings

@@ -7,12 +7,9 @@ use Rattle.doc_store.specs.declared.moving.MoveError.TheVariants as move_errors
 use Rattle.doc_store.specs.declared.site_edit.SiteEdit.{SiteEdit}
 use Rattle.doc_store.specs.declared.site_edit.SiteEdit.TheVariants as site_edits
 use Rattle.doc_store.specs.declared.store.EditError.TheVariants as edit_errors
-use Rattle.doc_store_readers.specs.declared.readers.ReaderError.{ReaderError}
 use Rattle.doc_store_readers.specs.declared.readers.ReaderError.TheVariants as reader_errors
-use Rattle.doc_store_readers.specs.declared.readers.Set.{Set}
 use Rattle.doc_hub_answers.specs.Replies.{Renders}
-use Rattle.doc_hub.specs.Counts.{moves_by}
-use Rattle.doc_hub.specs.Events.{Said, SaidReader, SaidSite, outcome_of, setting}
+use Rattle.doc_hub.specs.Events.{Said, SaidReader, SaidSite}
 use Rattle.doc_hub.specs.Runs.{Happens, HappensReader, HappensSite}
 use Rattle.doc_hub.specs.Worlds.{World, world_moved, world_put, world_reader_removed, world_reader_set, world_removed}
 use Rattle.doc_hub.specs.declared.event.Event.{Event}
@@ -82,18 +79,6 @@ stand_beside render w v (events.Reader edit) said is h =
       given = ap (λ (x : World). x.given) same;
       connections = ap (λ (x : World). x.connections) same;
     }
-
-setting_moves : (said : Result Set ReaderError) → moves_by (setting said) ≡ 0
-setting_moves (Ok done) = refl
-setting_moves (Err e) = refl
-
--- and what comes of it tells no move
-pub no_moves_beside : (event : Event) (said : Said event) → IsBeside event → moves_by (outcome_of event said) ≡ 0
-no_moves_beside events.Connect said is = absurd is
-no_moves_beside (events.On id call) said is = absurd is
-no_moves_beside (events.Site edit) said is = absurd is
-no_moves_beside (events.Reader (reader_edits.Set token reader)) said is = setting_moves said
-no_moves_beside (events.Reader (reader_edits.Remove token)) said is = refl
 
 -- ---- events of no connection
 

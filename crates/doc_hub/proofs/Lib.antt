@@ -3,6 +3,8 @@ mod ConnectionSteps
 mod CountSteps
 mod CutLaws
 mod DropLaws
+mod EditingAlike
+mod EditingLaws
 mod FreshLaws
 mod FrontSteps
 mod GivenLaws
@@ -19,6 +21,7 @@ mod ReplyExamples
 mod RunLaws
 mod RunSteps
 mod SiteLaws
+mod StepCounts
 pub mod StepEdits
 mod StepLaws
 mod StoreSteps

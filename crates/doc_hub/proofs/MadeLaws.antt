@@ -72,7 +72,7 @@ fits_by false false true stands a b d = cc
 fits_by false false false true a b d = refl
 fits_by false false false false a b d = refl
 
-move_fits_by : (stands taken many out : Bool) → stands ≡ true → taken ≡ false → many ≡ false → out ≡ false
+pub move_fits_by : (stands taken many out : Bool) → stands ≡ true → taken ≡ false → many ≡ false → out ≡ false
     → ◌≡◌ {A = Result (Unit {0}) MoveError} (if not stands then Err move_errors.NoPage
     else (if taken then Err move_errors.Taken else (if many || out then Err move_errors.StoreFull else Ok tt)))
     (Ok tt)

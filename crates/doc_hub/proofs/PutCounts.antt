@@ -13,7 +13,7 @@ use Rattle.doc_store.proofs.StoreSteps.{taken_out}
 use Rattle.doc_http.specs.declared.request.Next.{Next}
 use Rattle.doc_http.specs.declared.request.Next.TheVariants as nexts
 use Rattle.doc_hub.specs.Connections.{new_connection}
-use Rattle.doc_hub_answers.specs.Edits.{store_after}
+use Rattle.doc_hub_answers.specs.Edits.{regrouped, store_after}
 use Rattle.doc_hub.specs.Events.{Said, SaidOn, SaidSite}
 use Rattle.doc_hub.specs.FreshLaws.{PutsAreCounted}
 use Rattle.doc_hub_answers.specs.Replies.{Renders}
@@ -55,9 +55,16 @@ removed_counts : (store : StoreState) (path : List ℕ) (stands : Bool)
 removed_counts store path true = none_more store.puts
 removed_counts store path false = none_more store.puts
 
+regrouped_counts : (store : StoreState) (path : List ℕ) (groups : List (List ℕ)) (found : Option Page)
+    → OneMore store.puts (regrouped store path groups found).puts
+regrouped_counts store path groups None = none_more store.puts
+regrouped_counts store path groups (Some page) = just_one store.puts
+
 edit_counts : (store : StoreState) (text : List ℕ) (edit : Option Edit) → OneMore store.puts (store_after store text edit).puts
 edit_counts store text None = none_more store.puts
 edit_counts store text (Some (edits.Put path groups)) = just_one store.puts
+edit_counts store text (Some (edits.Regroup path groups)) = regrouped_counts store path groups (map.get store.site.pages path)
+edit_counts store text (Some (edits.Move from to)) = just_one store.puts
 edit_counts store text (Some (edits.Remove path)) = removed_counts store path (map.contains_key store.site.pages path)
 
 put_counts : (store : StoreState) (path : List ℕ) (page : Page) (stands : Bool) (said : Result (Unit {0}) EditError)

@@ -1,6 +1,6 @@
 -- The worlds that a new hub comes to, and the fresh servers of their replies.
 use Rattle.std.proofs.Common.{◌≡◌, ◌≤◌, ◌+◌, ◌-◌, ℕ, List, ◌++◌, Bool, true, false, cond, length, drop, refl, sym, ◌∙◌, subst, arith}
-use Rattle.std.specs.Prelude.{nat_lt, slice_index_or, All, Option, Some, None, Result, Ok, Err, MatchBool, if◌then◌else◌}
+use Rattle.std.specs.Prelude.{nat_le, nat_lt, slice_index_or, All, Option, Some, None, Result, Ok, Err, MatchBool, if◌then◌else◌}
 use Rattle.std.specs.FinMap as map
 use Rattle.std.specs.Ordering.{nat_cmp, eq_by_cmp}
 use Rattle.std.proofs.lemmas.Bool.Decides.{nat_tests}
@@ -11,7 +11,7 @@ use Rattle.doc_page_parts.specs.Refusals.{Gives}
 use Rattle.doc_store_readers.specs.Pages.{Page}
 use Rattle.doc_store_readers.specs.Readers.{ReaderTable}
 use Rattle.doc_people.specs.declared.settings.Settings.{Settings}
-use Rattle.doc_store.specs.Store.{StoreState, fits_in, may_move, moved_by, put_by}
+use Rattle.doc_store.specs.Store.{StoreState, alias_limit, aliases_after, fits_in, may_move, moved_by, put_by, put_limit}
 use Rattle.doc_store.specs.declared.moving.MoveError.{MoveError}
 use Rattle.doc_store.specs.declared.moving.MoveError.TheVariants as move_errors
 use Rattle.doc_store.specs.declared.store.EditError.{EditError}
@@ -21,7 +21,7 @@ use Rattle.doc_http.specs.declared.request.Next.{Next}
 use Rattle.doc_http.specs.declared.request.Next.TheVariants as nexts
 use Rattle.doc_hub_people.specs.Asking.{known_of}
 use Rattle.doc_hub.specs.Connections.{Connections, backlog_limit, finished, new_connection, pushed_at, with_pushed}
-use Rattle.doc_hub_answers.specs.Edits.{CanBeMade, store_after}
+use Rattle.doc_hub_answers.specs.Edits.{CanBeMade, CanMove, CanRegroup, regrouped, store_after}
 use Rattle.doc_hub.specs.Events.{Said, SaidOn, SaidSite}
 use Rattle.doc_hub.specs.FreshLaws.{SendsAsFreshAlways}
 use Rattle.doc_hub.specs.MadeLaws.{IsWithin, MadeReplies, SendsAsMade, makings}
@@ -51,7 +51,7 @@ use Rattle.doc_hub_answers.specs.declared.edit.Edit.{Edit}
 use Rattle.doc_hub_answers.specs.declared.edit.Edit.TheVariants as edits
 use Rattle.doc_hub.proofs.AnswerEdits.{answer_can_be_made}
 use Rattle.doc_hub.proofs.FreshLaws.{new_replies_as_fresh}
-use Rattle.doc_hub.proofs.MadeLaws.{fresh_is_made}
+use Rattle.doc_hub.proofs.MadeLaws.{fresh_is_made, move_fits_by}
 use Rattle.doc_hub.proofs.StoredSteps.{Stored, cut_within, move_stored, nothing_stored, put_stored, remove_stored}
 
 -- ---- connections
@@ -135,11 +135,28 @@ remove_can : (w : World) (path : List ℕ) (stands : Bool) → Stored w.site w.p
 remove_can w path true stored = remove_stored w.site w.puts path stored
 remove_can w path false stored = stored
 
+regrouped_can : (w : World) (path : List ℕ) (groups : List (List ℕ)) (found : Option Page) → CanRegroup (store_of w) path found
+    → Stored w.site w.puts → StoredWorld w (regrouped (store_of w) path groups found)
+regrouped_can w path groups None can stored = absurd can
+regrouped_can w path groups (Some page) can stored = put_stored w.site w.puts path (record page { groups = groups }) can stored
+
+not_out : (puts limit : ℕ) → nat_lt puts limit ≡ true → nat_le limit puts ≡ false
+not_out puts limit left = grind (arith, nat_tests)
+
+-- a move that is possible isn't refused, since what is stored is a site
+moves_so : (w : World) (from to : List ℕ) → CanMove (store_of w) from to → Stored w.site w.puts → may_move (store_of w) from to ≡ Ok tt
+moves_so w from to can stored =
+    move_fits_by (map.contains_key w.site.pages from) (map.contains_key w.site.pages to)
+    (nat_lt alias_limit (map.len (aliases_after w.site.aliases from to))) (nat_le put_limit w.puts) can.stands can.free
+    (can.room stored.store.site) (not_out w.puts put_limit can.left)
+
 edit_can : (w : World) (text : List ℕ) (edit : Option Edit) → CanBeMade (store_of w) text edit → Stored w.site w.puts
     → StoredWorld w (store_after (store_of w) text edit)
 edit_can w text None can stored = stored
 edit_can w text (Some (edits.Put path groups)) can stored =
     put_stored w.site w.puts path (record { groups = groups; text = text }) can.1 stored
+edit_can w text (Some (edits.Regroup path groups)) can stored = regrouped_can w path groups (map.get w.site.pages path) can stored
+edit_can w text (Some (edits.Move from to)) can stored = move_stored w.site w.puts from to (moves_so w from to can stored) stored
 edit_can w text (Some (edits.Remove path)) can stored = remove_can w path (map.contains_key w.site.pages path) stored
 
 by_gives : {X E : Type 0} (memory : E) (given : World × Result X E) (w v : World) (r : Result X E) → CanBe w → CanBe given.0

@@ -83,7 +83,17 @@ abbrev owner : Option Reader
 owner = Some (record { owner = true; groups = [] })
 
 abbrev asked : List ℕ → List ℕ → Request
-asked method target = record { method = method; target = target; authorization = None; close = false; html = false; body = [] }
+asked method target = record {
+  method = method;
+  target = target;
+  authorization = None;
+  close = false;
+  html = false;
+  markdown = false;
+  if_match = None;
+  if_none_match = None;
+  body = [];
+}
 
 -- the answer to whom an entry names, without pages for people
 abbrev answer_by_entry : Renders → View → Option Reader → Bool → Bool → Request → Answer

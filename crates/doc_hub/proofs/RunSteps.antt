@@ -31,12 +31,12 @@ runs_more render w u v run event outcome (nothing x) leaves = first x v v event 
 runs_more render w u v run event outcome (first x y z e o rest here runs) leaves =
     first x y v e o (rest ++ happened z event outcome ∷ []) here (runs_more render y z v rest event outcome runs leaves)
 
-map-push : {X Y : Type 0} (f : X → Y) (xs : List X) (x : X) → map f (xs ++ x ∷ []) ≡ map f xs ++ f x ∷ []
+pub map-push : {X Y : Type 0} (f : X → Y) (xs : List X) (x : X) → map f (xs ++ x ∷ []) ≡ map f xs ++ f x ∷ []
 map-push f [] x = refl
 map-push f (y ∷ ys) x = ap (λ zs. f y ∷ zs) (map-push f ys x)
 
 -- the same for all the events so far and one more, as the loop has it
-pub one_more_event : (render here : Renders) (w u v : World) (events more : List Event) (outcomes told : List Outcome) (event : Event)
+unfoldable pub one_more_event : (render here : Renders) (w u v : World) (events more : List Event) (outcomes told : List Outcome) (event : Event)
     (outcome : Outcome)
     → here ≡ render → RunsAll render events w u outcomes → Leaves here u event v outcome → more ≡ events ++ event ∷ []
     → told ≡ outcomes ++ outcome ∷ []

@@ -1,6 +1,6 @@
 -- The site that a run leaves is that of its accepted edits.
 use Rattle.std.proofs.Common.{◌≡◌, ℕ, List, [], ◌∷◌, Bool, true, false, refl, ap, sym, ◌∙◌, subst}
-use Rattle.std.specs.Prelude.{nat_lt, MatchBool, Option, Some, None, Result, Ok, Err, if◌then◌else◌}
+use Rattle.std.specs.Prelude.{nat_lt, MatchBool, Option, Some, None, option_map, Result, Ok, Err, if◌then◌else◌}
 use Rattle.std.specs.FinMap as map
 use Rattle.doc_page_parts.specs.Refusals.{Gives}
 use Rattle.doc_store_readers.specs.Pages.{Page}
@@ -14,8 +14,8 @@ use Rattle.doc_store.specs.declared.store.Put.{Put}
 use Rattle.doc_http.specs.Requests.{IsNext}
 use Rattle.doc_http.specs.declared.request.Next.{Next}
 use Rattle.doc_http.specs.declared.request.Next.TheVariants as nexts
-use Rattle.doc_hub.specs.EditLaws.{SiteIsOfEdits, Makes, StepMakes, edit_by, made_if, site_after, site_after_all, site_edit}
-use Rattle.doc_hub_answers.specs.Edits.{CanBeMade, store_after}
+use Rattle.doc_hub.specs.EditLaws.{SiteIsOfEdits, Makes, StepMakes, edit_by, made_if, site_after, site_after_all, site_edit, with_groups}
+use Rattle.doc_hub_answers.specs.Edits.{CanBeMade, regrouped, store_after}
 use Rattle.doc_hub.specs.Events.{Said, SaidOn, SaidSite, moving, outcome_of, outcome_of_site, outcome_on, putting, step_on, stepping}
 use Rattle.doc_hub_answers.specs.Replies.{Renders}
 use Rattle.doc_hub.specs.Runs.{Happens, HappensOn, HappensSite, Leaves, nothing, first}
@@ -61,11 +61,19 @@ removed_site : (store : StoreState) (path : List ℕ) (stood : Bool) → map.con
 removed_site store path stood is = removed_by store path (map.contains_key store.site.pages path)
     ∙ ap (λ t. site_after store.site (made_if t (remove_page path))) is
 
+-- other groups, for a page or for none
+regrouped_site : (store : StoreState) (path : List ℕ) (groups : List (List ℕ)) (found : Option Page)
+    → (regrouped store path groups found).site ≡ site_after store.site (option_map (with_groups path groups) found)
+regrouped_site store path groups None = refl
+regrouped_site store path groups (Some page) = refl
+
 -- the edit of a request that can be made is that of the site
 pub made_site : (store : StoreState) (text : List ℕ) (edit : Option Edit) → CanBeMade store text edit
-    → (store_after store text edit).site ≡ site_after store.site (site_edit text edit)
+    → (store_after store text edit).site ≡ site_after store.site (site_edit store.site text edit)
 made_site store text None can = refl
 made_site store text (Some (edits.Put path groups)) can = refl
+made_site store text (Some (edits.Regroup path groups)) can = regrouped_site store path groups (map.get store.site.pages path)
+made_site store text (Some (edits.Move from to)) can = refl
 made_site store text (Some (edits.Remove path)) can = removed_site store path true can
 
 put_site : (store : StoreState) (path : List ℕ) (page : Page) (stands : Bool) (r : Result (Unit {0}) EditError) (done : Put)

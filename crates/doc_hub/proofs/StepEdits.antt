@@ -5,24 +5,45 @@ use Rattle.std.specs.FinMap as map
 use Rattle.doc_store_readers.proofs.KeySteps.{get_set, same_itself}
 use Rattle.doc_store_readers.specs.Pages.{Page}
 use Rattle.doc_store_readers.specs.Sites.{Site}
+use Rattle.doc_store.specs.Store.{effect_of, set_page}
 use Rattle.doc_http.specs.Requests.{IsNext}
+use Rattle.doc_http.specs.declared.request.Request.{Request}
 use Rattle.doc_http.specs.declared.request.Next.{Next}
 use Rattle.doc_http.specs.declared.request.Next.TheVariants as nexts
 use Rattle.doc_http.proofs.LawLemmas.{read_in_one_way}
-use Rattle.doc_hub_answers.specs.Edits.{CanBeMade, store_after}
+use Rattle.doc_hub_answers.specs.Edits.{CanBeMade, CanRegroup, regrouped, store_after}
 use Rattle.doc_hub_answers.specs.Replies.{Renders}
-use Rattle.doc_hub.specs.StepEdits.{Changes, StepsChange, TellsAt, edit_of_step}
+use Rattle.doc_hub.specs.StepEdits.{Changes, StepTells, StepsChange, TellsAt, WasRegrouped, edit_of_step}
 use Rattle.doc_hub.specs.Worlds.{World, Answers, Stays, StepsAt, answer_in, asking_of, stepped_by, store_of}
 use Rattle.doc_hub.specs.declared.connection.Connection.{Connection}
 use Rattle.doc_hub.specs.declared.event.Step.{Step}
 use Rattle.doc_hub.specs.declared.event.Step.TheVariants as steps
 use Rattle.doc_hub.specs.declared.refusal.StepError.{StepError}
+use Rattle.doc_hub_answers.specs.declared.answer.Answer.{Answer}
 use Rattle.doc_hub_answers.specs.declared.edit.Edit.{Edit}
 use Rattle.doc_hub_answers.specs.declared.edit.Edit.TheVariants as edits
 use Rattle.doc_hub.proofs.AnswerEdits.{answer_can_be_made}
 use Rattle.doc_hub.proofs.SiteLaws.{made_site, refused_step}
 
 module _ (render : Renders) (w v : World) where
+  -- a page that was put stands
+  stands_there : (path : List ℕ) (page : Page) → v.site ≡ effect_of w.site (set_page path page) → map.get v.site.pages path ≡ Some page
+  stands_there path page site =
+      ap (λ (s : Site). map.get s.pages path) site ∙ get_set w.site.pages path page path
+      ∙ ap (λ t. cond t (Some page) (map.get w.site.pages path)) (same_itself path)
+
+  regroup_changes : (path : List ℕ) (groups : List (List ℕ)) (found : Option Page) → map.get w.site.pages path ≡ found
+      → CanRegroup (store_of w) path found → v.site ≡ (regrouped (store_of w) path groups found).site
+      → WasRegrouped w v path groups
+  regroup_changes path groups None stood can site = absurd can
+  regroup_changes path groups (Some page) stood can site = record {
+    page = page;
+    stood = stood;
+    stands = stands_there path (record page { groups = groups }) site;
+    fits = can;
+    site = site;
+  }
+
   -- the store's edit, which can be made
   edit_changes : (text : List ℕ) (edit : Option Edit) → CanBeMade (store_of w) text edit
       → v.site ≡ (store_after (store_of w) text edit).site
@@ -31,11 +52,12 @@ module _ (render : Renders) (w v : World) where
   edit_changes text (Some (edits.Put path groups)) can site = let page : Page = record { groups = groups; text = text } in record {
     page = page;
     for_groups = refl;
-    stands = ap (λ (s : Site). map.get s.pages path) site ∙ get_set w.site.pages path page path
-        ∙ ap (λ t. cond t (Some page) (map.get w.site.pages path)) (same_itself path);
+    stands = stands_there path page site;
     fits = can.1;
     site = site;
   }
+  edit_changes text (Some (edits.Regroup path groups)) can site = regroup_changes path groups (map.get w.site.pages path) refl can site
+  edit_changes text (Some (edits.Move from to)) can site = record { stood = can.stands; free = can.free; site = site }
   edit_changes text (Some (edits.Remove path)) can site =
       record { stood = can; site = site ∙ made_site (store_of w) text (Some (edits.Remove path)) can }
 
@@ -59,6 +81,18 @@ module _ (render : Renders) (w v : World) where
       → TellsAt render w k edit → Changes w edit v
   at_changes n said edit None h told = subst (λ e. Changes w e v) (sym told) (ap (λ (x : World). x.site) h.0)
   at_changes n said edit (Some c) h told = open_changes n c said edit c.closed h told
+
+-- the edit of the answer to a request is that of the step
+pub step_tells : (first render : Renders) (u w : World) → first ≡ render → u ≡ w → (id : ℕ) (c : Connection)
+    → Some c ≡ map.get u.connections id → c.closed ≡ false → (used : ℕ) (request : Request) → IsNext c.unread (nexts.Request used request)
+    → (answer : Answer) → answer ≡ answer_in first u request → (edit : Option Edit) → edit ≡ answer.edit → StepTells render w id edit
+step_tells first render u w same also id c found is_open used request begins answer answer_is edit edit_is =
+    let next : Next = nexts.Request used request in
+    let Of : Bool → Type 0 = λ closed. MatchBool closed (edit ≡ None) ((next : Next) × IsNext c.unread next
+    × (edit ≡ edit_of_step first u next)) in
+    let here = subst (λ k. TellsAt first u k edit) found
+    (subst Of (sym is_open) (next, begins, edit_is ∙ ap (λ (a : Answer). a.edit) answer_is)) in
+    subst (λ r. StepTells r w id edit) same (subst (λ x. StepTells first x id edit) also here)
 
 pub steps_change : StepsChange
 steps_change = record {

@@ -16,46 +16,55 @@ use Rattle.doc_hub_answers.specs.declared.answer.Answer.{Answer}
 use Rattle.doc_hub.specs.declared.connection.Connection.{Connection}
 use Rattle.doc_hub.specs.declared.event.Step.{Step}
 use Rattle.doc_hub_answers.specs.declared.method.Method.{Method}
-use Rattle.doc_hub_answers.specs.declared.method.Method.TheVariants.{Get, Head, Put, Delete, Other}
+use Rattle.doc_hub_answers.specs.declared.method.Method.TheVariants.{Get, Head, Put, Delete, Post, Other}
 use Rattle.doc_hub.specs.declared.refusal.StepError.{StepError}
 use Rattle.doc_hub_answers.specs.Edits.{puts_left}
 use Rattle.doc_hub_answers.specs.Replies.{Renders, Response, at_route, edit_at, edit_page, method_of, on_route, only_reply, plain_answer}
 use Rattle.doc_hub_answers.specs.Replies.{put_by, reads, refused, reply_at, response_to}
 use Rattle.doc_hub_people.specs.Asking.{Asking, is_guest, row_of}
+use Rattle.doc_hub_editing.specs.EditAnswers.{edit_response}
 use Rattle.doc_hub_people.specs.PeopleAnswers.{people_reply}
-use Rattle.doc_hub_replies.specs.Answers.{answer_by, answer_of, asks_for_style, dress_for, is_for_people, kept_from_guests, people_answer}
-use Rattle.doc_hub_replies.specs.Answers.{style_answer}
+use Rattle.doc_hub_replies.specs.Answers.{answer_by, answer_of, asks_for_style, browsed, dress_for, edited_or, is_for_people, kept_from_guests}
+use Rattle.doc_hub_replies.specs.Answers.{people_answer, style_answer, unedited}
 use Rattle.doc_people.specs.declared.settings.Browse.{Browse}
 use Rattle.doc_people.specs.declared.settings.Settings.{Settings}
 use Rattle.doc_hub.specs.StepLaws.{AgreeOn, AnswersAlike, StepsAlike, connection, is_owners_put, open_with}
 use Rattle.doc_hub.specs.Worlds.{World, Steps, StepsAt, asking_of, reader_of, stepped_by, step_said}
+use Rattle.doc_hub.proofs.EditingAlike.{edit_response_alike}
 
 -- ---- a PUT of an owner alone asks whether a put is left
 
-by_name : (get head put delete : Bool)
-    → ◌≡◌ {A = Method} (if get then Get else (if head then Head else (if put then Put else (if delete then Delete else Other)))) Put
+by_name : (get head put delete post : Bool)
+    → ◌≡◌ {A = Method} (if get then Get else (if head then Head else (if put then Put else (if delete then Delete
+    else (if post then Post else Other)))))
+    Put
     → put ≡ true
-by_name true head put delete is = absurd (unlike is)
+by_name true head put delete post is = absurd (unlike is)
   where
     unlike : Get ≡ Put → ⊥
     unlike e = cc
-by_name false true put delete is = absurd (unlike is)
+by_name false true put delete post is = absurd (unlike is)
   where
     unlike : Head ≡ Put → ⊥
     unlike e = cc
-by_name false false true delete is = refl
-by_name false false false true is = absurd (unlike is)
+by_name false false true delete post is = refl
+by_name false false false true post is = absurd (unlike is)
   where
     unlike : Delete ≡ Put → ⊥
     unlike e = cc
-by_name false false false false is = absurd (unlike is)
+by_name false false false false true is = absurd (unlike is)
+  where
+    unlike : Post ≡ Put → ⊥
+    unlike e = cc
+by_name false false false false false is = absurd (unlike is)
   where
     unlike : Other ≡ Put → ⊥
     unlike e = cc
 
 put_is_named : (name : List ℕ) → method_of name ≡ Put → bytes_eq name (codes "PUT") ≡ true
 put_is_named name is =
-    by_name (bytes_eq name (codes "GET")) (bytes_eq name (codes "HEAD")) (bytes_eq name (codes "PUT")) (bytes_eq name (codes "DELETE")) is
+    by_name (bytes_eq name (codes "GET")) (bytes_eq name (codes "HEAD")) (bytes_eq name (codes "PUT")) (bytes_eq name (codes "DELETE"))
+    (bytes_eq name (codes "POST")) is
 
 module _ (render : Renders) (view : View) (left other : Bool) (request : Request) where
   same_put : (owner : Bool) (rest : List ℕ) → (owner ≡ true → left ≡ other)
@@ -70,6 +79,7 @@ module _ (render : Renders) (view : View) (left other : Bool) (request : Request
   same_page owner rest Head same = refl
   same_page owner rest Put same = same_put owner rest (same refl)
   same_page owner rest Delete same = refl
+  same_page owner rest Post same = refl
   same_page owner rest Other same = refl
 
   same_edit : (owner : Bool) (route : Route) (method : Method) → (method ≡ Put → owner ≡ true → left ≡ other)
@@ -97,21 +107,39 @@ module _ (render : Renders) (view : View) (left other : Bool) (request : Request
       same_route reader.owner (route_of request.target)
       (λ puts owns. same (ap (λ b. b && bytes_eq request.method (codes "PUT")) owns ∙ put_is_named request.method puts))
 
-  -- one that isn't for people
+  -- one that isn't for people, and doesn't edit
   same_plain : (dress : Dress) (asking : Asking) (close guest : Bool) → (is_owners_put (row_of asking) request ≡ true → left ≡ other)
       → plain_answer dress (kept_from_guests guest (response_to render view (row_of asking) left request)) close request
       ≡ plain_answer dress (kept_from_guests guest (response_to render view (row_of asking) other request)) close request
   same_plain dress asking close guest same =
       ap (λ response. plain_answer dress (kept_from_guests guest response) close request) (same_response (row_of asking) same)
 
+  same_unedited : (browse : Browse) (asking : Asking) (close : Bool) → (is_owners_put (row_of asking) request ≡ true → left ≡ other)
+      → unedited browse render view asking left close request ≡ unedited browse render view asking other close request
+  same_unedited browse asking close same =
+      ap (λ plain. if is_for_people request then people_answer (people_reply render browse view asking request) close request else plain)
+      (same_plain (dress_for browse asking) asking close (is_guest asking) same)
+
+  -- one that edits
+  same_edits : (browse : Browse) (asking : Asking) → (is_owners_put (row_of asking) request ≡ true → left ≡ other)
+      → edit_response render browse view asking left (is_for_people request) request
+      ≡ edit_response render browse view asking other (is_for_people request) request
+  same_edits browse asking same =
+      edit_response_alike render browse view left other (is_for_people request) request asking
+      (λ row owns asks puts. same (ap (λ o. is_owners_put o request) asks
+      ∙ ap (λ b. b && bytes_eq request.method (codes "PUT")) owns ∙ put_is_named request.method puts))
+
+  same_browsed : (browse : Browse) (asking : Asking) (close : Bool) → (is_owners_put (row_of asking) request ≡ true → left ≡ other)
+      → browsed browse render view asking left close request ≡ browsed browse render view asking other close request
+  same_browsed browse asking close same =
+      λ i. if asks_for_style request then style_answer close request
+      else edited_or (same_edits browse asking same i) (dress_for browse asking) close request (same_unedited browse asking close same i)
+
   same_by : (browse : Option Browse) (asking : Asking) (close : Bool) → (is_owners_put (row_of asking) request ≡ true → left ≡ other)
       → answer_by browse render view asking left close request ≡ answer_by browse render view asking other close request
   same_by None asking close same =
       ap (λ response. plain_answer undressed response close request) (same_response (row_of asking) same)
-  same_by (Some browse) asking close same =
-      ap (λ plain. if asks_for_style request then style_answer close request
-      else (if is_for_people request then people_answer (people_reply render browse view asking request) close request else plain))
-      (same_plain (dress_for browse asking) asking close (is_guest asking) same)
+  same_by (Some browse) asking close same = same_browsed browse asking close same
 
   asks_of_puts : (settings : Settings) (asking : Asking) → (is_owners_put (row_of asking) request ≡ true → left ≡ other)
       → answer_of settings render view asking left request ≡ answer_of settings render view asking other request

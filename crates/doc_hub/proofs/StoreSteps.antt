@@ -17,7 +17,7 @@ use Rattle.doc_http.specs.Requests.{IsNext}
 use Rattle.doc_http.specs.declared.request.Request.{Request}
 use Rattle.doc_http.specs.declared.request.Next.TheVariants as nexts
 use Rattle.doc_hub.specs.Connections.{Connections, finished}
-use Rattle.doc_hub_answers.specs.Edits.{store_after}
+use Rattle.doc_hub_answers.specs.Edits.{regrouped, store_after}
 use Rattle.doc_hub_answers.specs.Replies.{Renders}
 use Rattle.doc_hub.specs.Worlds.{Answers, Stays, Steps, StepsAt, World, answer_in, step_said, stepped_by, with_finished, with_store}
 use Rattle.doc_hub.specs.Worlds.{world_after, world_moved, world_put, world_removed}
@@ -66,9 +66,16 @@ module _ (store : StoreState) where
   removed_alike : (path : List ℕ) → bare (without_page (bare store) path) ≡ bare (without_page store path)
   removed_alike path = removed_alike_by path (map.contains_key store.site.pages path)
 
+  regrouped_alike : (path : List ℕ) (groups : List (List ℕ)) (found : Option Page)
+      → bare (regrouped (bare store) path groups found) ≡ bare (regrouped store path groups found)
+  regrouped_alike path groups None = refl
+  regrouped_alike path groups (Some page) = refl
+
   pub after_alike : (text : List ℕ) (edit : Option Edit) → bare (store_after (bare store) text edit) ≡ bare (store_after store text edit)
   after_alike text None = refl
   after_alike text (Some (edits.Put path groups)) = refl
+  after_alike text (Some (edits.Regroup path groups)) = regrouped_alike path groups (map.get store.site.pages path)
+  after_alike text (Some (edits.Move from to)) = refl
   after_alike text (Some (edits.Remove path)) = removed_alike path
 
 -- what a call gives of a store, it gives of the world

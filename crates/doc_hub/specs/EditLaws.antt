@@ -1,8 +1,9 @@
 -- The site of a hub is the effect of the accepted edits in their order, and of nothing else.
-use Rattle.std.specs.Prelude.{◌≡◌, ℕ, List, [], ◌∷◌, Bool, true, false, MatchBool, Option, Some, None, ⊤}
+use Rattle.std.specs.Prelude.{◌≡◌, ℕ, List, [], ◌∷◌, Bool, true, false, MatchBool, Option, Some, None, option_map, ⊤}
 use Rattle.std.specs.FinMap as map
 use Rattle.doc_store_readers.specs.Sites.{Site}
-use Rattle.doc_store.specs.Store.{set_page, remove_page, effect_of}
+use Rattle.doc_store_readers.specs.Pages.{Page}
+use Rattle.doc_store.specs.Store.{move_page, set_page, remove_page, effect_of}
 use Rattle.doc_store.specs.declared.site_edit.SiteEdit.{SiteEdit}
 use Rattle.doc_http.specs.Requests.{IsNext}
 use Rattle.doc_http.specs.declared.request.Next.{Next}
@@ -20,15 +21,21 @@ use Rattle.doc_hub_answers.specs.Replies.{Renders}
 use Rattle.doc_hub.specs.Worlds.{World, answer_in}
 use Rattle.doc_hub.specs.Runs.{Happened, Runs}
 
--- the edit of the site that a request asks for, whose body is the page's text
-abbrev pub site_edit : List ℕ → Option Edit → Option SiteEdit
-site_edit text None = None
-site_edit text (Some (edits.Put path groups)) = Some (set_page path (record { groups = groups; text = text }))
-site_edit text (Some (edits.Remove path)) = Some (remove_page path)
+-- the page that stands is put anew, for these groups
+abbrev pub with_groups : List ℕ → List (List ℕ) → Page → SiteEdit
+with_groups path groups page = set_page path (record page { groups = groups })
+
+-- the edit of this site that a request asks for, whose body is the text of a page that is put
+abbrev pub site_edit : Site → List ℕ → Option Edit → Option SiteEdit
+site_edit site text None = None
+site_edit site text (Some (edits.Put path groups)) = Some (set_page path (record { groups = groups; text = text }))
+site_edit site text (Some (edits.Regroup path groups)) = option_map (with_groups path groups) (map.get site.pages path)
+site_edit site text (Some (edits.Move from to)) = Some (move_page from to)
+site_edit site text (Some (edits.Remove path)) = Some (remove_page path)
 
 -- the edit that goes with the answer to what the unread bytes begin with
 abbrev pub edit_by : Renders → World → Next → Option SiteEdit
-edit_by render w (nexts.Request used request) = site_edit request.body (answer_in render w request).edit
+edit_by render w (nexts.Request used request) = site_edit w.site request.body (answer_in render w request).edit
 edit_by render w next = None
 
 -- a step that answered: a closed connection asks for no edit

@@ -3,6 +3,7 @@ pub mod Connections
 pub mod Counts
 pub mod CutLaws
 pub mod EditLaws
+pub mod EditingLaws
 pub mod Events
 pub mod FreshLaws
 pub mod HiddenLaws

@@ -1,9 +1,9 @@
 -- The edit that a step makes, as the step tells it, and what of the site it changes. A step tells the edit that its request asks
--- for, whose text is the request's body: it stands in the site then.
-use Rattle.std.specs.Prelude.{◌≡◌, ℕ, List, true, MatchBool, Option, Some, None, Result, Ok, Err}
+-- for: a put's text is the request's body, that of other groups the page's own, and both stand in the site then.
+use Rattle.std.specs.Prelude.{◌≡◌, ℕ, List, true, false, MatchBool, Option, Some, None, Result, Ok, Err}
 use Rattle.std.specs.FinMap as map
 use Rattle.doc_store_readers.specs.Pages.{Page}
-use Rattle.doc_store.specs.Store.{set_page, remove_page, effect_of, fits_in}
+use Rattle.doc_store.specs.Store.{move_page, set_page, remove_page, effect_of, fits_in}
 use Rattle.doc_http.specs.Requests.{IsNext}
 use Rattle.doc_http.specs.declared.request.Next.{Next}
 use Rattle.doc_http.specs.declared.request.Next.TheVariants as nexts
@@ -15,6 +15,7 @@ use Rattle.doc_hub.specs.declared.refusal.StepError.{StepError}
 use Rattle.doc_hub_answers.specs.declared.edit.Edit.{Edit}
 use Rattle.doc_hub_answers.specs.declared.edit.Edit.TheVariants as edits
 use Rattle.doc_hub_answers.specs.Replies.{Renders}
+use Rattle.doc_hub.specs.EditLaws.{with_groups}
 use Rattle.doc_hub.specs.Runs.{Happens}
 use Rattle.doc_hub.specs.Worlds.{World, answer_in, store_of}
 
@@ -47,6 +48,20 @@ pub record WasPut (w v : World) (path : List ℕ) (groups : List (List ℕ)) : T
   pub fits : fits_in (store_of w) path page.text ≡ Ok tt
   pub site : v.site ≡ effect_of w.site (set_page path page)
 
+-- a page stood under the path, and stands there for these groups; its text stayed
+pub record WasRegrouped (w v : World) (path : List ℕ) (groups : List (List ℕ)) : Type 0 where
+  pub page : Page
+  pub stood : map.get w.site.pages path ≡ Some page
+  pub stands : map.get v.site.pages path ≡ Some (record page { groups = groups })
+  pub fits : fits_in (store_of w) path page.text ≡ Ok tt
+  pub site : v.site ≡ effect_of w.site (with_groups path groups page)
+
+-- a page stood under the old path and none under the new one, and it went there
+pub record WasMoved (w v : World) (from to : List ℕ) : Type 0 where
+  pub stood : map.contains_key w.site.pages from ≡ true
+  pub free : map.contains_key w.site.pages to ≡ false
+  pub site : v.site ≡ effect_of w.site (move_page from to)
+
 -- a page stood under the path and was removed
 pub record WasRemoved (w v : World) (path : List ℕ) : Type 0 where
   pub stood : map.contains_key w.site.pages path ≡ true
@@ -56,6 +71,8 @@ pub record WasRemoved (w v : World) (path : List ℕ) : Type 0 where
 abbrev pub Changes : World → Option Edit → World → Type 0
 Changes w None v = v.site ≡ w.site
 Changes w (Some (edits.Put path groups)) v = WasPut w v path groups
+Changes w (Some (edits.Regroup path groups)) v = WasRegrouped w v path groups
+Changes w (Some (edits.Move from to)) v = WasMoved w v from to
 Changes w (Some (edits.Remove path)) v = WasRemoved w v path
 
 -- An answered step changes the site by the edit that it tells and by nothing else; a refused one leaves it.

@@ -14,8 +14,7 @@ ghost use Rattle.std.specs.Prelude.{◌≡◌, ◌+◌, false, IfOk, option_map}
 ghost use Rattle.std.specs.FinMap as map;
 ghost use Rattle.std.specs.List.{list_any};
 ghost use Rattle.doc_page_parts.specs.Refusals.{IsAnswer};
-ghost use Rattle.doc_hub.specs.Counts.{Counted, moves_in, ran_out};
-ghost use Rattle.doc_hub_answers.specs.Counts.{RendersPuts};
+ghost use Rattle.doc_hub.specs.Counts.{Counted, CountedAll, ran_out};
 ghost use Rattle.doc_hub.specs.Events.{disconnect_on, push_on, step_on, stepping};
 ghost use Rattle.doc_hub.specs.Runs.{Happens, Leaves, GivesRun};
 ghost use Rattle.doc_hub.specs.StepEdits.{StepTells, step_in};
@@ -195,8 +194,8 @@ impl<R: Renderer + Drop> Hub<R> {
     pub fn step(&mut self, id: ConnId) -> Result<Step, StepError>
         ensures world { Happens (R.page self.old.0) self.old.1 (step_on id) self.new.1 result }
         ensures same { R.page self.new.0 ≡ R.page self.old.0 }
-        ensures counted { Counted (R.count self.old.0) self.old.1
-            (R.count self.new.0) self.new.1 (stepping result) }
+        ensures counted { Counted (R.page self.old.0) (R.count self.old.0) self.old.1
+            (R.count self.new.0) self.new.1 (step_on id) (stepping result) }
     {
         let (step, _edit) = self.step_edited(id)?;
         Ok(step)
@@ -211,8 +210,8 @@ impl<R: Renderer + Drop> Hub<R> {
         ensures edit { IfOk result
             (λ told. StepTells (R.page self.old.0) self.old.1 id.0 told.1) }
         ensures same { R.page self.new.0 ≡ R.page self.old.0 }
-        ensures counted { Counted (R.count self.old.0) self.old.1
-            (R.count self.new.0) self.new.1 (stepping (step_in result)) }
+        ensures counted { Counted (R.page self.old.0) (R.count self.old.0) self.old.1
+            (R.count self.new.0) self.new.1 (step_on id) (stepping (step_in result)) }
     {
         let Some(connection) = self.connections.get(id.0) else {
             return Err(StepError::NoConnection);
@@ -334,9 +333,9 @@ impl<R: Renderer + Drop> Hub<R> {
     pub fn run(&mut self, events: &[Event]) -> Result<List<Outcome>, Memory>
         ensures world { GivesRun (R.page self.old.0) events.now self.old.1 self.new.1 result }
         ensures same { R.page self.new.0 ≡ R.page self.old.0 }
-        ensures counted { IfOk result (λ told. list_any ran_out told ≡ false → RendersPuts
-            (R.count self.old.0) self.old.1.puts (R.count self.new.0) self.new.1.puts
-            (moves_in told)) }
+        ensures counted { IfOk result (λ told. list_any ran_out told ≡ false → CountedAll
+            (R.page self.old.0) events.now (R.count self.old.0) self.old.1 (R.count self.new.0)
+            self.new.1 told) }
     {
         let mut outcomes = Vec::with_capacity(self.heap, events.len())?;
         for event in events {
@@ -350,8 +349,8 @@ impl<R: Renderer + Drop> Hub<R> {
     pub fn happen(&mut self, event: &Event) -> Outcome
         ensures world { Leaves (R.page self.old.0) self.old.1 event.now self.new.1 result }
         ensures same { R.page self.new.0 ≡ R.page self.old.0 }
-        ensures counted { Counted (R.count self.old.0) self.old.1
-            (R.count self.new.0) self.new.1 result }
+        ensures counted { Counted (R.page self.old.0) (R.count self.old.0) self.old.1
+            (R.count self.new.0) self.new.1 event.now result }
     {
         match event {
             Event::Connect => Outcome::from(self.connect()),
@@ -366,8 +365,8 @@ impl<R: Renderer + Drop> Hub<R> {
         ensures world { Leaves (R.page self.old.0) self.old.1
             (Event.On id call.now) self.new.1 result }
         ensures same { R.page self.new.0 ≡ R.page self.old.0 }
-        ensures counted { Counted (R.count self.old.0) self.old.1
-            (R.count self.new.0) self.new.1 result }
+        ensures counted { Counted (R.page self.old.0) (R.count self.old.0) self.old.1
+            (R.count self.new.0) self.new.1 (Event.On id call.now) result }
     {
         match call {
             ConnectionEvent::Push(bytes) => Outcome::from(self.push(id, bytes.get())),
@@ -381,8 +380,8 @@ impl<R: Renderer + Drop> Hub<R> {
         ensures world { Leaves (R.page self.old.0) self.old.1
             (Event.Site edit.now) self.new.1 result }
         ensures same { R.page self.new.0 ≡ R.page self.old.0 }
-        ensures counted { Counted (R.count self.old.0) self.old.1
-            (R.count self.new.0) self.new.1 result }
+        ensures counted { Counted (R.page self.old.0) (R.count self.old.0) self.old.1
+            (R.count self.new.0) self.new.1 (Event.Site edit.now) result }
     {
         match edit {
             SiteEdit::Put(path, groups, text) => {
@@ -398,8 +397,8 @@ impl<R: Renderer + Drop> Hub<R> {
         ensures world { Leaves (R.page self.old.0) self.old.1
             (Event.Reader edit.now) self.new.1 result }
         ensures same { R.page self.new.0 ≡ R.page self.old.0 }
-        ensures counted { Counted (R.count self.old.0) self.old.1
-            (R.count self.new.0) self.new.1 result }
+        ensures counted { Counted (R.page self.old.0) (R.count self.old.0) self.old.1
+            (R.count self.new.0) self.new.1 (Event.Reader edit.now) result }
     {
         match edit {
             ReaderEdit::Set(token, reader) => Outcome::from(self.set_reader(token.get(), reader)),

@@ -4,6 +4,7 @@
 ghost use Rattle.doc_hub.specs.ConnectionLaws.{DroppedIsGone, NumbersAreGivenOnce, PushesJoin};
 ghost use Rattle.doc_hub.specs.CutLaws.{DecisionsOfCut};
 ghost use Rattle.doc_hub.specs.EditLaws.{SiteIsOfEdits};
+ghost use Rattle.doc_hub.specs.EditingLaws.{NoPageIsReplacedUnasked, NoUpdateIsLost};
 ghost use Rattle.doc_hub.specs.FreshLaws.{NewRepliesAsFresh, PutsAreCounted, PutsAreLeft};
 ghost use Rattle.doc_hub.specs.FreshLaws.{RepliesAsFresh};
 ghost use Rattle.doc_hub.specs.HiddenLaws.{HiddenAsNone, LinksToHiddenAsToNone};
@@ -130,6 +131,19 @@ pub fn the_site_is_the_effect_of_the_edits()
 #[tactic(auto, using(crate::proofs::StepEdits::steps_change))]
 pub fn a_step_makes_the_edit_that_it_tells()
     ensures { StepsChange }
+{}
+
+/// No update is lost. In any run, whatever stands between, an edit whose request named tags by If-Match is of a
+/// page that stood then and had one of them: so of two writers who each name the tag that they read, the second
+/// is refused (RFC 9110, section 13.1.1).
+pub fn no_update_is_lost()
+    ensures { NoUpdateIsLost }
+{}
+
+/// No page is replaced unasked. In any run an edit whose request has `If-None-Match: *` is of a path at which
+/// no page stood then (RFC 9110, section 13.1.2).
+pub fn no_page_is_replaced_unasked()
+    ensures { NoPageIsReplacedUnasked }
 {}
 
 /// The law of the cut for decisions: the pages that a page's links lead to for a reader are the same on

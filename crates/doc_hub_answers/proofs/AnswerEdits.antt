@@ -17,7 +17,7 @@ use Rattle.doc_hub_answers.specs.Edits.{CanBeMade, puts_left}
 use Rattle.doc_hub_answers.specs.Replies.{Renders, Response, at_route, delete_at, edit_at, edit_page, edited, has_room, method_of}
 use Rattle.doc_hub_answers.specs.Replies.{on_route, only_reply, put_at, put_by, put_page, reads, refused, reply_at, response_to}
 use Rattle.doc_hub_answers.specs.declared.method.Method.{Method}
-use Rattle.doc_hub_answers.specs.declared.method.Method.TheVariants.{Get, Head, Put, Delete, Other}
+use Rattle.doc_hub_answers.specs.declared.method.Method.TheVariants.{Get, Head, Put, Delete, Post, Other}
 use Rattle.doc_hub_answers.specs.declared.edit.Edit.TheVariants as edits
 use Rattle.doc_hub_answers.proofs.OwnerSteps.{owner_fits, owner_stands}
 
@@ -72,6 +72,7 @@ module _ (store : StoreState) (reader : Reader) where
   page_can_be rest request Head = tt
   page_can_be rest request Put = put_if rest request reader.owner refl
   page_can_be rest request Delete = delete_if rest request reader.owner refl
+  page_can_be rest request Post = tt
   page_can_be rest request Other = tt
 
   edit_can : (route : Route) (request : Request) (method : Method)

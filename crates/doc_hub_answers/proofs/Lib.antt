@@ -3,3 +3,4 @@ pub mod AnswerSteps
 mod FaultSteps
 pub mod OwnerSteps
 mod PutSteps
+pub mod ResponseEdits

@@ -31,7 +31,7 @@ use Rattle.doc_words_search.specs.Words.{query_of}
 use Rattle.doc_words_search.specs.declared.query.QueryError.{QueryError}
 use Rattle.doc_hub_answers.specs.declared.answer.Answer.{Answer}
 use Rattle.doc_hub_answers.specs.declared.method.Method.{Method}
-use Rattle.doc_hub_answers.specs.declared.method.Method.TheVariants.{Get, Head, Put, Delete, Other}
+use Rattle.doc_hub_answers.specs.declared.method.Method.TheVariants.{Get, Head, Put, Delete, Post, Other}
 use Rattle.doc_hub_answers.specs.declared.edit.Edit.{Edit}
 use Rattle.doc_hub_answers.specs.declared.edit.Edit.TheVariants as edits
 
@@ -45,7 +45,8 @@ method_of name =
     if bytes_eq name (codes "GET") then Get
     else (if bytes_eq name (codes "HEAD") then Head
     else (if bytes_eq name (codes "PUT") then Put
-    else (if bytes_eq name (codes "DELETE") then Delete else Other)))
+    else (if bytes_eq name (codes "DELETE") then Delete
+    else (if bytes_eq name (codes "POST") then Post else Other))))
 
 -- ---- replies that edit nothing
 

@@ -8,6 +8,10 @@ use doc_store::groups::Groups;
 pub enum Edit {
     /// The body of the request becomes the page of this path, for these groups.
     Put(Path, Groups),
+    /// The page of this path is for these groups; its text stays.
+    Regroup(Path, Groups),
+    /// The page of the first path goes to the second, and leaves the first as an alias.
+    Move(Path, Path),
     /// The page of this path is removed.
     Remove(Path),
 }

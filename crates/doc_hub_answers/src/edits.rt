@@ -43,7 +43,7 @@ pub fn put_page<R: Renderer + Drop>(
         exchange.now.request.now) shelf.new.1 result }
     ensures same { R.page shelf.new.0 ≡ R.page shelf.old.0 }
     ensures counted { OnOk result (RendersPuts (R.count shelf.old.0) shelf.old.1.puts
-        (R.count shelf.new.0) shelf.new.1.puts 0) }
+        (R.count shelf.new.0) shelf.new.1.puts 0 0) }
 {
     let Some(path) = written_path(exchange.heap, rest)? else {
         return exchange.status(Status::BadRequest);
@@ -71,7 +71,7 @@ fn put_text<R: Renderer + Drop>(
         (puts_left shelf.old.1.puts) path groups text.now)) shelf.new.1 result }
     ensures same { R.page shelf.new.0 ≡ R.page shelf.old.0 }
     ensures counted { OnOk result (RendersPuts (R.count shelf.old.0) shelf.old.1.puts
-        (R.count shelf.new.0) shelf.new.1.puts 0) }
+        (R.count shelf.new.0) shelf.new.1.puts 0 0) }
 {
     if shelf.store().fits(&path, text).is_err() {
         return exchange.status(Status::InsufficientStorage);
@@ -128,7 +128,7 @@ pub fn delete_page<R: Renderer + Drop>(
         shelf.new.1 result }
     ensures same { R.page shelf.new.0 ≡ R.page shelf.old.0 }
     ensures counted { OnOk result (RendersPuts (R.count shelf.old.0) shelf.old.1.puts
-        (R.count shelf.new.0) shelf.new.1.puts 0) }
+        (R.count shelf.new.0) shelf.new.1.puts 0 0) }
 {
     let Some(path) = written_path(exchange.heap, rest)? else {
         return exchange.status(Status::NotFound);

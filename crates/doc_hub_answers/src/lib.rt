@@ -8,7 +8,7 @@ pub mod answer;
 pub mod edit;
 mod edits;
 pub mod exchange;
-mod goals;
+pub mod goals;
 mod lists;
 pub mod method;
 mod reading;

@@ -10,6 +10,7 @@ pub enum Method {
     Head,
     Put,
     Delete,
+    Post,
     /// A method that no resource here has.
     Other,
 }
@@ -24,6 +25,7 @@ impl Method {
             "HEAD" => Method::Head,
             "PUT" => Method::Put,
             "DELETE" => Method::Delete,
+            "POST" => Method::Post,
             _ => Method::Other,
         }
     }

@@ -36,7 +36,7 @@ pub fn at_route<R: Renderer + Drop>(
         exchange.now.request.now exchange.now.method) shelf.new.1 result }
     ensures same { R.page shelf.new.0 ≡ R.page shelf.old.0 }
     ensures counted { OnOk result (RendersPuts (R.count shelf.old.0) shelf.old.1.puts
-        (R.count shelf.new.0) shelf.new.1.puts 0) }
+        (R.count shelf.new.0) shelf.new.1.puts 0 0) }
 {
     if exchange.method.reads() {
         read_at(exchange, shelf, reader, route)
@@ -79,7 +79,7 @@ fn edit_at<R: Renderer + Drop>(
         exchange.now.method) shelf.new.1 result }
     ensures same { R.page shelf.new.0 ≡ R.page shelf.old.0 }
     ensures counted { OnOk result (RendersPuts (R.count shelf.old.0) shelf.old.1.puts
-        (R.count shelf.new.0) shelf.new.1.puts 0) }
+        (R.count shelf.new.0) shelf.new.1.puts 0 0) }
 {
     match route {
         Route::Page(rest) => edit_page(exchange, shelf, reader, rest),
@@ -100,7 +100,7 @@ fn edit_page<R: Renderer + Drop>(
         shelf.new.1 result }
     ensures same { R.page shelf.new.0 ≡ R.page shelf.old.0 }
     ensures counted { OnOk result (RendersPuts (R.count shelf.old.0) shelf.old.1.puts
-        (R.count shelf.new.0) shelf.new.1.puts 0) }
+        (R.count shelf.new.0) shelf.new.1.puts 0 0) }
 {
     match exchange.method {
         Method::Put if reader.owner => put_page(exchange, shelf, rest),

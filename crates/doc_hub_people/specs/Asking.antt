@@ -32,6 +32,12 @@ is_guest Nobody = false
 is_guest (Guest row) = true
 is_guest (Known row) = false
 
+-- whether an owner asks
+abbrev pub owns : Asking → Bool
+owns Nobody = false
+owns (Guest row) = row.owner
+owns (Known row) = row.owner
+
 -- the entry of guests
 abbrev pub guest_row : List (List ℕ) → Reader
 guest_row groups = record { owner = false; groups = groups }

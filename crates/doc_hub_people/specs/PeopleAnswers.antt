@@ -2,6 +2,7 @@
 -- who asks, of who asks and of the request, and of nothing else. All of this is this project's choice.
 use Rattle.std.specs.Prelude.{ℕ, List, [], ◌++◌, Bool, true, false, ◌&&◌, codes, is_some, Option, Some, None, if◌then◌else◌}
 use Rattle.doc_http.specs.declared.request.Request.{Request}
+use Rattle.doc_http_replies.specs.Heads.{policy}
 use Rattle.doc_http_replies.specs.PeopleReplies.{PeopleReply}
 use Rattle.doc_http_targets.specs.PeopleTargets.{PeopleRoute, people_route_of}
 use Rattle.doc_http_targets.specs.PeopleTargets as people_routes
@@ -29,11 +30,12 @@ use Rattle.doc_hub_people.specs.Asking as asked
 
 -- a page of a code
 abbrev pub page_reply : ℕ → List ℕ → PeopleReply
-page_reply code body = record { code = code; location = None; realm = None; body = body }
+page_reply code body = record { code = code; location = None; realm = None; policy = policy; body = body }
 
 -- what was asked for stands at this address
 abbrev pub moved_reply : Browse → List ℕ → PeopleReply
-moved_reply browse location = record { code = 301; location = Some location; realm = None; body = moved_body browse location }
+moved_reply browse location =
+    record { code = 301; location = Some location; realm = None; policy = policy; body = moved_body browse location }
 
 -- the title of the site, where readers may sign in as browsers do
 abbrev pub realm_of : Browse → Option (List ℕ)
@@ -41,28 +43,29 @@ realm_of browse = if browse.login then Some browse.title else None
 
 -- who asks isn't signed in
 abbrev pub unauthorized_reply : Browse → PeopleReply
-unauthorized_reply browse = record { code = 401; location = None; realm = realm_of browse; body = not_signed_in_body browse }
+unauthorized_reply browse =
+    record { code = 401; location = None; realm = realm_of browse; policy = policy; body = not_signed_in_body browse }
 
--- there is nothing that who asks may see
-abbrev pub not_found_reply : Renders → Browse → Offers → View → PeopleReply
-not_found_reply render browse offers view = page_reply 404 (not_found_body render browse offers view)
+-- there is nothing that who asks may see; where it is the path of a page, one may be begun there
+abbrev pub not_found_reply : Renders → Browse → Offers → View → Option (List ℕ) → PeopleReply
+not_found_reply render browse offers view new = page_reply 404 (not_found_body render browse offers view new)
 
 -- ---- pages, and what links to them
 
 -- where nothing is seen at a path: where it leads, if anywhere; the front is that of the route
-abbrev pub goal_reply : Renders → Browse → Offers → View → List ℕ → Option (List ℕ) → PeopleReply
-goal_reply render browse offers view front None = not_found_reply render browse offers view
-goal_reply render browse offers view front (Some goal) = moved_reply browse (front ++ encoded_path goal)
+abbrev pub goal_reply : Renders → Browse → Offers → View → List ℕ → Option (List ℕ) → Option (List ℕ) → PeopleReply
+goal_reply render browse offers view front new None = not_found_reply render browse offers view new
+goal_reply render browse offers view front new (Some goal) = moved_reply browse (front ++ encoded_path goal)
 
 -- a page that is seen, or where an alias leads that is seen, or nothing: what is hidden and what is absent are the same here
 abbrev pub page_or_goal : Renders → Browse → Offers → View → List ℕ → Option Page → Option (List ℕ) → PeopleReply
 page_or_goal render browse offers view path (Some page) goal =
     page_reply 200 (page_body render browse offers view path (render page.text))
-page_or_goal render browse offers view path None goal = goal_reply render browse offers view (codes "/page/") goal
+page_or_goal render browse offers view path None goal = goal_reply render browse offers view (codes "/page/") (Some path) goal
 
 -- the page of the path that the target writes, or of none
 abbrev pub page_under : Renders → Browse → Offers → View → Option (List ℕ) → PeopleReply
-page_under render browse offers view None = not_found_reply render browse offers view
+page_under render browse offers view None = not_found_reply render browse offers view None
 page_under render browse offers view (Some path) =
     page_or_goal render browse offers view path (page_at view.pages path) (goal_in view path)
 
@@ -70,10 +73,10 @@ page_under render browse offers view (Some path) =
 abbrev pub backlinks_or_goal : Renders → Browse → Offers → View → List ℕ → List ℕ → Option Page → Option (List ℕ) → PeopleReply
 backlinks_or_goal render browse offers view from path (Some page) goal =
     page_reply 200 (backlinks_body render browse offers view path from)
-backlinks_or_goal render browse offers view from path None goal = goal_reply render browse offers view (codes "/backlinks/") goal
+backlinks_or_goal render browse offers view from path None goal = goal_reply render browse offers view (codes "/backlinks/") None goal
 
 abbrev pub backlinks_under : Renders → Browse → Offers → View → List ℕ → Option (List ℕ) → PeopleReply
-backlinks_under render browse offers view from None = not_found_reply render browse offers view
+backlinks_under render browse offers view from None = not_found_reply render browse offers view None
 backlinks_under render browse offers view from (Some path) =
     backlinks_or_goal render browse offers view from path (page_at view.pages path) (goal_in view path)
 
@@ -81,10 +84,10 @@ backlinks_under render browse offers view from (Some path) =
 
 -- the contents of the folder that the target writes, where it is seen
 abbrev pub folder_reply : Renders → Browse → Offers → View → List ℕ → Option (List ℕ) → PeopleReply
-folder_reply render browse offers view from None = not_found_reply render browse offers view
+folder_reply render browse offers view from None = not_found_reply render browse offers view None
 folder_reply render browse offers view from (Some folder) =
     if sees_folder view folder then page_reply 200 (contents_body render browse offers view folder from)
-    else not_found_reply render browse offers view
+    else not_found_reply render browse offers view None
 
 -- ---- the front, and the way to sign in
 
@@ -95,7 +98,7 @@ front_location (Some goal) = page_href goal
 
 -- there is a way to sign in where guests may, and it asks them to; readers have done so
 abbrev pub sign_in_by : Renders → Browse → Offers → View → Bool → Bool → PeopleReply
-sign_in_by render browse offers view false guest = not_found_reply render browse offers view
+sign_in_by render browse offers view false guest = not_found_reply render browse offers view None
 sign_in_by render browse offers view true false = moved_reply browse (codes "/")
 sign_in_by render browse offers view true true = unauthorized_reply browse
 
@@ -103,9 +106,9 @@ sign_in_by render browse offers view true true = unauthorized_reply browse
 abbrev pub has_sign_in : Browse → Bool
 has_sign_in browse = browse.login && is_some browse.guest
 
--- what the pages offer who asks, a guest or a reader
-abbrev pub offers_for : Browse → Bool → Offers
-offers_for browse guest = record { sign_in = guest && has_sign_in browse }
+-- what the pages offer who asks, a guest or a reader: a way to sign in, or where pages are edited so, what owners edit them by
+abbrev pub offers_for : Browse → Bool → Bool → Offers
+offers_for browse guest owner = record { sign_in = guest && has_sign_in browse; tools = owner && browse.editing }
 
 -- ---- what a route leads to
 
@@ -132,7 +135,7 @@ people_at render browse offers view guest target (people_routes.Plain route) =
 
 -- the route, where there is one
 abbrev pub on_route : Renders → Browse → Offers → View → Bool → List ℕ → Option PeopleRoute → PeopleReply
-on_route render browse offers view guest target None = not_found_reply render browse offers view
+on_route render browse offers view guest target None = not_found_reply render browse offers view None
 on_route render browse offers view guest target (Some route) = people_at render browse offers view guest target route
 
 -- the path that a route asks the page of, if it asks for one and writes a path
@@ -157,9 +160,9 @@ page_asked (Some route) = page_at_route route
 abbrev pub reply_to : Renders → Browse → View → Asking → List ℕ → PeopleReply
 reply_to render browse view asked.Nobody target = unauthorized_reply browse
 reply_to render browse view (asked.Guest row) target =
-    on_route render browse (offers_for browse true) view true target (people_route_of target)
+    on_route render browse (offers_for browse true row.owner) view true target (people_route_of target)
 reply_to render browse view (asked.Known row) target =
-    on_route render browse (offers_for browse false) view false target (people_route_of target)
+    on_route render browse (offers_for browse false row.owner) view false target (people_route_of target)
 
 -- the reply to a request for people
 unfoldable pub people_reply : Renders → Browse → View → Asking → Request → PeopleReply

@@ -17,4 +17,4 @@ people_sent exchange reply = record {
 
 -- what the pages of a visit offer
 abbrev pub offers_of : Visit → Offers
-offers_of visit = offers_for visit.browse.now visit.guest
+offers_of visit = offers_for visit.browse.now visit.guest visit.owner

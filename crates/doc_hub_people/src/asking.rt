@@ -3,7 +3,7 @@
 ghost use Rattle.std.specs.Prelude.{◌≡◌, IfOk, Some, option_and_then, option_copied};
 ghost use Rattle.std.specs.FinMap as map;
 ghost use Rattle.doc_http.specs.Passwords.{password_in, token_in};
-ghost use Rattle.doc_hub_people.specs.Asking.{guest_by, is_guest, known_by, reader_asking, row_of};
+ghost use Rattle.doc_hub_people.specs.Asking.{guest_by, is_guest, known_by, owns, reader_asking, row_of};
 ghost use Rattle.doc_hub_people.specs.AskingSteps.{asking_shown};
 
 use doc_http::bearer::bearer;
@@ -44,6 +44,17 @@ impl Asking<'_> {
         ensures { result ≡ is_guest (asking_shown self.now) }
     {
         matches!(self, Asking::Guest(_))
+    }
+
+    /// Whether an owner asks.
+    pub fn owns(&self) -> bool
+        ensures { result ≡ owns (asking_shown self.now) }
+    {
+        match self {
+            Asking::Nobody => false,
+            Asking::Guest(row) => row.owner,
+            Asking::Known(row) => row.owner,
+        }
     }
 }
 

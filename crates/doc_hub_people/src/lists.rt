@@ -39,10 +39,10 @@ pub fn folder_answer<V: Viewed>(visit: Visit<'_>, view: &V, rest: &str) -> Resul
         (folder_written rest.now))) }
 {
     let Some(folder) = written_folder(visit.exchange.heap, rest)? else {
-        return visit.not_found(view);
+        return visit.not_found(view, None);
     };
     if !sees_folder(view, folder.get())? {
-        return visit.not_found(view);
+        return visit.not_found(view, None);
     }
     let from = named(visit, "from")?;
     let body = contents_body(visit.frame(), view, folder.get(), from.get())?;

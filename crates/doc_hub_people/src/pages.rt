@@ -1,6 +1,6 @@
 //! What is answered at the path of a page: the page, the pages that link to it, and the front.
 
-ghost use Rattle.std.specs.Prelude.{◌≡◌, ◌++◌, IfOk, codes};
+ghost use Rattle.std.specs.Prelude.{◌≡◌, ◌++◌, IfOk, codes, option_copied};
 ghost use Rattle.doc_http_targets.specs.Queries.{parameter};
 ghost use Rattle.doc_http_targets.specs.WrittenPaths.{path_written};
 ghost use Rattle.doc_page_encoding.specs.Encoding.{encoded_path};
@@ -39,7 +39,7 @@ pub fn page_answer<V: Viewed>(visit: Visit<'_>, view: &V, rest: &str) -> Result<
         (path_written rest.now))) }
 {
     let Some(path) = written_path(visit.exchange.heap, rest)? else {
-        return visit.not_found(view);
+        return visit.not_found(view, None);
     };
     let frame = visit.frame();
     if let Some(body) = view.kept_body(frame.browse, frame.offers, &path) {
@@ -47,7 +47,7 @@ pub fn page_answer<V: Viewed>(visit: Visit<'_>, view: &V, rest: &str) -> Result<
     }
     match page_body(frame, view, &path)? {
         Some(body) => visit.page(200, &body),
-        None => goal_answer(visit, view, "/page/", &path),
+        None => goal_answer(visit, view, "/page/", &path, Some(path.text())),
     }
 }
 
@@ -59,10 +59,10 @@ pub fn backlinks_answer<V: Viewed>(visit: Visit<'_>, view: &V, rest: &str) -> Re
         (path_written rest.now))) }
 {
     let Some(path) = written_path(visit.exchange.heap, rest)? else {
-        return visit.not_found(view);
+        return visit.not_found(view, None);
     };
     if !view.sees(path.text())? {
-        return goal_answer(visit, view, "/backlinks/", &path);
+        return goal_answer(visit, view, "/backlinks/", &path, None);
     }
     let from = parameter(
         visit.exchange.heap,
@@ -73,20 +73,21 @@ pub fn backlinks_answer<V: Viewed>(visit: Visit<'_>, view: &V, rest: &str) -> Re
     visit.page(200, &body)
 }
 
-/// The answer at a path where no page is seen.
+/// The answer at a path where no page is seen; where the path is that of a page, one may be begun there.
 fn goal_answer<V: Viewed>(
     visit: Visit<'_>,
     view: &V,
     front: &str,
     path: &Path,
+    new: Option<&str>,
 ) -> Result<Answer, Memory>
     ensures { IfOk result (λ a. a ≡ people_sent visit.entry.exchange.now (goal_reply
         (V.render view.now) visit.entry.browse.now (offers_of visit.entry) (V.view view.now)
-        front.now (goal_in (V.view view.now) path.now))) }
+        front.now (option_copied new.entry) (goal_in (V.view view.now) path.now))) }
 {
     match view.goal(path)? {
         Some(goal) => moved_to(visit, front, &goal),
-        None => visit.not_found(view),
+        None => visit.not_found(view, new),
     }
 }
 

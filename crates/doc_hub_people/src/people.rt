@@ -30,7 +30,7 @@ pub fn people_answer<V: Viewed>(
 {
     match routes.people_route(visit.exchange.request.target.get()) {
         Some(route) => at_route(visit, route, view),
-        None => visit.not_found(view),
+        None => visit.not_found(view, None),
     }
 }
 
@@ -71,7 +71,7 @@ fn sign_in_answer<V: Viewed>(visit: Visit<'_>, view: &V) -> Result<Answer, Memor
         (has_sign_in visit.entry.browse.now) visit.entry.guest)) }
 {
     if !has_sign_in(visit.browse) {
-        return visit.not_found(view);
+        return visit.not_found(view, None);
     }
     if visit.guest {
         unauthorized(visit.exchange, visit.browse)

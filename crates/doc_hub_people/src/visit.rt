@@ -6,6 +6,7 @@ ghost use Rattle.doc_hub_people.specs.PeopleAnswers.{has_sign_in, moved_reply, n
 ghost use Rattle.doc_hub_people.specs.VisitSteps.{offers_of, people_sent};
 
 use doc_http_replies::people_reply::PeopleParts;
+use doc_http_replies::policies::page_policy;
 use doc_hub_answers::answer::Answer;
 use doc_hub_answers::exchange::Exchange;
 use doc_page_parts::failure::Memory;
@@ -22,6 +23,8 @@ pub struct Visit<'a> {
     pub browse: &'a Browse,
     /// Whether a guest asks.
     pub guest: bool,
+    /// Whether an owner asks.
+    pub owner: bool,
 }
 
 impl Visit<'_> {
@@ -35,12 +38,13 @@ impl Visit<'_> {
             browse: self.browse,
             offers: Offers {
                 sign_in: self.guest && has_sign_in(self.browse),
+                tools: self.owner && self.browse.editing,
             },
         }
     }
 
     /// The answer that is a page, with its code.
-    pub(crate) fn page(&self, code: u16, body: &Text) -> Result<Answer, Memory>
+    pub fn page(&self, code: u16, body: &Text) -> Result<Answer, Memory>
         ensures { IfOk result (λ a.
             a ≡ people_sent self.now.exchange.now (page_reply code body.now)) }
     {
@@ -48,12 +52,13 @@ impl Visit<'_> {
             code,
             location: None,
             realm: None,
+            policy: page_policy(),
             body: body.get().as_bytes(),
         })
     }
 
     /// The answer that what was asked for stands at this address.
-    pub(crate) fn moved(&self, location: &str) -> Result<Answer, Memory>
+    pub fn moved(&self, location: &str) -> Result<Answer, Memory>
         ensures { IfOk result (λ a.
             a ≡ people_sent self.now.exchange.now (moved_reply self.now.browse.now location.now)) }
     {
@@ -62,21 +67,23 @@ impl Visit<'_> {
             code: 301,
             location: Some(location),
             realm: None,
+            policy: page_policy(),
             body: body.get().as_bytes(),
         })
     }
 
-    /// The answer that there is nothing that who asks may see.
-    pub(crate) fn not_found<V: Viewed>(&self, view: &V) -> Result<Answer, Memory>
+    /// The answer that there is nothing that who asks may see; where it is the path of a page, one may be begun there.
+    pub fn not_found<V: Viewed>(&self, view: &V, new: Option<&str>) -> Result<Answer, Memory>
         ensures { IfOk result (λ a. a ≡ people_sent self.now.exchange.now (not_found_reply
-            (V.render view.now) self.now.browse.now (offers_of self.now) (V.view view.now))) }
+            (V.render view.now) self.now.browse.now (offers_of self.now) (V.view view.now)
+            (option_copied new.entry))) }
     {
-        let body = not_found_body(self.frame(), view)?;
+        let body = not_found_body(self.frame(), view, new)?;
         self.page(404, &body)
     }
 
     /// The answer with these parts.
-    fn answer(&self, parts: PeopleParts<'_>) -> Result<Answer, Memory>
+    pub fn answer(&self, parts: PeopleParts<'_>) -> Result<Answer, Memory>
         ensures { IfOk result (λ a.
             a ≡ people_sent self.now.exchange.now (people_with parts.entry)) }
     {
@@ -102,6 +109,7 @@ pub fn unauthorized(exchange: &Exchange, browse: &Browse) -> Result<Answer, Memo
         code: 401,
         location: None,
         realm: realm_of(browse),
+        policy: page_policy(),
         body: body.get().as_bytes(),
     };
     let bytes = parts.write(

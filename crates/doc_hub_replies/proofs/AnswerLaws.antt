@@ -1,23 +1,31 @@
 -- Laws of answers.
 use Rattle.std.proofs.Common.{◌≡◌, Bool, true, false, refl, ap, sym, ◌∙◌}
 use Rattle.std.specs.Prelude.{Option, Some, None, if◌then◌else◌}
+use Rattle.std.proofs.lemmas.Bool.{and_parts}
 use Rattle.doc_http.specs.declared.request.Request.{Request}
 use Rattle.doc_http_replies.specs.Heads.{undressed}
+use Rattle.doc_http_targets.specs.EditTargets.{edit_route_of}
+use Rattle.doc_http_targets.specs.Targets.{route_of}
 use Rattle.doc_people.specs.declared.settings.Browse.{Browse}
 use Rattle.doc_store_readers.specs.Readers.{ReaderTable}
 use Rattle.doc_store_readers.specs.Sites.{Site, View, view_of}
 use Rattle.doc_store_readers.specs.declared.reader.Reader.{Reader}
 use Rattle.doc_hub_answers.specs.AnswerSteps.{entry_of}
-use Rattle.doc_hub_answers.specs.Replies.{Renders, plain_answer, response_to}
+use Rattle.doc_hub_answers.specs.Replies.{Renders, method_of, plain_answer, reads, response_to}
 use Rattle.doc_hub_answers.specs.declared.answer.Answer.{Answer}
 use Rattle.doc_hub_people.proofs.AskingLaws.{bearers_alone_are_known, guests_own_nothing}
 use Rattle.doc_hub_people.specs.Asking.{Asking, is_guest, known_by, reader_asking, row_of}
 use Rattle.doc_hub_people.specs.Asking as asked
 use Rattle.doc_hub_people.specs.PeopleAnswers.{people_reply}
+use Rattle.doc_hub_editing.specs.EditAnswers.{edit_response}
+use Rattle.doc_hub_editing.specs.EditRequests.{asked_by, edit_request_of}
+use Rattle.doc_hub_editing.specs.EditResponses.{EditingResponse, editing_answer}
+use Rattle.doc_hub_replies.proofs.EditLaws.{EditsNothing, guests_edit_nothing_so, nobody_edits, nothing_is_asked, who_reads_edits_nothing}
 use Rattle.doc_hub_replies.proofs.GuestSteps.{guest_edits_nothing}
-use Rattle.doc_hub_replies.specs.Answers.{answer_by, answer_of, asks_for_style, browsed, dress_for, is_for_people, kept_from_guests}
-use Rattle.doc_hub_replies.specs.Answers.{people_answer, style_answer}
-use Rattle.doc_hub_replies.specs.Laws.{GuestsEditNothing, NothingChangesWithoutSettings, OnlyPeopleAreShownPages, PeopleEditNothing, UnauthorizedIsAlike}
+use Rattle.doc_hub_replies.specs.Answers.{answer_by, answer_of, asks_for_style, browsed, dress_for, edited_or, is_for_people}
+use Rattle.doc_hub_replies.specs.Answers.{kept_from_guests, people_answer, style_answer, unedited}
+use Rattle.doc_hub_replies.specs.Laws.{GuestsEditNothing, NothingChangesWithoutEditing, NothingChangesWithoutSettings}
+use Rattle.doc_hub_replies.specs.Laws.{OnlyPeopleAreShownPages, PeopleEditNothing, UnauthorizedIsAlike}
 use Rattle.doc_hub_replies.specs.ServingSteps.{closes_after}
 
 -- ---- without settings
@@ -62,43 +70,83 @@ module _ (browse : Browse) (render : Renders) (view : View) (asking : Asking) (l
   abbrev shown : Answer
   shown = people_answer (people_reply render browse view asking request) close request
 
+  -- of a request that doesn't edit, by whether it is one for people
+  abbrev without_edit : Bool → Answer
+  without_edit people = if people then shown else plainly
+
   -- by what is asked for
-  abbrev chosen : Bool → Bool → Answer
-  chosen style people = if style then style_answer close request else (if people then shown else plainly)
+  abbrev chosen : Bool → Option EditingResponse → Bool → Answer
+  chosen style response people =
+      if style then style_answer close request else edited_or response (dress_for browse asking) close request (without_edit people)
+
+  -- the response to a request that edits, where it is one
+  abbrev edited : Option EditingResponse
+  edited = edit_response render browse view asking left (is_for_people request) request
+
+  pub is_shown : is_for_people request ≡ true → shown ≡ unedited browse render view asking left close request
+  is_shown for_people = ap without_edit (sym for_people)
+
+  pub is_plain : is_for_people request ≡ false → plainly ≡ unedited browse render view asking left close request
+  is_plain for_people = ap without_edit (sym for_people)
 
   pub is_style : asks_for_style request ≡ true → style_answer close request ≡ browsed browse render view asking left close request
-  is_style is = ap (λ style. chosen style (is_for_people request)) (sym is)
+  is_style is = ap (λ style. chosen style edited (is_for_people request)) (sym is)
 
-  pub is_shown : asks_for_style request ≡ false → is_for_people request ≡ true
-      → shown ≡ browsed browse render view asking left close request
-  is_shown is for_people = λ i. chosen (sym is i) (sym for_people i)
+  pub is_unedited : asks_for_style request ≡ false → edited ≡ None
+      → unedited browse render view asking left close request ≡ browsed browse render view asking left close request
+  is_unedited is none = λ i. chosen (sym is i) (sym none i) (is_for_people request)
 
-  pub is_plain : asks_for_style request ≡ false → is_for_people request ≡ false
-      → plainly ≡ browsed browse render view asking left close request
-  is_plain is for_people = λ i. chosen (sym is i) (sym for_people i)
+  pub is_edited : (response : EditingResponse) → asks_for_style request ≡ false → edited ≡ Some response
+      → editing_answer (dress_for browse asking) response close request ≡ browsed browse render view asking left close request
+  is_edited response is some = λ i. chosen (sym is i) (sym some i) (is_for_people request)
 
-  people_edit : (style people : Bool) → people ≡ true → (chosen style people).edit ≡ None
-  people_edit true people is = refl
-  people_edit false true is = refl
-  people_edit false false is = cc
+  edit_of : (response : Option EditingResponse) (other : Answer) → EditsNothing response → other.edit ≡ None
+      → (edited_or response (dress_for browse asking) close request other).edit ≡ None
+  edit_of None other none is = is
+  edit_of (Some response) other none is = none
 
-  guests_edit : (style people : Bool) → plainly.edit ≡ None → (chosen style people).edit ≡ None
-  guests_edit true people is = refl
-  guests_edit false true is = refl
-  guests_edit false false is = is
+  people_edit : (style people : Bool) (response : Option EditingResponse) → people ≡ true → EditsNothing response
+      → (chosen style response people).edit ≡ None
+  people_edit true people response is none = refl
+  people_edit false true response is none = edit_of response shown none refl
+  people_edit false false response is none = cc
+
+  guests_edit : (style people : Bool) (response : Option EditingResponse) → plainly.edit ≡ None → EditsNothing response
+      → (chosen style response people).edit ≡ None
+  guests_edit true people response is none = refl
+  guests_edit false true response is none = edit_of response shown none refl
+  guests_edit false false response is none = edit_of response plainly none is
 
 pub only_people_are_shown_pages : OnlyPeopleAreShownPages
 unfolding answer_of
-only_people_are_shown_pages settings browse render view asking left request set style people =
+only_people_are_shown_pages settings browse render view asking left request set edits style people =
     ap (λ b. answer_by b render view asking left (closes_after settings request) request) set
-    ∙ sym (is_plain browse render view asking left (closes_after settings request) request style people)
+    ∙ sym (is_plain browse render view asking left (closes_after settings request) request people
+    ∙ is_unedited browse render view asking left (closes_after settings request) request style
+    (nothing_is_asked render browse view left (is_for_people request) request asking edits))
+
+-- where pages aren't edited, no request is one that edits
+not_asked : (browse : Browse) (request : Request) → browse.editing ≡ false → edit_request_of browse request ≡ None
+not_asked browse request is =
+    ap (λ editing. if editing then asked_by (edit_route_of request.target) (route_of request.target) (method_of request.method) else None)
+    is
+
+pub nothing_changes_without_editing : NothingChangesWithoutEditing
+unfolding answer_of
+nothing_changes_without_editing settings browse render view asking left request set off =
+    ap (λ b. answer_by b render view asking left (closes_after settings request) request) set
+    ∙ ap (λ response. chosen browse render view asking left (closes_after settings request) request (asks_for_style request) response
+    (is_for_people request))
+    (nothing_is_asked render browse view left (is_for_people request) request asking (not_asked browse request off))
 
 pub people_edit_nothing : PeopleEditNothing
 unfolding answer_of
 people_edit_nothing settings browse render view asking left request set people =
     ap (λ b. (answer_by b render view asking left (closes_after settings request) request).edit) set
     ∙ people_edit browse render view asking left (closes_after settings request) request (asks_for_style request) (is_for_people request)
-    people
+    (edit_response render browse view asking left (is_for_people request) request) people
+    (who_reads_edits_nothing render browse view left (is_for_people request) request asking
+    (and_parts (reads (method_of request.method)) request.html people).0)
 
 known_is_no_guest : (row : Option Reader) → is_guest (known_by row) ≡ false
 known_is_no_guest None = refl
@@ -115,7 +163,10 @@ guest_edit_by (Some browse) render site readers left close request is =
     let asking = reader_asking (Some browse) readers request in
     let view = view_of site (row_of asking) in
     guests_edit browse render view asking left close request (asks_for_style request) (is_for_people request)
+    (edit_response render browse view asking left (is_for_people request) request)
     (guest_edits_nothing render view left request asking (guests_own_nothing (Some browse) readers request) is)
+    (guests_edit_nothing_so render browse view left (is_for_people request) request asking
+    (guests_own_nothing (Some browse) readers request) is)
 
 pub guests_edit_nothing : GuestsEditNothing
 unfolding answer_of
@@ -124,11 +175,27 @@ guests_edit_nothing settings render site readers left request is =
 
 -- ---- nobody
 
+-- to nobody no request edits
+nobody_is_unedited : (browse : Browse) (render : Renders) (view : View) (left close : Bool) (request : Request)
+    → browsed browse render view asked.Nobody left close request
+    ≡ (if asks_for_style request then style_answer close request else unedited browse render view asked.Nobody left close request)
+nobody_is_unedited browse render view left close request =
+    ap (λ response. chosen browse render view asked.Nobody left close request (asks_for_style request) response (is_for_people request))
+    (nobody_edits render browse view left (is_for_people request) request)
+
+unedited_alike : (browse : Browse) (render other : Renders) (view another : View) (left still close : Bool) (request : Request)
+    → unedited browse render view asked.Nobody left close request ≡ unedited browse other another asked.Nobody still close request
+unfolding people_reply
+unedited_alike browse render other view another left still close request = refl
+
 alike_by : (browse : Option Browse) (render other : Renders) (view another : View) (left still : Bool) (close : Bool) (request : Request)
     → answer_by browse render view asked.Nobody left close request ≡ answer_by browse other another asked.Nobody still close request
-unfolding people_reply
 alike_by None render other view another left still close request = refl
-alike_by (Some browse) render other view another left still close request = refl
+alike_by (Some browse) render other view another left still close request =
+    nobody_is_unedited browse render view left close request
+    ∙ ap (λ other. if asks_for_style request then style_answer close request else other)
+    (unedited_alike browse render other view another left still close request)
+    ∙ sym (nobody_is_unedited browse other another still close request)
 
 pub unauthorized_is_alike : UnauthorizedIsAlike
 unfolding answer_of

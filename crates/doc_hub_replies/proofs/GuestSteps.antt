@@ -10,7 +10,7 @@ use Rattle.doc_store_readers.specs.declared.reader.Reader.{Reader}
 use Rattle.doc_hub_answers.specs.Replies.{Renders, Response, at_route}
 use Rattle.doc_hub_answers.specs.Replies.{method_of, on_route, refused, response_to}
 use Rattle.doc_hub_answers.specs.declared.method.Method.{Method}
-use Rattle.doc_hub_answers.specs.declared.method.Method.TheVariants.{Get, Head, Put, Delete, Other}
+use Rattle.doc_hub_answers.specs.declared.method.Method.TheVariants.{Get, Head, Put, Delete, Post, Other}
 use Rattle.doc_hub_people.specs.Asking.{Asking, is_guest, row_of}
 use Rattle.doc_hub_people.specs.Asking as asked
 use Rattle.doc_hub_people.specs.Laws.{OwnsNothing}
@@ -28,18 +28,23 @@ module _ (render : Renders) (view : View) (left : Bool) (request : Request) wher
   at_edits_nothing route Head = refl
   at_edits_nothing (routes.Page rest) Put = refl
   at_edits_nothing (routes.Page rest) Delete = refl
+  at_edits_nothing (routes.Page rest) Post = refl
   at_edits_nothing (routes.Page rest) Other = refl
   at_edits_nothing (routes.Backlinks rest) Put = refl
   at_edits_nothing (routes.Backlinks rest) Delete = refl
+  at_edits_nothing (routes.Backlinks rest) Post = refl
   at_edits_nothing (routes.Backlinks rest) Other = refl
   at_edits_nothing routes.Contents Put = refl
   at_edits_nothing routes.Contents Delete = refl
+  at_edits_nothing routes.Contents Post = refl
   at_edits_nothing routes.Contents Other = refl
   at_edits_nothing routes.Search Put = refl
   at_edits_nothing routes.Search Delete = refl
+  at_edits_nothing routes.Search Post = refl
   at_edits_nothing routes.Search Other = refl
   at_edits_nothing routes.Broken Put = refl
   at_edits_nothing routes.Broken Delete = refl
+  at_edits_nothing routes.Broken Post = refl
   at_edits_nothing routes.Broken Other = refl
 
   -- the same where there may be no route

@@ -1,3 +1,4 @@
 pub mod AnswerLaws
+mod EditLaws
 pub mod GuestSteps
 mod ServingSteps

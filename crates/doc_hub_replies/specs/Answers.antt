@@ -1,7 +1,7 @@
--- The answer to a request: to one for people, to one for their style sheet, or to any other. It is a function of the settings, of what a
--- renderer makes of each text, of the view of who asks, of who asks, of whether a put is left, and of the request, and never of the whole
--- site: that is what makes noninterference true. All of this is this project's choice.
-use Rattle.std.specs.Prelude.{ℕ, List, Bool, true, not, ◌||◌, ◌&&◌, ◌==◌, Option, Some, None, if◌then◌else◌}
+-- The answer to a request: to one for the style sheet of the pages for people, to one that edits, to one for people, or to any other. It is
+-- a function of the settings, of what a renderer makes of each text, of the view of who asks, of who asks, of whether a put is left, and of
+-- the request, and never of the whole site: that is what makes noninterference true. All of this is this project's choice.
+use Rattle.std.specs.Prelude.{ℕ, List, Bool, true, false, not, ◌||◌, ◌&&◌, ◌==◌, Option, Some, None, if◌then◌else◌}
 use Rattle.doc_http.specs.Requests.{is_bare}
 use Rattle.doc_http.specs.declared.request.Request.{Request}
 use Rattle.doc_http_replies.specs.Heads.{Dress, undressed}
@@ -14,8 +14,9 @@ use Rattle.doc_store_readers.specs.Sites.{View}
 use Rattle.doc_hub_answers.specs.Replies.{Renders, Response, method_of, plain_answer, reads, refused, response_to}
 use Rattle.doc_hub_answers.specs.declared.answer.Answer.{Answer}
 use Rattle.doc_hub_people.specs.Asking.{Asking, is_guest, row_of}
-use Rattle.doc_hub_people.specs.Asking as asked
 use Rattle.doc_hub_people.specs.PeopleAnswers.{people_reply, realm_of}
+use Rattle.doc_hub_editing.specs.EditAnswers.{edit_response, is_preview}
+use Rattle.doc_hub_editing.specs.EditResponses.{EditingResponse, editing_answer}
 
 -- an answer that makes no edit
 abbrev pub sent : List ℕ → Bool → Answer
@@ -51,13 +52,24 @@ people_answer reply close request = sent (people_bytes reply (is_bare request.me
 abbrev pub style_answer : Bool → Request → Answer
 style_answer close request = sent (style_sheet_bytes STYLE_SHEET.now (is_bare request.method) close) close
 
+-- to a request that doesn't edit by these settings: to one for people, or as without them
+abbrev pub unedited : Browse → Renders → View → Asking → Bool → Bool → Request → Answer
+unedited browse render view asking puts_left close request =
+    if is_for_people request then people_answer (people_reply render browse view asking request) close request
+    else plain_answer (dress_for browse asking)
+    (kept_from_guests (is_guest asking) (response_to render view (row_of asking) puts_left request)) close request
+
+-- by the response to a request that edits, where it is one
+abbrev pub edited_or : Option EditingResponse → Dress → Bool → Request → Answer → Answer
+edited_or None dress close request other = other
+edited_or (Some response) dress close request other = editing_answer dress response close request
+
 -- with settings for people
 abbrev pub browsed : Browse → Renders → View → Asking → Bool → Bool → Request → Answer
 browsed browse render view asking puts_left close request =
     if asks_for_style request then style_answer close request
-    else (if is_for_people request then people_answer (people_reply render browse view asking request) close request
-    else plain_answer (dress_for browse asking)
-    (kept_from_guests (is_guest asking) (response_to render view (row_of asking) puts_left request)) close request)
+    else edited_or (edit_response render browse view asking puts_left (is_for_people request) request) (dress_for browse asking) close
+    request (unedited browse render view asking puts_left close request)
 
 -- by the settings for people, where there are some
 abbrev pub answer_by : Option Browse → Renders → View → Asking → Bool → Bool → Request → Answer
@@ -69,3 +81,8 @@ answer_by (Some browse) render view asking puts_left close request = browsed bro
 unfoldable pub answer_of : Settings → Renders → View → Asking → Bool → Request → Answer
 answer_of settings render view asking puts_left request =
     answer_by settings.browse render view asking puts_left (request.close || not settings.keep_alive) request
+
+-- whether the reply shows a preview, for which a text is rendered
+abbrev pub shows_preview : Option Browse → Asking → Request → Bool
+shows_preview None asking request = false
+shows_preview (Some browse) asking request = is_preview browse asking request

@@ -1,5 +1,5 @@
 -- Laws of answers.
-use Rattle.std.specs.Prelude.{◌≡◌, Bool, true, false, Some, None}
+use Rattle.std.specs.Prelude.{◌≡◌, Bool, true, false, Some, None, if◌then◌else◌}
 use Rattle.doc_http.specs.declared.request.Request.{Request}
 use Rattle.doc_http_replies.specs.Heads.{undressed}
 use Rattle.doc_people.specs.declared.settings.Browse.{Browse}
@@ -11,7 +11,8 @@ use Rattle.doc_hub_answers.specs.Replies.{Renders, plain_answer, response_to}
 use Rattle.doc_hub_answers.specs.declared.answer.Answer.{Answer}
 use Rattle.doc_hub_people.specs.Asking.{Asking, is_guest, reader_asking, row_of}
 use Rattle.doc_hub_people.specs.Asking as asked
-use Rattle.doc_hub_replies.specs.Answers.{answer_of, asks_for_style, dress_for, is_for_people, kept_from_guests}
+use Rattle.doc_hub_editing.specs.EditRequests.{edit_request_of}
+use Rattle.doc_hub_replies.specs.Answers.{answer_of, asks_for_style, dress_for, is_for_people, kept_from_guests, style_answer, unedited}
 use Rattle.doc_hub_replies.specs.ServingSteps.{closes_after}
 
 -- the answer to whoever asks, of a site
@@ -29,17 +30,26 @@ NothingChangesWithoutSettings =
     ≡ plain_answer undressed (response_to render (view_of site (entry_of readers request)) (entry_of readers request) puts_left request)
     (closes_after settings request) request
 
--- with settings, who asks neither for people nor for their style sheet is answered by the same response, but that
--- guests are told to sign in
--- where readers are forbidden
+-- with settings, who asks neither for people nor for their style sheet, and doesn't edit by these settings, is answered by the same
+-- response, but that guests are told to sign in where readers are forbidden
 abbrev pub OnlyPeopleAreShownPages : Type 0
 OnlyPeopleAreShownPages =
     (settings : Settings) (browse : Browse) (render : Renders) (view : View) (asking : Asking) (puts_left : Bool) (request : Request)
-    → settings.browse ≡ Some browse → asks_for_style request ≡ false → is_for_people request ≡ false
+    → settings.browse ≡ Some browse → edit_request_of browse request ≡ None → asks_for_style request ≡ false
+    → is_for_people request ≡ false
     → answer_of settings render view asking puts_left request
     ≡ plain_answer (dress_for browse asking) (kept_from_guests (is_guest asking)
     (response_to render view (row_of asking) puts_left request))
     (closes_after settings request) request
+
+-- where pages aren't edited by these settings, each answer is that to a request that doesn't edit so
+abbrev pub NothingChangesWithoutEditing : Type 0
+NothingChangesWithoutEditing =
+    (settings : Settings) (browse : Browse) (render : Renders) (view : View) (asking : Asking) (puts_left : Bool) (request : Request)
+    → settings.browse ≡ Some browse → browse.editing ≡ false
+    → answer_of settings render view asking puts_left request
+    ≡ (if asks_for_style request then style_answer (closes_after settings request) request
+    else unedited browse render view asking puts_left (closes_after settings request) request)
 
 -- the answer to a request for people has no edit
 abbrev pub PeopleEditNothing : Type 0

@@ -1,6 +1,6 @@
 //! Laws of answers. The functions do nothing: their contracts are the laws.
 
-ghost use Rattle.doc_hub_replies.specs.Laws.{GuestsEditNothing, NothingChangesWithoutSettings, OnlyPeopleAreShownPages, PeopleEditNothing, UnauthorizedIsAlike};
+ghost use Rattle.doc_hub_replies.specs.Laws.{GuestsEditNothing, NothingChangesWithoutEditing, NothingChangesWithoutSettings, OnlyPeopleAreShownPages, PeopleEditNothing, UnauthorizedIsAlike};
 
 /// Without settings for people each answer is the response's to the entry of the bearer's token.
 #[tactic(auto, using(crate::proofs::AnswerLaws::nothing_changes_without_settings))]
@@ -8,7 +8,13 @@ pub fn nothing_changes_without_settings()
     ensures { NothingChangesWithoutSettings }
 {}
 
-/// With settings, who asks neither for people nor for their style sheet is answered by the same response.
+/// Where pages aren't edited by the settings, each answer is that to a request that doesn't edit so.
+#[tactic(auto, using(crate::proofs::AnswerLaws::nothing_changes_without_editing))]
+pub fn nothing_changes_without_editing()
+    ensures { NothingChangesWithoutEditing }
+{}
+
+/// With settings, who asks neither for people nor for their style sheet, and doesn't edit by the settings, is answered by the same response.
 #[tactic(auto, using(crate::proofs::AnswerLaws::only_people_are_shown_pages))]
 pub fn only_people_are_shown_pages()
     ensures { OnlyPeopleAreShownPages }

@@ -1,13 +1,13 @@
 //! How requests are answered: each from what its reader may see.
 
-ghost use Rattle.std.specs.Prelude.{◌≡◌, ◌&&◌, IfOk, OnOk, Some, option_copied};
+ghost use Rattle.std.specs.Prelude.{◌≡◌, ◌&&◌, IfOk, Some, option_copied};
 ghost use Rattle.doc_http.specs.Requests.{is_bare};
 ghost use Rattle.doc_http_replies.specs.Heads.{undressed};
 ghost use Rattle.doc_http_replies.specs.Manners.{dress_of};
 ghost use Rattle.doc_http_targets.specs.Targets.{route_of, route_shown};
 ghost use Rattle.doc_store_readers.specs.Sites.{view_of};
 ghost use Rattle.doc_hub_answers.specs.AnswerSteps.{Answered, AnsweredSo, entry_of};
-ghost use Rattle.doc_hub_answers.specs.Counts.{RendersPuts};
+ghost use Rattle.doc_hub_answers.specs.Counts.{RendersPuts, moves_of, previews_of};
 ghost use Rattle.doc_hub_answers.specs.Edits.{puts_left};
 ghost use Rattle.doc_hub_answers.specs.Replies.{method_of, plain_answer, response_to};
 ghost use Rattle.doc_hub_people.specs.Asking.{is_guest, reader_asking, row_of};
@@ -15,7 +15,11 @@ ghost use Rattle.doc_hub_people.specs.AskingSteps.{asking_shown};
 ghost use Rattle.doc_hub_people.specs.PeopleAnswers.{on_route, people_reply};
 ghost use Rattle.doc_hub_people.specs.VisitSteps.{offers_of, people_sent};
 ghost use Rattle.doc_http_targets.specs.PeopleTargets.{people_route_of};
-ghost use Rattle.doc_hub_replies.specs.Answers.{answer_of, browsed, dress_for, kept_from_guests, people_answer, style_answer};
+ghost use Rattle.doc_hub_editing.specs.EditAnswers.{by_entry, is_preview};
+ghost use Rattle.doc_hub_editing.specs.EditAnswers as edit_answers;
+ghost use Rattle.doc_hub_editing.specs.EditResponses.{editing_answer};
+ghost use Rattle.doc_hub_editing.specs.EditSteps.{edit_request_shown};
+ghost use Rattle.doc_hub_replies.specs.Answers.{answer_of, browsed, dress_for, is_for_people, kept_from_guests, people_answer, shows_preview, style_answer, unedited};
 ghost use Rattle.doc_hub_replies.specs.ServingSteps.{closes_after, edits_at, edits_page};
 
 use crate::asked::{asks_for_style, head_only, is_for_people};
@@ -30,6 +34,8 @@ use doc_hub_answers::answer::Answer;
 use doc_hub_answers::exchange::Exchange;
 use doc_hub_answers::method::Method;
 use doc_hub_answers::routes::at_route;
+use doc_hub_editing::edit_request::{EditRequest, edit_request};
+use doc_hub_editing::editing::Editing;
 use doc_hub_people::asking::{Asking, who_asks};
 use doc_hub_people::people::{page_asked, people_answer};
 use doc_hub_people::visit::{Visit, realm_of, unauthorized};
@@ -53,9 +59,9 @@ pub struct Serving<'a> {
 
 impl Serving<'_> {
     /// The answer to a request, and the edit that it asks for, which is made. With settings for people the style
-    /// sheet comes first, then who asks, then whether the request is for people. Refused are, in this order, who
-    /// has no entry, what has no route, and what the method refuses. Where memory runs out the pages are as
-    /// they were.
+    /// sheet comes first, then who asks, then whether the request edits by these settings, then whether it is for
+    /// people. Refused are, in this order, who has no entry, what has no route, and what the method refuses. Where
+    /// memory runs out the pages are as they were.
     pub fn answer<R: Renderer + Drop>(
         &self,
         shelf: &mut Shelf<R>,
@@ -68,8 +74,11 @@ impl Serving<'_> {
             (view_of shelf.old.1.site (row_of asking)) asking (puts_left shelf.old.1.puts)
             request.now) shelf.new.1 result }
         ensures same { R.page shelf.new.0 ≡ R.page shelf.old.0 }
-        ensures counted { OnOk result (RendersPuts (R.count shelf.old.0) shelf.old.1.puts
-            (R.count shelf.new.0) shelf.new.1.puts 0) }
+        ensures counted { IfOk result (λ a. RendersPuts (R.count shelf.old.0) shelf.old.1.puts
+            (R.count shelf.new.0) shelf.new.1.puts (moves_of a.edit)
+            (previews_of (shows_preview self.now.settings.now.browse
+            (reader_asking self.now.settings.now.browse self.now.readers.now request.now)
+            request.now))) }
     {
         match &self.settings.browse {
             None => self.plain(shelf, request),
@@ -89,8 +98,8 @@ impl Serving<'_> {
             (view_of shelf.old.1.site entry) entry (puts_left shelf.old.1.puts) request.now)
             (closes_after self.now.settings.now request.now) request.now) shelf.new.1 result }
         ensures same { R.page shelf.new.0 ≡ R.page shelf.old.0 }
-        ensures counted { OnOk result (RendersPuts (R.count shelf.old.0) shelf.old.1.puts
-            (R.count shelf.new.0) shelf.new.1.puts 0) }
+        ensures counted { IfOk result (λ a. RendersPuts (R.count shelf.old.0) shelf.old.1.puts
+            (R.count shelf.new.0) shelf.new.1.puts (moves_of a.edit) 0) }
     {
         let manner = Manner::plain(head_only(request), self.closes_after(request));
         self.respond(
@@ -113,17 +122,79 @@ impl Serving<'_> {
             asking (puts_left shelf.old.1.puts) (closes_after self.now.settings.now request.now)
             request.now) shelf.new.1 result }
         ensures same { R.page shelf.new.0 ≡ R.page shelf.old.0 }
-        ensures counted { OnOk result (RendersPuts (R.count shelf.old.0) shelf.old.1.puts
-            (R.count shelf.new.0) shelf.new.1.puts 0) }
+        ensures counted { IfOk result (λ a. RendersPuts (R.count shelf.old.0) shelf.old.1.puts
+            (R.count shelf.new.0) shelf.new.1.puts (moves_of a.edit)
+            (previews_of (is_preview browse.now (reader_asking (Some browse.now)
+            self.now.readers.now request.now) request.now))) }
     {
         if asks_for_style(request) {
             return self.style(request);
         }
         let asking = who_asks(self.heap, browse, self.readers, request)?;
-        if is_for_people(request) {
-            return self.people(shelf, request, browse, &asking);
+        let Some(asked) = edit_request(browse, self.routes, request) else {
+            return self.unedited(shelf, request, browse, &asking);
+        };
+        match asking.row() {
+            Some(row) => self.edited(shelf, request, browse, &asking, row, asked),
+            None => self.unedited(shelf, request, browse, &asking),
         }
-        self.guarded(shelf, request, browse, &asking)
+    }
+
+    /// The answer to a request that edits, of a reader or a guest with this entry, and the edit that goes with it, which is made.
+    fn edited<R: Renderer + Drop>(
+        &self,
+        shelf: &mut Shelf<R>,
+        request: &Request,
+        browse: &Browse,
+        asking: &Asking,
+        row: &Reader,
+        asked: EditRequest<'_>,
+    ) -> Result<Answer, Memory>
+        ensures answer { AnsweredSo request.now.body shelf.old.1
+            (editing_answer (dress_for browse.now (asking_shown asking.now))
+            (by_entry (R.page shelf.old.0) browse.now (view_of shelf.old.1.site (Some row.now))
+            (is_guest (asking_shown asking.now)) row.now (puts_left shelf.old.1.puts)
+            (is_for_people request.now) request.now (edit_request_shown asked.entry))
+            (closes_after self.now.settings.now request.now) request.now) shelf.new.1 result }
+        ensures same { R.page shelf.new.0 ≡ R.page shelf.old.0 }
+        ensures counted { IfOk result (λ a. RendersPuts (R.count shelf.old.0) shelf.old.1.puts
+            (R.count shelf.new.0) shelf.new.1.puts (moves_of a.edit)
+            (previews_of (edit_answers.shows_preview row.now.owner request.now
+            (Some (edit_request_shown asked.entry))))) }
+    {
+        let exchange = self.exchange(request, self.manner(request, browse, asking));
+        let editing = Editing {
+            exchange: &exchange,
+            browse,
+            reader: row,
+            guest: asking.is_guest(),
+            for_people: is_for_people(request),
+        };
+        editing.answer(shelf, asked)
+    }
+
+    /// The answer to a request that doesn't edit by these settings.
+    fn unedited<R: Renderer + Drop>(
+        &self,
+        shelf: &mut Shelf<R>,
+        request: &Request,
+        browse: &Browse,
+        asking: &Asking,
+    ) -> Result<Answer, Memory>
+        requires { asking_shown asking.now
+            ≡ reader_asking (Some browse.now) self.now.readers.now request.now }
+        ensures answer { let asking = asking_shown asking.now in
+            AnsweredSo request.now.body shelf.old.1 (unedited browse.now (R.page shelf.old.0)
+            (view_of shelf.old.1.site (row_of asking)) asking (puts_left shelf.old.1.puts)
+            (closes_after self.now.settings.now request.now) request.now) shelf.new.1 result }
+        ensures same { R.page shelf.new.0 ≡ R.page shelf.old.0 }
+        ensures counted { IfOk result (λ a. RendersPuts (R.count shelf.old.0) shelf.old.1.puts
+            (R.count shelf.new.0) shelf.new.1.puts (moves_of a.edit) 0) }
+    {
+        if is_for_people(request) {
+            return self.people(shelf, request, browse, asking);
+        }
+        self.guarded(shelf, request, browse, asking)
     }
 
     /// The style sheet, whoever asks.
@@ -161,6 +232,7 @@ impl Serving<'_> {
             exchange: &exchange,
             browse,
             guest: asking.is_guest(),
+            owner: asking.owns(),
         };
         match asking.row() {
             None => unauthorized(&exchange, browse),
@@ -213,8 +285,8 @@ impl Serving<'_> {
             (puts_left shelf.old.1.puts) request.now))
             (closes_after self.now.settings.now request.now) request.now) shelf.new.1 result }
         ensures same { R.page shelf.new.0 ≡ R.page shelf.old.0 }
-        ensures counted { OnOk result (RendersPuts (R.count shelf.old.0) shelf.old.1.puts
-            (R.count shelf.new.0) shelf.new.1.puts 0) }
+        ensures counted { IfOk result (λ a. RendersPuts (R.count shelf.old.0) shelf.old.1.puts
+            (R.count shelf.new.0) shelf.new.1.puts (moves_of a.edit) 0) }
     {
         let exchange = self.exchange(request, self.manner(request, browse, asking));
         if self.is_kept(&exchange, asking) {
@@ -244,8 +316,8 @@ impl Serving<'_> {
             (response_to (R.page shelf.old.0) (view_of shelf.old.1.site entry) entry
             (puts_left shelf.old.1.puts) exchange.now.request.now) shelf.new.1 result }
         ensures same { R.page shelf.new.0 ≡ R.page shelf.old.0 }
-        ensures counted { OnOk result (RendersPuts (R.count shelf.old.0) shelf.old.1.puts
-            (R.count shelf.new.0) shelf.new.1.puts 0) }
+        ensures counted { IfOk result (λ a. RendersPuts (R.count shelf.old.0) shelf.old.1.puts
+            (R.count shelf.new.0) shelf.new.1.puts (moves_of a.edit) 0) }
     {
         let Some(reader) = reader else {
             return exchange.status(Status::Unauthorized);

@@ -1,81 +1,99 @@
--- The edit that a step tells is at the path of a page, of groups, and of a text that fits; so a record takes its line where there is room.
-use Rattle.std.proofs.Common.{◌≡◌, ◌≤◌, ℕ, ◌+◌, List, [], ◌++◌, length, Bool, true, false, cond, ap, sym, ◌∙◌, subst, arith, length-append}
-use Rattle.std.specs.Prelude.{MatchBool, Option, Some, None, IfSome, Result, Ok, Err, OnOk, is_err, option_map, option_to_list}
+-- The edit that a step tells is at paths of pages, of groups, and of a text that fits; so a record takes its line where there is room.
+use Rattle.std.proofs.Common.{◌≡◌, ◌≤◌, ℕ, ◌+◌, List, [], ◌++◌, length, Bool, true, false, refl, ap, sym, subst, arith, length-append}
+use Rattle.std.specs.Prelude.{MatchBool, Option, Some, None, IfSome, Result, Ok, Err, OnOk, is_err, nat_lt, option_map, option_to_list}
+use Rattle.std.specs.Prelude.{if◌then◌else◌}
 use Rattle.std.specs.FinMap as map
+use Rattle.std.proofs.lemmas.Bool.Decides.{nat_tests}
+use Rattle.doc_page_parts.specs.Paths.{is_path}
 use Rattle.doc_page_parts.proofs.Bools.{and_second}
-use Rattle.doc_store_readers.proofs.KeySteps.{get_set, same_itself}
+use Rattle.doc_store_readers.specs.Groups.{IsGroups}
 use Rattle.doc_store_readers.specs.Pages.{Page}
-use Rattle.doc_store_readers.specs.Sites.{Site, view_of}
-use Rattle.doc_store.specs.Store.{set_page}
+use Rattle.doc_store_readers.specs.Sites.{view_of}
+use Rattle.doc_store.specs.Store.{StoreState, fits_in, set_page}
+use Rattle.doc_store.specs.Store as store
 use Rattle.doc_store.specs.declared.site_edit.SiteEdit.{SiteEdit}
+use Rattle.doc_store.specs.declared.store.EditError.{EditError}
+use Rattle.doc_store.specs.declared.store.EditError.TheVariants.{TooLong}
 use Rattle.doc_http.specs.Requests.{IsNext}
 use Rattle.doc_http.specs.declared.request.Next.{Next}
 use Rattle.doc_http.specs.declared.request.Next.TheVariants as nexts
-use Rattle.doc_http.proofs.LawLemmas.{read_in_one_way}
-use Rattle.doc_hub_answers.specs.Edits.{puts_left, store_after}
+use Rattle.doc_hub_answers.specs.Edits.{puts_left}
 use Rattle.doc_hub_answers.specs.Replies.{Renders}
 use Rattle.doc_hub_answers.specs.declared.edit.Edit.{Edit}
 use Rattle.doc_hub_answers.specs.declared.edit.Edit.TheVariants as edits
+use Rattle.doc_hub_replies.specs.Answers.{is_for_people}
 use Rattle.doc_hub.specs.Runs.{Happens}
-use Rattle.doc_hub.specs.StepEdits.{StepTells, TellsAt, edit_of_step}
-use Rattle.doc_hub.specs.Worlds.{World, Answers, Stays, StepsAt, answer_in, asking_of, reader_of, stepped_by, store_of}
+use Rattle.doc_hub.specs.StepEdits.{Changes, StepTells, TellsAt, edit_of_step}
+use Rattle.doc_hub.specs.Worlds.{World, asking_of, reader_of, store_of}
 use Rattle.doc_hub.specs.declared.connection.Connection.{Connection}
 use Rattle.doc_hub.specs.declared.event.ConnId.{ConnId}
 use Rattle.doc_hub.specs.Events.{step_on}
 use Rattle.doc_hub.specs.declared.event.Step.{Step}
-use Rattle.doc_hub.specs.declared.event.Step.TheVariants as steps
-use Rattle.doc_hub.specs.declared.refusal.StepError.{StepError}
+use Rattle.doc_hub.proofs.AnswerEdits.{answer_holds}
+use Rattle.doc_hub.proofs.StepEdits.{steps_change}
 use Rattle.doc_server_journal_records.specs.Records.{text_limit}
 use Rattle.doc_server_script.specs.LineLengths.{IsWithin, longest_line}
 use Rattle.doc_server_script.specs.PageLines.{line_of, lines_of}
 use Rattle.doc_server_script.proofs.LineLengths.{at_most, line_within}
-use Rattle.doc_server_listen.specs.Edits.{edit_at, room_beside}
-use Rattle.doc_server_listen.proofs.AnswerLimits.{FitsWith, answer_fits}
+use Rattle.doc_server_listen.specs.Edits.{NamesGroups, edit_at, room_beside}
+use Rattle.doc_server_listen.proofs.EditingPaths.{edits_at_paths}
+use Rattle.doc_server_listen.proofs.ResponsePaths.{AtPaths, response_at_paths}
 
 -- ---- the edit that a step tells
 
-module _ (render : Renders) (w v : World) where
-  abbrev TellsWithin : Option Edit → Type 0
-  TellsWithin told = IfSome (edit_at v told) IsWithin
+-- it is at paths of pages
+module _ (render : Renders) (w : World) where
+  next_at_paths : (next : Next) → AtPaths (edit_of_step render w next)
+  next_at_paths nexts.More = tt
+  next_at_paths (nexts.Fault code bare) = tt
+  next_at_paths (nexts.Request used request) =
+      answer_holds AtPaths tt render (view_of w.site (reader_of w request)) (asking_of w request) (puts_left w.puts) request
+      (response_at_paths render (view_of w.site (reader_of w request)) (reader_of w request) (puts_left w.puts) request)
+      (λ browse. edits_at_paths (view_of w.site (reader_of w request)) (puts_left w.puts) request render browse (is_for_people request)
+      (asking_of w request)) w.settings
 
-  edit_within : (text : List ℕ) (edit : Option Edit) → FitsWith text edit → v.site ≡ (store_after (store_of w) text edit).site
-      → TellsWithin edit
-  edit_within text None fits site = tt
-  edit_within text (Some (edits.Put path groups)) fits site =
-      let page : Page = record { groups = groups; text = text } in
-      let stands : map.get v.site.pages path ≡ Some page = ap (λ (s : Site). map.get s.pages path) site
-      ∙ get_set w.site.pages path page path
-      ∙ ap (λ t. cond t (Some page) (map.get w.site.pages path)) (same_itself path) in
-      subst (λ found. IfSome (option_map (set_page path) found) IsWithin) (sym stands) fits
-  edit_within text (Some (edits.Remove path)) fits site = fits
+  open_at_paths : (c : Connection) (told : Option Edit) (closed : Bool)
+      → MatchBool closed (told ≡ None) ((next : Next) × IsNext c.unread next × (told ≡ edit_of_step render w next)) → AtPaths told
+  open_at_paths c told true none = subst AtPaths (sym none) tt
+  open_at_paths c told false (next, begins, tells) = subst AtPaths (sym tells) (next_at_paths next)
 
-  next_within : (n : ℕ) (c : Connection) (next : Next) → v.site ≡ (stepped_by render w n c next).0.site
-      → TellsWithin (edit_of_step render w next)
-  next_within n c nexts.More site = tt
-  next_within n c (nexts.Fault code bare) site = tt
-  next_within n c (nexts.Request used request) site =
-      edit_within request.body (answer_in render w request).edit
-      (answer_fits render w.settings (view_of w.site (reader_of w request)) (asking_of w request) (puts_left w.puts) request) site
+  told_at_paths : (told : Option Edit) (k : Option Connection) → TellsAt render w k told → AtPaths told
+  told_at_paths told None none = subst AtPaths (sym none) tt
+  told_at_paths told (Some c) tells = open_at_paths c told c.closed tells
 
-  none_within : (told : Option Edit) → told ≡ None → TellsWithin told
-  none_within told none = subst TellsWithin (sym none) tt
+-- a text that may be put is no longer than the store's limit
+text_by : (text : List ℕ) (long : Bool) (rest : Result (Unit {0}) EditError) → nat_lt store.text_limit (length text) ≡ long
+    → (if long then Err TooLong else rest) ≡ Ok tt → length text ≤ store.text_limit
+text_by text true rest is fits = absurd (cc)
+text_by text false rest is fits = grind (arith, nat_tests)
 
-  open_within : (n : ℕ) (c : Connection) (said : Step) (told : Option Edit) (closed : Bool)
-      → MatchBool closed (Stays w (Ok steps.Closed) v (Ok said)) (Answers render w n v (Ok said) c)
-      → MatchBool closed (told ≡ None) ((next : Next) × IsNext c.unread next × (told ≡ edit_of_step render w next)) → TellsWithin told
-  open_within n c said told true h none = none_within told none
-  open_within n c said told false (next, begins, is) (other, also, tells) =
-      subst TellsWithin (ap (edit_of_step render w) (read_in_one_way c.unread next other begins also) ∙ sym tells)
-      (next_within n c next (sym (ap (λ (q : World × Result Step StepError). q.0.site) is)))
+text_within : (state : StoreState) (path text : List ℕ) → fits_in state path text ≡ Ok tt → length text ≤ store.text_limit
+text_within state path text fits = text_by text (nat_lt store.text_limit (length text)) _ refl fits
 
-  at_within : (n : ℕ) (said : Step) (told : Option Edit) (k : Option Connection) → StepsAt render w n v (Ok said) k
-      → TellsAt render w k told → TellsWithin told
-  at_within n said told None h none = none_within told none
-  at_within n said told (Some c) h tells = open_within n c said told c.closed h tells
+-- a page that stands then
+put_within : (path : List ℕ) (page : Option Page) (put : Page) → page ≡ Some put → is_path path ≡ true → IsGroups put.groups
+    → length put.text ≤ store.text_limit → IfSome (option_map (set_page path) page) IsWithin
+put_within path page put stands one groups text =
+    subst (λ found. IfSome (option_map (set_page path) found) IsWithin) (sym stands) (one, groups, text)
+
+changed_within : (w v : World) (told : Option Edit) → Changes w told v → AtPaths told → IfSome told NamesGroups
+    → IfSome (edit_at v told) IsWithin
+changed_within w v None changes at groups = tt
+changed_within w v (Some (edits.Put path names)) changes at groups =
+    put_within path (map.get v.site.pages path) changes.page changes.stands at (subst IsGroups (sym changes.for_groups) groups)
+    (text_within (store_of w) path changes.page.text changes.fits)
+changed_within w v (Some (edits.Regroup path names)) changes at groups =
+    put_within path (map.get v.site.pages path) (record changes.page { groups = names }) changes.stands at groups
+    (text_within (store_of w) path changes.page.text changes.fits)
+changed_within w v (Some (edits.Move from to)) changes at groups = at
+changed_within w v (Some (edits.Remove path)) changes at groups = at
 
 pub told_within : (render : Renders) (w v : World) (id : ConnId) (said : Step) (told : Option Edit)
-    → Happens render w (step_on id) v (Ok said) → StepTells render w id.0 told → IfSome (edit_at v told) IsWithin
-told_within render w v id said told h tells = at_within render w v id.0 said told (map.get w.connections id.0) h tells
+    → Happens render w (step_on id) v (Ok said) → StepTells render w id.0 told → IfSome told NamesGroups
+    → IfSome (edit_at v told) IsWithin
+told_within render w v id said told h tells groups =
+    changed_within w v told (steps_change.answered render w v id said told h tells)
+    (told_at_paths render w told (map.get w.connections id.0) tells) groups
 
 -- ---- its line
 

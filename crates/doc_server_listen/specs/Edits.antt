@@ -3,7 +3,8 @@ use Rattle.std.specs.Prelude.{◌≡◌, ◌≤◌, ⊤, ℕ, ◌+◌, List, [],
 use Rattle.std.specs.Prelude.{option_map, option_to_list}
 use Rattle.std.specs.FinMap as map
 use Rattle.std.specs.List.{flat_map}
-use Rattle.doc_store.specs.Store.{set_page, remove_page}
+use Rattle.doc_store_readers.specs.Groups.{IsGroups}
+use Rattle.doc_store.specs.Store.{move_page, set_page, remove_page}
 use Rattle.doc_store.specs.declared.site_edit.SiteEdit.{SiteEdit}
 use Rattle.doc_hub.specs.EditLaws.{Makes}
 use Rattle.doc_hub_answers.specs.Replies.{Renders}
@@ -42,7 +43,15 @@ has_room kept = room_beside kept.is_whole kept.lines
 abbrev pub edit_at : World → Option Edit → Option SiteEdit
 edit_at v None = None
 edit_at v (Some (edits.Put path groups)) = option_map (set_page path) (map.get v.site.pages path)
+edit_at v (Some (edits.Regroup path groups)) = option_map (set_page path) (map.get v.site.pages path)
+edit_at v (Some (edits.Move from to)) = Some (move_page from to)
 edit_at v (Some (edits.Remove path)) = Some (remove_page path)
+
+-- the groups that an edit names are groups
+abbrev pub NamesGroups : Edit → Type 0
+NamesGroups (edits.Put path groups) = IsGroups groups
+NamesGroups (edits.Regroup path groups) = IsGroups groups
+NamesGroups edit = ⊤
 
 -- the edit that an event makes which leaves this world: a step that which it tells
 abbrev pub MakesIn : Renders → World → Event → Outcome → World → Option SiteEdit → Type 0

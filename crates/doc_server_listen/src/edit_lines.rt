@@ -1,12 +1,14 @@
 //! The edits of a turn as lines of a script.
 
-ghost use Rattle.std.specs.Prelude.{◌≡◌, ◌≤◌, ◌++◌, [], None, Some, true, length, option_to_list, string_bytes, IfSome, OnOk};
+ghost use Rattle.std.specs.Prelude.{◌≡◌, ◌≤◌, ◌++◌, [], None, Some, true, length, option_map, option_to_list, string_bytes, IfSome, OnOk};
+ghost use Rattle.std.specs.FinMap as map;
 ghost use Rattle.doc_hub.specs.Events.{step_on, stepping};
 ghost use Rattle.doc_hub.specs.Runs.{Happens};
 ghost use Rattle.doc_server_journal_records.specs.Records.{text_limit};
 ghost use Rattle.doc_server_script.specs.LineLengths.{IsWithin};
 ghost use Rattle.doc_server_script.specs.PageLines.{lines_of};
-ghost use Rattle.doc_server_listen.specs.Edits.{Adds, MakesIn, edit_at, has_room};
+ghost use Rattle.doc_server_listen.specs.Edits.{Adds, MakesIn, NamesGroups, edit_at, has_room};
+ghost use Rattle.doc_store.specs.Store.{set_page};
 
 use doc_hub::event::{ConnId, Step};
 use doc_hub::hub::Hub;
@@ -15,8 +17,9 @@ use doc_hub_answers::edit::Edit;
 use doc_page::renderer::Renderer;
 use doc_page_parts::failure::Memory;
 use doc_page_parts::heap::{Heap, String};
+use doc_page_parts::path::Path;
 use doc_server_journal_records::record::TEXT_LIMIT;
-use doc_server_script::page_lines::{push_put_line, push_remove_line};
+use doc_server_script::page_lines::{push_move_line, push_put_line, push_remove_line};
 use std::marker::Model;
 
 /// How many bytes a path may have.
@@ -136,8 +139,24 @@ pub(crate) fn step_and_keep<R: Renderer + Drop>(
     ensures same { R.page hub.new.0 ≡ R.page hub.old.0 }
 {
     let (step, edit) = hub.step_edited(id)?;
+    names_groups(&edit);
     edits.push(hub, &edit);
     Ok(step)
+}
+
+/// The groups that an edit names are groups. Their type has it so, and this does nothing but say it.
+fn names_groups(edit: &Option<Edit>)
+    ensures { IfSome edit.now NamesGroups }
+{
+    match edit {
+        Some(Edit::Put(_, groups)) => {
+            let _ = groups.names();
+        }
+        Some(Edit::Regroup(_, groups)) => {
+            let _ = groups.names();
+        }
+        _ => {}
+    }
 }
 
 /// Writes the line of an edit, none where there is none.
@@ -151,10 +170,21 @@ fn push_edit<R: Renderer + Drop>(
 {
     match edit {
         None => Ok(()),
-        Some(Edit::Put(path, _)) => match hub.page(path) {
-            Some(page) => push_put_line(out, path, page),
-            None => Ok(()),
-        },
+        Some(Edit::Put(path, _)) => push_page(out, hub, path),
+        Some(Edit::Regroup(path, _)) => push_page(out, hub, path),
+        Some(Edit::Move(from, to)) => push_move_line(out, from, to),
         Some(Edit::Remove(path)) => push_remove_line(out, path),
+    }
+}
+
+/// Writes the line that puts the page of a path as it stands, none where none does.
+fn push_page<R: Renderer + Drop>(out: &mut String, hub: &Hub<R>, path: &Path) -> Result<(), Memory>
+    ensures { OnOk result (string_bytes out.new ≡ string_bytes out.old
+        ++ lines_of (option_to_list
+        (option_map (set_page path.now) (map.get hub.now.1.site.pages path.now)))) }
+{
+    match hub.page(path) {
+        Some(page) => push_put_line(out, path, page),
+        None => Ok(()),
     }
 }

@@ -37,7 +37,7 @@ use doc_page_parts::failure::Memory;
 use doc_page_parts::heap::Heap;
 use doc_page_parts::list::List;
 use doc_page_parts::path::Path;
-use doc_page_parts::rendered::Heading;
+use doc_page_parts::rendered::{Heading, Rendered};
 use doc_page_parts::sight::Sight;
 use doc_page_parts::text::Text;
 use doc_people::settings::{Browse, Offers};
@@ -279,6 +279,16 @@ impl<R: Renderer + Drop> Shelf<R> {
             to,
             stamp,
         )
+    }
+
+    /// What the renderer makes of a text, which is kept nowhere: for a preview.
+    pub fn render(&mut self, text: &str) -> Result<Rendered, Memory>
+        ensures page { IfOk result (λ rendered. rendered ≡ R.page self.old.0 text.now) }
+        ensures store { self.new.1 ≡ self.old.1 }
+        ensures same { R.page self.new.0 ≡ R.page self.old.0 }
+        ensures counted { R.count self.new.0 ≡ R.count self.old.0 + 1 }
+    {
+        self.renderer.render(self.heap, text)
     }
 
     /// The reply that shows a reader the page at a path, where they see one. It renders nothing. A document that was made for a reader

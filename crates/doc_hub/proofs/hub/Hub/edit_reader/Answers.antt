@@ -23,12 +23,14 @@ pub returns-in-Set-clause-counted : goal.returns-in-Set-clause-counted
 returns-in-Set-clause-counted g c =
     counted_so (g.R.Renderer.page c.args.self.now.0) (g.R.Renderer.count c.args.self.now.0)
     (g.R.Renderer.count c.set_reader.new.self.0) c.args.self.now.1 c.set_reader.new.self.1
-    (events.Reader (reader_edits.Set c.get.result.now c.in-Set.reader)) _ c.set_reader.result c.set_reader.ensures.world
-    c.set_reader.ensures.counted c.from.ensures
+    (events.Reader c.args.edit.now) (events.Reader (reader_edits.Set c.get.result.now c.in-Set.reader)) _ c.set_reader.result
+    (ap (events.Reader) (c.in-Set.is ∙ ap (λ token. reader_edits.Set token c.in-Set.reader) (sym c.get.ensures)))
+    c.set_reader.ensures.world c.set_reader.ensures.counted c.from.ensures
 
 pub returns-in-Remove-clause-counted : goal.returns-in-Remove-clause-counted
 returns-in-Remove-clause-counted g c =
     counted_so (g.R.Renderer.page c.args.self.now.0) (g.R.Renderer.count c.args.self.now.0)
     (g.R.Renderer.count c.remove_reader.new.self.0) c.args.self.now.1 c.remove_reader.new.self.1
-    (events.Reader (reader_edits.Remove c.get-in-Remove.result.now)) _ c.remove_reader.result c.remove_reader.ensures.world
-    c.remove_reader.ensures.counted refl
+    (events.Reader c.args.edit.now) (events.Reader (reader_edits.Remove c.get-in-Remove.result.now)) _ c.remove_reader.result
+    (ap (events.Reader) (c.in-Remove.is ∙ ap reader_edits.Remove (sym c.get-in-Remove.ensures)))
+    c.remove_reader.ensures.world c.remove_reader.ensures.counted refl

@@ -1,5 +1,5 @@
 use Rattle.doc_hub.specs.declared.event.Event.TheVariants as events
-use Rattle.doc_hub.proofs.CountSteps.{counted_so}
+use Rattle.doc_hub.proofs.CountSteps.{counted_same, counted_so}
 use Rattle.doc_hub.proofs.RunSteps.{leaves_same, leaves_so}
 use Rattle.doc_hub.proofs.hub.Hub.happen.Goals as goal
 
@@ -27,5 +27,22 @@ pub returns-in-Connect-clause-counted : goal.returns-in-Connect-clause-counted
 returns-in-Connect-clause-counted g c =
     counted_so (g.R.Renderer.page c.args.self.now.0) (g.R.Renderer.count c.args.self.now.0)
     (g.R.Renderer.count c.connect.new.self.0) c.args.self.now.1 c.connect.new.self.1
-    events.Connect _ c.connect.result c.connect.ensures.world
-    c.connect.ensures.counted c.from.ensures
+    c.args.event.now events.Connect _ c.connect.result c.in-Connect.is c.connect.ensures.world c.connect.ensures.counted c.from.ensures
+
+pub returns-in-On-clause-counted : goal.returns-in-On-clause-counted
+returns-in-On-clause-counted g c =
+    counted_same (g.R.Renderer.page c.args.self.now.0) (g.R.Renderer.count c.args.self.now.0)
+    (g.R.Renderer.count c.happen_on.new.self.0) c.args.self.now.1 c.happen_on.new.self.1
+    c.args.event.now (events.On c.in-On.id c.in-On.call) _ c.in-On.is c.happen_on.ensures.counted
+
+pub returns-in-Site-clause-counted : goal.returns-in-Site-clause-counted
+returns-in-Site-clause-counted g c =
+    counted_same (g.R.Renderer.page c.args.self.now.0) (g.R.Renderer.count c.args.self.now.0)
+    (g.R.Renderer.count c.edit_site.new.self.0) c.args.self.now.1 c.edit_site.new.self.1
+    c.args.event.now (events.Site c.in-Site.edit) _ c.in-Site.is c.edit_site.ensures.counted
+
+pub returns-in-Reader-clause-counted : goal.returns-in-Reader-clause-counted
+returns-in-Reader-clause-counted g c =
+    counted_same (g.R.Renderer.page c.args.self.now.0) (g.R.Renderer.count c.args.self.now.0)
+    (g.R.Renderer.count c.edit_reader.new.self.0) c.args.self.now.1 c.edit_reader.new.self.1
+    c.args.event.now (events.Reader c.in-Reader.edit) _ c.in-Reader.is c.edit_reader.ensures.counted

@@ -27,19 +27,20 @@ pub returns-in-Push-clause-counted : goal.returns-in-Push-clause-counted
 returns-in-Push-clause-counted g c =
     counted_so (g.R.Renderer.page c.args.self.now.0) (g.R.Renderer.count c.args.self.now.0)
     (g.R.Renderer.count c.push.new.self.0) c.args.self.now.1 c.push.new.self.1
-    (events.On c.args.id (calls.Push c.get.result.now)) _ c.push.result c.push.ensures.world
-    c.push.ensures.counted c.from.ensures
+    (events.On c.args.id c.args.call.now) (events.On c.args.id (calls.Push c.get.result.now)) _ c.push.result
+    (ap (events.On c.args.id) (c.in-Push.is ∙ ap calls.Push (sym c.get.ensures))) c.push.ensures.world c.push.ensures.counted
+    c.from.ensures
 
 pub returns-in-Step-clause-counted : goal.returns-in-Step-clause-counted
 returns-in-Step-clause-counted g c =
     counted_so (g.R.Renderer.page c.args.self.now.0) (g.R.Renderer.count c.args.self.now.0)
     (g.R.Renderer.count c.step.new.self.0) c.args.self.now.1 c.step.new.self.1
-    (events.On c.args.id calls.Step) _ c.step.result c.step.ensures.world
-    c.step.ensures.counted c.from-in-Step.ensures
+    (events.On c.args.id c.args.call.now) (events.On c.args.id calls.Step) _ c.step.result (ap (events.On c.args.id) (c.in-Step.is))
+    c.step.ensures.world c.step.ensures.counted c.from-in-Step.ensures
 
 pub returns-in-Disconnect-clause-counted : goal.returns-in-Disconnect-clause-counted
 returns-in-Disconnect-clause-counted g c =
     counted_so (g.R.Renderer.page c.args.self.now.0) (g.R.Renderer.count c.args.self.now.0)
     (g.R.Renderer.count c.disconnect.new.self.0) c.args.self.now.1 c.disconnect.new.self.1
-    (events.On c.args.id calls.Disconnect) _ c.disconnect.result c.disconnect.ensures.world
-    c.disconnect.ensures.counted refl
+    (events.On c.args.id c.args.call.now) (events.On c.args.id calls.Disconnect) _ c.disconnect.result
+    (ap (events.On c.args.id) (c.in-Disconnect.is)) c.disconnect.ensures.world c.disconnect.ensures.counted refl

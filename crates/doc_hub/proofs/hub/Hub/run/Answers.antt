@@ -12,7 +12,8 @@ loop-event-init g c =
       same = refl;
       count = empty.len;
       room = empty.capacity;
-      counted = λ _. no_events (g.R.Renderer.count c.args.self.now.0) c.args.self.now.1.puts c.in_ok-outcomes.outcomes.items empty.items;
+      counted = λ _. no_events (g.R.Renderer.page c.args.self.now.0) (g.R.Renderer.count c.args.self.now.0) c.args.self.now.1
+          c.in_ok-outcomes.outcomes.items empty.items;
       told = no_event (g.R.Renderer.page c.args.self.now.0) c.args.self.now.1 c.in_ok-outcomes.outcomes.items empty.items;
     }
 
@@ -30,10 +31,12 @@ loop-event-preserved g c =
       same = c.happen-outcome.ensures.same ∙ c.loop-event.invariant.same;
       count = omega arith;
       room = omega arith;
-      counted = run_counts (g.R.Renderer.count c.args.self.now.0) (g.R.Renderer.count c.loop-event.self.0)
-          (g.R.Renderer.count c.happen-outcome.new.self.0) c.args.self.now.1 c.loop-event.self.1 c.happen-outcome.new.self.1
-          c.loop-event.outcomes.items c.push.new.self.items c.happen-outcome.result c.loop-event.invariant.counted
-          c.happen-outcome.ensures.counted added;
+      counted = run_counts (g.R.Renderer.page c.args.self.now.0) (g.R.Renderer.page c.loop-event.self.0)
+          (g.R.Renderer.count c.args.self.now.0) (g.R.Renderer.count c.loop-event.self.0)
+          (g.R.Renderer.count c.happen-outcome.new.self.0) c.args.self.now.1 c.loop-event.self.1 c.happen-outcome.new.self.1 (take i events)
+          (take (i + 1) events) c.loop-event.outcomes.items c.push.new.self.items event c.happen-outcome.result
+          c.loop-event.invariant.same c.loop-event.invariant.counted c.happen-outcome.ensures.world c.happen-outcome.ensures.counted
+          taken added;
       told = one_more_event (g.R.Renderer.page c.args.self.now.0) (g.R.Renderer.page c.loop-event.self.0) c.args.self.now.1
           c.loop-event.self.1 c.happen-outcome.new.self.1 (take i events) (take (i + 1) events) c.loop-event.outcomes.items
           c.push.new.self.items event c.happen-outcome.result

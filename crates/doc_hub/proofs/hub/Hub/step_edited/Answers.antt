@@ -1,10 +1,15 @@
-use Rattle.std.proofs.Common.{true, ap, sym, subst, ◌∙◌}
+use Rattle.std.proofs.Common.{true, refl, ap, sym, subst, ◌∙◌}
 use Rattle.std.specs.FinMap as map
+use Rattle.doc_hub.proofs.CountSteps.{counted_by}
 use Rattle.doc_hub.proofs.FrontSteps.{has_fault_code}
 use Rattle.doc_hub.proofs.NumberSteps.{finished_have, same_have}
 use Rattle.doc_http.specs.Requests.{IsNext}
+use Rattle.doc_http.specs.declared.request.Next.TheVariants as nexts
 use Rattle.doc_hub.specs.Connections.{finished}
-use Rattle.doc_hub.proofs.StoreSteps.{request_answered}
+use Rattle.doc_hub.specs.Events.{step_on}
+use Rattle.doc_hub.proofs.StepCounts.{no_request_counts, request_counts}
+use Rattle.doc_hub.proofs.StepEdits.{step_tells}
+use Rattle.doc_hub.proofs.StoreSteps.{request_answered, world_of}
 use Rattle.doc_hub.proofs.hub.Hub.step_edited.Goals as goal
 
 pub answer_to_fault-requires : goal.answer_to_fault-requires
@@ -42,3 +47,59 @@ returns-in_ok-answer-in-Request-clause-world g c =
     c.if-connection.false c.in-Request.used c.in-Request.request begins answer
     c.in_ok-answer-in-Request.ensures.answer.0 c.in_ok-answer-in-Request.ensures.answer.1 set
     (g.R.Renderer.page c.args.self.now.0) (λ i. g.R.Renderer.page (c.self.view_is i).0) c.step_of.result.0 c.step_of.ensures.step
+
+pub returns-in_ok-answer-in-Request-clause-edit : goal.returns-in_ok-answer-in-Request-clause-edit
+returns-in_ok-answer-in-Request-clause-edit g c =
+    let hub = c.self.inside in
+    let connection = c.in-Some.connection.now in
+    step_tells (g.R.Renderer.page hub.shelf.0) (g.R.Renderer.page c.args.self.now.0)
+    (world_of hub.shelf.1 hub.readers hub.settings hub.given hub.connections) c.args.self.now.1
+    (λ i. g.R.Renderer.page (c.self.view_is i).0) (λ i. (c.self.view_is i).1) c.args.id.0 connection c.in-Some.ensures
+    c.if-connection.false c.in-Request.used c.in-Request.request
+    (subst (IsNext connection.unread) c.in-Request.is (c.in_ok-next_request.ensures.found connection (sym c.in-Some.ensures)))
+    c.in_ok-answer-in-Request.answer c.in_ok-answer-in-Request.ensures.answer.0 c.step_of.result.1 c.step_of.ensures.edit
+
+-- ---- how often texts are rendered
+
+pub returns-in-More-clause-counted : goal.returns-in-More-clause-counted
+returns-in-More-clause-counted g c =
+    let hub = c.self.inside in
+    let before = world_of hub.shelf.1 hub.readers hub.settings hub.given hub.connections in
+    let after = world_of hub.shelf.1 hub.readers hub.settings hub.given c.next_request.new.self in
+    let connection = c.in-Some.connection.now in
+    counted_by (g.R.Renderer.page hub.shelf.0) (g.R.Renderer.page c.args.self.now.0) (g.R.Renderer.count hub.shelf.0)
+    (g.R.Renderer.count c.args.self.now.0) (g.R.Renderer.count hub.shelf.0) before c.args.self.now.1 after (step_on c.args.id) _
+    (λ i. g.R.Renderer.page (c.self.view_is i).0) (λ i. g.R.Renderer.count (c.self.view_is i).0) (λ i. (c.self.view_is i).1)
+    (no_request_counts (g.R.Renderer.page hub.shelf.0) (g.R.Renderer.count hub.shelf.0) (g.R.Renderer.count hub.shelf.0) before after
+    c.args.id connection c.in-Some.ensures c.if-connection.false nexts.More
+    (subst (IsNext connection.unread) c.in-More.is (c.in_ok-next_request.ensures.found connection (sym c.in-Some.ensures))) _ refl refl
+    refl refl)
+
+pub returns-in_ok-bytes-in-Fault-clause-counted : goal.returns-in_ok-bytes-in-Fault-clause-counted
+returns-in_ok-bytes-in-Fault-clause-counted g c =
+    let hub = c.self.inside in
+    let before = world_of hub.shelf.1 hub.readers hub.settings hub.given hub.connections in
+    let after = world_of hub.shelf.1 hub.readers hub.settings hub.given c.finish.new.self in
+    let connection = c.in-Some.connection.now in
+    counted_by (g.R.Renderer.page hub.shelf.0) (g.R.Renderer.page c.args.self.now.0) (g.R.Renderer.count hub.shelf.0)
+    (g.R.Renderer.count c.args.self.now.0) (g.R.Renderer.count hub.shelf.0) before c.args.self.now.1 after (step_on c.args.id) _
+    (λ i. g.R.Renderer.page (c.self.view_is i).0) (λ i. g.R.Renderer.count (c.self.view_is i).0) (λ i. (c.self.view_is i).1)
+    (no_request_counts (g.R.Renderer.page hub.shelf.0) (g.R.Renderer.count hub.shelf.0) (g.R.Renderer.count hub.shelf.0) before after
+    c.args.id connection c.in-Some.ensures c.if-connection.false (nexts.Fault c.in-Fault.code c.in-Fault.bare)
+    (subst (IsNext connection.unread) c.in-Fault.is (c.in_ok-next_request.ensures.found connection (sym c.in-Some.ensures))) _ refl refl
+    refl refl)
+
+pub returns-in_ok-answer-in-Request-clause-counted : goal.returns-in_ok-answer-in-Request-clause-counted
+returns-in_ok-answer-in-Request-clause-counted g c =
+    let hub = c.self.inside in
+    let before = world_of hub.shelf.1 hub.readers hub.settings hub.given hub.connections in
+    let after = world_of c.answer.new.shelf.1 hub.readers hub.settings hub.given c.finish-in-Request.new.self in
+    let connection = c.in-Some.connection.now in
+    counted_by (g.R.Renderer.page hub.shelf.0) (g.R.Renderer.page c.args.self.now.0) (g.R.Renderer.count hub.shelf.0)
+    (g.R.Renderer.count c.args.self.now.0) (g.R.Renderer.count c.answer.new.shelf.0) before c.args.self.now.1 after (step_on c.args.id) _
+    (λ i. g.R.Renderer.page (c.self.view_is i).0) (λ i. g.R.Renderer.count (c.self.view_is i).0) (λ i. (c.self.view_is i).1)
+    (request_counts (g.R.Renderer.page hub.shelf.0) (g.R.Renderer.count hub.shelf.0) (g.R.Renderer.count c.answer.new.shelf.0) before after
+    c.args.id connection c.in-Some.ensures c.if-connection.false c.in-Request.used c.in-Request.request
+    (subst (IsNext connection.unread) c.in-Request.is (c.in_ok-next_request.ensures.found connection (sym c.in-Some.ensures)))
+    c.in_ok-answer-in-Request.answer c.in_ok-answer-in-Request.ensures.answer.0 c.step_of.result.0
+    c.in_ok-answer-in-Request.ensures.counted)

@@ -28,7 +28,7 @@ returns-in-Some-clause-answer g c =
     sent_to_people c.exchange-exchange.result request c.manner-manner.result
     (closes_after c.args.self.now.settings.now request) c.exchange-exchange.ensures.manner
     c.manner-manner.ensures.head_only c.manner-manner.ensures.close _ _ c.shown.result
-    (somebody_is_shown render browse request c.args.shelf.now.1.site c.in-Some.row.now c.is_guest.result
-    c.exchange-exchange.result.request.now.target asking c.in-Some.ensures c.is_guest.ensures
+    (somebody_is_shown render browse request c.args.shelf.now.1.site c.in-Some.row.now c.is_guest.result c.owns.result
+    c.exchange-exchange.result.request.now.target asking c.in-Some.ensures c.is_guest.ensures c.owns.ensures
     (ap (λ (r : Request). r.target) c.exchange-exchange.ensures.request))
     c.shown.ensures.answer

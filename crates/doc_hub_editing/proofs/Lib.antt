@@ -1,0 +1,7 @@
+mod DeskSteps
+pub mod EditsCan
+mod MakingSteps
+mod FormSteps
+mod EditRequestExamples
+pub mod EditLaws
+mod PreviewSteps
