@@ -200,8 +200,8 @@ class Server:
         return True
 
     def said(self):
-        self.error.seek(0)
-        return self.error.read().decode(errors="replace")
+        # read in place: the program writes where this file stands, while it runs
+        return os.pread(self.error.fileno(), os.fstat(self.error.fileno()).st_size, 0).decode(errors="replace")
 
     def close(self):
         for pipe in (self.process.stdin, self.process.stdout):

@@ -14,82 +14,38 @@ token behind. curl, wget and chromium read it through nginx:
 
 Builds nothing. Needs python3, openssl, and nginx, curl, wget and chromium, which it has installed where they lack. Half a minute.
 """
-import os, re, subprocess, sys, tomllib, urllib.parse
+import os, re, sys, tomllib, urllib.parse
 sys.path.insert(1, os.path.dirname(__file__) + "/../lib")
-from scene import HOST, Client, Scene, free_port, put, start, stop, until, without_browse
+from proxies import Nginx, fields, keys, run
+from scene import Client, Scene, put, without_browse
 
 scene = Scene(seconds=300, needs=["nginx=nginx-light", "curl", "wget", "chromium", "openssl"], at_top=True)
-LOGINS = {"owner": "tok-owner", "ann": "tok-ann", "bob": "tok-bob", "eve": ""}
 LINK = re.compile(r'href="(/page/[^"#]*)')
 PERSON = ("--header", "Accept: text/html,*/*;q=0.8")
 
 
-def run(*words, seconds=60):
-    return subprocess.run(words, stdin=subprocess.DEVNULL, capture_output=True, timeout=seconds, cwd=scene.scratch)
-
-
-def keys():
-    """A certificate, the logins and the tokens, as files in the scratch folder."""
-    run("openssl", "req", "-x509", "-newkey", "rsa:2048", "-nodes", "-keyout", "key", "-out", "cert", "-days", "2", "-subj", "/CN=docs",
-        "-addext", f"subjectAltName=IP:{HOST},DNS:localhost")
-    hashed = {who: run("openssl", "passwd", "-apr1", f"secret-{who}").stdout.decode().strip() for who in LOGINS}
-    put(f"{scene.scratch}/users", "".join(f"{who}:{hashed[who]}\n" for who in LOGINS))
-    put(f"{scene.scratch}/tokens", "".join(f"{who} {token};\n" for who, token in LOGINS.items() if token))
-    os.chmod(f"{scene.scratch}/tokens", 0o600)
-
-
-def configured(port, backend):
-    """nginx's configuration: the template in the least of a frame."""
-    scratch = scene.scratch
-    with open("site/nginx.conf.template") as template:
-        text = template.read()
-    words = {word: f"{scratch}/{word.lower()}" for word in ("CERT", "KEY", "USERS", "TOKENS")}
-    for word, value in {**words, "LISTEN": f"{HOST}:{port}", "NAME": HOST, "BACKEND": f"{HOST}:{backend}"}.items():
-        text = text.replace(f"@{word}@", value)
-    put(f"{scratch}/site.conf", text)
-    paths = "".join(f"{name}_temp_path {scratch}/{name};" for name in ("client_body", "proxy", "fastcgi", "uwsgi", "scgi"))
-    put(f"{scratch}/nginx.conf", f"daemon off; pid {scratch}/pid; error_log stderr crit; worker_processes 1; events {{}}\n"
-        f"http {{ access_log off; {paths} include {scratch}/site.conf; }}\n")
-    return f"{scratch}/nginx.conf"
-
-
-class Proxy:
-    """nginx in front of a server, and what is read through it."""
-
-    def __init__(self, backend):
-        self.port = free_port()
-        self.base = f"https://{HOST}:{self.port}"
-        self.nginx = start(["nginx", "-p", scene.scratch, "-c", configured(self.port, backend)])
-
-    def begins(self):
-        return until(lambda: self.curl("", "/")[0] or self.nginx.poll() is not None, 10) and self.nginx.poll() is None
-
-    def curl(self, who, target, *words):
-        """A reply: its code, its fields but for nginx's own date, its body."""
-        login = ("--user", f"{who}:secret-{who}") if who else ()
-        done = run("curl", "--silent", "--show-error", "--max-time", "20", "--path-as-is", "--cacert", "cert", "--include", *login, *words,
-                   self.base + target)
-        head, _, body = done.stdout.partition(b"\r\n\r\n")
-        lines = [line for line in head.decode().split("\r\n") if not line.lower().startswith("date:")]
-        return int((lines[0].split() + ["0", "0"])[1]), lines, body
+class Proxy(Nginx):
+    """nginx in front of a server, and what wget and chromium read through it."""
 
     def browsed(self, who, target):
         """The document as chromium has it, once it is loaded."""
         address = self.base.replace("https://", f"https://{who}:secret-{who}@") + target
-        done = run("chromium", "--headless=new", "--no-sandbox", "--disable-gpu", "--disable-dev-shm-usage", "--ignore-certificate-errors",
-                   "--no-first-run", "--disable-background-networking", "--disable-component-update",
+        done = run(scene, "chromium", "--headless=new", "--no-sandbox", "--disable-gpu", "--disable-dev-shm-usage",
+                   "--ignore-certificate-errors", "--no-first-run", "--disable-background-networking", "--disable-component-update",
                    f"--user-data-dir={scene.scratch}/profile", "--virtual-time-budget=2000", "--dump-dom", address, seconds=60)
         return done.stdout.decode(errors="replace")
 
     def wget(self, who, target):
         """One document by wget."""
-        return run("wget", "-q", "-O", "-", "--ca-certificate=cert", f"--user={who}", f"--password=secret-{who}", self.base + target).stdout
+        words = ("wget", "-q", "-O", "-", "--ca-certificate=cert", f"--user={who}", f"--password=secret-{who}", self.base + target)
+        return run(scene, *words).stdout
 
     def copied(self, who, target):
         """All that wget finds behind a page: a folder, and the targets of its files."""
         folder = f"{scene.scratch}/wget-{who}"
-        run("wget", "--quiet", "--recursive", "--level=inf", "--execute", "robots=off", "--ca-certificate=cert", "--auth-no-challenge",
-            f"--user={who}", f"--password=secret-{who}", "--no-host-directories", f"--directory-prefix={folder}", self.base + target)
+        run(scene, "wget", "--quiet", "--recursive", "--level=inf", "--execute", "robots=off", "--ca-certificate=cert",
+            "--auth-no-challenge", f"--user={who}", f"--password=secret-{who}", "--no-host-directories", f"--directory-prefix={folder}",
+            self.base + target)
         return folder, {"/" + os.path.relpath(os.path.join(at, name), folder) for at, _, names in os.walk(folder) for name in names}
 
 
@@ -143,11 +99,6 @@ def check_browser(proxy, who, seen, site):
         scene.check(f"{who}: chromium at {target}", f"<title>{title} · {site}</title>" in shown)
 
 
-def fields(lines, name):
-    """The values of a field in the lines of a head."""
-    return [line.partition(": ")[2] for line in lines if line.lower().startswith(name.lower() + ": ")]
-
-
 def check_heads(name, curl, with_browse):
     """HTML that docs_server sends has one policy; every reply has one Cache-Control, which is docs_server's own where it has one."""
     for words in ((), PERSON):
@@ -161,16 +112,16 @@ def check_heads(name, curl, with_browse):
             scene.check(f"{name}, {target} {words}: its type", not (words and with_browse) or is_html or sheet, (code, lines))
 
 
-def check_plain(proxied):
+def check_plain():
     """The same proxy before a server without pages for people."""
     put(f"{scene.scratch}/plain.toml", without_browse("site/config.toml"))
     server = scene.listen(f"{scene.scratch}/plain.toml")
-    proxy = proxied(server.port)
+    proxy = Proxy(scene, server.port)
     try:
         scene.check("nginx before a server without [browse]", proxy.begins())
         check_heads("without [browse]", proxy.curl, False)
     finally:
-        stop(proxy.nginx)
+        proxy.ends()
     scene.ends(server, "the server without [browse]")
 
 
@@ -205,12 +156,11 @@ def check_logins(curl):
 
 
 def main():
-    os.chmod(scene.scratch, 0o755)
-    keys()
+    keys(scene)
     with open("site/config.toml", "rb") as file:
         config = tomllib.load(file)
     server = scene.listen("site/config.toml")
-    proxy = Proxy(server.port)
+    proxy = Proxy(scene, server.port)
     try:
         if not proxy.begins():
             sys.exit("nginx doesn't listen")
@@ -224,9 +174,9 @@ def main():
         check_heads("with [browse]", proxy.curl, True)
         check_edits(proxy)
     finally:
-        stop(proxy.nginx)
+        proxy.ends()
     scene.ends(server, "the pipe closed")
-    check_plain(Proxy)
+    check_plain()
 
 
 scene.run(main)

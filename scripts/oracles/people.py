@@ -19,7 +19,7 @@ from replies import Hub, REASONS, written
 from trial_lines import Dice, given, write
 from words import words_of
 
-SHEET = 2
+SHEET = 3
 BEFORE, AFTER, TOC, TOC_LEVEL, ASIDE, LIST, SOURCES, LINKS = 30, 60, 100, 3, 20, 200, 50, 50
 HITS, PREFIX, READ, LEAD, SNIPPET, SHORT = 50, 3, 65536, 60, 200, 80
 WHITE = "\t\n\x0b\x0c\r "
@@ -32,6 +32,7 @@ HEAD = ("Content-Security-Policy: " + POLICY + "\r\nX-Content-Type-Options: nosn
 NOTICES = {
     301: ("Moved", "The page stands at another address now:"),
     401: ("Not signed in", "These pages are for readers who are signed in. Whoever runs this site can let you in."),
+    403: ("Not allowed", "Only those who write these pages may do this."),
     404: ("Not found", "There is no page here that you may read."),
 }
 
@@ -65,8 +66,12 @@ def contents_href(folder):
     return "/contents/" + encoded_path(folder) if folder else "/contents"
 
 
+def edit_href(place):
+    return "/edit/" + encoded_path(place)
+
+
 def block(head, lines, foot):
-    return head + "".join(lines) + foot if lines else ""
+    return head + "".join(lines) + foot if any(lines) else ""
 
 
 def item(text, kind=""):
@@ -99,6 +104,7 @@ class View(Cut):
     def __init__(self, settings, pages, groups, is_guest):
         super().__init__(pages, groups)
         self.settings, self.is_guest = settings, is_guest
+        self.tools = groups is None and settings["editing"]
 
     # titles and labels
 
@@ -147,7 +153,15 @@ class View(Cut):
             '<a href="/broken">Broken links</a>\n' + ('<a href="/sign-in">Sign in</a>\n' if sign_in else "")
             + '</nav>\n</header>\n<div class="frame">\n' + self.over(at) + '<main id=".main">\n' + main + "</main>\n"
             + block('<aside aria-label="About this page">\n', [aside] if aside else [], "</aside>\n") + self.tree(at) + "</div>\n"
-            + (f"<footer>\n<p><code>{escaped(at)}</code></p>\n</footer>\n" if at else "") + "</body>\n</html>\n")
+            + block("<footer>\n", [f"<p><code>{escaped(at)}</code></p>\n" if at else "", self.links_to_edit(at)], "</footer>\n")
+            + "</body>\n</html>\n")
+
+    def links_to_edit(self, at):
+        """What owners do with a page or in a folder."""
+        if at is None or not self.tools:
+            return ""
+        edit = link(edit_href(at), "Edit") + "\n" if at in self.pages else ""
+        return '<p class="tools">\n' + edit + link(edit_href(folder_of(at)), "New page") + "\n</p>\n"
 
     def over(self, at):
         if at is None:
@@ -159,7 +173,8 @@ class View(Cut):
             here = ' aria-current="page"' if folder == at or folder + "index.md" == at else ""
             href = contents_href(folder) if folder == at else self.folder_href(folder)
             rows.append(item(link(href, escaped(self.folder_label(folder)), here)))
-        return '<div class="over">\n<nav class="crumbs" aria-label="Folders">\n<ol>\n' + "".join(rows) + "</ol>\n</nav>\n</div>\n"
+        crumbs = '<nav class="crumbs" aria-label="Folders">\n<ol>\n' + "".join(rows) + "</ol>\n</nav>\n"
+        return '<div class="over">\n' + crumbs + self.links_to_edit(at) + "</div>\n"
 
     def tree(self, at):
         folder = folder_of(at or "")
@@ -186,14 +201,35 @@ class View(Cut):
     # the pages
 
     def page(self, path):
-        page = self.pages[path]
-        heading = ""
+        return self.shell(short(self.title(path)), path, self.article(path, self.pages[path]), self.aside(path))
+
+    def article(self, path, page):
+        """The main part of a page at a path, whether it stands there or not."""
+        titles, heading = [text for _, _, text in page.headings if text], ""
         if not any(level == 1 and text for level, _, text in page.headings):
-            kind = ' class="sr"' if self.heading(path) else ""
-            heading = f"<h1{kind}>{escaped(self.title(path))}</h1>\n"
+            kind = ' class="sr"' if titles else ""
+            heading = f"<h1{kind}>{escaped((titles or [path])[0])}</h1>\n"
         body = page.body(path, self).split("\n", 2)[2]
         body += "<!--'\"-->\n" if "'" in body else ""
-        return self.shell(short(self.title(path)), path, "<article>\n" + heading + body + "</article>\n", self.aside(path))
+        return "<article>\n" + heading + body + "</article>\n"
+
+    def notice(self, wrap, code, behind=""):
+        title, text = NOTICES[code]
+        return wrap(title, f"<h1>{title}</h1>\n<p>{text}</p>\n{behind}")
+
+    def alone(self, code, behind=""):
+        return self.notice(self.bare, code, behind)
+
+    def moved(self, address):
+        return self.alone(301, f"<p>{link(escaped(address), escaped(address))}</p>\n")
+
+    def forbidden(self):
+        return self.notice(lambda title, main: self.shell(title, None, main), 403)
+
+    def absent(self, path=None):
+        """No page; to an owner the way to a new one at the path that was asked for, if it was one."""
+        new = f'<p>{link(edit_href(path), "New page")} at <code>{escaped(path)}</code></p>\n' if path and self.tools else ""
+        return self.notice(lambda title, main: self.shell(title, None, main), 404, f'<p>{link("/contents", "Contents")}</p>\n{new}')
 
     def aside(self, path):
         listed = [heading for heading in self.pages[path].headings if heading[2]]
@@ -251,7 +287,8 @@ class View(Cut):
         if reason is None:
             return ""
         if reason == "page":
-            cells = f"<code>{escaped(found[1])}</code></td><td>no such page"
+            new = " " + link(edit_href(found[1]), "New page") if self.tools else ""
+            cells = f"<code>{escaped(found[1])}</code>{new}</td><td>no such page"
         elif reason == "anchor":
             text = f"{escaped(found[1])}#{escaped(short(found[2]))}"
             cells = link(page_href(self.goals[found[1]]), f"<code>{text}</code>") + "</td><td>no such heading"
@@ -365,43 +402,40 @@ class Site(Hub):
 
     def __init__(self, **settings):
         super().__init__()
-        self.settings = {"title": "Handbook", "language": "en", "home": "index.md", "guest": None, "login": False, **settings}
+        self.settings = {"title": "Handbook", "language": "en", "home": "index.md", "guest": None, "login": False, "editing": True}
+        self.settings |= settings
 
     def people(self, token, method, target):
         """The reply to a people's request, as bytes. A token is None where none is sent."""
         code, content, location = self.judged(token, target)
         out = f"HTTP/1.1 {code} {REASONS[code]}\r\nContent-Type: text/html; charset=utf-8\r\nContent-Length: {len(content.encode())}\r\n"
         out += f"Location: {location}\r\n" if location else ""
-        if code == 401:
-            realm = "".join("\\" + c if c in '"\\' else c if " " <= c <= "~" else "?" for c in self.settings["title"])
-            challenge = f'Basic realm="{realm}", charset="UTF-8"' if self.settings["login"] else 'Bearer realm="docs"'
-            out += f"WWW-Authenticate: {challenge}\r\n"
+        out += f"WWW-Authenticate: {self.challenges()[0]}\r\n" if code == 401 else ""
         return (out + HEAD + "\r\n" + (content if method == "GET" else "")).encode()
+
+    def challenges(self):
+        """Those of a program, of which people are told the first."""
+        realm = "".join("\\" + c if c in '"\\' else c if " " <= c <= "~" else "?" for c in self.settings["title"])
+        return [f'Basic realm="{realm}", charset="UTF-8"'] * self.settings["login"] + ['Bearer realm="docs"']
+
+    def view(self, token):
+        is_guest = token is None and self.settings["guest"] is not None
+        return View(self.settings, self.pages, self.settings["guest"] if is_guest else self.readers.get(token, set()), is_guest)
 
     def judged(self, token, target):
         """The code, the content, and where another page is."""
-        is_guest = token is None and self.settings["guest"] is not None
-        known = is_guest or token in self.readers
-        view = View(self.settings, self.pages, self.settings["guest"] if is_guest else self.readers.get(token, set()), is_guest)
-
-        def notice(code, behind="", wrap=None):
-            title, text = NOTICES[code]
-            main = f"<h1>{title}</h1>\n<p>{text}</p>\n{behind}"
-            return (wrap or view.bare)(title, main)
+        view = self.view(token)
 
         def moved(address):
-            return 301, notice(301, f"<p>{link(escaped(address), escaped(address))}</p>\n"), address
+            return 301, view.moved(address), address
 
-        def none():
-            return 404, notice(404, f'<p>{link("/contents", "Contents")}</p>\n', lambda title, main: view.shell(title, None, main)), None
-
-        if not known:
-            return 401, notice(401), None
+        if not view.is_guest and token not in self.readers:
+            return 401, view.alone(401), None
         route, _, query = target.partition("?")
         values = {name: value for name, value in reversed(parse_qsl(query, keep_blank_values=True))}
         start = values.get("from", "")
         if route == "/sign-in" and self.settings["guest"] is not None and self.settings["login"]:
-            return (401, notice(401), None) if is_guest else moved("/")
+            return (401, view.alone(401), None) if view.is_guest else moved("/")
         if route == "/":
             home = view.goals.get(self.settings["home"])
             return moved(page_href(home) if home else "/contents")
@@ -415,17 +449,17 @@ class Site(Hub):
         for kind in ("/contents/", "/page/", "/backlinks/"):
             rest = route[len(kind):]
             if route.startswith(kind) and rest:
-                return self.below(view, kind, rest, start, moved, none)
-        return none()
+                return self.below(view, kind, rest, start, moved)
+        return 404, view.absent(), None
 
-    def below(self, view, kind, rest, start, moved, none):
+    def below(self, view, kind, rest, start, moved):
         parts = [unquote_to_bytes(part).decode() for part in (rest + "index.md" * (kind != "/contents/" and rest.endswith("/"))).split("/")]
         path = "/".join(parts)
         if kind == "/contents/":
             seen = rest.endswith("/") and any(it.startswith(path) for it in view.pages)
-            return (200, view.folder(path, start), None) if seen else none()
+            return (200, view.folder(path, start), None) if seen else (404, view.absent(), None)
         if not is_path(path) or path not in view.goals:
-            return none()
+            return 404, view.absent(path if kind == "/page/" and is_path(path) else None), None
         if view.goals[path] != path:
             return moved(kind + encoded_path(view.goals[path]))
         return 200, view.page(path) if kind == "/page/" else view.linking(path, start), None
@@ -440,6 +474,7 @@ def world(settings):
     if settings.get("guest") is not None:
         rows.append("guest = [" + ", ".join(f'"{group}"' for group in sorted(settings["guest"])) + "]")
     rows += ['login = "basic"'] if settings.get("login") else []
+    rows += [] if settings.get("editing", True) else ["editing = false"]
     rows += ['[[reader]]', 'token = "o"', "owner = true", "[[reader]]", 'token = "a"', 'groups = ["staff"]', "[[reader]]", 'token = "b"',
              'groups = ["ops"]']
     return "world keep 64 " + "\\n".join(rows) + "\\n", "()"
@@ -473,6 +508,7 @@ class Random:
         if dice.chance(50):
             settings["guest"] = dice.some(["staff", "public"])
         settings["login"] = dice.chance(50)
+        settings["editing"] = seed % 5 != 4
         self.site = Site(**settings)
         self.lines = [world(settings), ("connect", self.site.connect())]
         self.paths = sorted({dice.pick(self.FOLDERS) + dice.pick(self.NAMES) for _ in range(pages)})
@@ -563,11 +599,11 @@ def compared(program, lines):
     """The first of these lines that a built trial answers otherwise."""
     # (the lines in front of the first world are of other calls)
     asked = "\n".join(["# Random sites.", *(call for call, _ in lines)]) + "\n"
-    said = subprocess.run([program], input=asked, capture_output=True, text=True, check=False).stdout.split("\n")
-    for (call, wanted), got in zip(lines, said[1:], strict=False):
+    said = subprocess.run([program], input=asked, capture_output=True, text=True, check=True).stdout.split("\n")[1:-1]
+    for (call, wanted), got in zip(lines, said, strict=False):
         if got != wanted:
             return call, wanted, got
-    return None
+    return None if len(said) == len(lines) else ("the number of lines", str(len(lines)), str(len(said)))
 
 
 def main():

@@ -16,77 +16,19 @@
 Builds nothing. Needs python3, and chromium, which it has installed where it lacks. Some minutes. The screenshots stay in a folder which it
 names, to be looked at.
 """
-import http.server, json, os, re, sys, tempfile, threading
+import json, os, re, sys, tempfile
 sys.path.insert(1, os.path.dirname(__file__) + "/../lib")
-from chromium import Chromium, Failed
+from chromium import Failed
+from looking import Elsewhere, Look, elsewhere, hostile
 from scene import HOST, TOP, Client, Scene, put
 
 scene = Scene(seconds=600, needs=["chromium"])
 TITLE = "Our \"blue\" handbook"
-SCREENS = ((1280, 900, False), (390, 844, True), (320, 640, True))
 LONG = "deep-" * 29 + "end.md"
 PASSWORD, WRONG = ("Ann", "tok-ann"), ("Ann", "tok-an")
 
 
 # ---- the site
-
-class Elsewhere(http.server.BaseHTTPRequestHandler):
-    """Another site, which a hostile page would have the browser ask."""
-    asked = []
-
-    def do_GET(self):
-        self.asked.append(self.path)
-        self.send_response(200)
-        self.send_header("Content-Length", "0")
-        self.end_headers()
-
-    do_POST = do_GET
-
-    def log_message(self, *_):
-        pass
-
-
-def hostile(elsewhere):
-    """HTML that would act by itself. Whatever runs asks `elsewhere`, calls alert, or changes the title."""
-    act = f"document.title='RAN';alert(1);new Image().src='{elsewhere}/ran'"
-    return f"""# Hostile
-
-<h2 id="hostile-words" style="color:rgb(1,2,3)">Kiwis by a hostile page</h2>
-
-<script>{act}</script>
-
-<div><img src="/no/such/picture" onerror="{act}"><svg onload="{act}"></svg>
-<details open ontoggle="{act}"><summary>s</summary></details>
-<input autofocus onfocus="{act}" id="in"><body onload="{act}">
-<math><mtext><img src=x onerror="{act}"></mtext></math></div>
-
-<p><a id="js" href="javascript:{act}">a script's address</a> <a id="ping" href="#hostile" ping="{elsewhere}/ping">a ping</a></p>
-
-[a script's address in a link](javascript:alert(1))
-
-<div><style>main {{ display: none }} body {{ background: rgb(1,2,3) !important }} @import "{elsewhere}/import.css";</style>
-<link rel="stylesheet" href="{elsewhere}/style.css"><link rel="stylesheet" href="data:text/css,main%7Bdisplay:none%7D">
-<link rel="prefetch" href="{elsewhere}/prefetch"><link rel="preload" as="image" href="{elsewhere}/preload">
-<link rel="icon" href="{elsewhere}/icon"></div>
-
-<div><iframe src="{elsewhere}/frame"></iframe>
-<IFrame srcdoc="<script>top.{act.split(";")[0]}</script><form action='/search'></form>"></IFrame>
-<frameset><frame src="{elsewhere}/oldframe"></frameset><object data="{elsewhere}/object"></object><embed src="{elsewhere}/embed">
-<video autoplay src="{elsewhere}/video"></video><audio autoplay src="{elsewhere}/audio"></audio><img src="{elsewhere}/picture"></div>
-
-<div><meta http-equiv="refresh" content="0;url={elsewhere}/refresh"><meta http-equiv="set-cookie" content="a=b">
-<base href="{elsewhere}/base/"></div>
-
-<div><form action="{elsewhere}/form" method="post"><input name="word" value="x"><button id="send">Send</button></form>
-<FORM id="own" action="/sent" method="post"></FORM><button id="own-button" form="own">Own</button>
-<button id="other" formaction="{elsewhere}/button" formmethod="post">Other</button>
-<input type="image" id="image" alt="image" formaction="{elsewhere}/image"></div>
-
-<a href="guide/parts.md" id="inside">inside</a>
-
-<div><img alt='open' src='https://{HOST}:1/?
-"""
-
 
 def covering():
     """HTML that would stand over the bar: what is drawn beyond its frame, a class of the sheet's, a popover, and dialogs."""
@@ -101,8 +43,8 @@ def covering():
 """
 
 
-def pages(elsewhere):
-    """Paths, groups and texts."""
+def pages(address):
+    """Paths, groups and texts. Another site has this address."""
     public, staff = ["public", "staff"], ["staff"]
     yield "index.md", public, ("# Welcome\n\nThis is the front. Read [the guide](guide/), see [the rota](rota.md), or look at\n"
                                "[what others wrote](https://commonmark.org).\n\n## Every day\n\nA `code`, *words*, **strong** ones.\n\n"
@@ -119,88 +61,22 @@ def pages(elsewhere):
     yield "wide.md", staff, ("# Wide\n\n<table><tr>" + "<td>cell-of-a-table</td>" * 20 + "</tr></table>\n\n<pre>" + "x" * 400 + "</pre>\n\n"
                              "`" + "y" * 300 + "`\n\n<img alt=\"\" src=\"data:image/svg+xml,%3Csvg xmlns='http://www.w3.org/2000/svg' "
                              "width='3000' height='20'/%3E\">\n")
-    yield "hostile.md", staff, hostile(elsewhere)
+    yield "hostile.md", staff, hostile(address)
     yield "covering.md", staff, covering()
     yield "pictures.md", staff, '# Pictures\n\n<img src="/page/hostile.md" alt="a page as a picture">\n'
     for number in range(230):
         yield f"many/page-{number:03}.md", staff, f"# Page {number}\n\n[Parts](../guide/parts.md), twice: [parts](../guide/parts.md).\n"
 
 
-def config(elsewhere, browse):
+def config(address, browse):
     rows = [f"[[page]]\npath = {json.dumps(path)}\ngroups = {json.dumps(groups)}\ntext = {json.dumps(text)}\n"
-            for path, groups, text in pages(elsewhere)]
+            for path, groups, text in pages(address)]
     return f'{browse}\n[[reader]]\ntoken = "tok-ann"\ngroups = ["staff"]\n' + "".join(rows)
-
-
-# ---- what is looked at
-
-def luminance(colour):
-    parts = [int(part) / 255 for part in re.findall(r"\d+", colour)[:3]]
-    return sum(weight * (part / 12.92 if part <= 0.04045 else ((part + 0.055) / 1.055) ** 2.4)
-               for weight, part in zip((0.2126, 0.7152, 0.0722), parts))
-
-
-def contrast(one, other):
-    low, high = sorted((luminance(one), luminance(other)))
-    return (high + 0.05) / (low + 0.05)
-
-
-def ground(window, selectors):
-    """The colour behind a node: that of the first of these, from the inside, that has one."""
-    for selector in selectors:
-        colour = window.style(window.node(selector))["background-color"]
-        if not colour.endswith(", 0)"):
-            return colour
-    return "rgb(255, 255, 255)"
-
-
-class Look:
-    """What is checked of a site's windows, and the folder that their pictures go to."""
-
-    def __init__(self, server, folder):
-        self.base, self.folder = f"http://{HOST}:{server.port}", folder
-        self.browser = Chromium(f"{scene.scratch}/profile-{server.port}")
-
-    def picture(self, window, name):
-        window.picture(f"{self.folder}/{name}.png")
-
-    def at(self, window, name, path, title, heading=None):
-        """The window stands at this path, and the page has this title and one heading of level 1."""
-        headings = window.texts("main h1")
-        scene.check(f"{name}: the path", window.path() == path, window.path())
-        scene.check(f"{name}: the title", window.title() == f"{title} · {TITLE}", window.title())
-        scene.check(f"{name}: the heading", headings == [heading or title], headings)
-        scene.check(f"{name}: no script", not window.nodes("script"))
-
-    def fits(self, window, name, colours):
-        """On each screen, light and dark, nothing can be moved sideways, and these texts stand out from their grounds."""
-        for width, height, phone in SCREENS:
-            for dark in (False, True):
-                window.looks(width, height, dark, phone)
-                kind = f"{name} {width}{' dark' if dark else ''}"
-                scene.check(f"{kind}: the width", window.width() <= width, window.width())
-                for text, *behind in colours if width != 390 else ():
-                    for node in window.nodes(text)[:1]:
-                        found = contrast(window.style(node)["color"], ground(window, [text, *behind, "body"]))
-                        scene.check(f"{kind}: {text} stands out", found >= 4.5, f"{found:.2f}")
-                if dark:
-                    scene.check(f"{kind}: is dark", luminance(ground(window, ["body"])) < 0.1)
-                self.picture(window, kind.replace(" ", "-"))
-        window.looks()
 
 
 COLOURS = (("main p",), ("main p a",), ("a.missing",), (".path",), ("header a.site", "body > header"), ("header nav a", "body > header"),
            ("header button",), ("header input",), ("aside h2",), (".tree .up a",), (".tree [aria-current]",), ("body > footer code",),
            ("mark",), (".crumbs a",), ("thead th",), ("blockquote p", "blockquote"), ("main pre code", "main pre"))
-
-
-def landmarks(window, name, wanted, headings=1):
-    roles = window.roles()
-    for role in wanted:
-        scene.check(f"{name}: {role}", role in {each[0] for each in roles}, sorted({each[0] for each in roles}))
-    main = [each for each in roles if each[0] == "heading" and each[2] == 1]
-    scene.check(f"{name}: one heading of level 1", len(main) == headings, main)
-    return roles
 
 
 # ---- the cases
@@ -210,7 +86,8 @@ def check_guest(look, guest):
     base = look.base
     guest.go(base + "/")
     look.at(guest, "the front", "/page/index.md", "Welcome")
-    scene.check("the style sheet", guest.replies.get(base + "/style.css?2", {}).get("status") == 200, list(guest.replies))
+    sheet = base + guest.attributes("link[rel=stylesheet]")[0]["href"]
+    scene.check("the style sheet", guest.replies.get(sheet, {}).get("status") == 200, list(guest.replies))
     scene.check("it counts", guest.style(guest.node("body > header"))["display"] == "flex")
     missing = guest.attributes("main a.missing")
     scene.check("a hidden page's link has no address", missing == [{"class": "missing"}], missing)
@@ -313,7 +190,7 @@ def check_looks(look, ann):
     for name, path in kinds.items():
         ann.go(look.base + path)
         look.fits(ann, name, COLOURS)
-        roles = landmarks(ann, name, ["banner", "search", "navigation", "main"] + ["contentinfo"] * (name in placed))
+        roles = look.landmarks(ann, name, ["banner", "search", "navigation", "main"] + ["contentinfo"] * (name in placed))
         if name == "page":
             names = [each[1] for each in roles if each[0] == "navigation"]
             scene.check("navigations have names", sorted(names) == ["Folders", "Pages", "Site"], names)
@@ -438,7 +315,7 @@ def check_heads(port):
 def check_readme(folder):
     """The site that README.md has one begin with."""
     server = scene.listen(f"{TOP}/site/try.toml")
-    look = Look(server, folder)
+    look = Look(scene, server, folder, TITLE)
     guest = look.browser.window()
     guest.looks()
     guest.go(look.base)
@@ -460,29 +337,27 @@ def check_readme(folder):
     scene.ends(server, "README")
 
 
-def check_closed(elsewhere, folder):
+def check_closed(address, folder):
     """Without guests and logins a browser is told that it isn't signed in, and nothing of the site."""
-    put("closed.toml", config(elsewhere, f"[browse]\ntitle = {json.dumps(TITLE)}\n"))
+    put("closed.toml", config(address, f"[browse]\ntitle = {json.dumps(TITLE)}\n"))
     server = scene.listen("closed.toml")
-    look = Look(server, folder)
+    look = Look(scene, server, folder, TITLE)
     window = look.browser.window()
     window.looks()
     window.go(look.base + "/page/rota.md")
     look.at(window, "not signed in", "/page/rota.md", "Not signed in")
     scene.check("no navigation", not window.nodes("nav, header"))
     look.fits(window, "closed", COLOURS)
-    landmarks(window, "closed", ["main"])
+    look.landmarks(window, "closed", ["main"])
     look.browser.end()
     scene.ends(server, "without guests")
 
 
 def main():
-    other = http.server.ThreadingHTTPServer((HOST, 0), Elsewhere)
-    threading.Thread(target=other.serve_forever, daemon=True).start()
-    elsewhere = f"http://{HOST}:{other.server_port}"
-    put("site.toml", config(elsewhere, f"[browse]\ntitle = {json.dumps(TITLE)}\nguest = [\"public\"]\nlogin = \"basic\"\n"))
+    address = f"http://{HOST}:{elsewhere()}"
+    put("site.toml", config(address, f"[browse]\ntitle = {json.dumps(TITLE)}\nguest = [\"public\"]\nlogin = \"basic\"\n"))
     server = scene.listen("site.toml")
-    look = Look(server, tempfile.mkdtemp(prefix="browser-"))
+    look = Look(scene, server, tempfile.mkdtemp(prefix="browser-"), TITLE)
     print(f"{look.browser.version}: screenshots in {look.folder}", flush=True)
     check_heads(server.port)
     person = look.browser.window()
@@ -495,7 +370,7 @@ def main():
     look.browser.end()
     scene.ends(server, "the end")
     check_readme(look.folder)
-    check_closed(elsewhere, look.folder)
+    check_closed(address, look.folder)
 
 
 scene.run(main)

@@ -12,7 +12,9 @@ from scene import start
 WORDS = ["--headless=new", "--no-sandbox", "--disable-gpu", "--disable-dev-shm-usage", "--no-first-run", "--no-default-browser-check",
          "--disable-background-networking", "--disable-component-update", "--disable-sync", "--disable-extensions", "--hide-scrollbars",
          "--remote-debugging-pipe", "--font-render-hinting=none"]
-KEYS = {"Enter": (13, "\r"), "Tab": (9, "")}
+# the number and the text of a key, and what it does in a field where the browser isn't told by the key alone
+KEYS = {"Enter": (13, "\r", []), "Tab": (9, "", []), "Backspace": (8, "", []), "End": (35, "", ["moveToEndOfDocument"]),
+        "Control+A": (65, "", ["selectAll"])}
 
 
 class Failed(Exception):
@@ -78,8 +80,9 @@ class Chromium:
         elif message["method"] == "Target.targetCreated" and message["params"]["targetInfo"]["type"] == "page":
             self.opened.add(message["params"]["targetInfo"]["targetId"])
 
-    def window(self):
-        return Window(self, self.ask("Target.createBrowserContext")["browserContextId"])
+    def window(self, beside=None):
+        """A window of a person of their own, or of the one whose window is given."""
+        return Window(self, beside.person if beside else self.ask("Target.createBrowserContext")["browserContextId"])
 
     def end(self):
         self.tell("Browser.close")
@@ -89,13 +92,14 @@ class Chromium:
 class Window:
     """A window of a person. `requests` are the methods and addresses that it asked for, but for those that the policy of a page forbade
     (`forbidden`); `prompts` the schemes and realms of the logins that it was asked for; `replies` the heads of what came, by address;
-    `dialogs` the words of windows that a script opened; `loads` counts documents that stand."""
+    `dialogs` the words of windows that a script opened, or `beforeunload`, which the person answers by whether they agree (`agrees`);
+    `loads` counts documents that stand."""
 
     def __init__(self, browser, person):
         self.browser, self.person, self.session = browser, person, None
         self.requests, self.forbidden, self.prompts, self.login, self.dialogs, self.replies, self.loads = [], [], [], [], [], {}, 0
-        self.asked, self.accepts = {}, None
-        self.target = browser.ask("Target.createTarget", url="about:blank", browserContextId=person, width=1280, height=900)["targetId"]
+        self.asked, self.accepts, self.agrees = {}, None, True
+        self.target = browser.ask("Target.createTarget", url="about:blank", browserContextId=person)["targetId"]
         self.session = browser.ask("Target.attachToTarget", targetId=self.target, flatten=True)["sessionId"]
         browser.windows[self.session] = self
         for domain in ("Page", "Network", "DOM", "CSS", "Accessibility"):
@@ -106,7 +110,7 @@ class Window:
 
     def heard(self, method, given):
         tell = self.browser.tell
-        if method == "Page.loadEventFired":
+        if method == "Page.loadEventFired" or method == "Page.frameNavigated" and given.get("type") == "BackForwardCacheRestore":
             self.loads += 1
         elif method == "Network.requestWillBeSent":
             self.asked[given["requestId"]] = given["request"]["method"], given["request"]["url"]
@@ -117,8 +121,8 @@ class Window:
         elif method == "Network.responseReceived":
             self.replies[given["response"]["url"]] = given["response"]
         elif method == "Page.javascriptDialogOpening":
-            self.dialogs.append(given["message"])
-            tell("Page.handleJavaScriptDialog", self.session, accept=True)
+            self.dialogs.append(given["message"] or given["type"])
+            tell("Page.handleJavaScriptDialog", self.session, accept=self.agrees)
         elif method == "Fetch.requestPaused":
             named = {**given["request"]["headers"], **({"Accept": self.accepts} if self.accepts else {})}
             tell("Fetch.continueRequest", self.session, requestId=given["requestId"],
@@ -144,6 +148,9 @@ class Window:
     def go(self, address):
         self.loaded(lambda: self.ask("Page.navigate", url=address))
 
+    def reload(self):
+        self.loaded(lambda: self.ask("Page.reload"))
+
     def back(self):
         history = self.ask("Page.getNavigationHistory")
         entry = history["entries"][history["currentIndex"] - 1]
@@ -164,7 +171,7 @@ class Window:
         self.accepts = None
         self.ask("Fetch.disable")
 
-    def click(self, node, quiet=False):
+    def click(self, node, quiet=False, seconds=0.5):
         """Clicks into the middle of a node; waits until what it leads to is loaded, or where it should be quiet, whether it is."""
         self.ask("DOM.scrollIntoViewIfNeeded", nodeId=node)
         quad = self.ask("DOM.getContentQuads", nodeId=node)["quads"][0]
@@ -173,7 +180,7 @@ class Window:
         def act():
             for kind in ("mousePressed", "mouseReleased"):
                 self.ask("Input.dispatchMouseEvent", type=kind, **place)
-        self.quietly(act) if quiet else self.loaded(act)
+        self.quietly(act, seconds) if quiet else self.loaded(act)
 
     def quietly(self, act, seconds=0.5):
         act()
@@ -184,9 +191,33 @@ class Window:
         self.ask("Input.insertText", text=text)
 
     def press(self, key):
-        number, text = KEYS[key]
+        number, text, commands = KEYS[key]
         for kind in ("keyDown", "keyUp"):
-            self.ask("Input.dispatchKeyEvent", type=kind, key=key, code=key, windowsVirtualKeyCode=number, text=text)
+            self.ask("Input.dispatchKeyEvent", type=kind, key=key, code=key, windowsVirtualKeyCode=number, text=text,
+                     commands=commands if kind == "keyDown" else [])
+
+    def keys(self, text):
+        """Types into what has the focus, key by key."""
+        for letter in text:
+            if letter == "\n":
+                self.press("Enter")
+            else:
+                for kind in ("keyDown", "keyUp"):
+                    self.ask("Input.dispatchKeyEvent", type=kind, key=letter, text=letter)
+
+    def write(self, node, text):
+        """Types this into a field in place of what stands there, key by key."""
+        self.ask("DOM.focus", nodeId=node)
+        self.press("Control+A")
+        self.press("Backspace")
+        self.keys(text)
+
+    def scripts(self, run):
+        """Whether scripts run in the documents that are loaded from now on."""
+        self.ask("Emulation.setScriptExecutionDisabled", value=not run)
+
+    def online(self, is_online):
+        self.ask("Network.emulateNetworkConditions", offline=not is_online, latency=0, downloadThroughput=-1, uploadThroughput=-1)
 
     def looks(self, width=1280, height=900, dark=False, phone=False):
         """How large the window is, and whether the person's system asks for dark colours."""
@@ -202,8 +233,13 @@ class Window:
     def path(self):
         return re.sub(r"^\w+://[^/]*", "", self.address())
 
-    def nodes(self, selector):
+    def nodes(self, selector, frame=None):
+        """The nodes of a selector, in the document or in that of a frame, which has a selector too. An earlier call's are forgotten."""
         root = self.ask("DOM.getDocument", depth=0)["root"]["nodeId"]
+        if frame:
+            found = self.ask("DOM.querySelector", nodeId=root, selector=frame)["nodeId"]
+            inner = self.ask("DOM.describeNode", nodeId=found, depth=1, pierce=True)["node"]["contentDocument"]["backendNodeId"]
+            root = self.ask("DOM.pushNodesByBackendIdsToFrontend", backendNodeIds=[inner])["nodeIds"][0]
         return self.ask("DOM.querySelectorAll", nodeId=root, selector=selector)["nodeIds"]
 
     def node(self, selector, text=None):
@@ -217,14 +253,40 @@ class Window:
         """The node that a click at a place would meet, of the document whose nodes were asked for last."""
         return self.ask("DOM.getNodeForLocation", x=x, y=y)["nodeId"]
 
+    def source_of_frame(self, selector):
+        """The source of a frame's document, of whatever site it is."""
+        root = self.ask("DOM.getDocument", depth=0)["root"]["nodeId"]
+        node = self.ask("DOM.querySelector", nodeId=root, selector=selector)["nodeId"]
+        frame = self.ask("DOM.describeNode", nodeId=node, depth=1, pierce=True)["node"]
+        if "contentDocument" in frame:
+            return self.ask("DOM.getOuterHTML", backendNodeId=frame["contentDocument"]["backendNodeId"])["outerHTML"]
+        # a frame of another site is a target of its own
+        session = self.browser.ask("Target.attachToTarget", targetId=frame["frameId"], flatten=True)["sessionId"]
+        root = self.browser.ask("DOM.getDocument", session, depth=0)["root"]["nodeId"]
+        return self.browser.ask("DOM.getOuterHTML", session, nodeId=root)["outerHTML"]
+
     def html_of(self, node):
         return self.ask("DOM.getOuterHTML", nodeId=node)["outerHTML"]
 
     def text_of(self, node):
         return " ".join(html.unescape(re.sub(r"<[^>]*>", "", self.html_of(node))).split())
 
-    def texts(self, selector):
-        return [self.text_of(node) for node in self.nodes(selector)]
+    def texts(self, selector, frame=None):
+        return [self.text_of(node) for node in self.nodes(selector, frame)]
+
+    def value(self, selector):
+        """What stands in a field that is shown, as the accessibility tree has it."""
+        tree = self.ask("Accessibility.getPartialAXTree", nodeId=self.node(selector), fetchRelatives=False)
+        return tree["nodes"][0].get("value", {}).get("value", "")
+
+    def until(self, holds, seconds=10):
+        """Whether something comes to hold within so many seconds."""
+        end = time.monotonic() + seconds
+        while not holds():
+            if time.monotonic() > end:
+                return False
+            self.browser.hears(lambda: False, 0.02)
+        return True
 
     def title(self):
         return "".join(self.texts("head > title"))
@@ -253,6 +315,8 @@ class Window:
         """How wide the document is: more than the window where it can be moved sideways."""
         return self.ask("Page.getLayoutMetrics")["cssContentSize"]["width"]
 
-    def picture(self, name):
+    def picture(self, name, whole=False):
+        """What the window shows as a file, or all of the document."""
         with open(name, "wb") as out:
-            out.write(base64.b64decode(self.ask("Page.captureScreenshot", format="png")["data"]))
+            out.write(base64.b64decode(self.ask("Page.captureScreenshot", format="png", captureBeyondViewport=whole, **(
+                {"clip": {**self.ask("Page.getLayoutMetrics")["cssContentSize"], "scale": 1}} if whole else {}))["data"]))
