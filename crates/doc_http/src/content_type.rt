@@ -12,8 +12,8 @@ use httparse::spans::HeaderSpan;
 /// Whether the head has one Content-Type field, and that one names `text/markdown` (RFC 9110, section 8.3).
 pub fn sends_markdown(text: &[u8], headers: &[HeaderSpan]) -> bool
     requires { All (IsHeaderWithin (length text.now)) headers.now }
-    ensures { result
-        ≡ names_markdown (values_named (codes "content-type") (map (header_bytes text.now) headers.now)) }
+    ensures { result ≡ names_markdown
+        (values_named (codes "content-type") (map (header_bytes text.now) headers.now)) }
 {
     let Some(value) = value_named(text, headers, b"content-type") else {
         return false;

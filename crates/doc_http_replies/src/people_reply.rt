@@ -81,7 +81,8 @@ impl PeopleParts<'_> {
 
 /// Adds what keeps a page to its reader, its HTML from acting by itself, and its address in the site.
 fn push_people_guards(out: &mut String, policy: &str) -> Result<(), Memory>
-    ensures { OnOk result (string_bytes out.new ≡ string_bytes out.old ++ people_guards policy.now) }
+    ensures { OnOk result
+        (string_bytes out.new ≡ string_bytes out.old ++ people_guards policy.now) }
 {
     push_field(out, "Content-Security-Policy", policy)?;
     push_nosniff(out)?;

@@ -172,8 +172,9 @@ module _ (render : Renders) (rendered rendered' : ℕ) (w v : World) where
       counted_same event same outcome is (subst (CountedHere same) (sym told) (event_counts same said h counts))
 
 -- the same of what is equal
-pub counted_by : (first render : Renders) (before rendered rendered' : ℕ) (u w v : World) (event : Event) (outcome : Outcome) → first ≡ render
-    → before ≡ rendered → u ≡ w → Counted first before u rendered' v event outcome → Counted render rendered w rendered' v event outcome
+pub counted_by : (first render : Renders) (before rendered rendered' : ℕ) (u w v : World) (event : Event) (outcome : Outcome)
+    → first ≡ render → before ≡ rendered → u ≡ w → Counted first before u rendered' v event outcome
+    → Counted render rendered w rendered' v event outcome
 counted_by first render before rendered rendered' u w v event outcome same also is counts =
     subst (λ r. Counted r rendered w rendered' v event outcome) same
     (subst (λ n. Counted first n w rendered' v event outcome) also

@@ -109,8 +109,8 @@ request_puts : (browse : Browse) (request : Request) → takes_put_if (edit_requ
 request_puts browse request takes = by browse.editing takes
   where
     by : (editing : Bool)
-        → takes_put_if (if editing then asked_by (edit_route_of request.target) (route_of request.target) (method_of request.method) else None)
-        ≡ true
+        → takes_put_if
+        (if editing then asked_by (edit_route_of request.target) (route_of request.target) (method_of request.method) else None) ≡ true
         → method_of request.method ≡ Put
     by true takes = asked_puts (edit_route_of request.target) (route_of request.target) (method_of request.method) takes
     by false takes = never takes
@@ -144,19 +144,22 @@ module _ (render : Renders) (browse : Browse) (view : View) (left other for_peop
   same_if offers guest false what same = refl
 
   same_entry : (guest : Bool) (row : Reader) (what : EditRequest) → (row.owner ≡ true → takes_put what ≡ true → left ≡ other)
-      → by_entry render browse view guest row left for_people request what ≡ by_entry render browse view guest row other for_people request what
+      → by_entry render browse view guest row left for_people request what
+      ≡ by_entry render browse view guest row other for_people request what
   same_entry guest row what same = same_if (offers_for browse guest row.owner) guest row.owner what same
 
   same_by : (asking : Asking) (what : EditRequest)
       → ((row : Reader) → row.owner ≡ true → row_of asking ≡ Some row → takes_put what ≡ true → left ≡ other)
-      → response_by render browse view asking left for_people request what ≡ response_by render browse view asking other for_people request what
+      → response_by render browse view asking left for_people request what
+      ≡ response_by render browse view asking other for_people request what
   same_by asked.Nobody what same = refl
   same_by (asked.Guest row) what same = ap Some (same_entry true row what (λ owns takes. same row owns refl takes))
   same_by (asked.Known row) what same = ap Some (same_entry false row what (λ owns takes. same row owns refl takes))
 
   same_asked : (asking : Asking) (what : Option EditRequest)
       → ((row : Reader) → row.owner ≡ true → row_of asking ≡ Some row → takes_put_if what ≡ true → left ≡ other)
-      → response_if render browse view asking left for_people request what ≡ response_if render browse view asking other for_people request what
+      → response_if render browse view asking left for_people request what
+      ≡ response_if render browse view asking other for_people request what
   same_asked asking None same = refl
   same_asked asking (Some what) same = same_by asking what same
 

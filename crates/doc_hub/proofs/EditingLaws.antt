@@ -84,12 +84,14 @@ no_request : (browse : Browse) (request : Request) → browse.editing ≡ true �
     → at_route (route_of request.target) (method_of request.method) ≡ None
 no_request browse request editing is =
     none_asked (edit_route_of request.target) (route_of request.target) (method_of request.method)
-    (sym (ap (λ b. if b then asked_by (edit_route_of request.target) (route_of request.target) (method_of request.method) else None) editing)
-    ∙ is)
+    (sym
+    (ap (λ b. if b then asked_by (edit_route_of request.target) (route_of request.target) (method_of request.method) else None)
+    editing) ∙ is)
 
 -- ---- each edit is that of the response to a request that edits
 
-module _ (render : Renders) (browse : Browse) (view : View) (left : Bool) (request : Request) (edit : Edit) (editing : browse.editing ≡ true)
+module _ (render : Renders) (browse : Browse) (view : View) (left : Bool) (request : Request) (edit : Edit)
+    (editing : browse.editing ≡ true)
   where
     -- whoever has this entry asked for it
     record Asked (asking : Asking) : Type 0 where
@@ -105,11 +107,12 @@ module _ (render : Renders) (browse : Browse) (view : View) (left : Bool) (reque
         absent edit (sym (not_editing (λ e. e ≡ None) refl render view asking left request none browse close) ∙ is)
 
     by_request : (asking : Asking) (close : Bool) (what : Option EditRequest) → edit_request_of browse request ≡ what
-        → (edited_or (response_if render browse view asking left (is_for_people request) request what) (dress_for browse asking) close request
-        (unedited browse render view asking left close request)).edit ≡ Some edit
+        → (edited_or (response_if render browse view asking left (is_for_people request) request what) (dress_for browse asking)
+        close request (unedited browse render view asking left close request)).edit ≡ Some edit
         → Asked asking
     by_request asking close None none is =
-        not_unedited asking close (response_edits_nothing render view left request (row_of asking) (no_request browse request editing none)) is
+        not_unedited asking close
+        (response_edits_nothing render view left request (row_of asking) (no_request browse request editing none)) is
     by_request asked.Nobody close (Some what) some is = not_unedited asked.Nobody close refl is
     by_request (asked.Guest row) close (Some what) some is =
         record { guest = true; row = row; what = what; is_row = refl; is_edit = is }
@@ -118,8 +121,8 @@ module _ (render : Renders) (browse : Browse) (view : View) (left : Bool) (reque
 
     by_style : (asking : Asking) (close style : Bool)
         → (if style then style_answer close request
-        else edited_or (edit_response render browse view asking left (is_for_people request) request) (dress_for browse asking) close request
-        (unedited browse render view asking left close request)).edit ≡ Some edit
+        else edited_or (edit_response render browse view asking left (is_for_people request) request) (dress_for browse asking)
+        close request (unedited browse render view asking left close request)).edit ≡ Some edit
         → Asked asking
     unfolding edit_response
     by_style asking close true is = absent edit is

@@ -36,8 +36,8 @@ map-push f [] x = refl
 map-push f (y ∷ ys) x = ap (λ zs. f y ∷ zs) (map-push f ys x)
 
 -- the same for all the events so far and one more, as the loop has it
-unfoldable pub one_more_event : (render here : Renders) (w u v : World) (events more : List Event) (outcomes told : List Outcome) (event : Event)
-    (outcome : Outcome)
+unfoldable pub one_more_event : (render here : Renders) (w u v : World) (events more : List Event) (outcomes told : List Outcome)
+    (event : Event) (outcome : Outcome)
     → here ≡ render → RunsAll render events w u outcomes → Leaves here u event v outcome → more ≡ events ++ event ∷ []
     → told ≡ outcomes ++ outcome ∷ []
     → RunsAll render more w v told

@@ -259,7 +259,8 @@ by_owner render browse offers view puts_left for_people request (requests.PutSou
     put_at view puts_left true (path_written rest) request
 by_owner render browse offers view puts_left for_people request (requests.PutPage rest) =
     put_at view puts_left false (path_written rest) request
-by_owner render browse offers view puts_left for_people request (requests.Remove rest) = remove_page (page_of view (path_written rest)) request
+by_owner render browse offers view puts_left for_people request (requests.Remove rest) =
+    remove_page (page_of view (path_written rest)) request
 by_owner render browse offers view puts_left for_people request (requests.Regroup rest) =
     regroup_named view puts_left (page_of view (path_written rest))
     (option_map groups_of (optional_parameter request.target (codes "groups"))) request

@@ -35,8 +35,8 @@ abbrev pub refusal_of : Bool → EditRequest → Reply
 refusal_of guest (requests.NotAllowed resource) = not_allowed resource
 refusal_of guest what = status_reply (if guest then 401 else 403)
 
--- One who is no owner edits nothing. In plain text they are answered by the route and the method alone; as people, guests are answered alike
--- whatever there is to be seen, and readers by their own view.
+-- One who is no owner edits nothing. In plain text they are answered by the route and the method alone; as people, guests are
+-- answered alike whatever there is to be seen, and readers by their own view.
 pub record OwnersAlone : Type 0 where
   pub edit_nothing : (render : Renders) (browse : Browse) (view : View) (guest : Bool) (reader : Reader) (puts_left for_people : Bool)
       (request : Request) (what : EditRequest)

@@ -161,16 +161,6 @@ module _ (exchange : Exchange) (request : Request) (manner : Manner) (dress : Dr
 
 -- ---- how often texts are rendered
 
--- of an answer whose edit is no move
-pub counted_plainly : (rendered accepted rendered' accepted' : ℕ) (text : List ℕ) (old new : StoreState) (answer : Answer)
-    (result : Result Answer Memory) → AnsweredSo text old answer new result → moves_of answer.edit ≡ 0
-    → OnOk result (RendersPuts rendered accepted rendered' accepted' 0 0)
-    → IfOk result (λ a. RendersPuts rendered accepted rendered' accepted' (moves_of a.edit) 0)
-counted_plainly rendered accepted rendered' accepted' text old new answer (Ok told) is none counted =
-    subst (λ moves. RendersPuts rendered accepted rendered' accepted' moves 0)
-    (sym (ap (λ (a : Answer). moves_of a.edit) is.0 ∙ none)) counted
-counted_plainly rendered accepted rendered' accepted' text old new answer (Err e) is none counted = tt
-
 -- of an answer without an edit, where nothing changes
 pub counted_alone : (rendered accepted rendered' accepted' : ℕ) (shows : Bool) (answer : Answer) (result : Result Answer Memory)
     → IfOk result (λ a. a ≡ answer) → answer.edit ≡ None → rendered' ≡ rendered → accepted' ≡ accepted → shows ≡ false

@@ -14,7 +14,8 @@ pub fn nothing_changes_without_editing()
     ensures { NothingChangesWithoutEditing }
 {}
 
-/// With settings, who asks neither for people nor for their style sheet, and doesn't edit by the settings, is answered by the same response.
+/// With settings, who asks neither for people nor for their style sheet, and doesn't edit by the settings, is answered
+/// by the same response.
 #[tactic(auto, using(crate::proofs::AnswerLaws::only_people_are_shown_pages))]
 pub fn only_people_are_shown_pages()
     ensures { OnlyPeopleAreShownPages }

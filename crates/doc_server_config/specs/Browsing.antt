@@ -1,5 +1,6 @@
--- The table `browse` of a configuration, a TOML 1.1 document: what whoever runs a site says of its pages for people. Its keys, what
--- stands for them and the order of the refusals are this project's choice: no TOML, the table, title, language, home, guest, login, editing.
+-- The table `browse` of a configuration, a TOML 1.1 document: what whoever runs a site says of its pages for people. Its keys,
+-- what stands for them and the order of the refusals are this project's choice: no TOML, the table, title, language, home,
+-- guest, login, editing.
 use Rattle.std.specs.Prelude.{ℕ, List, [], ◌∷◌, Bool, true, false, bytes_eq, codes, Option, Some, None, option_map, option_and_then}
 use Rattle.std.specs.Prelude.{Result, Ok, Err, if◌then◌else◌}
 use Rattle.std.specs.Result.{result_ok}
