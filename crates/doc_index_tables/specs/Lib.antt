@@ -1,3 +1,4 @@
 pub mod Maps
 pub mod Packed
+pub mod Pairs
 pub mod TableSteps

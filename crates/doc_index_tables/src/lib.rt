@@ -1,7 +1,9 @@
-//! Numbers by text and number, as a tree of rows by text, each row a tree by number; and texts with numbers, packed one after
-//! another. The tables of `doc_index` are made of them.
+//! Numbers by text and number, as a tree of rows by text, each row a list in the order of its numbers; and texts with numbers, packed
+//! one after another. The tables of `doc_index` are made of them.
 #![tactic(auto)]
 
+pub mod entries;
 pub mod packed;
+pub mod pairs;
 pub mod row;
 pub mod table;

@@ -4,15 +4,16 @@ ghost use Rattle.std.specs.Prelude.{◌≡◌, ◌∷◌, ◌++◌, ◌<◌, [],
 ghost use Rattle.doc_index_tables.specs.Maps.{by_bytes};
 ghost use Rattle.doc_index_tables.specs.Packed.{IsPacked, start_of, unpacked};
 
+use crate::pairs::Pairs;
 use doc_page_parts::failure::Memory;
-use doc_page_parts::heap::{BTreeMap, Heap, String, Vec};
+use doc_page_parts::heap::{BTreeMap, Heap, String};
 use std::marker::Model;
 
 /// Texts, each with a number, one after another in one text with their ends. Contracts see the list.
 #[derive(Drop)]
 pub struct Packed {
     texts: String,
-    ends: Vec<(usize, u64)>,
+    ends: Pairs,
 }
 
 impl Model for Packed {
@@ -21,9 +22,9 @@ impl Model for Packed {
 
     ghost Value = { Seq (Seq ℕ × ℕ) };
 
-    ghost view = { λ p. unpacked (string_bytes p.texts) 0 p.ends.items };
+    ghost view = { λ p. unpacked (string_bytes p.texts) 0 p.ends };
 
-    ghost invariant = { λ p. IsPacked (string_bytes p.texts) 0 p.ends.items };
+    ghost invariant = { λ p. IsPacked (string_bytes p.texts) 0 p.ends };
 }
 
 impl Packed {
@@ -33,7 +34,7 @@ impl Packed {
     {
         Packed {
             texts: String::new(heap),
-            ends: Vec::new(heap),
+            ends: Pairs::new(heap),
         }
     }
 
@@ -42,7 +43,7 @@ impl Packed {
         ensures { IfOk result (λ packed. packed ≡ by_bytes keys.now.entries) }
     {
         let mut texts = String::with_capacity(heap, room_of(keys))?;
-        let mut ends = Vec::with_capacity(heap, keys.len())?;
+        let mut ends = Pairs::with_capacity(heap, keys.len())?;
         for (key, count) in keys.iter() {
             push(&mut texts, &mut ends, key.as_str(), *count)?;
         }
@@ -55,7 +56,7 @@ impl Packed {
     {
         Ok(Packed {
             texts: String::from_str(heap, self.texts.as_str())?,
-            ends: Vec::from_slice(heap, &self.ends)?,
+            ends: self.ends.copy(heap)?,
         })
     }
 
@@ -63,7 +64,7 @@ impl Packed {
     pub fn len(&self) -> usize
         ensures { result ≡ length self.now }
     {
-        self.ends.as_slice().len()
+        self.ends.len()
     }
 
     /// The text and the number at a place.
@@ -73,20 +74,20 @@ impl Packed {
             ≡ slice_index_or self.now at (result.0.now, result.1) }
     {
         let start = start_of(&self.ends, at);
-        let (end, number) = self.ends[at];
-        (&self.texts.as_str()[start..end], number)
+        let (end, number) = self.ends.at(at);
+        (&self.texts.as_str()[start..end as usize], number)
     }
 }
 
 /// Where the text of a place begins: where the one before it ends.
-fn start_of(ends: &[(usize, u64)], at: usize) -> usize
+fn start_of(ends: &Pairs, at: usize) -> usize
     requires { at < length ends.now }
     ensures { result ≡ start_of 0 ends.now at }
 {
     if at == 0 {
         return 0;
     }
-    ends[at - 1].0
+    ends.at(at - 1).0 as usize
 }
 
 /// How many bytes the texts take.
@@ -99,17 +100,12 @@ fn room_of(keys: &BTreeMap<String, u64>) -> usize {
 }
 
 /// Adds a text with its number.
-fn push(
-    texts: &mut String,
-    ends: &mut Vec<(usize, u64)>,
-    text: &str,
-    number: u64,
-) -> Result<(), Memory>
-    requires { IsPacked (string_bytes texts.old) 0 ends.old.items }
-    ensures packed { OnOk result (IsPacked (string_bytes texts.new) 0 ends.new.items) }
-    ensures added { OnOk result (unpacked (string_bytes texts.new) 0 ends.new.items
-        ≡ unpacked (string_bytes texts.old) 0 ends.old.items ++ (text.now, number) ∷ []) }
+fn push(texts: &mut String, ends: &mut Pairs, text: &str, number: u64) -> Result<(), Memory>
+    requires { IsPacked (string_bytes texts.old) 0 ends.old }
+    ensures packed { OnOk result (IsPacked (string_bytes texts.new) 0 ends.new) }
+    ensures added { OnOk result (unpacked (string_bytes texts.new) 0 ends.new
+        ≡ unpacked (string_bytes texts.old) 0 ends.old ++ (text.now, number) ∷ []) }
 {
     texts.push_str(text)?;
-    Ok(ends.push((texts.as_str().len(), number))?)
+    ends.push((texts.as_str().len() as u64, number))
 }

@@ -141,7 +141,7 @@ fn push_numbers(numbers: &mut Vec<u64>, row: &Row) -> Result<(), Memory>
     ensures { OnOk result (numbers.new.items ≡ numbers.old.items ++ row_numbers row.now) }
 {
     for (_, number) in row.iter() {
-        numbers.push(*number)?;
+        numbers.push(number)?;
     }
     Ok(())
 }

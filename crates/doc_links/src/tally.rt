@@ -151,7 +151,7 @@ fn add_row<S: Sight>(
         ≡ with_row pages.now (S.goals sight.now) tally.old (map.entries row.now)) }
 {
     for (slot, count) in row.iter() {
-        add_slot(heap, tally, pages, *slot, *count, sight)?;
+        add_slot(heap, tally, pages, slot, count, sight)?;
     }
     Ok(())
 }

@@ -67,7 +67,7 @@ fn mark_row(marks: &mut Vec<bool>, slots: &mut Vec<u64>, row: &Row) -> Result<()
         → is_some (map.get row.now slot) ≡ true → marked_at marks.new.items slot ≡ true) }
 {
     for (slot, _) in row.iter() {
-        mark(marks, slots, *slot)?;
+        mark(marks, slots, slot)?;
     }
     Ok(())
 }

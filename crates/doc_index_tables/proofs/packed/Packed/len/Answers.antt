@@ -4,5 +4,5 @@ use Rattle.doc_index_tables.proofs.packed.Packed.len.Goals as goal
 
 pub returns : goal.returns
 returns c =
-    ap length c.as_slice.ensures.value
-    ∙ sym (length_unpacked (string_bytes c.self.inside.texts) 0 c.self.inside.ends.items) ∙ ap length c.self.view_is
+    c.len.ensures
+    ∙ sym (length_unpacked (string_bytes c.self.inside.texts) 0 c.self.inside.ends) ∙ ap length c.self.view_is

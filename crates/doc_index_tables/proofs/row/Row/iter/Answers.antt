@@ -1,11 +1,6 @@
-use Rattle.std.proofs.Common.{◌∙◌, ap, sym}
-use Rattle.std.specs.FinMap as map
-use Rattle.std.proofs.lemmas.Cmp.{nat_cmp_total}
-use Rattle.std.proofs.lemmas.Map.Lookups.{exact_unsigned}
-use Rattle.doc_page_parts.proofs.Maps.{entries_in_order}
+use Rattle.std.proofs.Common.{◌∙◌, sym}
+use Rattle.doc_index_tables.proofs.PlaceSteps.{entries_are}
 use Rattle.doc_index_tables.proofs.row.Row.iter.Goals as goal
 
 pub returns : goal.returns
-returns c =
-    c.iter.ensures.rest ∙ sym (entries_in_order nat_cmp_total exact_unsigned c.self.inside.entries.entries c.iter.ensures.ordered)
-    ∙ ap map.entries c.self.view_is
+returns c = c.new.ensures ∙ sym (entries_are c.self.inside.entries c.self.invariant c.args.self.now c.self.view_is)

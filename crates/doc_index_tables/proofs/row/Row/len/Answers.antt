@@ -1,11 +1,10 @@
-use Rattle.std.proofs.Common.{◌∙◌, ap}
+use Rattle.std.proofs.Common.{◌∙◌, ap, length, sym}
 use Rattle.std.specs.FinMap as map
-use Rattle.std.proofs.lemmas.Cmp.{nat_cmp_total}
-use Rattle.std.proofs.lemmas.Map.Lookups.{exact_unsigned}
-use Rattle.doc_page_parts.proofs.Maps.{len-sorted}
+use Rattle.doc_index_tables.proofs.PlaceSteps.{entries_are}
 use Rattle.doc_index_tables.proofs.row.Row.len.Goals as goal
 
 pub returns : goal.returns
 returns c =
-    c.len.ensures.len ∙ len-sorted nat_cmp_total exact_unsigned c.self.inside.entries.entries c.len.ensures.ordered
-    ∙ ap map.len c.self.view_is
+    c.len.ensures
+    ∙ sym (map.len-entries c.args.self.now
+    ∙ ap length (entries_are c.self.inside.entries c.self.invariant c.args.self.now c.self.view_is))

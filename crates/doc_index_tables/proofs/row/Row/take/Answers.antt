@@ -1,12 +1,21 @@
-use Rattle.std.proofs.Common.{◌∙◌, ap}
+use Rattle.std.proofs.Common.{◌∙◌, ap, subst, sym}
 use Rattle.std.specs.FinMap as map
-use Rattle.std.proofs.lemmas.Cmp.{nat_cmp_total}
-use Rattle.std.proofs.lemmas.Map.Lookups.{exact_unsigned}
-use Rattle.doc_page_parts.proofs.Maps.{removed}
+use Rattle.doc_index_tables.proofs.PlaceSteps.{IsInOrder, nothing_removed, removed_in}
 use Rattle.doc_index_tables.proofs.row.Row.take.Goals as goal
 
-pub returns : goal.returns
-returns c =
-    removed nat_cmp_total exact_unsigned c.self.inside.entries.entries c.remove.new.self.entries c.args.number
-    c.remove.ensures.updates.0
-    ∙ ap (λ m. map.remove m c.args.number) c.self.view_is
+pub invariant_of-self : goal.invariant_of-self
+invariant_of-self c =
+    subst IsInOrder (sym c.remove.ensures)
+    (removed_in c.self.inside.entries c.self.invariant c.args.self.now c.self.view_is c.args.number c.in-Ok.at
+    c.in-Ok.ensures.within c.in-Ok.ensures.place).0
+
+pub returns-in-Ok : goal.returns-in-Ok
+returns-in-Ok c =
+    ap map.from_sorted c.remove.ensures
+    ∙ (removed_in c.self.inside.entries c.self.invariant c.args.self.now c.self.view_is c.args.number c.in-Ok.at
+    c.in-Ok.ensures.within c.in-Ok.ensures.place).1
+
+pub returns-in_default : goal.returns-in_default
+returns-in_default c =
+    sym (nothing_removed c.self.inside.entries c.self.invariant c.args.self.now c.self.view_is c.args.number c.in_default.field-0
+    c.in_default.ensures.within c.in_default.ensures.place)
