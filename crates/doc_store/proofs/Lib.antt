@@ -1,6 +1,8 @@
 mod StoreExamples
 pub mod AliasSteps
+pub mod CountSteps
 pub mod NamesLaw
+pub mod PageCounts
 pub mod PageSteps
 pub mod SeenLaw
 pub mod SetSteps
@@ -9,3 +11,4 @@ pub mod StampLaw
 pub mod StateSteps
 pub mod StoreOnLists
 pub mod StoreSteps
+pub mod SumSteps

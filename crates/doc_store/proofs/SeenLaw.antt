@@ -12,7 +12,7 @@ use Rattle.std.specs.declared.cmp.Ordering.TheVariants.{Equal}
 use Rattle.std.proofs.lemmas.Cmp.{nat_list_cmp_total}
 use Rattle.std.proofs.lemmas.Map.Entries.{option_filter}
 use Rattle.std.proofs.lemmas.Map.Lookups.{exact_bytes}
-use Rattle.doc_page_parts.proofs.Maps.{entries_in_order, len-sorted, is_sorted_keys}
+use Rattle.doc_page_parts.proofs.Maps.{len-sorted, is_sorted_keys}
 use Rattle.doc_page_parts.specs.Sights.{leads_to_itself, seen}
 use Rattle.doc_store_readers.proofs.FilterSteps.{some_in_order}
 use Rattle.doc_store_readers.proofs.MapSteps.{get_filtered}
@@ -110,16 +110,6 @@ values_kept p (entry ∷ rest) = by (p entry.1) (filter p (values_of rest)) (fil
         → length (cond b (entry.1 ∷ some) some) ≡ length (cond b (entry ∷ others) others)
     by true some others e = ap (λ n. suc n) e
     by false some others e = e
-
--- the values of sorted entries are those of the map that they make
-pub values_seen : (reader : Option Reader) (entries : List (List ℕ × StampedPage)) (pages : TextMap StampedPage)
-    → IsStrictlySortedBy (slice_cmp nat_cmp) (keys_of entries) → map.from_entries entries ≡ pages
-    → length (filter (λ page. may_see reader page.page) (values_of entries))
-    ≡ length (filter (λ page. may_see reader page.page) (map.values pages))
-values_seen reader entries pages sorted is =
-    ap (λ es. length (filter (λ page. may_see reader page.page) (values_of es)))
-    (sym (entries_in_order nat_list_cmp_total exact_bytes entries sorted))
-    ∙ ap (λ m. length (filter (λ page. may_see reader page.page) (map.values m))) is
 
 pub count_of_seen : (reader : Option Reader) (pages : TextMap StampedPage) (aliases : TextMap (List ℕ))
     → length (filter (λ page. may_see reader page.page) (map.values pages)) ≡ length (view_of (site_with pages aliases) reader).pages

@@ -5,7 +5,9 @@
 
 mod aliases;
 mod by_goal;
+mod counted_pages;
 mod goals;
+mod group_sets;
 pub mod laws;
 pub mod moving;
 mod pages;

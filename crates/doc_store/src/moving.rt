@@ -6,7 +6,7 @@ ghost use Rattle.doc_store.specs.MoveSteps.{with_stamped};
 ghost use Rattle.doc_store.specs.Store.{aliases_after};
 
 use crate::aliases::Aliases;
-use crate::pages::Pages;
+use crate::counted_pages::CountedPages;
 use doc_page_parts::failure::Memory;
 use doc_page_parts::heap::Heap;
 use doc_page_parts::path::Path;
@@ -44,7 +44,7 @@ impl From<Memory> for MoveError {
 /// there. What needs memory comes first.
 pub(crate) fn move_page(
     heap: Heap,
-    pages: &mut Pages,
+    pages: &mut CountedPages,
     aliases: &mut Aliases,
     from: &Path,
     to: &Path,

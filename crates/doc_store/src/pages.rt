@@ -1,17 +1,13 @@
 //! The pages of a site by their paths.
 
-ghost use Rattle.std.specs.Prelude.{◌≡◌, ◌<◌, ◌^◌, Some, IsTrue, IfOk, OnOk, OnErr, length, option_copied, option_map};
+ghost use Rattle.std.specs.Prelude.{◌≡◌, ◌<◌, ◌^◌, IsTrue, IfErr, OnOk, OnErr, option_copied, option_map};
 ghost use Rattle.std.specs.FinMap as map;
-ghost use Rattle.std.specs.List.{filter};
 ghost use Rattle.doc_store.specs.MoveSteps.{with_stamped};
-ghost use Rattle.doc_store_readers.specs.Pages.{empty_page};
-ghost use Rattle.doc_store_readers.specs.Sites.{may_see};
 
-use doc_page_parts::failure::Memory;
 use doc_page_parts::heap::{BTreeMap, Heap};
 use doc_page_parts::path::Path;
 use doc_store_readers::page::Page;
-use doc_store_readers::reader::Reader;
+use std::alloc::AllocFailed;
 use std::collections::btree_map::Iter;
 use std::marker::Model;
 
@@ -44,7 +40,8 @@ impl Pages {
     }
 
     pub fn len(&self) -> usize
-        ensures { result ≡ map.len self.now }
+        ensures len { result ≡ map.len self.now }
+        ensures small { result < 2 ^ 63 }
     {
         self.entries.len()
     }
@@ -71,58 +68,32 @@ impl Pages {
         self.entries.iter()
     }
 
-    /// How many of the pages a reader may see.
-    pub fn count_seen(&self, reader: &Reader) -> usize
-        ensures { result
-            ≡ length (filter (λ page. may_see (Some reader.now) page.page) (map.values self.now)) }
-    {
-        self.entries
-            .values()
-            .filter(|page| reader.may_see(*page))
-            .count()
-    }
-
     pub fn contains(&self, path: &Path) -> bool
         ensures { result ≡ map.contains_key self.now path.now }
     {
         self.entries.contains_key(path)
     }
 
-    /// Sets the page of a path, and answers the stamp of the page that stood there. It takes memory only for a new path.
-    pub fn set(&mut self, heap: Heap, path: &Path, page: Page) -> Result<Option<u64>, Memory>
+    /// Adds a page under a path, or sets it. A page that is refused for want of memory comes back.
+    pub fn insert(&mut self, heap: Heap, path: &Path, page: Page) -> Result<(), Page>
         ensures ok { OnOk result (self.new ≡ map.insert self.old path.now page) }
-        ensures before { IfOk result (λ stamp. stamp
-            ≡ option_map (λ page. page.stamp) (map.get self.old path.now)) }
+        ensures back { IfErr result (λ refused. refused ≡ page) }
         ensures err { OnErr result (self.new ≡ self.old) }
     {
-        let Some(before) = self.stamp(path) else {
-            self.insert(path.copy(heap)?, page)?;
-            return Ok(None);
+        let Ok(path) = path.copy(heap) else {
+            return Err(page);
         };
-        self.replace(path, page);
-        Ok(Some(before))
+        match self.entries.insert(path, page) {
+            Ok(_) => Ok(()),
+            Err(refused) => {
+                let AllocFailed { value: (_, page) } = refused;
+                Err(page)
+            }
+        }
     }
 
-    /// The stamp of the page of a path.
-    fn stamp(&self, path: &Path) -> Option<u64>
-        ensures { result ≡ option_map (λ page. page.stamp) (map.get self.now path.now) }
-    {
-        let Some(page) = self.get(path) else {
-            return None;
-        };
-        Some(page.stamp())
-    }
-
-    fn insert(&mut self, path: Path, page: Page) -> Result<(), Memory>
-        ensures ok { OnOk result (self.new ≡ map.insert self.old path page) }
-        ensures err { OnErr result (self.new ≡ self.old) }
-    {
-        self.entries.insert(path, page)?;
-        Ok(())
-    }
-
-    /// Sets the page of a path that has one.
-    fn replace(&mut self, path: &Path, page: Page)
+    /// Sets the page of a path that has one. It takes no memory.
+    pub fn replace(&mut self, path: &Path, page: Page)
         requires { IsTrue (map.contains_key self.old path.now) }
         ensures { self.new ≡ map.insert self.old path.now page }
     {
@@ -138,14 +109,6 @@ impl Pages {
         ensures rest { self.new ≡ map.remove self.old path.now }
     {
         self.entries.remove(path)
-    }
-
-    /// Makes room for a page under a path that has none.
-    pub fn make_room(&mut self, heap: Heap, path: &Path) -> Result<(), Memory>
-        ensures ok { OnOk result (self.new ≡ map.insert self.old path.now empty_page) }
-        ensures err { OnErr result (self.new ≡ self.old) }
-    {
-        self.insert(path.copy(heap)?, Page::empty(heap))
     }
 
     /// Takes the page of one path into the room under another, with another stamp. It takes no memory.

@@ -4,7 +4,7 @@ ghost use Rattle.std.specs.Prelude.{◌≡◌, Some, None, MatchOption};
 ghost use Rattle.doc_store_readers.specs.Sites.{IsSite};
 
 use crate::aliases::Aliases;
-use crate::pages::Pages;
+use crate::counted_pages::CountedPages;
 use doc_page_parts::path::Path;
 use doc_page_parts::sight::Sight;
 use doc_store_readers::reader::Reader;
@@ -14,7 +14,7 @@ use std::marker::Model;
 /// aliases that lead to such pages. An alias of a hidden page leads nowhere.
 #[derive(Drop)]
 pub struct SiteSight<'a> {
-    pages: &'a Pages,
+    pages: &'a CountedPages,
     aliases: &'a Aliases,
     reader: &'a Reader,
 }
@@ -37,7 +37,11 @@ impl<'a> SiteSight<'a> {
     ghost use Rattle.doc_store_readers.specs.Sites.{IsSite, view_of};
     ghost use Rattle.doc_store.specs.Store.{site_with};
 
-    pub(crate) fn new(pages: &'a Pages, aliases: &'a Aliases, reader: &'a Reader) -> SiteSight<'a>
+    pub(crate) fn new(
+        pages: &'a CountedPages,
+        aliases: &'a Aliases,
+        reader: &'a Reader,
+    ) -> SiteSight<'a>
         requires { IsSite (site_with pages.now aliases.now) }
         ensures { result ≡ view_of (site_with pages.now aliases.now) (Some reader.now) }
     {

@@ -11,8 +11,8 @@ ghost use Rattle.doc_store.specs.Store.{IsStore, StoreState, empty_store, fits, 
 ghost use Rattle.doc_store.specs.Store.{move_fits, moved_in, put_into, stamp_after, with_page, without_page};
 
 use crate::aliases::Aliases;
+use crate::counted_pages::CountedPages;
 use crate::moving::{MoveError, move_page};
-use crate::pages::Pages;
 use crate::site_sight::SiteSight;
 use doc_page_parts::failure::Memory;
 use doc_page_parts::heap::{Heap, Vec};
@@ -73,7 +73,7 @@ const ALIAS_LIMIT: usize = 10_000;
 #[derive(Drop)]
 pub struct Store {
     heap: Heap,
-    pages: Pages,
+    pages: CountedPages,
     aliases: Aliases,
     puts: u64,
 }
@@ -97,7 +97,7 @@ impl Store {
     {
         Store {
             heap,
-            pages: Pages::new(heap),
+            pages: CountedPages::new(heap),
             aliases: Aliases::new(heap),
             puts: 0,
         }
@@ -238,7 +238,7 @@ impl Store {
         self.pages.iter()
     }
 
-    /// How many pages the reader sees. It takes no memory, and a step for each page of the store.
+    /// How many pages the reader sees. It takes no memory, and a step for each set of groups that pages have.
     pub fn count_seen(&self, reader: &Reader) -> usize
         ensures { result ≡ length (view_of self.now.site (Some reader.now)).pages }
     {
