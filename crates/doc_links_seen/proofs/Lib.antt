@@ -1,2 +1,3 @@
 pub mod AnswerSteps
+pub mod MemoSteps
 pub mod SearchSteps

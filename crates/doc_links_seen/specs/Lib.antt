@@ -1,2 +1,3 @@
+pub mod Memos
 pub mod SeenPages
 pub mod SeenSteps

@@ -3,5 +3,6 @@
 //! Of a page that isn't seen nothing is told, and a link to it is as a link to none.
 #![tactic(auto)]
 
+pub(crate) mod memo;
 pub mod report;
 pub mod seen;

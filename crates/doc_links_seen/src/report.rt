@@ -1,11 +1,13 @@
 //! Broken links.
 
-ghost use Rattle.std.specs.Prelude.{◌≡◌, ◌++◌, [], ◌∷◌, IfOk, OnOk, option_and_then, option_copied, option_map};
+ghost use Rattle.std.specs.Prelude.{◌≡◌, ◌++◌, [], ◌∷◌, IfOk, OnOk, option_map};
+ghost use Rattle.doc_links_seen.specs.Memos.{IsMemo};
 ghost use Rattle.doc_links_seen.specs.SeenSteps.{IsInOrder};
-ghost use Rattle.doc_links_pages.specs.Links.{broken, broken_by, broken_from, fault_in, fault_of, page_at};
+ghost use Rattle.doc_links_pages.specs.Links.{broken, broken_by, broken_from, fault_in, fault_of, page_among};
 ghost use Rattle.doc_links_seen.specs.SeenPages.{seen_page, seen_pages};
 
-use crate::seen::{SeenPage, page_at};
+use crate::memo::Memo;
+use crate::seen::SeenPage;
 use doc_links_pages::answers::{Broken, Reason};
 use doc_links_pages::reference::with_anchor;
 use doc_page_parts::failure::Memory;
@@ -26,27 +28,31 @@ pub fn broken_in<S: Sight>(
         → IfOk result (λ all. all ≡ broken (S.goals sight.now) (seen_pages pages.now)) }
 {
     let mut all = Vec::new(heap);
+    let mut memo = Memo::new(heap);
     for page in pages {
-        push_broken(heap, &mut all, page, pages, sight)?;
+        push_broken(heap, &mut all, page, pages, sight, &mut memo)?;
     }
     Ok(List::new(all))
 }
 
 /// Adds the broken links of a page.
-fn push_broken<S: Sight>(
+fn push_broken<'a, S: Sight>(
     heap: Heap,
     all: &mut Vec<Broken>,
-    page: &SeenPage,
-    pages: &[SeenPage],
+    page: &SeenPage<'a>,
+    pages: &[SeenPage<'a>],
     sight: &S,
+    memo: &mut Memo<'a>,
 ) -> Result<(), Memory>
-    ensures { IsInOrder (seen_pages pages.now) → OnOk result (all.new.items ≡ all.old.items
+    requires { IsMemo (S.goals sight.now) (seen_pages pages.now) memo.old }
+    ensures all { IsInOrder (seen_pages pages.now) → OnOk result (all.new.items ≡ all.old.items
         ++ broken_from (S.goals sight.now) (seen_pages pages.now) page.now.path.now 1
         page.now.known.now.links) }
+    ensures memo { IsMemo (S.goals sight.now) (seen_pages pages.now) memo.new }
 {
     for (index, link) in page.links().iter().enumerate() {
         let place = index as u64 + 1;
-        if let Some((reason, target)) = fault_of(heap, link, pages, sight)? {
+        if let Some((reason, target)) = fault_of(heap, link, pages, sight, memo)? {
             push_fault(heap, all, page.path(), place, reason, target)?;
         }
     }
@@ -76,34 +82,26 @@ fn push_fault(
 }
 
 /// Why a link is broken, if it is, and what is told of it.
-fn fault_of<S: Sight>(
+fn fault_of<'a, S: Sight>(
     heap: Heap,
-    link: &LinkKind,
-    pages: &[SeenPage],
+    link: &'a LinkKind,
+    pages: &[SeenPage<'a>],
     sight: &S,
+    memo: &mut Memo<'a>,
 ) -> Result<Option<(Reason, Text)>, Memory>
-    ensures { IsInOrder (seen_pages pages.now) → IfOk result (λ fault.
+    requires { IsMemo (S.goals sight.now) (seen_pages pages.now) memo.old }
+    ensures fault { IsInOrder (seen_pages pages.now) → IfOk result (λ fault.
         fault ≡ fault_of (S.goals sight.now) (seen_pages pages.now) link.now) }
+    ensures memo { IsMemo (S.goals sight.now) (seen_pages pages.now) memo.new }
 {
     match link {
         LinkKind::External => Ok(None),
         LinkKind::Page { path, anchor } => {
-            let page = page_among(pages, sight.goal(path));
+            let page = memo.page_among(path, pages, sight);
             fault_in(heap, path, anchor, page)
         }
         LinkKind::Nowhere => Ok(Some((Reason::Path, Text::copy_of(heap, "-")?))),
     }
-}
-
-/// The page at a path, where there is one and it is one of these.
-fn page_among<'a>(pages: &[SeenPage<'a>], goal: Option<&Path>) -> Option<SeenPage<'a>>
-    ensures { IsInOrder (seen_pages pages.now) → option_map seen_page result
-        ≡ option_and_then (page_at (seen_pages pages.now)) (option_copied goal.entry) }
-{
-    let Some(goal) = goal else {
-        return None;
-    };
-    page_at(pages, goal)
 }
 
 /// Why a link to a path and an anchor is broken, if it is, by the page that the path leads to.

@@ -6,4 +6,4 @@ pub returns : goal.returns
 returns g c = λ sorted.
     c.new.ensures
     ∙ all_broken (g.S.Sight.goals c.args.sight.now) c.args.pages.now c.loop-page.page-index (omega (arith, c.loop-page-test.false))
-    c.loop-page.all.items (c.loop-page.invariant sorted)
+    c.loop-page.all.items (c.loop-page.invariant.1 sorted)
