@@ -64,13 +64,16 @@ impl PageWriter {
         let PageWriter {
             heap: _,
             mut pieces,
-            html,
+            mut html,
             fresh: _,
             anchors: _,
-            headings,
+            mut headings,
             texts,
         } = self;
+        html.shrink_to_fit();
         push_last(&mut pieces, html)?;
+        pieces.shrink_to_fit();
+        headings.shrink_to_fit();
         Ok(Rendered {
             pieces: List::new(pieces),
             headings: List::new(headings),

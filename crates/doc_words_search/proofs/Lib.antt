@@ -1,4 +1,5 @@
 pub mod AgreeSteps
+pub mod AsciiSteps
 pub mod CountSteps
 mod Examples
 pub mod HeldSteps

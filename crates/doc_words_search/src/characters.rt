@@ -12,6 +12,9 @@ use unicode::properties::{GeneralCategory, GeneralCategoryGroup};
 pub fn is_word_char(c: char) -> bool
     ensures { result ≡ is_word_char c }
 {
+    if c.is_ascii() {
+        return c.is_ascii_alphanumeric();
+    }
     let category = GeneralCategory::for_char(c);
     GeneralCategoryGroup::Letter.contains(category)
         || GeneralCategoryGroup::Mark.contains(category)

@@ -1,10 +1,11 @@
 //! Words that are counted.
 
-ghost use Rattle.std.specs.Prelude.{◌≡◌, ◌∷◌, [], ℕ, List as Seq, chars, string_bytes, string_cmp, None, IfOk, OnOk, map as mapped};
+ghost use Rattle.std.specs.Prelude.{◌≡◌, ◌∷◌, [], ℕ, List as Seq, MatchBool, None, IfOk, OnOk};
+ghost use Rattle.std.specs.Prelude.{chars, string_bytes, string_cmp, map as mapped};
 ghost use Rattle.std.specs.BTreeMap.{IsOrdered};
 ghost use Rattle.std.specs.FinMap as map;
 ghost use Rattle.doc_index_tables.specs.Maps.{by_bytes, text_map};
-ghost use Rattle.doc_words_search.specs.Words.{words_of};
+ghost use Rattle.doc_words_search.specs.Words.{folded, words_of};
 ghost use Rattle.doc_words_search.specs.WordSteps.{counted, one_more, word_if, words_after};
 
 use crate::characters::{folded, is_word_char, push_char};
@@ -67,11 +68,32 @@ impl Counter {
     pub(crate) fn add(&mut self, word: String) -> Result<(), Memory>
         ensures { OnOk result (self.new ≡ one_more self.old (string_bytes word)) }
     {
-        let Some(count) = self.counts.get_mut(word.as_str()) else {
-            return self.add_first(word);
+        if self.count_again(word.as_str()) {
+            return Ok(());
+        }
+        self.add_first(word)
+    }
+
+    /// Counts a word, and copies it only where it is new.
+    fn add_text(&mut self, heap: Heap, word: &str) -> Result<(), Memory>
+        ensures { OnOk result (self.new ≡ one_more self.old word.now) }
+    {
+        if self.count_again(word) {
+            return Ok(());
+        }
+        self.add_first(String::from_str(heap, word)?)
+    }
+
+    /// Counts a word that has a count, and tells whether it has.
+    fn count_again(&mut self, word: &str) -> bool
+        ensures { MatchBool result (self.new ≡ one_more self.old word.now)
+            ((self.new ≡ self.old) × (map.get self.old word.now ≡ None)) }
+    {
+        let Some(count) = self.counts.get_mut(word) else {
+            return false;
         };
         *count = count.saturating_add(1);
-        Ok(())
+        true
     }
 
     /// Counts a word that has no count.
@@ -116,9 +138,21 @@ fn end_run(heap: Heap, counter: &mut Counter, run: &mut String) -> Result<(), Me
     if run.as_str().is_empty() {
         return Ok(());
     }
-    let word = folded(heap, run.as_str())?;
+    count_run(heap, counter, run)?;
     run.clear();
-    counter.add(word)
+    Ok(())
+}
+
+/// Counts the word of a run. One of ASCII is folded where it stands.
+fn count_run(heap: Heap, counter: &mut Counter, run: &mut String) -> Result<(), Memory>
+    ensures { OnOk result (counter.new
+        ≡ one_more counter.old (folded (chars (string_bytes run.old)))) }
+{
+    if run.as_str().is_ascii() {
+        run.make_ascii_lowercase();
+        return counter.add_text(heap, run.as_str());
+    }
+    counter.add(folded(heap, run.as_str())?)
 }
 
 /// The entries of a map, as words.

@@ -1,8 +1,5 @@
-use Rattle.std.proofs.Common.{ap, chars, rules, string_bytes, ◌≡◌, ◌∙◌}
+use Rattle.std.proofs.Common.{ap, chars, rules, string_bytes, ◌∙◌}
 use Rattle.std.proofs.lemmas.Str.{IsUtf8-string_bytes, chars-nil}
-use Rattle.std.proofs.lemmas.Result.{on_ok_weaker}
-use Rattle.doc_words_search.specs.Words.{folded}
-use Rattle.doc_words_search.specs.WordSteps.{one_more}
 use Rattle.doc_words_search.proofs.RunSteps.{no_chars, no_run, one_run}
 use Rattle.doc_words_search.proofs.counter.end_run.Goals as goal
 
@@ -14,10 +11,8 @@ returns-then-is_empty-clause-run c = no_chars (string_bytes c.args.run.now) _ (s
 
 pub returns-clause-counts : goal.returns-clause-counts
 returns-clause-counts c =
-    let word : string_bytes c.in_ok-word.word ≡ folded (chars (string_bytes c.args.run.now)) = search rules in
-    on_ok_weaker c.add.result (λ is. is ∙ ap (one_more c.args.counter.now) word
-    ∙ one_run c.args.counter.now (string_bytes c.args.run.now) _ (IsUtf8-string_bytes c.args.run.now) (search rules) c.if-is_empty.false)
-    c.add.ensures
+    c.in_ok-count_run.ensures
+    ∙ one_run c.args.counter.now (string_bytes c.args.run.now) _ (IsUtf8-string_bytes c.args.run.now) (search rules) c.if-is_empty.false
 
 pub returns-clause-run : goal.returns-clause-run
-returns-clause-run c = on_ok_weaker c.add.result (λ is. ap chars c.clear.ensures.bytes ∙ chars-nil) c.add.ensures
+returns-clause-run c = ap chars c.clear.ensures.bytes ∙ chars-nil
