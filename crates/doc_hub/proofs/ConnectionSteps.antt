@@ -8,8 +8,8 @@ use Rattle.std.proofs.lemmas.Bool.Decides.{nat_tests}
 use Rattle.std.proofs.lemmas.Map.Lookups.{exact_unsigned}
 use Rattle.doc_page_parts.specs.Refusals.{Gives, IsAnswer}
 use Rattle.doc_hub.specs.declared.connection.Connection.{Connection}
-use Rattle.doc_hub.specs.declared.refusal.PushError.{PushError}
-use Rattle.doc_hub.specs.declared.refusal.PushError.TheVariants.{NoConnection, Memory}
+use Rattle.doc_hub_events.specs.declared.refusal.PushError.{PushError}
+use Rattle.doc_hub_events.specs.declared.refusal.PushError.TheVariants.{NoConnection, Memory}
 use Rattle.doc_hub.specs.Connections.{Connections, pushed, pushed_at, pushed_onto, with_pushed, finished}
 
 same_at : {X : Type 0} (m : map.FinMap nat_cmp X) (k q : ℕ) (v : X) (b : Bool) → map.get m k ≡ Some v → eq_by_cmp nat_cmp q k ≡ b

@@ -16,20 +16,20 @@ use Rattle.doc_store.proofs.StoreSteps.{taken_out}
 use Rattle.doc_hub.specs.Counts.{AllTally, Counted, CountedAll, CountsFor, CountsOn, CountsSite, Previews, Tallies, moves_in_edit, ran_out}
 use Rattle.doc_hub_answers.specs.Counts.{RendersPuts}
 use Rattle.doc_hub.specs.EditLaws.{Makes, made_if}
-use Rattle.doc_hub.specs.Events.{Said, SaidOn, SaidSite, moving, outcome_of, outcome_of_site, outcome_on, putting}
+use Rattle.doc_hub_events.specs.Events.{Said, SaidOn, SaidSite, moving, outcome_of, outcome_of_site, outcome_on, putting}
 use Rattle.doc_hub_answers.specs.Replies.{Renders}
 use Rattle.doc_hub.specs.Runs.{Happened, Happens, HappensOn, HappensSite, Leaves, nothing}
 use Rattle.doc_hub.specs.Worlds.{World, connected, last_id, store_of, with_store, world_pushed}
-use Rattle.doc_hub.specs.declared.event.ConnId.{ConnId}
+use Rattle.doc_hub_events.specs.declared.event.ConnId.{ConnId}
 use Rattle.doc_store.specs.declared.site_edit.SiteEdit.{SiteEdit}
 use Rattle.doc_store.specs.declared.site_edit.SiteEdit.TheVariants as site_edits
-use Rattle.doc_hub.specs.declared.event.ConnectionEvent.{ConnectionEvent}
-use Rattle.doc_hub.specs.declared.event.ConnectionEvent.TheVariants as calls
-use Rattle.doc_hub.specs.declared.event.Event.{Event}
-use Rattle.doc_hub.specs.declared.event.Event.TheVariants as events
-use Rattle.doc_hub.specs.declared.outcome.Outcome.{Outcome}
-use Rattle.doc_hub.specs.declared.refusal.ConnectError.TheVariants as connect_errors
-use Rattle.doc_hub.specs.declared.refusal.PushError.TheVariants as push_errors
+use Rattle.doc_hub_events.specs.declared.event.ConnectionEvent.{ConnectionEvent}
+use Rattle.doc_hub_events.specs.declared.event.ConnectionEvent.TheVariants as calls
+use Rattle.doc_hub_events.specs.declared.event.Event.{Event}
+use Rattle.doc_hub_events.specs.declared.event.Event.TheVariants as events
+use Rattle.doc_hub_events.specs.declared.outcome.Outcome.{Outcome}
+use Rattle.doc_hub_events.specs.declared.refusal.ConnectError.TheVariants as connect_errors
+use Rattle.doc_hub_events.specs.declared.refusal.PushError.TheVariants as push_errors
 use Rattle.doc_hub.proofs.KindSteps.{stand_beside}
 use Rattle.doc_hub.proofs.PutCounts.{connected_if}
 use Rattle.doc_hub.proofs.RunSteps.{happened, one_more_event}

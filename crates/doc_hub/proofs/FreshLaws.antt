@@ -22,7 +22,7 @@ use Rattle.doc_http.specs.declared.request.Next.TheVariants as nexts
 use Rattle.doc_http.proofs.LawLemmas.{read_in_one_way}
 use Rattle.doc_hub.specs.Connections.{Connections}
 use Rattle.doc_hub_answers.specs.Edits.{puts_left}
-use Rattle.doc_hub.specs.Events.{stepping, step_refusal}
+use Rattle.doc_hub_events.specs.Events.{stepping, step_refusal}
 use Rattle.doc_hub.specs.FreshLaws.{LeavesPut, NewRepliesAsFresh, PutsAreLeft, RepliesAsFresh, SendsAsFresh, SendsAsFreshAlways, StepSays}
 use Rattle.doc_hub.specs.FreshLaws.{first_connection, fresh, fresh_for, only_reader}
 use Rattle.doc_hub_answers.specs.Replies.{Renders}
@@ -30,14 +30,14 @@ use Rattle.doc_hub.specs.Runs.{Happened, Leaves, Runs, nothing, first}
 use Rattle.doc_hub.specs.StepLaws.{Agree, AgreeOn, connection, is_owners_put, open_with, site_seen}
 use Rattle.doc_hub.specs.Worlds.{World, Answers, StepsAt, asking_of, new_world, reader_of, stepped_by, token_of}
 use Rattle.doc_hub.specs.declared.connection.Connection.{Connection}
-use Rattle.doc_hub.specs.declared.event.ConnId.{ConnId}
-use Rattle.doc_hub.specs.declared.event.Event.{Event}
-use Rattle.doc_hub.specs.declared.event.Step.{Step}
-use Rattle.doc_hub.specs.declared.outcome.Outcome.{Outcome}
-use Rattle.doc_hub.specs.declared.outcome.Outcome.TheVariants as outcomes
-use Rattle.doc_hub.specs.declared.refusal.Refusal.{Refusal}
-use Rattle.doc_hub.specs.declared.refusal.StepError.{StepError}
-use Rattle.doc_hub.specs.declared.refusal.StepError.TheVariants as step_errors
+use Rattle.doc_hub_events.specs.declared.event.ConnId.{ConnId}
+use Rattle.doc_hub_events.specs.declared.event.Event.{Event}
+use Rattle.doc_hub_events.specs.declared.event.Step.{Step}
+use Rattle.doc_hub_events.specs.declared.outcome.Outcome.{Outcome}
+use Rattle.doc_hub_events.specs.declared.outcome.Outcome.TheVariants as outcomes
+use Rattle.doc_hub_events.specs.declared.refusal.Refusal.{Refusal}
+use Rattle.doc_hub_events.specs.declared.refusal.StepError.{StepError}
+use Rattle.doc_hub_events.specs.declared.refusal.StepError.TheVariants as step_errors
 use Rattle.doc_hub.proofs.PutCounts.{counted, puts_are_counted}
 use Rattle.doc_hub.proofs.StepLaws.{said_alike, said_of}
 

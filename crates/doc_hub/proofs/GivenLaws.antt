@@ -10,7 +10,7 @@ use Rattle.doc_page_parts.specs.Refusals.{Gives}
 use Rattle.doc_http.specs.declared.request.Next.{Next as Front}
 use Rattle.doc_http.specs.declared.request.Next.TheVariants as nexts
 use Rattle.doc_hub.specs.Connections.{new_connection, pushed_at, pushed_onto, with_pushed, finished}
-use Rattle.doc_hub.specs.Events.{Said, SaidOn}
+use Rattle.doc_hub_events.specs.Events.{Said, SaidOn}
 use Rattle.doc_hub.specs.ConnectionLaws.{NumbersAreGivenOnce}
 use Rattle.doc_hub.specs.StepLaws.{connection}
 use Rattle.doc_hub_answers.specs.Replies.{Renders}
@@ -18,19 +18,19 @@ use Rattle.doc_hub.specs.Runs.{Happens, HappensOn, Happened, Runs, nothing, firs
 use Rattle.doc_hub.specs.Worlds.{World, connected, world_pushed, answer_in, world_after}
 use Rattle.doc_hub.specs.Worlds.{stepped_by, Stays, Answers, StepsAt, last_id}
 use Rattle.doc_hub.specs.declared.connection.Connection.{Connection}
-use Rattle.doc_hub.specs.declared.event.ConnId.{ConnId}
-use Rattle.doc_hub.specs.declared.event.ConnectionEvent.{ConnectionEvent}
-use Rattle.doc_hub.specs.declared.event.ConnectionEvent.TheVariants as calls
-use Rattle.doc_hub.specs.declared.event.Event.{Event}
-use Rattle.doc_hub.specs.declared.event.Event.TheVariants as events
-use Rattle.doc_hub.specs.declared.event.Step.{Step}
-use Rattle.doc_hub.specs.declared.event.Step.TheVariants as steps
-use Rattle.doc_hub.specs.declared.refusal.ConnectError.{ConnectError}
-use Rattle.doc_hub.specs.declared.refusal.ConnectError.TheVariants as connect_errors
-use Rattle.doc_hub.specs.declared.refusal.PushError.{PushError}
-use Rattle.doc_hub.specs.declared.refusal.PushError.TheVariants as push_errors
-use Rattle.doc_hub.specs.declared.refusal.StepError.{StepError}
-use Rattle.doc_hub.specs.declared.refusal.StepError.TheVariants as step_errors
+use Rattle.doc_hub_events.specs.declared.event.ConnId.{ConnId}
+use Rattle.doc_hub_events.specs.declared.event.ConnectionEvent.{ConnectionEvent}
+use Rattle.doc_hub_events.specs.declared.event.ConnectionEvent.TheVariants as calls
+use Rattle.doc_hub_events.specs.declared.event.Event.{Event}
+use Rattle.doc_hub_events.specs.declared.event.Event.TheVariants as events
+use Rattle.doc_hub_events.specs.declared.event.Step.{Step}
+use Rattle.doc_hub_events.specs.declared.event.Step.TheVariants as steps
+use Rattle.doc_hub_events.specs.declared.refusal.ConnectError.{ConnectError}
+use Rattle.doc_hub_events.specs.declared.refusal.ConnectError.TheVariants as connect_errors
+use Rattle.doc_hub_events.specs.declared.refusal.PushError.{PushError}
+use Rattle.doc_hub_events.specs.declared.refusal.PushError.TheVariants as push_errors
+use Rattle.doc_hub_events.specs.declared.refusal.StepError.{StepError}
+use Rattle.doc_hub_events.specs.declared.refusal.StepError.TheVariants as step_errors
 use Rattle.doc_hub.proofs.ConnectionSteps.{some_none}
 use Rattle.doc_hub.proofs.KindSteps.{connections_stand}
 

@@ -9,13 +9,13 @@ use Rattle.doc_store.specs.declared.site_edit.SiteEdit.TheVariants as site_edits
 use Rattle.doc_store.specs.declared.store.EditError.TheVariants as edit_errors
 use Rattle.doc_store_readers.specs.declared.readers.ReaderError.TheVariants as reader_errors
 use Rattle.doc_hub_answers.specs.Replies.{Renders}
-use Rattle.doc_hub.specs.Events.{Said, SaidReader, SaidSite}
+use Rattle.doc_hub_events.specs.Events.{Said, SaidReader, SaidSite}
 use Rattle.doc_hub.specs.Runs.{Happens, HappensReader, HappensSite}
 use Rattle.doc_hub.specs.Worlds.{World, world_moved, world_put, world_reader_removed, world_reader_set, world_removed}
-use Rattle.doc_hub.specs.declared.event.Event.{Event}
-use Rattle.doc_hub.specs.declared.event.Event.TheVariants as events
-use Rattle.doc_hub.specs.declared.event.ReaderEdit.{ReaderEdit}
-use Rattle.doc_hub.specs.declared.event.ReaderEdit.TheVariants as reader_edits
+use Rattle.doc_hub_events.specs.declared.event.Event.{Event}
+use Rattle.doc_hub_events.specs.declared.event.Event.TheVariants as events
+use Rattle.doc_hub_events.specs.declared.event.ReaderEdit.{ReaderEdit}
+use Rattle.doc_hub_events.specs.declared.event.ReaderEdit.TheVariants as reader_edits
 
 -- what holds of the world that a call gives, and of the one that it met, holds of the one that it leaves
 pub by_gives : {X E : Type 0} (P : World → Type 0) (memory : E) (given : World × Result X E) (w v : World) (r : Result X E) → P w

@@ -5,6 +5,8 @@ mod CutLaws
 mod DropLaws
 mod EditingAlike
 mod EditingLaws
+mod EditingPaths
+pub mod Elsewhere
 mod FreshLaws
 mod FrontSteps
 mod GivenLaws
@@ -18,7 +20,9 @@ mod PushLaws
 mod PutCounts
 mod ReachedLaws
 mod ReplyExamples
+pub mod ResponsePaths
 mod RunLaws
+pub mod RunParts
 mod RunSteps
 mod SiteLaws
 mod StepCounts
@@ -26,3 +30,4 @@ pub mod StepEdits
 mod StepLaws
 mod StoreSteps
 mod StoredSteps
+pub mod ToldPaths

@@ -24,8 +24,8 @@ use Rattle.doc_store.specs.declared.store.EditError.TheVariants.{TooLong, StoreF
 use Rattle.doc_store.specs.declared.store.Put.{Put}
 use Rattle.doc_store.specs.declared.store.Put.TheVariants.{Created, Replaced}
 use Rattle.doc_hub.specs.Connections.{Connections, backlog_limit, new_connection, pushed_at}
-use Rattle.doc_hub.specs.Events.{connecting, moving, push_on, pushing, putting}
-use Rattle.doc_hub.specs.declared.event.Event.TheVariants as events
+use Rattle.doc_hub_events.specs.Events.{connecting, moving, push_on, pushing, putting}
+use Rattle.doc_hub_events.specs.declared.event.Event.TheVariants as events
 use Rattle.doc_hub.specs.FreshLaws.{only_reader}
 use Rattle.doc_hub.specs.MadeLaws.{FreshIsMade, IsMaking, makings}
 use Rattle.doc_hub_answers.specs.Replies.{Renders}
@@ -33,12 +33,12 @@ use Rattle.doc_hub.specs.Runs.{Happened, Leaves, Runs, nothing}
 use Rattle.doc_hub.specs.StepLaws.{open_with}
 use Rattle.doc_hub.specs.Worlds.{World, last_id, new_world, store_of, with_store}
 use Rattle.doc_hub.specs.declared.connection.Connection.{Connection}
-use Rattle.doc_hub.specs.declared.event.ConnId.{ConnId}
-use Rattle.doc_hub.specs.declared.event.Event.{Event}
-use Rattle.doc_hub.specs.declared.event.Event.TheVariants as events
-use Rattle.doc_hub.specs.declared.outcome.Outcome.{Outcome}
-use Rattle.doc_hub.specs.declared.refusal.ConnectError.TheVariants as connect_errors
-use Rattle.doc_hub.specs.declared.refusal.PushError.{PushError}
+use Rattle.doc_hub_events.specs.declared.event.ConnId.{ConnId}
+use Rattle.doc_hub_events.specs.declared.event.Event.{Event}
+use Rattle.doc_hub_events.specs.declared.event.Event.TheVariants as events
+use Rattle.doc_hub_events.specs.declared.outcome.Outcome.{Outcome}
+use Rattle.doc_hub_events.specs.declared.refusal.ConnectError.TheVariants as connect_errors
+use Rattle.doc_hub_events.specs.declared.refusal.PushError.{PushError}
 use Rattle.doc_hub.proofs.MadeSites.{before, page_there, free_there, pages_again, aliases_again, site_before, pages_before, aliases_before}
 use Rattle.doc_hub.proofs.MadeSites.{texts_before, standing, len_taken, some_entry}
 use Rattle.doc_hub.proofs.PushLaws.{gives, is_set, set_twice}

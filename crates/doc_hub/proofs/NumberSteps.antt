@@ -8,8 +8,8 @@ use Rattle.std.proofs.lemmas.Cmp.{nat_cmp_total}
 use Rattle.doc_page_parts.specs.Refusals.{Gives}
 use Rattle.doc_hub.specs.Connections.{Connections, HaveGivenNumbers, pushed, pushed_at, pushed_onto, with_pushed, finished}
 use Rattle.doc_hub.specs.declared.connection.Connection.{Connection}
-use Rattle.doc_hub.specs.declared.refusal.PushError.{PushError}
-use Rattle.doc_hub.specs.declared.refusal.PushError.TheVariants.{Memory}
+use Rattle.doc_hub_events.specs.declared.refusal.PushError.{PushError}
+use Rattle.doc_hub_events.specs.declared.refusal.PushError.TheVariants.{Memory}
 use Rattle.doc_hub.proofs.ConnectionSteps.{some_none}
 
 pub none_have : HaveGivenNumbers 0 map.empty

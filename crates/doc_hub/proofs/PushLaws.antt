@@ -11,8 +11,8 @@ use Rattle.doc_hub.specs.ConnectionLaws.{PushesJoin}
 use Rattle.doc_hub.specs.Connections.{Connections, backlog_limit, pushed, pushed_at, with_pushed}
 use Rattle.doc_hub.specs.Worlds.{World, world_pushed}
 use Rattle.doc_hub.specs.declared.connection.Connection.{Connection}
-use Rattle.doc_hub.specs.declared.refusal.PushError.{PushError}
-use Rattle.doc_hub.specs.declared.refusal.PushError.TheVariants as push_errors
+use Rattle.doc_hub_events.specs.declared.refusal.PushError.{PushError}
+use Rattle.doc_hub_events.specs.declared.refusal.PushError.TheVariants as push_errors
 
 err_ok : (e : PushError) → ◌≡◌ {A = Result (Unit {0}) PushError} (Err e) (Ok tt) → ⊥
 err_ok e is = cc

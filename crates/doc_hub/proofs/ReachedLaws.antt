@@ -22,7 +22,7 @@ use Rattle.doc_http.specs.declared.request.Next.TheVariants as nexts
 use Rattle.doc_hub_people.specs.Asking.{known_of}
 use Rattle.doc_hub.specs.Connections.{Connections, backlog_limit, finished, new_connection, pushed_at, with_pushed}
 use Rattle.doc_hub_answers.specs.Edits.{CanBeMade, CanMove, CanRegroup, regrouped, store_after}
-use Rattle.doc_hub.specs.Events.{Said, SaidOn, SaidSite}
+use Rattle.doc_hub_events.specs.Events.{Said, SaidOn, SaidSite}
 use Rattle.doc_hub.specs.FreshLaws.{SendsAsFreshAlways}
 use Rattle.doc_hub.specs.MadeLaws.{IsWithin, MadeReplies, SendsAsMade, makings}
 use Rattle.doc_hub_answers.specs.Replies.{Renders}
@@ -32,21 +32,21 @@ use Rattle.doc_hub.specs.Worlds.{World, Answers, Stays, StepsAt, answer_in, aski
 use Rattle.doc_hub.specs.Worlds.{reader_of, stepped_by, store_of, token_of, world_moved, world_pushed, world_put}
 use Rattle.doc_hub.proofs.KindSteps.{stand_beside}
 use Rattle.doc_hub.specs.declared.connection.Connection.{Connection}
-use Rattle.doc_hub.specs.declared.event.ConnId.{ConnId}
+use Rattle.doc_hub_events.specs.declared.event.ConnId.{ConnId}
 use Rattle.doc_store.specs.declared.site_edit.SiteEdit.{SiteEdit}
 use Rattle.doc_store.specs.declared.site_edit.SiteEdit.TheVariants as site_edits
-use Rattle.doc_hub.specs.declared.event.ConnectionEvent.{ConnectionEvent}
-use Rattle.doc_hub.specs.declared.event.ConnectionEvent.TheVariants as calls
-use Rattle.doc_hub.specs.declared.event.Event.{Event}
-use Rattle.doc_hub.specs.declared.event.Event.TheVariants as events
-use Rattle.doc_hub.specs.declared.event.Step.{Step}
-use Rattle.doc_hub.specs.declared.event.Step.TheVariants as steps
-use Rattle.doc_hub.specs.declared.refusal.ConnectError.{ConnectError}
-use Rattle.doc_hub.specs.declared.refusal.ConnectError.TheVariants as connect_errors
-use Rattle.doc_hub.specs.declared.refusal.PushError.{PushError}
-use Rattle.doc_hub.specs.declared.refusal.PushError.TheVariants as push_errors
-use Rattle.doc_hub.specs.declared.refusal.StepError.{StepError}
-use Rattle.doc_hub.specs.declared.refusal.StepError.TheVariants as step_errors
+use Rattle.doc_hub_events.specs.declared.event.ConnectionEvent.{ConnectionEvent}
+use Rattle.doc_hub_events.specs.declared.event.ConnectionEvent.TheVariants as calls
+use Rattle.doc_hub_events.specs.declared.event.Event.{Event}
+use Rattle.doc_hub_events.specs.declared.event.Event.TheVariants as events
+use Rattle.doc_hub_events.specs.declared.event.Step.{Step}
+use Rattle.doc_hub_events.specs.declared.event.Step.TheVariants as steps
+use Rattle.doc_hub_events.specs.declared.refusal.ConnectError.{ConnectError}
+use Rattle.doc_hub_events.specs.declared.refusal.ConnectError.TheVariants as connect_errors
+use Rattle.doc_hub_events.specs.declared.refusal.PushError.{PushError}
+use Rattle.doc_hub_events.specs.declared.refusal.PushError.TheVariants as push_errors
+use Rattle.doc_hub_events.specs.declared.refusal.StepError.{StepError}
+use Rattle.doc_hub_events.specs.declared.refusal.StepError.TheVariants as step_errors
 use Rattle.doc_hub_answers.specs.declared.edit.Edit.{Edit}
 use Rattle.doc_hub_answers.specs.declared.edit.Edit.TheVariants as edits
 use Rattle.doc_hub.proofs.AnswerEdits.{answer_can_be_made}

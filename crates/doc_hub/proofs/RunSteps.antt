@@ -1,11 +1,11 @@
 -- Runs, one event after another.
 use Rattle.std.proofs.Common.{◌≡◌, List, [], ◌∷◌, ◌++◌, map, refl, ap, sym, ◌∙◌, subst}
-use Rattle.doc_hub.specs.Events.{Said, outcome_of}
+use Rattle.doc_hub_events.specs.Events.{Said, outcome_of}
 use Rattle.doc_hub_answers.specs.Replies.{Renders}
 use Rattle.doc_hub.specs.Runs.{Happens, Leaves, Happened, Runs, RunsAll, nothing, first}
 use Rattle.doc_hub.specs.Worlds.{World}
-use Rattle.doc_hub.specs.declared.event.Event.{Event}
-use Rattle.doc_hub.specs.declared.outcome.Outcome.{Outcome}
+use Rattle.doc_hub_events.specs.declared.event.Event.{Event}
+use Rattle.doc_hub_events.specs.declared.outcome.Outcome.{Outcome}
 
 -- what the call of an event leaves and answers, the event leaves
 pub leaves_so : (render : Renders) (w : World) (event same : Event) (v : World) (outcome : Outcome) (said : Said same) → event ≡ same

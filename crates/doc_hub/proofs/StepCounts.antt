@@ -17,11 +17,11 @@ use Rattle.doc_hub_answers.specs.declared.edit.Edit.TheVariants as edits
 use Rattle.doc_hub_replies.specs.Answers.{shows_preview}
 use Rattle.doc_hub.specs.Counts.{Counted, StepPreviews, moves_in_edit, previews_by}
 use Rattle.doc_hub.specs.EditLaws.{StepMakes, edit_by, site_edit, with_groups}
-use Rattle.doc_hub.specs.Events.{step_on, stepping}
+use Rattle.doc_hub_events.specs.Events.{step_on, stepping}
 use Rattle.doc_hub.specs.Worlds.{World, answer_in, asking_of}
 use Rattle.doc_hub.specs.declared.connection.Connection.{Connection}
-use Rattle.doc_hub.specs.declared.event.ConnId.{ConnId}
-use Rattle.doc_hub.specs.declared.event.Step.{Step}
+use Rattle.doc_hub_events.specs.declared.event.ConnId.{ConnId}
+use Rattle.doc_hub_events.specs.declared.event.Step.{Step}
 use Rattle.doc_hub.proofs.CountSteps.{quiet}
 
 -- ---- moves

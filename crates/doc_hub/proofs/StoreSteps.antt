@@ -23,9 +23,9 @@ use Rattle.doc_hub.specs.Worlds.{Answers, Stays, Steps, StepsAt, World, answer_i
 use Rattle.doc_hub.specs.Worlds.{world_after, world_moved, world_put, world_removed}
 use Rattle.doc_hub_answers.specs.declared.answer.Answer.{Answer}
 use Rattle.doc_hub.specs.declared.connection.Connection.{Connection}
-use Rattle.doc_hub.specs.declared.event.Step.{Step}
-use Rattle.doc_hub.specs.declared.event.Step.TheVariants as steps
-use Rattle.doc_hub.specs.declared.refusal.StepError.{StepError}
+use Rattle.doc_hub_events.specs.declared.event.Step.{Step}
+use Rattle.doc_hub_events.specs.declared.event.Step.TheVariants as steps
+use Rattle.doc_hub_events.specs.declared.refusal.StepError.{StepError}
 use Rattle.doc_hub_answers.specs.declared.edit.Edit.{Edit}
 use Rattle.doc_hub_answers.specs.declared.edit.Edit.TheVariants as edits
 

@@ -4,8 +4,8 @@ use Rattle.std.specs.Prelude.{if◌then◌else◌}
 use Rattle.std.specs.FinMap as map
 use Rattle.std.specs.Ordering.{nat_cmp}
 use Rattle.doc_hub.specs.declared.connection.Connection.{Connection}
-use Rattle.doc_hub.specs.declared.refusal.PushError.{PushError}
-use Rattle.doc_hub.specs.declared.refusal.PushError.TheVariants as push_errors
+use Rattle.doc_hub_events.specs.declared.refusal.PushError.{PushError}
+use Rattle.doc_hub_events.specs.declared.refusal.PushError.TheVariants as push_errors
 
 abbrev pub Connections : Type 0
 Connections = map.FinMap nat_cmp Connection

@@ -17,7 +17,7 @@ use Rattle.doc_hub_editing.specs.Laws.{path_of_edit}
 use Rattle.doc_hub.specs.FreshLaws.{IsAnswered}
 use Rattle.doc_hub.specs.Runs.{Happened, Runs}
 use Rattle.doc_hub.specs.Worlds.{World, answer_in}
-use Rattle.doc_hub.specs.declared.event.Step.{Step}
+use Rattle.doc_hub_events.specs.declared.event.Step.{Step}
 
 -- a step of an open connection answered this request, in a world where pages are edited so, by this edit
 pub record IsEditedBy (render : Renders) (h : Happened) (request : Request) (edit : Edit) : Type 0 where

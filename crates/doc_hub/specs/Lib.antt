@@ -4,11 +4,11 @@ pub mod Counts
 pub mod CutLaws
 pub mod EditLaws
 pub mod EditingLaws
-pub mod Events
 pub mod FreshLaws
 pub mod HiddenLaws
 pub mod MadeLaws
 pub mod RunLaws
+pub mod RunParts
 pub mod Runs
 pub mod StepEdits
 pub mod StepLaws

@@ -5,25 +5,25 @@ use Rattle.doc_page_parts.specs.declared.failure.Memory.{Memory}
 use Rattle.doc_store.specs.declared.moving.MoveError.TheVariants as move_errors
 use Rattle.doc_store_readers.specs.declared.readers.ReaderError.TheVariants as reader_errors
 use Rattle.doc_store.specs.declared.store.EditError.TheVariants as edit_errors
-use Rattle.doc_hub.specs.Events.{Said, SaidOn, SaidReader, SaidSite, outcome_of}
+use Rattle.doc_hub_events.specs.Events.{Said, SaidOn, SaidReader, SaidSite, outcome_of}
 use Rattle.doc_hub_answers.specs.Replies.{Renders}
 use Rattle.doc_hub.specs.Worlds.{World, connected, world_pushed, disconnected, world_put, world_removed, world_moved, world_reader_set}
 use Rattle.doc_hub.specs.Worlds.{world_reader_removed, Steps}
 use Rattle.doc_store.specs.declared.site_edit.SiteEdit.{SiteEdit}
 use Rattle.doc_store.specs.declared.site_edit.SiteEdit.TheVariants as site_edits
-use Rattle.doc_hub.specs.declared.event.ConnectionEvent.{ConnectionEvent}
-use Rattle.doc_hub.specs.declared.event.ConnectionEvent.TheVariants as calls
-use Rattle.doc_hub.specs.declared.event.Event.{Event}
-use Rattle.doc_hub.specs.declared.event.Event.TheVariants as events
-use Rattle.doc_hub.specs.declared.event.ReaderEdit.{ReaderEdit}
-use Rattle.doc_hub.specs.declared.event.ReaderEdit.TheVariants as reader_edits
-use Rattle.doc_hub.specs.declared.event.Step.{Step}
-use Rattle.doc_hub.specs.declared.event.Step.TheVariants as steps
-use Rattle.doc_hub.specs.declared.outcome.Outcome.{Outcome}
-use Rattle.doc_hub.specs.declared.outcome.Outcome.TheVariants as outcomes
-use Rattle.doc_hub.specs.declared.refusal.ConnectError.TheVariants as connect_errors
-use Rattle.doc_hub.specs.declared.refusal.PushError.TheVariants as push_errors
-use Rattle.doc_hub.specs.declared.refusal.Refusal.TheVariants as refusals
+use Rattle.doc_hub_events.specs.declared.event.ConnectionEvent.{ConnectionEvent}
+use Rattle.doc_hub_events.specs.declared.event.ConnectionEvent.TheVariants as calls
+use Rattle.doc_hub_events.specs.declared.event.Event.{Event}
+use Rattle.doc_hub_events.specs.declared.event.Event.TheVariants as events
+use Rattle.doc_hub_events.specs.declared.event.ReaderEdit.{ReaderEdit}
+use Rattle.doc_hub_events.specs.declared.event.ReaderEdit.TheVariants as reader_edits
+use Rattle.doc_hub_events.specs.declared.event.Step.{Step}
+use Rattle.doc_hub_events.specs.declared.event.Step.TheVariants as steps
+use Rattle.doc_hub_events.specs.declared.outcome.Outcome.{Outcome}
+use Rattle.doc_hub_events.specs.declared.outcome.Outcome.TheVariants as outcomes
+use Rattle.doc_hub_events.specs.declared.refusal.ConnectError.TheVariants as connect_errors
+use Rattle.doc_hub_events.specs.declared.refusal.PushError.TheVariants as push_errors
+use Rattle.doc_hub_events.specs.declared.refusal.Refusal.TheVariants as refusals
 
 -- What a call leaves and answers, by what it is of: a connection, the site or the readers.
 abbrev pub HappensOn : Renders → World → ℕ → (call : ConnectionEvent) → World → SaidOn call → Type 0

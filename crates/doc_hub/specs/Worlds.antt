@@ -26,16 +26,16 @@ use Rattle.doc_hub_replies.specs.Answers.{answer_of}
 use Rattle.doc_people.specs.declared.settings.Settings.{Settings}
 use Rattle.doc_hub_answers.specs.declared.answer.Answer.{Answer}
 use Rattle.doc_hub.specs.declared.connection.Connection.{Connection}
-use Rattle.doc_hub.specs.declared.event.ConnId.{ConnId}
-use Rattle.doc_hub.specs.declared.event.Step.{Step}
-use Rattle.doc_hub.specs.declared.event.Step.TheVariants as steps
-use Rattle.doc_hub.specs.declared.refusal.HubError.{HubError}
-use Rattle.doc_hub.specs.declared.refusal.HubError.TheVariants as hub_errors
-use Rattle.doc_hub.specs.declared.refusal.ConnectError.{ConnectError}
-use Rattle.doc_hub.specs.declared.refusal.ConnectError.TheVariants as connect_errors
-use Rattle.doc_hub.specs.declared.refusal.PushError.{PushError}
-use Rattle.doc_hub.specs.declared.refusal.StepError.{StepError}
-use Rattle.doc_hub.specs.declared.refusal.StepError.TheVariants as step_errors
+use Rattle.doc_hub_events.specs.declared.event.ConnId.{ConnId}
+use Rattle.doc_hub_events.specs.declared.event.Step.{Step}
+use Rattle.doc_hub_events.specs.declared.event.Step.TheVariants as steps
+use Rattle.doc_hub_events.specs.declared.refusal.HubError.{HubError}
+use Rattle.doc_hub_events.specs.declared.refusal.HubError.TheVariants as hub_errors
+use Rattle.doc_hub_events.specs.declared.refusal.ConnectError.{ConnectError}
+use Rattle.doc_hub_events.specs.declared.refusal.ConnectError.TheVariants as connect_errors
+use Rattle.doc_hub_events.specs.declared.refusal.PushError.{PushError}
+use Rattle.doc_hub_events.specs.declared.refusal.StepError.{StepError}
+use Rattle.doc_hub_events.specs.declared.refusal.StepError.TheVariants as step_errors
 
 -- the site, how many puts and moves were accepted, the readers, the settings, the number of connections given, and the connections by
 -- number; no reply knows the stamp of a page

@@ -5,9 +5,9 @@ ghost use Rattle.doc_page_parts.specs.Refusals.{Gives};
 ghost use Rattle.doc_http.specs.Requests.{IsNext, BeginsWithRequest, UsesAtMost};
 ghost use Rattle.doc_hub.specs.Connections.{pushed_onto, finished};
 
-use crate::refusal::PushError;
 use doc_http::request::Next;
 use doc_http::unread::Unread;
+use doc_hub_events::refusal::PushError;
 use doc_page_parts::failure::Memory;
 
 /// The unread bytes of a connection, and whether it is closed.

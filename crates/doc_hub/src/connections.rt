@@ -8,8 +8,8 @@ ghost use Rattle.doc_hub.specs.Connections.{pushed, finished};
 ghost use Rattle.doc_hub.specs.declared.connection.Connection.{Connection};
 
 use crate::connection::Connection;
-use crate::refusal::PushError;
 use doc_http::request::Next;
+use doc_hub_events::refusal::PushError;
 use doc_page_parts::failure::Memory;
 use doc_page_parts::heap::{BTreeMap, Heap};
 use std::marker::Model;

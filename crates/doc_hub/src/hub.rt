@@ -10,12 +10,12 @@
 //! 3. The edit is made. Where it finds no memory the reply is dropped, and the request waits.
 //! 4. The bytes of the request are taken, and the connection closes or not; that takes no memory.
 
-ghost use Rattle.std.specs.Prelude.{◌≡◌, ◌+◌, false, IfOk, option_map};
+ghost use Rattle.std.specs.Prelude.{◌≡◌, ◌+◌, false, IfOk, option_copied, option_map};
 ghost use Rattle.std.specs.FinMap as map;
 ghost use Rattle.std.specs.List.{list_any};
 ghost use Rattle.doc_page_parts.specs.Refusals.{IsAnswer};
 ghost use Rattle.doc_hub.specs.Counts.{Counted, CountedAll, ran_out};
-ghost use Rattle.doc_hub.specs.Events.{disconnect_on, push_on, step_on, stepping};
+ghost use Rattle.doc_hub_events.specs.Events.{disconnect_on, push_on, step_on, stepping};
 ghost use Rattle.doc_hub.specs.Runs.{Happens, Leaves, GivesRun};
 ghost use Rattle.doc_hub.specs.StepEdits.{StepTells, step_in};
 ghost use Rattle.doc_hub.specs.Worlds.{hub_made, plain_settings, report_in, store_of};
@@ -24,15 +24,15 @@ ghost use Rattle.doc_store.specs.Store.{fits_in};
 
 use crate::connection::Connection;
 use crate::connections::Connections;
-use crate::event::{ConnId, ConnectionEvent, Event, ReaderEdit, Step};
-use crate::outcome::Outcome;
-use crate::refusal::{ConnectError, HubError, PushError, StepError};
 use crate::telling::step_of;
 use doc_http::request::Next;
 use doc_http::unread::Unread;
 use doc_http_targets::routes::Routes;
 use doc_hub_answers::answer::answer_to_fault;
 use doc_hub_answers::edit::Edit;
+use doc_hub_events::event::{ConnId, ConnectionEvent, Event, ReaderEdit, Step};
+use doc_hub_events::outcome::Outcome;
+use doc_hub_events::refusal::{ConnectError, HubError, PushError, StepError};
 use doc_hub_replies::serving::Serving;
 use doc_page::renderer::Renderer;
 use doc_page_parts::failure::Memory;
@@ -249,6 +249,17 @@ impl<R: Renderer + Drop> Hub<R> {
         ensures counted { R.count self.new.0 ≡ R.count self.old.0 }
     {
         self.connections.remove(id.0)
+    }
+
+    /// The bytes of a connection that no reply has answered yet, so that a server can tell what its next step costs.
+    pub fn unread(&self, id: ConnId) -> Option<&[u8]>
+        ensures { option_copied result
+            ≡ option_map (λ c. c.unread) (map.get self.now.1.connections id.0) }
+    {
+        let Some(connection) = self.connections.get(id.0) else {
+            return None;
+        };
+        Some(connection.unread.get())
     }
 
     /// The page of a path with its groups and its text, where one stands there.

@@ -1,11 +1,11 @@
-//! The hub: connections, requests and replies over pages that each reader sees their part of.
+//! The hub: connections, requests and replies over pages that each reader sees their part of. Its events, their outcomes and refusals
+//! are those of `doc_hub_events`, and stand under this crate's name too.
 #![tactic(auto)]
 
 mod connection;
 mod connections;
-pub mod event;
 pub mod hub;
 pub mod laws;
-pub mod outcome;
-pub mod refusal;
 mod telling;
+
+pub use doc_hub_events::{event, outcome, refusal};

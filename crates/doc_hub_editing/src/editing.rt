@@ -16,6 +16,7 @@ use crate::making::make;
 use crate::previews::preview;
 use doc_http::reply_form::ReplyForm;
 use doc_http::status::Status;
+use doc_hub_answers::Shelf;
 use doc_hub_answers::answer::Answer;
 use doc_hub_answers::exchange::Exchange;
 use doc_hub_people::visit::{Visit, unauthorized};
@@ -23,7 +24,6 @@ use doc_page::renderer::Renderer;
 use doc_page_parts::failure::Memory;
 use doc_people::settings::Browse;
 use doc_people_shell::statuses::refused_body;
-use doc_shelf::Shelf;
 use doc_store::reader::Reader;
 
 /// A request that edits, and who asks.

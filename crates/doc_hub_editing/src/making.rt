@@ -6,13 +6,13 @@ ghost use Rattle.doc_store.specs.Store.{fits_in, may_move, with_move, with_page}
 ghost use Rattle.doc_hub_answers.specs.Counts.{RendersPuts, moves_of};
 ghost use Rattle.doc_hub_answers.specs.Edits.{CanBeMade, CanMove, CanRegroup, regrouped, store_after};
 
+use doc_hub_answers::Shelf;
 use doc_hub_answers::edit::Edit;
 use doc_page::renderer::Renderer;
 use doc_page_parts::failure::Memory;
 use doc_page_parts::heap::Heap;
 use doc_page_parts::path::Path;
 use doc_page_parts::text::Text;
-use doc_shelf::Shelf;
 use doc_store::groups::Groups;
 use std::str::from_utf8;
 

@@ -13,6 +13,7 @@ use doc_http::status::Status;
 use doc_http_replies::edit_reply::EditParts;
 use doc_http_replies::people_reply::PeopleParts;
 use doc_http_targets::written_path::written_path;
+use doc_hub_answers::Shelf;
 use doc_hub_answers::answer::Answer;
 use doc_hub_people::visit::Visit;
 use doc_page::renderer::Renderer;
@@ -24,7 +25,6 @@ use doc_page_parts::text::Text;
 use doc_people_editing::policies::PREVIEW_POLICY;
 use doc_people_editing::preview::preview_body;
 use doc_resolve::SiteLinker;
-use doc_shelf::Shelf;
 use doc_store::reader::Reader;
 use std::str::from_utf8;
 

@@ -30,6 +30,7 @@ use doc_http::status::Status;
 use doc_http::style_sheet::write_style_sheet;
 use doc_http_targets::route::Route;
 use doc_http_targets::routes::Routes;
+use doc_hub_answers::Shelf;
 use doc_hub_answers::answer::Answer;
 use doc_hub_answers::exchange::Exchange;
 use doc_hub_answers::method::Method;
@@ -44,7 +45,6 @@ use doc_page_parts::failure::Memory;
 use doc_page_parts::heap::Heap;
 use doc_people::settings::{Browse, Settings};
 use doc_people::style_sheet::STYLE_SHEET;
-use doc_shelf::Shelf;
 use doc_store::reader::Reader;
 use doc_store::readers::Readers;
 

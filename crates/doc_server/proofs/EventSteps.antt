@@ -1,7 +1,7 @@
 -- The end of a script.
 use Rattle.std.proofs.Common.{◌≡◌, ℕ, List, [], ap, ◌∙◌}
 use Rattle.std.specs.Prelude.{Result, Ok}
-use Rattle.doc_hub.specs.declared.event.Event.{Event}
+use Rattle.doc_hub_events.specs.declared.event.Event.{Event}
 use Rattle.doc_server_streams.specs.declared.fault.Fault.{Fault}
 use Rattle.doc_server.specs.Scripts.{events_from, lines}
 

@@ -6,11 +6,11 @@ use Rattle.doc_hub.specs.Connections.{backlog_limit}
 use Rattle.doc_hub_answers.specs.Replies.{Renders}
 use Rattle.doc_hub.specs.Worlds.{World, connected, last_id}
 use Rattle.doc_hub.specs.Runs.{Happens, Happened, first}
-use Rattle.doc_hub.specs.Events.{push_on}
-use Rattle.doc_hub.specs.declared.event.Event.TheVariants as events
-use Rattle.doc_hub.specs.declared.outcome.Outcome.TheVariants as outcomes
-use Rattle.doc_hub.specs.declared.event.ConnId.{ConnId}
-use Rattle.doc_hub.specs.declared.refusal.ConnectError.{ConnectError}
+use Rattle.doc_hub_events.specs.Events.{push_on}
+use Rattle.doc_hub_events.specs.declared.event.Event.TheVariants as events
+use Rattle.doc_hub_events.specs.declared.outcome.Outcome.TheVariants as outcomes
+use Rattle.doc_hub_events.specs.declared.event.ConnId.{ConnId}
+use Rattle.doc_hub_events.specs.declared.refusal.ConnectError.{ConnectError}
 use Rattle.doc_server_streams.specs.declared.fault.Fault.{Fault}
 use Rattle.doc_server_streams.specs.declared.fault.Fault.TheVariants as faults
 use Rattle.doc_server.specs.DemoSite.{demo_world}

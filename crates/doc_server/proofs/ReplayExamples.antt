@@ -2,11 +2,11 @@
 use Rattle.std.proofs.Common.{◌≡◌, [], ◌∷◌, refl}
 use Rattle.std.specs.Prelude.{codes, Ok, Err}
 use Rattle.std.specs.Fmt.{digits}
-use Rattle.doc_hub.specs.Events.{push_on, step_on}
-use Rattle.doc_hub.specs.declared.event.Event.TheVariants as events
-use Rattle.doc_hub.specs.declared.event.Step.TheVariants as steps
-use Rattle.doc_hub.specs.declared.outcome.Outcome.TheVariants as outcomes
-use Rattle.doc_hub.specs.declared.refusal.Refusal.TheVariants as refusals
+use Rattle.doc_hub_events.specs.Events.{push_on, step_on}
+use Rattle.doc_hub_events.specs.declared.event.Event.TheVariants as events
+use Rattle.doc_hub_events.specs.declared.event.Step.TheVariants as steps
+use Rattle.doc_hub_events.specs.declared.outcome.Outcome.TheVariants as outcomes
+use Rattle.doc_hub_events.specs.declared.refusal.Refusal.TheVariants as refusals
 use Rattle.doc_server_script.specs.Escapes.{unescaped, escaped}
 use Rattle.doc_server_script.specs.Lines.{event_of}
 use Rattle.doc_server_streams.specs.declared.fault.Fault.TheVariants as faults

@@ -5,8 +5,8 @@ use Rattle.std.proofs.lemmas.List.Elements.{filter-append}
 use Rattle.doc_hub_answers.specs.Replies.{Renders}
 use Rattle.doc_hub.specs.Worlds.{World}
 use Rattle.doc_hub.specs.Runs.{Leaves, Happened, Runs, nothing, first, sent_by, is_on, events_on, sent_on}
-use Rattle.doc_hub.specs.declared.event.Event.{Event}
-use Rattle.doc_hub.specs.declared.outcome.Outcome.{Outcome}
+use Rattle.doc_hub_events.specs.declared.event.Event.{Event}
+use Rattle.doc_hub_events.specs.declared.outcome.Outcome.{Outcome}
 
 pub one_more : (render : Renders) (w v u : World) (run : List Happened) (event : Event) (outcome : Outcome) → Runs render w run v
     → Leaves render v event u outcome

@@ -9,8 +9,8 @@ use Rattle.std.proofs.lemmas.Bool.{true≢false}
 use Rattle.doc_hub_answers.specs.Replies.{Renders}
 use Rattle.doc_hub.specs.Runs.{RunsAll}
 use Rattle.doc_hub.specs.Worlds.{World, is_capacity, new_world}
-use Rattle.doc_hub.specs.declared.event.Event.{Event}
-use Rattle.doc_hub.specs.declared.outcome.Outcome.{Outcome}
+use Rattle.doc_hub_events.specs.declared.event.Event.{Event}
+use Rattle.doc_hub_events.specs.declared.outcome.Outcome.{Outcome}
 use Rattle.doc_server_config.specs.declared.config.SiteConfig.{SiteConfig}
 use Rattle.doc_server_script.specs.Lines.{event_of}
 use Rattle.doc_server_streams.specs.Streams.{AppendsPrefix}

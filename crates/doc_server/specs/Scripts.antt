@@ -1,6 +1,6 @@
 -- The script of the command `replay`. All of this is this project's choice.
 use Rattle.std.specs.Prelude.{ℕ, ◌+◌, ◌==◌, List, [], ◌∷◌, ◌++◌, Some, None, Result, Ok, Err, if◌then◌else◌}
-use Rattle.doc_hub.specs.declared.event.Event.{Event}
+use Rattle.doc_hub_events.specs.declared.event.Event.{Event}
 use Rattle.doc_server_script.specs.Lines.{event_of}
 use Rattle.doc_server_streams.specs.declared.fault.Fault.{Fault}
 use Rattle.doc_server_streams.specs.declared.fault.Fault.TheVariants as faults

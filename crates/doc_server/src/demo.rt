@@ -2,8 +2,8 @@
 
 ghost use Rattle.std.specs.Prelude.{◌≡◌, true, Some, Ok, IfOk, IfErr, OnOk, OnErr};
 ghost use Rattle.doc_hub.specs.Runs.{Happens};
-ghost use Rattle.doc_hub.specs.Events.{push_on, step_on};
-ghost use Rattle.doc_hub.specs.declared.event.Event.TheVariants as events;
+ghost use Rattle.doc_hub_events.specs.Events.{push_on, step_on};
+ghost use Rattle.doc_hub_events.specs.declared.event.Event.TheVariants as events;
 ghost use Rattle.doc_hub.specs.Worlds.{connected, world_pushed};
 ghost use Rattle.doc_server.specs.Demo.{Demonstrates, StopsDemo};
 ghost use Rattle.doc_server.specs.DemoSite.{demo_world};

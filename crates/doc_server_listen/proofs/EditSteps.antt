@@ -3,17 +3,17 @@ use Rattle.std.proofs.Common.{◌≡◌, ℕ, List, [], ◌∷◌, ◌++◌, ref
 use Rattle.std.proofs.lemmas.Grind.{flat_map-append}
 use Rattle.std.specs.Prelude.{Option, Some, None, Result, option_map, option_to_list}
 use Rattle.doc_store.specs.declared.site_edit.SiteEdit.{SiteEdit}
-use Rattle.doc_hub.specs.Events.{disconnect_on, step_on, stepping}
+use Rattle.doc_hub_events.specs.Events.{disconnect_on, step_on, stepping}
 use Rattle.doc_hub_answers.specs.Replies.{Renders}
 use Rattle.doc_hub.specs.Runs.{Happened, Runs, nothing, first}
 use Rattle.doc_hub.specs.Worlds.{World}
-use Rattle.doc_hub.specs.declared.event.ConnId.{ConnId}
-use Rattle.doc_hub.specs.declared.event.Event.{Event}
-use Rattle.doc_hub.specs.declared.event.ConnectionEvent.TheVariants as calls
-use Rattle.doc_hub.specs.declared.event.Event.TheVariants as events
-use Rattle.doc_hub.specs.declared.event.Step.{Step}
-use Rattle.doc_hub.specs.declared.outcome.Outcome.{Outcome}
-use Rattle.doc_hub.specs.declared.refusal.StepError.{StepError}
+use Rattle.doc_hub_events.specs.declared.event.ConnId.{ConnId}
+use Rattle.doc_hub_events.specs.declared.event.Event.{Event}
+use Rattle.doc_hub_events.specs.declared.event.ConnectionEvent.TheVariants as calls
+use Rattle.doc_hub_events.specs.declared.event.Event.TheVariants as events
+use Rattle.doc_hub_events.specs.declared.event.Step.{Step}
+use Rattle.doc_hub_events.specs.declared.outcome.Outcome.{Outcome}
+use Rattle.doc_hub_events.specs.declared.refusal.StepError.{StepError}
 use Rattle.doc_server_script.specs.PageLines.{line_of, lines_of}
 use Rattle.doc_server_listen.specs.Edits.{Kept, MakesIn, left_by, AreMade, accepted, Adds, Records, IsQuiet, AreQuiet}
 use Rattle.doc_server_listen.specs.Peers.{Peer}

@@ -1,9 +1,8 @@
-mod EditingPaths
 pub mod EditSteps
+pub mod CostSteps
 mod HandingOver
 mod MemoryPieces
 mod Pieces
-mod ResponsePaths
 mod Rows
 mod Serving
 mod StepLimits

@@ -13,14 +13,14 @@ use Rattle.doc_hub_answers.specs.Replies.{Renders}
 use Rattle.doc_hub.specs.Runs.{Happens, Happened, Leaves, Runs, nothing, first, events_on, sent_by, sent_on}
 use Rattle.doc_hub.specs.StepLaws.{connection}
 use Rattle.doc_hub.specs.Worlds.{World}
-use Rattle.doc_hub.specs.declared.event.ConnId.{ConnId}
-use Rattle.doc_hub.specs.declared.event.Event.{Event}
-use Rattle.doc_hub.specs.Events.{disconnect_on, step_on}
-use Rattle.doc_hub.specs.declared.event.Step.TheVariants as steps
-use Rattle.doc_hub.specs.declared.outcome.Outcome.{Outcome}
-use Rattle.doc_hub.specs.declared.outcome.Outcome.TheVariants as outcomes
-use Rattle.doc_server_rounds.specs.Served.{served_by, AreOf, Gave, pushed_by, pushed_on}
-use Rattle.doc_server_rounds.proofs.RoundLaws.{runs_join, pushed_join, sent_join, one_on, one_pushes, one_sends}
+use Rattle.doc_hub_events.specs.declared.event.ConnId.{ConnId}
+use Rattle.doc_hub_events.specs.declared.event.Event.{Event}
+use Rattle.doc_hub_events.specs.Events.{disconnect_on, step_on}
+use Rattle.doc_hub_events.specs.declared.event.Step.TheVariants as steps
+use Rattle.doc_hub_events.specs.declared.outcome.Outcome.{Outcome}
+use Rattle.doc_hub_events.specs.declared.outcome.Outcome.TheVariants as outcomes
+use Rattle.doc_hub.specs.RunParts.{served_by, AreOf, Gave, pushed_by, pushed_on}
+use Rattle.doc_hub.proofs.RunParts.{runs_join, pushed_join, sent_join, one_on, one_pushes, one_sends}
 use Rattle.doc_server_listen.specs.Closing.{Cuts}
 use Rattle.doc_server_listen.specs.Peers.{Peer, Suits, is_open_in, most_pending}
 use Rattle.doc_server_listen.specs.declared.stage.Stage.{Stage}

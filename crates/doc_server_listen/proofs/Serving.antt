@@ -9,12 +9,12 @@ use Rattle.doc_hub_answers.specs.Replies.{Renders}
 use Rattle.doc_hub.specs.Runs.{Happened, Runs, is_on, is_on_by, events_on, sent_by, sent_on}
 use Rattle.doc_hub.specs.StepLaws.{connection}
 use Rattle.doc_hub.specs.Worlds.{World}
-use Rattle.doc_hub.specs.declared.event.Event.{Event}
-use Rattle.doc_hub.specs.declared.event.Event.TheVariants as events
-use Rattle.doc_hub.specs.declared.outcome.Outcome.{Outcome}
-use Rattle.doc_server_rounds.specs.Served.{served_by, AreOf, Gave, pushed_by, pushed_on}
-use Rattle.doc_server_rounds.proofs.Elsewhere.{AreElsewhere, kept_elsewhere}
-use Rattle.doc_server_rounds.proofs.RoundLaws.{runs_join, pushed_join, sent_join}
+use Rattle.doc_hub_events.specs.declared.event.Event.{Event}
+use Rattle.doc_hub_events.specs.declared.event.Event.TheVariants as events
+use Rattle.doc_hub_events.specs.declared.outcome.Outcome.{Outcome}
+use Rattle.doc_hub.specs.RunParts.{served_by, AreOf, Gave, pushed_by, pushed_on}
+use Rattle.doc_hub.proofs.Elsewhere.{AreElsewhere, kept_elsewhere}
+use Rattle.doc_hub.proofs.RunParts.{runs_join, pushed_join, sent_join}
 use Rattle.doc_server_listen.specs.Peers.{Peer, most_pending}
 use Rattle.doc_server_listen.specs.Served.{HandsOver, GivesOut, TakesIn, KeepsBound, IsEnding, Closes, Served, Serves}
 use Rattle.doc_server_listen.proofs.HandingOver.{hands_join, hands_before}
@@ -53,7 +53,7 @@ on_by c n event outcome on = absurd (none_is n on)
 abbrev IsApart : ℕ → Happened → Type 0
 IsApart c h = (n : ℕ) × (served_by h.event ≡ Some n) × ((c == n) ≡ false)
 
-none_on : (c : ℕ) (run : List Happened) → AreElsewhere c run → events_on c run ≡ []
+pub none_on : (c : ℕ) (run : List Happened) → AreElsewhere c run → events_on c run ≡ []
 none_on c [] off = refl
 none_on c (h ∷ run) off =
     let now = All-head (IsApart c) h run off in

@@ -1,6 +1,6 @@
 -- The edit that a step tells is at paths of pages, of groups, and of a text that fits; so a record takes its line where there is room.
 use Rattle.std.proofs.Common.{◌≡◌, ◌≤◌, ℕ, ◌+◌, List, [], ◌++◌, length, Bool, true, false, refl, ap, sym, subst, arith, length-append}
-use Rattle.std.specs.Prelude.{MatchBool, Option, Some, None, IfSome, Result, Ok, Err, OnOk, is_err, nat_lt, option_map, option_to_list}
+use Rattle.std.specs.Prelude.{Option, Some, None, IfSome, Result, Ok, Err, OnOk, is_err, nat_lt, option_map, option_to_list}
 use Rattle.std.specs.Prelude.{if◌then◌else◌}
 use Rattle.std.specs.FinMap as map
 use Rattle.std.proofs.lemmas.Bool.Decides.{nat_tests}
@@ -8,58 +8,30 @@ use Rattle.doc_page_parts.specs.Paths.{is_path}
 use Rattle.doc_page_parts.proofs.Bools.{and_second}
 use Rattle.doc_store_readers.specs.Groups.{IsGroups}
 use Rattle.doc_store_readers.specs.Pages.{Page}
-use Rattle.doc_store_readers.specs.Sites.{view_of}
 use Rattle.doc_store.specs.Store.{StoreState, fits_in, set_page}
 use Rattle.doc_store.specs.Store as store
 use Rattle.doc_store.specs.declared.site_edit.SiteEdit.{SiteEdit}
 use Rattle.doc_store.specs.declared.store.EditError.{EditError}
 use Rattle.doc_store.specs.declared.store.EditError.TheVariants.{TooLong}
-use Rattle.doc_http.specs.Requests.{IsNext}
-use Rattle.doc_http.specs.declared.request.Next.{Next}
-use Rattle.doc_http.specs.declared.request.Next.TheVariants as nexts
-use Rattle.doc_hub_answers.specs.Edits.{puts_left}
 use Rattle.doc_hub_answers.specs.Replies.{Renders}
 use Rattle.doc_hub_answers.specs.declared.edit.Edit.{Edit}
 use Rattle.doc_hub_answers.specs.declared.edit.Edit.TheVariants as edits
-use Rattle.doc_hub_replies.specs.Answers.{is_for_people}
 use Rattle.doc_hub.specs.Runs.{Happens}
-use Rattle.doc_hub.specs.StepEdits.{Changes, StepTells, TellsAt, edit_of_step}
-use Rattle.doc_hub.specs.Worlds.{World, asking_of, reader_of, store_of}
-use Rattle.doc_hub.specs.declared.connection.Connection.{Connection}
-use Rattle.doc_hub.specs.declared.event.ConnId.{ConnId}
-use Rattle.doc_hub.specs.Events.{step_on}
-use Rattle.doc_hub.specs.declared.event.Step.{Step}
-use Rattle.doc_hub.proofs.AnswerEdits.{answer_holds}
+use Rattle.doc_hub.specs.StepEdits.{Changes, StepTells}
+use Rattle.doc_hub.specs.Worlds.{World, store_of}
+use Rattle.doc_hub_events.specs.declared.event.ConnId.{ConnId}
+use Rattle.doc_hub_events.specs.Events.{step_on}
+use Rattle.doc_hub_events.specs.declared.event.Step.{Step}
+use Rattle.doc_hub.proofs.ResponsePaths.{AtPaths}
 use Rattle.doc_hub.proofs.StepEdits.{steps_change}
+use Rattle.doc_hub.proofs.ToldPaths.{told_at_paths}
 use Rattle.doc_server_journal_records.specs.Records.{text_limit}
 use Rattle.doc_server_script.specs.LineLengths.{IsWithin, longest_line}
 use Rattle.doc_server_script.specs.PageLines.{line_of, lines_of}
 use Rattle.doc_server_script.proofs.LineLengths.{at_most, line_within}
 use Rattle.doc_server_listen.specs.Edits.{NamesGroups, edit_at, room_beside}
-use Rattle.doc_server_listen.proofs.EditingPaths.{edits_at_paths}
-use Rattle.doc_server_listen.proofs.ResponsePaths.{AtPaths, response_at_paths}
 
 -- ---- the edit that a step tells
-
--- it is at paths of pages
-module _ (render : Renders) (w : World) where
-  next_at_paths : (next : Next) → AtPaths (edit_of_step render w next)
-  next_at_paths nexts.More = tt
-  next_at_paths (nexts.Fault code bare) = tt
-  next_at_paths (nexts.Request used request) =
-      answer_holds AtPaths tt render (view_of w.site (reader_of w request)) (asking_of w request) (puts_left w.puts) request
-      (response_at_paths render (view_of w.site (reader_of w request)) (reader_of w request) (puts_left w.puts) request)
-      (λ browse. edits_at_paths (view_of w.site (reader_of w request)) (puts_left w.puts) request render browse (is_for_people request)
-      (asking_of w request)) w.settings
-
-  open_at_paths : (c : Connection) (told : Option Edit) (closed : Bool)
-      → MatchBool closed (told ≡ None) ((next : Next) × IsNext c.unread next × (told ≡ edit_of_step render w next)) → AtPaths told
-  open_at_paths c told true none = subst AtPaths (sym none) tt
-  open_at_paths c told false (next, begins, tells) = subst AtPaths (sym tells) (next_at_paths next)
-
-  told_at_paths : (told : Option Edit) (k : Option Connection) → TellsAt render w k told → AtPaths told
-  told_at_paths told None none = subst AtPaths (sym none) tt
-  told_at_paths told (Some c) tells = open_at_paths c told c.closed tells
 
 -- a text that may be put is no longer than the store's limit
 text_by : (text : List ℕ) (long : Bool) (rest : Result (Unit {0}) EditError) → nat_lt store.text_limit (length text) ≡ long

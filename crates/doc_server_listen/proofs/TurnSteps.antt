@@ -6,10 +6,10 @@ use Rattle.std.proofs.lemmas.List.Elements.{All-nil, All-append, All-head, All-t
 use Rattle.doc_hub_answers.specs.Replies.{Renders}
 use Rattle.doc_hub.specs.Runs.{Happened, Runs, nothing}
 use Rattle.doc_hub.specs.Worlds.{World}
-use Rattle.doc_server_rounds.specs.Served.{served_by, AreOf}
-use Rattle.doc_server_rounds.specs.Rounds.{IsAlone, AreOfAny}
-use Rattle.doc_server_rounds.proofs.Elsewhere.{AreElsewhere}
-use Rattle.doc_server_rounds.proofs.RoundLaws.{runs_join}
+use Rattle.doc_hub.specs.RunParts.{served_by, AreOf}
+use Rattle.doc_hub.specs.RunParts.{IsAlone, AreOfAny}
+use Rattle.doc_hub.proofs.Elsewhere.{AreElsewhere}
+use Rattle.doc_hub.proofs.RunParts.{runs_join}
 use Rattle.doc_server_listen.specs.Peers.{Peer}
 use Rattle.doc_server_listen.specs.Served.{Served, Serves}
 use Rattle.doc_server_listen.specs.Turns.{ids_of, written_of, ServesAll}

@@ -4,7 +4,7 @@ use Rattle.doc_hub_answers.specs.Replies.{Renders}
 use Rattle.doc_hub.specs.Runs.{Happened, Runs, sent_on}
 use Rattle.doc_hub.specs.StepLaws.{connection}
 use Rattle.doc_hub.specs.Worlds.{World}
-use Rattle.doc_server_rounds.specs.Served.{AreOf, pushed_on}
+use Rattle.doc_hub.specs.RunParts.{AreOf, pushed_on}
 use Rattle.doc_server_listen.specs.Edits.{AreQuiet}
 use Rattle.doc_server_listen.specs.Peers.{Peer}
 

@@ -13,11 +13,11 @@ use Rattle.doc_hub.specs.StepEdits.{StepTells}
 use Rattle.doc_hub.specs.Worlds.{World}
 use Rattle.doc_hub_answers.specs.declared.edit.Edit.{Edit}
 use Rattle.doc_hub_answers.specs.declared.edit.Edit.TheVariants as edits
-use Rattle.doc_hub.specs.declared.event.Event.{Event}
-use Rattle.doc_hub.specs.declared.event.ConnectionEvent.TheVariants as calls
-use Rattle.doc_hub.specs.declared.event.Event.TheVariants as events
-use Rattle.doc_hub.specs.declared.outcome.Outcome.{Outcome}
-use Rattle.doc_hub.specs.declared.outcome.Outcome.TheVariants as outcomes
+use Rattle.doc_hub_events.specs.declared.event.Event.{Event}
+use Rattle.doc_hub_events.specs.declared.event.ConnectionEvent.TheVariants as calls
+use Rattle.doc_hub_events.specs.declared.event.Event.TheVariants as events
+use Rattle.doc_hub_events.specs.declared.outcome.Outcome.{Outcome}
+use Rattle.doc_hub_events.specs.declared.outcome.Outcome.TheVariants as outcomes
 use Rattle.doc_server_journal_records.specs.Records.{text_limit}
 use Rattle.doc_server_script.specs.LineLengths.{longest_line}
 use Rattle.doc_server_script.specs.PageLines.{lines_of}

@@ -1,5 +1,6 @@
 pub mod Channels
 pub mod Closing
+pub mod Costs
 pub mod Edits
 pub mod MemoryChannels
 pub mod Peers

@@ -6,10 +6,10 @@ use Rattle.doc_hub_answers.specs.Replies.{Renders}
 use Rattle.doc_hub.specs.Runs.{Happened, Runs, events_on, sent_by, sent_on}
 use Rattle.doc_hub.specs.StepLaws.{connection}
 use Rattle.doc_hub.specs.Worlds.{World}
-use Rattle.doc_hub.specs.declared.event.Step.TheVariants as steps
-use Rattle.doc_hub.specs.declared.outcome.Outcome.{Outcome}
-use Rattle.doc_hub.specs.declared.outcome.Outcome.TheVariants as outcomes
-use Rattle.doc_server_rounds.specs.Served.{AreOf, Gave, pushed_on}
+use Rattle.doc_hub_events.specs.declared.event.Step.TheVariants as steps
+use Rattle.doc_hub_events.specs.declared.outcome.Outcome.{Outcome}
+use Rattle.doc_hub_events.specs.declared.outcome.Outcome.TheVariants as outcomes
+use Rattle.doc_hub.specs.RunParts.{AreOf, Gave, pushed_on}
 use Rattle.doc_server_listen.specs.Peers.{Peer, most_pending}
 
 -- ---- bytes

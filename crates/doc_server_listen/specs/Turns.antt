@@ -3,7 +3,7 @@ use Rattle.std.specs.Prelude.{◌≡◌, ⊤, ℕ, List, [], ◌∷◌, Option, 
 use Rattle.doc_hub_answers.specs.Replies.{Renders}
 use Rattle.doc_hub.specs.Runs.{Happened, Runs}
 use Rattle.doc_hub.specs.Worlds.{World}
-use Rattle.doc_server_rounds.specs.Rounds.{IsAlone, AreOfAny}
+use Rattle.doc_hub.specs.RunParts.{IsAlone, AreOfAny}
 use Rattle.doc_server_listen.specs.Peers.{Peer}
 use Rattle.doc_server_listen.specs.Served.{Served, HandsOver}
 

@@ -2,18 +2,21 @@
 
 ghost use Rattle.std.specs.Prelude.{◌≡◌, ◌≤◌, ◌<◌, ◌+◌, [], true, false, length, IfErr, IfOk, IfSome, Ok, Err};
 ghost use Rattle.doc_hub.specs.Runs.{Happens};
-ghost use Rattle.doc_hub.specs.Events.{disconnect_on};
-ghost use Rattle.doc_hub.specs.declared.event.Event.TheVariants as events;
+ghost use Rattle.doc_hub_events.specs.Events.{disconnect_on};
+ghost use Rattle.doc_hub_events.specs.declared.event.Event.TheVariants as events;
 ghost use Rattle.doc_hub_answers.specs.Replies.{Renders};
 ghost use Rattle.doc_hub.specs.Worlds.{World, disconnected};
 ghost use Rattle.doc_server_listen.specs.Closing.{Cuts};
+ghost use Rattle.doc_server_listen.specs.Costs.{CostsAtMost, IsWithin, next_cost};
 ghost use Rattle.doc_server_listen.specs.Edits.{AreQuiet, Records, has_room};
 ghost use Rattle.doc_server_listen.specs.Peers.{most_pending};
 ghost use Rattle.doc_server_listen.specs.Served.{HandsOver, Serves};
 
 use crate::channel::{Came, Channel};
+use crate::cost::{LIST_COST, PAGE_COST, step_cost};
 use crate::edit_lines::{EditLines, step_and_keep};
 use crate::sending::send_replies;
+use crate::share::Share;
 use crate::stage::Stage;
 use doc_hub::event::{ConnId, Step};
 use doc_hub::hub::Hub;
@@ -24,8 +27,8 @@ use doc_page_parts::heap::Heap;
 use std::collections::VecDeque;
 use std::marker::Model;
 
-/// How many steps a pass makes at most.
-const MOST_STEPS: u32 = 64;
+/// How many steps a pass makes at most, where each costs what a page costs.
+const MOST_STEPS: u32 = LIST_COST;
 
 /// From how many pending bytes on a client takes no further step.
 const MOST_PENDING: usize = 262_144;
@@ -134,16 +137,18 @@ impl<S: Channel + Drop> Client<S> {
         self.stage = dropped(hub, self.id, Stage::Ends);
     }
 
-    /// Where nothing is pending, reads once, pushes and steps. The line of each step's edit is kept right behind it. The replies of
-    /// these steps wait: nothing is handed over.
+    /// Where nothing is pending, reads once, pushes and steps, as far as the share of the turn goes. The line of each step's edit is
+    /// kept right behind it. The replies of these steps wait: nothing is handed over.
     pub fn take_in<R: Renderer + Drop>(
         &mut self,
         hub: &mut Hub<R>,
         piece: &mut [u8],
         edits: &mut EditLines,
+        share: &mut Share,
     )
         ensures serves { (s : Serves (R.page hub.old.0) hub.old.1 self.old hub.new.1 self.new)
-            × Records (R.page hub.old.0) s.run hub.new.1 edits.old edits.new }
+            × Records (R.page hub.old.0) s.run hub.new.1 edits.old edits.new
+            × IsWithin s.run share.old share.new }
         ensures written { self.new.written ≡ self.old.written }
         ensures same { R.page hub.new.0 ≡ R.page hub.old.0 }
         ensures room { length piece.new ≡ length piece.old }
@@ -158,7 +163,7 @@ impl<S: Channel + Drop> Client<S> {
         if !self.is_open() {
             return;
         }
-        self.answer(hub, edits);
+        self.answer(hub, edits, share);
     }
 
     /// Hands over what is pending, as far as the stream takes it. Where the stream fails the client is closed.
@@ -234,18 +239,28 @@ impl<S: Channel + Drop> Client<S> {
         }
     }
 
-    /// Answers the requests that have come, at most so many, and none once so many bytes are pending, or no edit has room.
-    fn answer<R: Renderer + Drop>(&mut self, hub: &mut Hub<R>, edits: &mut EditLines)
+    /// Answers the requests that have come, as far as the share of the turn goes, and none once so many bytes are pending, or no edit
+    /// has room.
+    fn answer<R: Renderer + Drop>(
+        &mut self,
+        hub: &mut Hub<R>,
+        edits: &mut EditLines,
+        share: &mut Share,
+    )
         requires open { self.old.is_open ≡ true }
         requires none { self.old.pending ≡ [] }
         ensures serves { (s : Serves (R.page hub.old.0) hub.old.1 self.old hub.new.1 self.new)
-            × Records (R.page hub.old.0) s.run hub.new.1 edits.old edits.new }
+            × Records (R.page hub.old.0) s.run hub.new.1 edits.old edits.new
+            × IsWithin s.run share.old share.new }
         ensures written { self.new.written ≡ self.old.written }
         ensures same { R.page hub.new.0 ≡ R.page hub.old.0 }
     {
         let mut held = 0;
         'steps: for _ in 0..MOST_STEPS {
             if held >= MOST_PENDING || self.stage == Stage::Reads || !edits.has_room() {
+                return;
+            }
+            if !share.take(self.next_cost(hub)) {
                 return;
             }
             let Some(count) = self.step(hub, edits) else {
@@ -255,13 +270,24 @@ impl<S: Channel + Drop> Client<S> {
         }
     }
 
+    /// What the next step costs.
+    fn next_cost<R: Renderer + Drop>(&self, hub: &Hub<R>) -> u32
+        ensures { result ≡ next_cost hub.now.1 self.now.id }
+    {
+        match hub.unread(self.id) {
+            Some(unread) => step_cost(unread),
+            None => PAGE_COST,
+        }
+    }
+
     /// One step, and its reply waits. Where another step may follow, it answers how many bytes the reply has.
     fn step<R: Renderer + Drop>(&mut self, hub: &mut Hub<R>, edits: &mut EditLines) -> Option<usize>
         requires open { self.old.is_open ≡ true }
         requires room { length self.old.pending < most_pending }
         requires further { has_room edits.old ≡ true }
         ensures serves { (s : Serves (R.page hub.old.0) hub.old.1 self.old hub.new.1 self.new)
-            × Records (R.page hub.old.0) s.run hub.new.1 edits.old edits.new }
+            × Records (R.page hub.old.0) s.run hub.new.1 edits.old edits.new
+            × CostsAtMost s.run (next_cost hub.old.1 self.old.id) }
         ensures written { self.new.written ≡ self.old.written }
         ensures open { IfSome result (λ _. self.new.is_open ≡ true) }
         ensures more { IfSome result

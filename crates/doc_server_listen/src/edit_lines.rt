@@ -2,7 +2,7 @@
 
 ghost use Rattle.std.specs.Prelude.{◌≡◌, ◌≤◌, ◌++◌, [], None, Some, true, length, option_map, option_to_list, string_bytes, IfSome, OnOk};
 ghost use Rattle.std.specs.FinMap as map;
-ghost use Rattle.doc_hub.specs.Events.{step_on, stepping};
+ghost use Rattle.doc_hub_events.specs.Events.{step_on, stepping};
 ghost use Rattle.doc_hub.specs.Runs.{Happens};
 ghost use Rattle.doc_server_journal_records.specs.Records.{text_limit};
 ghost use Rattle.doc_server_script.specs.LineLengths.{IsWithin};

@@ -4,8 +4,10 @@
 
 pub mod channel;
 pub mod client;
+pub mod cost;
 pub mod edit_lines;
 pub mod memory_channel;
 mod sending;
+pub mod share;
 mod stage;
 pub mod turn;

@@ -2,15 +2,15 @@
 use Rattle.std.proofs.Common.{◌≡◌, ℕ, List, [], ◌∷◌, ◌++◌, refl, subst}
 use Rattle.std.specs.Prelude.{Contains, Option, Some, None, Result, Ok, Err, IfOk, IfErr}
 use Rattle.std.proofs.lemmas.List.Elements.{All-nil, All-append, All-cons, All-weaker}
-use Rattle.doc_hub.specs.Events.{Said, outcome_of}
+use Rattle.doc_hub_events.specs.Events.{Said, outcome_of}
 use Rattle.doc_hub_answers.specs.Replies.{Renders}
 use Rattle.doc_hub.specs.Runs.{Happened, Happens, Runs, nothing, first}
 use Rattle.doc_hub.specs.Worlds.{World}
-use Rattle.doc_hub.specs.declared.event.Event.{Event}
-use Rattle.doc_hub.specs.declared.event.Event.TheVariants as events
-use Rattle.doc_hub.specs.declared.refusal.ConnectError.{ConnectError}
-use Rattle.doc_server_rounds.specs.Served.{served_by}
-use Rattle.doc_server_rounds.proofs.RoundLaws.{runs_join}
+use Rattle.doc_hub_events.specs.declared.event.Event.{Event}
+use Rattle.doc_hub_events.specs.declared.event.Event.TheVariants as events
+use Rattle.doc_hub_events.specs.declared.refusal.ConnectError.{ConnectError}
+use Rattle.doc_hub.specs.RunParts.{served_by}
+use Rattle.doc_hub.proofs.RunParts.{runs_join}
 use Rattle.doc_server_listen.specs.Peers.{Peer}
 use Rattle.doc_server_listen.specs.Turns.{ServesAll, ids_of}
 use Rattle.doc_server_poll.specs.Servers.{IsOfPeers, Leads}

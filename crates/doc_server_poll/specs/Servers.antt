@@ -3,8 +3,8 @@ use Rattle.std.specs.Prelude.{⊤, ℕ, List, All}
 use Rattle.doc_hub_answers.specs.Replies.{Renders}
 use Rattle.doc_hub.specs.Runs.{Happened, Runs}
 use Rattle.doc_hub.specs.Worlds.{World}
-use Rattle.doc_hub.specs.declared.event.Event.{Event}
-use Rattle.doc_hub.specs.declared.event.Event.TheVariants as events
+use Rattle.doc_hub_events.specs.declared.event.Event.{Event}
+use Rattle.doc_hub_events.specs.declared.event.Event.TheVariants as events
 use Rattle.doc_server_listen.specs.Peers.{Peer}
 
 -- how many clients it has at most, and those it has

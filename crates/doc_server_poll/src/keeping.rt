@@ -1,6 +1,7 @@
 //! What becomes of the edits of a turn.
 
 ghost use Rattle.std.specs.Prelude.{◌≡◌, OnOk};
+ghost use Rattle.doc_server_listen.specs.Costs.{SharesTurn};
 ghost use Rattle.doc_server_listen.specs.Turns.{ServesAll};
 ghost use Rattle.doc_server_poll.specs.Keepings.{IsReady, KeepsEdits};
 
@@ -11,6 +12,7 @@ use doc_server_journal::device::Device;
 use doc_server_journal::journal::Journal;
 use doc_server_listen::channel::Channel;
 use doc_server_listen::client::Client;
+use doc_server_listen::share::Share;
 use doc_server_listen::turn::turn;
 use doc_server_settling::fault::TurnFault;
 use doc_server_settling::settling::settled_turn;
@@ -43,21 +45,25 @@ impl<D: Device> Keeping<D> {
         clients: &mut [Client<S>],
         ready: &[usize],
         piece: &mut [u8],
+        share: &mut Share,
     ) -> Result<(), TurnFault>
         requires ready { IsReady D.seen D.may_leave D.failed self.old }
         ensures serves { (s : ServesAll (R.page hub.old.0) hub.old.1 clients.old
             hub.new.1 clients.new)
             × KeepsEdits D.seen D.may_leave D.failed D.moment D.left_since self.old self.new
-            (R.page hub.old.0) s.run hub.new.1 clients.old clients.new result }
+            (R.page hub.old.0) s.run hub.new.1 clients.old clients.new result
+            × SharesTurn clients.old ready.now s.run share.old share.new }
         ensures ready { OnOk result (IsReady D.seen D.may_leave D.failed self.new) }
         ensures same { R.page hub.new.0 ≡ R.page hub.old.0 }
     {
         match self {
             Keeping::Forgets => {
-                turn(hub, clients, ready, piece);
+                turn(hub, clients, ready, piece, share);
                 Ok(())
             }
-            Keeping::Keeps(journal) => settled_turn(heap, journal, hub, clients, ready, piece),
+            Keeping::Keeps(journal) => {
+                settled_turn(heap, journal, hub, clients, ready, piece, share)
+            }
         }
     }
 }

@@ -15,9 +15,11 @@ use doc_page::renderer::Renderer;
 use doc_page_parts::heap::{BTreeMap, Heap, Vec};
 use doc_server_journal::device::Device;
 use doc_server_listen::client::Client;
+use doc_server_listen::share::Share;
 use doc_server_settling::fault::TurnFault;
 use std::alloc::AllocError;
 use std::marker::Model;
+use std::ops::Range;
 use std::rc::Rc;
 use std::time::{Duration, Instant};
 
@@ -106,6 +108,21 @@ impl Peers {
         Ok(())
     }
 
+    /// The peer with this number has gone: what it sent isn't answered any more, and it is let go behind the turn.
+    pub fn lose(&mut self, number: u64)
+        ensures { self.new ≡ self.old }
+    {
+        let Some(place) = self.places.get(&number) else {
+            return;
+        };
+        let Some(slot) = self.slots.get_mut(*place) else {
+            return;
+        };
+        if slot.lose() {
+            let _ = self.gone.push(number);
+        }
+    }
+
     /// Takes the client with this number into the turn that runs.
     pub fn enter(&mut self, number: u64, now: Instant)
         ensures { self.new ≡ self.old }
@@ -160,8 +177,9 @@ impl Peers {
         ensures ready { OnOk result (IsReady D.seen D.may_leave D.failed keeping.new) }
         ensures none { length self.new ≤ length self.old }
     {
-        self.settle(heap, keeping, hub, piece)?;
-        self.leave_all(piece, now, watch);
+        let mut share = Share::new();
+        self.settle(heap, keeping, hub, piece, &mut share)?;
+        self.leave_all(share.behind(), piece, now, watch);
         self.let_go(hub, watch);
         watch.end_turn();
         Ok(())
@@ -174,6 +192,7 @@ impl Peers {
         keeping: &mut Keeping<D>,
         hub: &mut Hub<R>,
         piece: &mut [u8],
+        share: &mut Share,
     ) -> Result<(), TurnFault>
         requires ready { IsReady D.seen D.may_leave D.failed keeping.old }
         ensures leads { Leads (R.page hub.old.0) hub.old.1 hub.new.1 }
@@ -181,17 +200,40 @@ impl Peers {
         ensures ready { OnOk result (IsReady D.seen D.may_leave D.failed keeping.new) }
         ensures many { length self.new ≡ length self.old }
     {
-        keeping.turn(heap, hub, self.clients.as_mut_slice(), &self.ready, piece)
+        keeping.turn(
+            heap,
+            hub,
+            self.clients.as_mut_slice(),
+            &self.ready,
+            piece,
+            share,
+        )
     }
 
-    /// Ends the part of those that were taken in.
-    fn leave_all<W: Watch>(&mut self, piece: &mut [u8], now: Instant, watch: &mut W)
+    /// Ends the part of those that were taken in. The next turn begins with those from `behind` on: the others took something dear, and
+    /// come last.
+    fn leave_all<W: Watch>(&mut self, behind: usize, piece: &mut [u8], now: Instant, watch: &mut W)
         ensures { self.new ≡ self.old }
     {
-        'places: for at in 0..self.ready.len() {
+        let count = self.ready.len();
+        self.leave_some(behind..count, piece, now, watch);
+        self.leave_some(0..behind.min(count), piece, now, watch);
+        self.ready.clear();
+    }
+
+    /// Ends the part of some of them.
+    fn leave_some<W: Watch>(
+        &mut self,
+        some: Range<usize>,
+        piece: &mut [u8],
+        now: Instant,
+        watch: &mut W,
+    )
+        ensures { self.new ≡ self.old }
+    {
+        'places: for at in some {
             self.leave_at(at, piece, now, watch);
         }
-        self.ready.clear();
     }
 
     /// Ends the part of one of them in the turn.

@@ -205,6 +205,7 @@ impl Server {
     fn take_in(&mut self, now: Instant) -> bool
         ensures { self.new ≡ self.old }
     {
+        lose_gone(&self.events, &mut self.peers);
         self.peers.enter_going(now);
         take_events(&self.events, &mut self.door, &mut self.peers, now)
     }
@@ -276,6 +277,17 @@ fn watch_input(poll: &Poll) {
         Token(INPUT),
         Interest::READABLE,
     );
+}
+
+/// Marks those whose peers have gone: they were reset, or neither side sends any more.
+fn lose_gone(events: &Events<Heap>, peers: &mut Peers)
+    ensures { peers.new ≡ peers.old }
+{
+    'events: for event in events {
+        if event.is_write_closed() {
+            peers.lose(event.token().0 as u64);
+        }
+    }
 }
 
 /// Takes those in whose events came. True: standard input has ended.

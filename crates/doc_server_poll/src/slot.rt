@@ -35,6 +35,8 @@ pub struct Slot {
     is_ready: bool,
     /// Whether nothing of it was told yet.
     is_new: bool,
+    /// Whether its peer has gone.
+    is_lost: bool,
 }
 
 impl Slot {
@@ -45,12 +47,20 @@ impl Slot {
             lingers: false,
             is_ready: false,
             is_new: true,
+            is_lost: false,
         }
     }
 
-    /// Takes it into the turn that runs. False: it takes part already.
+    /// Its peer has gone. False: that is known already.
+    pub fn lose(&mut self) -> bool {
+        let is_news = !self.is_lost;
+        self.is_lost = true;
+        is_news
+    }
+
+    /// Takes it into the turn that runs. False: it takes part already, or its peer has gone.
     pub fn enter(&mut self, now: Instant) -> bool {
-        if self.is_ready {
+        if self.is_ready || self.is_lost {
             return false;
         }
         self.is_ready = true;

@@ -10,7 +10,7 @@ use Rattle.doc_store.specs.declared.site_edit.SiteEdit.{SiteEdit}
 use Rattle.doc_store.specs.declared.site_edit.SiteEdit.TheVariants as site_edits
 use Rattle.doc_store.specs.declared.moving.MoveError.{MoveError}
 use Rattle.doc_store.specs.declared.store.EditError.{EditError}
-use Rattle.doc_hub.specs.declared.event.Event.{Event}
+use Rattle.doc_hub_events.specs.declared.event.Event.{Event}
 use Rattle.doc_server_script.specs.Compactions.{effects}
 use Rattle.doc_server_script.specs.Replays.{unless_refused}
 use Rattle.doc_server_restore.specs.declared.fault.RestoreFault.{RestoreFault}

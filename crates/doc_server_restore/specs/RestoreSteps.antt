@@ -2,7 +2,7 @@
 use Rattle.std.specs.Prelude.{◌≡◌, List, [], ◌∷◌, Bool, true, false, Option, Some, None, is_some}
 use Rattle.doc_store.specs.Store.{StoreState}
 use Rattle.doc_store.specs.declared.site_edit.SiteEdit.{SiteEdit}
-use Rattle.doc_hub.specs.declared.event.Event.{Event}
+use Rattle.doc_hub_events.specs.declared.event.Event.{Event}
 use Rattle.doc_hub_answers.specs.Replies.{Renders}
 use Rattle.doc_hub.specs.Worlds.{World, store_of, with_store}
 use Rattle.doc_server_restore.specs.Restores.{edit_in, edits_in, made}

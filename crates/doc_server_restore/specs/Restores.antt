@@ -7,8 +7,8 @@ use Rattle.std.specs.Result.{result_ok}
 use Rattle.std.specs.Str.{is_utf8}
 use Rattle.doc_store.specs.Store.{StoreState}
 use Rattle.doc_store.specs.declared.site_edit.SiteEdit.{SiteEdit}
-use Rattle.doc_hub.specs.declared.event.Event.{Event}
-use Rattle.doc_hub.specs.declared.event.Event.TheVariants as events
+use Rattle.doc_hub_events.specs.declared.event.Event.{Event}
+use Rattle.doc_hub_events.specs.declared.event.Event.TheVariants as events
 use Rattle.doc_server.specs.Scripts.{events_of}
 use Rattle.doc_server_script.specs.Compactions.{effects}
 use Rattle.doc_server_script.specs.Replays.{edited}

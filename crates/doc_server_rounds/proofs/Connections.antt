@@ -16,14 +16,14 @@ use Rattle.doc_hub.specs.Runs.{Happens}
 use Rattle.doc_hub.specs.StepLaws.{connection}
 use Rattle.doc_hub.specs.Worlds.{World, answer_in, world_after, with_finished, stepped_by, step_said, Stays, Answers, StepsAt}
 use Rattle.doc_hub.specs.declared.connection.Connection.{Connection}
-use Rattle.doc_hub.specs.declared.event.ConnId.{ConnId}
-use Rattle.doc_hub.specs.Events.{disconnect_on, push_on, step_on}
-use Rattle.doc_hub.specs.declared.event.Step.{Step}
-use Rattle.doc_hub.specs.declared.event.Step.TheVariants as steps
-use Rattle.doc_hub.specs.declared.refusal.PushError.{PushError}
-use Rattle.doc_hub.specs.declared.refusal.PushError.TheVariants as push_errors
-use Rattle.doc_hub.specs.declared.refusal.StepError.{StepError}
-use Rattle.doc_hub.specs.declared.refusal.StepError.TheVariants as step_errors
+use Rattle.doc_hub_events.specs.declared.event.ConnId.{ConnId}
+use Rattle.doc_hub_events.specs.Events.{disconnect_on, push_on, step_on}
+use Rattle.doc_hub_events.specs.declared.event.Step.{Step}
+use Rattle.doc_hub_events.specs.declared.event.Step.TheVariants as steps
+use Rattle.doc_hub_events.specs.declared.refusal.PushError.{PushError}
+use Rattle.doc_hub_events.specs.declared.refusal.PushError.TheVariants as push_errors
+use Rattle.doc_hub_events.specs.declared.refusal.StepError.{StepError}
+use Rattle.doc_hub_events.specs.declared.refusal.StepError.TheVariants as step_errors
 use Rattle.doc_server_rounds.specs.Served.{IsShut, IsShutAs, unread_len, unread_of}
 
 itself : (n : ℕ) → (n == n) ≡ true

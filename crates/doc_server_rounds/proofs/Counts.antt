@@ -7,7 +7,7 @@ use Rattle.std.proofs.lemmas.List.{take_more, map-append}
 use Rattle.std.proofs.lemmas.List.Elements.{All-nil, All-cons, All-append}
 use Rattle.std.specs.Prelude.{nat_lt, map, if◌then◌else◌}
 use Rattle.doc_hub.specs.Worlds.{World, disconnected}
-use Rattle.doc_hub.specs.declared.event.ConnId.{ConnId}
+use Rattle.doc_hub_events.specs.declared.event.ConnId.{ConnId}
 use Rattle.doc_server_rounds.specs.Dropped.{dropped_all}
 use Rattle.doc_server_rounds.specs.Peers.{Peer}
 use Rattle.doc_server_rounds.specs.Rounds.{AreClosed, failures_in, ids_of, risen_from}

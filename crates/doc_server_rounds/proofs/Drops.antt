@@ -10,8 +10,8 @@ use Rattle.doc_hub.specs.Runs.{Happened, Runs, nothing, first}
 use Rattle.doc_hub.specs.StepLaws.{connection}
 use Rattle.doc_hub.specs.Worlds.{World, disconnected}
 use Rattle.doc_hub.specs.declared.connection.Connection.{Connection}
-use Rattle.doc_hub.specs.Events.{disconnect_on}
-use Rattle.doc_hub.specs.declared.outcome.Outcome.TheVariants as outcomes
+use Rattle.doc_hub_events.specs.Events.{disconnect_on}
+use Rattle.doc_hub_events.specs.declared.outcome.Outcome.TheVariants as outcomes
 use Rattle.doc_server_rounds.specs.Dropped.{dropped_all, is_among}
 use Rattle.doc_server_rounds.specs.Servings.{IsOwn}
 

@@ -1,9 +1,8 @@
 mod Connections
 mod Counts
-pub mod Elsewhere
 mod Pieces
 mod RoundSteps
-pub mod RoundLaws
+mod RoundLaws
 mod Written
 mod Among
 mod Drops

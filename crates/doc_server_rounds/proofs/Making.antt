@@ -13,14 +13,14 @@ use Rattle.doc_hub_answers.specs.Replies.{Renders}
 use Rattle.doc_hub.specs.Runs.{Happened, Happens, nothing, first}
 use Rattle.doc_hub.specs.StepLaws.{connection}
 use Rattle.doc_hub.specs.Worlds.{World, connected, last_id}
-use Rattle.doc_hub.specs.declared.event.ConnId.{ConnId}
-use Rattle.doc_hub.specs.declared.event.Event.TheVariants as events
-use Rattle.doc_hub.specs.declared.outcome.Outcome.TheVariants as outcomes
-use Rattle.doc_hub.specs.declared.refusal.ConnectError.{ConnectError}
-use Rattle.doc_hub.specs.declared.refusal.ConnectError.TheVariants as connect_errors
+use Rattle.doc_hub_events.specs.declared.event.ConnId.{ConnId}
+use Rattle.doc_hub_events.specs.declared.event.Event.TheVariants as events
+use Rattle.doc_hub_events.specs.declared.outcome.Outcome.TheVariants as outcomes
+use Rattle.doc_hub_events.specs.declared.refusal.ConnectError.{ConnectError}
+use Rattle.doc_hub_events.specs.declared.refusal.ConnectError.TheVariants as connect_errors
 use Rattle.doc_server_rounds.specs.Peers.{Peer}
 use Rattle.doc_server_rounds.specs.Rounds.{ids_of}
-use Rattle.doc_server_rounds.proofs.RoundLaws.{runs_join}
+use Rattle.doc_hub.proofs.RunParts.{runs_join}
 use Rattle.doc_server_rounds.specs.Dropped.{is_among}
 use Rattle.doc_server_rounds.specs.Faults.{Explains, IsRefusal, fault_of}
 use Rattle.doc_server_rounds.specs.Made.{IsNew, Makes, MakesOne, next_numbers}

@@ -5,29 +5,31 @@ use Rattle.std.specs.Prelude.{Contains, MatchBool, Option, Some, None, Ok, Err, 
 use Rattle.std.specs.Io.KnownBytes.{Appends, Consumes, IsAtEnd, Keeps}
 use Rattle.std.proofs.KnownBytes.{Appends-nil, Consumes-nil, Consumes-kept}
 use Rattle.std.proofs.lemmas.List.Elements.{All-nil, All-cons, All-append, Contains-push}
-use Rattle.doc_hub.specs.Events.{disconnect_on, push_on, pushing, step_on, stepping}
+use Rattle.doc_hub_events.specs.Events.{disconnect_on, push_on, pushing, step_on, stepping}
 use Rattle.doc_hub_answers.specs.Replies.{Renders}
 use Rattle.doc_hub.specs.Runs.{Happens, Happened, Leaves, Runs, nothing, first, events_on, sent_by, sent_on}
 use Rattle.doc_hub.specs.StepLaws.{connection}
 use Rattle.doc_hub.specs.Worlds.{World}
-use Rattle.doc_hub.specs.declared.event.ConnId.{ConnId}
-use Rattle.doc_hub.specs.declared.event.Event.{Event}
-use Rattle.doc_hub.specs.declared.event.Step.TheVariants as steps
-use Rattle.doc_hub.specs.declared.outcome.Outcome.{Outcome}
-use Rattle.doc_hub.specs.declared.outcome.Outcome.TheVariants as outcomes
-use Rattle.doc_hub.specs.declared.refusal.PushError.{PushError}
-use Rattle.doc_hub.specs.declared.refusal.PushError.TheVariants as push_errors
-use Rattle.doc_hub.specs.declared.refusal.StepError.TheVariants as step_errors
+use Rattle.doc_hub_events.specs.declared.event.ConnId.{ConnId}
+use Rattle.doc_hub_events.specs.declared.event.Event.{Event}
+use Rattle.doc_hub_events.specs.declared.event.Step.TheVariants as steps
+use Rattle.doc_hub_events.specs.declared.outcome.Outcome.{Outcome}
+use Rattle.doc_hub_events.specs.declared.outcome.Outcome.TheVariants as outcomes
+use Rattle.doc_hub_events.specs.declared.refusal.PushError.{PushError}
+use Rattle.doc_hub_events.specs.declared.refusal.PushError.TheVariants as push_errors
+use Rattle.doc_hub_events.specs.declared.refusal.StepError.TheVariants as step_errors
 use Rattle.doc_server_streams.specs.Moves.{IsDry}
 use Rattle.doc_server_streams.specs.Streams.{one_more}
 use Rattle.doc_server_rounds.specs.Peers.{Peer, Suits, is_open_in}
 use Rattle.doc_server_rounds.specs.declared.phase.Phase.{Phase}
 use Rattle.doc_server_rounds.specs.declared.phase.Phase.TheVariants as phases
 use Rattle.doc_server_rounds.specs.Sending.{HasFault, IsSent, IsCutOff}
-use Rattle.doc_server_rounds.specs.Served.{served_by, AreOf, pushed_by, pushed_on, IsLast, IsMore, IsShut, TakesIn, GivesOut, Closes, Serves}
+use Rattle.doc_hub.specs.RunParts.{served_by, AreOf, pushed_by, pushed_on}
+use Rattle.doc_server_rounds.specs.Served.{IsLast, IsMore, IsShut, TakesIn, GivesOut, Closes, Serves}
 use Rattle.doc_server_rounds.proofs.Connections.{disconnect_drops, push_refused, push_finds_shut, push_leaves_open}
 use Rattle.doc_server_rounds.proofs.Connections.{reply_takes, more_leaves, memory_leaves, step_finds_closed, step_finds_none}
-use Rattle.doc_server_rounds.proofs.RoundLaws.{goes_on, comes_to_end, pushed_join, sent_join, one_on, one_pushes, one_sends, why_before, runs_join}
+use Rattle.doc_hub.proofs.RunParts.{pushed_join, sent_join, one_on, one_pushes, one_sends, runs_join}
+use Rattle.doc_server_rounds.proofs.RoundLaws.{goes_on, comes_to_end, why_before}
 
 -- the input of a link stays as it was
 pub record IsAlike (p q : Peer) : Type 0 where

@@ -7,10 +7,13 @@ use Rattle.doc_hub_answers.specs.Replies.{Renders}
 use Rattle.doc_hub.specs.Runs.{Happened, Runs, nothing}
 use Rattle.doc_hub.specs.Worlds.{World}
 use Rattle.doc_server_rounds.specs.Peers.{Peer}
-use Rattle.doc_server_rounds.specs.Served.{served_by, AreOf, Served, Serves}
-use Rattle.doc_server_rounds.specs.Rounds.{ids_of, IsAlone, AreOfAny, ServesAll}
-use Rattle.doc_server_rounds.proofs.Elsewhere.{AreElsewhere}
-use Rattle.doc_server_rounds.proofs.RoundLaws.{idle, joined, runs_join}
+use Rattle.doc_hub.specs.RunParts.{served_by, AreOf}
+use Rattle.doc_server_rounds.specs.Served.{Served, Serves}
+use Rattle.doc_hub.specs.RunParts.{IsAlone, AreOfAny}
+use Rattle.doc_server_rounds.specs.Rounds.{ids_of, ServesAll}
+use Rattle.doc_hub.proofs.Elsewhere.{AreElsewhere}
+use Rattle.doc_hub.proofs.RunParts.{runs_join}
+use Rattle.doc_server_rounds.proofs.RoundLaws.{idle, joined}
 
 same_some : {X : Type 0} (x y : X) → Some x ≡ Some y → x ≡ y
 same_some x y e = cc

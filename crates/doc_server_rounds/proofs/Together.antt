@@ -9,11 +9,12 @@ use Rattle.doc_hub.specs.Runs.{Happened, Runs, nothing}
 use Rattle.doc_hub.specs.StepLaws.{connection}
 use Rattle.doc_hub.specs.Worlds.{World}
 use Rattle.doc_server_rounds.specs.Peers.{Peer}
-use Rattle.doc_server_rounds.specs.Rounds.{AreOfAny, AreClosed, ServesAll, fault_places, ids_of}
-use Rattle.doc_server_rounds.specs.Served.{served_by}
+use Rattle.doc_hub.specs.RunParts.{AreOfAny}
+use Rattle.doc_server_rounds.specs.Rounds.{AreClosed, ServesAll, fault_places, ids_of}
+use Rattle.doc_hub.specs.RunParts.{served_by}
 use Rattle.doc_server_rounds.specs.declared.round.Round.{Round}
-use Rattle.doc_server_rounds.proofs.Elsewhere.{kept_elsewhere}
-use Rattle.doc_server_rounds.proofs.RoundLaws.{runs_join}
+use Rattle.doc_hub.proofs.Elsewhere.{kept_elsewhere}
+use Rattle.doc_hub.proofs.RunParts.{runs_join}
 use Rattle.doc_server_rounds.specs.Dropped.{dropped_all, is_among}
 use Rattle.doc_server_rounds.specs.Faults.{Explains}
 use Rattle.doc_server_rounds.specs.Made.{Makes}

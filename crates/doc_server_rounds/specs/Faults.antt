@@ -1,8 +1,8 @@
 -- Why the peers of a listener were not served.
 use Rattle.std.specs.Prelude.{◌<◌, ◌≤◌, ⊤, ℕ}
 use Rattle.doc_hub.specs.Worlds.{World, last_id}
-use Rattle.doc_hub.specs.declared.refusal.ConnectError.{ConnectError}
-use Rattle.doc_hub.specs.declared.refusal.ConnectError.TheVariants as connect_errors
+use Rattle.doc_hub_events.specs.declared.refusal.ConnectError.{ConnectError}
+use Rattle.doc_hub_events.specs.declared.refusal.ConnectError.TheVariants as connect_errors
 use Rattle.doc_server_rounds.specs.declared.fault.ServeFault.{ServeFault}
 use Rattle.doc_server_rounds.specs.declared.fault.ServeFault.TheVariants as faults
 

@@ -1,22 +1,15 @@
 -- What a round does to the hub and to its links.
-use Rattle.std.specs.Prelude.{◌≡◌, ℕ, ◌+◌, List, [], ◌∷◌, false, nat_lt, All, Contains, Some, map, slice_get, if◌then◌else◌}
+use Rattle.std.specs.Prelude.{◌≡◌, ℕ, ◌+◌, List, [], ◌∷◌, false, nat_lt, All, Some, map, slice_get, if◌then◌else◌}
 use Rattle.doc_hub_answers.specs.Replies.{Renders}
 use Rattle.doc_hub.specs.Runs.{Happened, Runs}
 use Rattle.doc_hub.specs.Worlds.{World}
 use Rattle.doc_server_rounds.specs.Peers.{Peer}
-use Rattle.doc_server_rounds.specs.Served.{served_by, Served}
+use Rattle.doc_hub.specs.RunParts.{IsAlone, AreOfAny}
+use Rattle.doc_server_rounds.specs.Served.{Served}
 
 -- the numbers of the links' connections
 abbrev pub ids_of : List Peer → List ℕ
 ids_of ps = map (λ p. p.id) ps
-
--- no other place of the list has what this one has
-abbrev pub IsAlone : List ℕ → ℕ → Type 0
-IsAlone ids i = (j c : ℕ) → slice_get ids i ≡ Some c → slice_get ids j ≡ Some c → j ≡ i
-
--- pushes, steps and disconnects of these connections
-abbrev pub AreOfAny : List ℕ → List Happened → Type 0
-AreOfAny ids run = All (λ h. (c : ℕ) × (served_by h.event ≡ Some c) × Contains ids c) run
 
 -- One run, of the links' events alone, serves each link whose connection is no other link's.
 pub record ServesAll (render : Renders) (w : World) (ps : List Peer) (v : World) (qs : List Peer) : Type 0 where

@@ -1,46 +1,22 @@
 -- What serving a link does, to the hub and to its stream.
-use Rattle.std.specs.Prelude.{◌≡◌, ◌⊎◌, ⊤, ℕ, List, [], ◌++◌, length, true, false, All, Contains, Option, Some, None, Ok, flat_map}
+use Rattle.std.specs.Prelude.{◌≡◌, ◌⊎◌, ⊤, ℕ, List, ◌++◌, length, true, false, All, Option, Some, None, Ok}
 use Rattle.std.specs.Io.KnownBytes.{Appends, Consumes, IsAtEnd}
 use Rattle.doc_hub_answers.specs.Replies.{Renders}
-use Rattle.doc_hub.specs.Runs.{Happened, Happens, Runs, events_on, sent_on}
+use Rattle.doc_hub.specs.RunParts.{AreOf, Gave, pushed_on}
+use Rattle.doc_hub.specs.Runs.{Happened, Happens, Runs, sent_on}
 use Rattle.doc_hub.specs.StepLaws.{connection}
 use Rattle.doc_hub.specs.Worlds.{World}
 use Rattle.doc_hub.specs.declared.connection.Connection.{Connection}
-use Rattle.doc_hub.specs.declared.event.ConnId.{ConnId}
-use Rattle.doc_hub.specs.declared.event.Event.{Event}
-use Rattle.doc_hub.specs.declared.event.ConnectionEvent.TheVariants as calls
-use Rattle.doc_hub.specs.Events.{step_on}
-use Rattle.doc_hub.specs.declared.event.Event.TheVariants as events
-use Rattle.doc_hub.specs.declared.event.Step.TheVariants as steps
-use Rattle.doc_hub.specs.declared.outcome.Outcome.{Outcome}
-use Rattle.doc_hub.specs.declared.outcome.Outcome.TheVariants as outcomes
+use Rattle.doc_hub_events.specs.declared.event.ConnId.{ConnId}
+use Rattle.doc_hub_events.specs.Events.{step_on}
+use Rattle.doc_hub_events.specs.declared.event.Step.TheVariants as steps
+use Rattle.doc_hub_events.specs.declared.outcome.Outcome.{Outcome}
+use Rattle.doc_hub_events.specs.declared.outcome.Outcome.TheVariants as outcomes
 use Rattle.doc_server_streams.specs.Streams.{AppendsPrefix}
 use Rattle.doc_server_rounds.specs.Peers.{Peer}
 use Rattle.doc_server_rounds.specs.Sending.{HasFault}
 
--- ---- events on a connection
-
--- the connection of a push, of a step or of a disconnect
-abbrev pub served_by : Event → Option ℕ
-served_by (events.On id call) = Some id.0
-served_by event = None
-
--- pushes, steps and disconnects of this connection alone
-abbrev pub AreOf : ℕ → List Happened → Type 0
-AreOf c run = All (λ h. served_by h.event ≡ Some c) run
-
--- the bytes of an accepted push
-abbrev pub pushed_by : Event → Outcome → List ℕ
-pushed_by (events.On id (calls.Push bytes)) outcomes.Pushed = bytes
-pushed_by event outcome = []
-
--- the bytes that a run's accepted pushes take to a connection
-abbrev pub pushed_on : ℕ → List Happened → List ℕ
-pushed_on c run = flat_map (λ h. pushed_by h.event h.outcome) (events_on c run)
-
--- an event on the connection came to this
-abbrev pub Gave : (Outcome → Type 0) → ℕ → List Happened → Type 0
-Gave Is c run = (h : Happened) × Contains (events_on c run) h × Is h.outcome
+-- ---- what a step says of its connection
 
 -- a step that closed its connection
 abbrev pub IsLast : Outcome → Type 0

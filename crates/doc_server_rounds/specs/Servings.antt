@@ -4,10 +4,10 @@ use Rattle.doc_hub_answers.specs.Replies.{Renders}
 use Rattle.doc_hub.specs.Runs.{Happened, Runs}
 use Rattle.doc_hub.specs.StepLaws.{connection}
 use Rattle.doc_hub.specs.Worlds.{World}
-use Rattle.doc_hub.specs.declared.event.Event.TheVariants as events
+use Rattle.doc_hub_events.specs.declared.event.Event.TheVariants as events
 use Rattle.doc_server_rounds.specs.Peers.{Peer}
 use Rattle.doc_server_rounds.specs.Rounds.{ServesAll, AreClosed, fault_places, ids_of}
-use Rattle.doc_server_rounds.specs.Served.{served_by}
+use Rattle.doc_hub.specs.RunParts.{served_by}
 use Rattle.doc_server_rounds.specs.declared.round.Round.{Round}
 use Rattle.doc_server_rounds.specs.Dropped.{dropped_all, is_among}
 use Rattle.doc_server_rounds.specs.Faults.{Explains}

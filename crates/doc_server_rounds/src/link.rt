@@ -2,8 +2,8 @@
 
 ghost use Rattle.std.specs.Prelude.{◌≡◌, ◌<◌, true, [], IfErr, IfOk, Ok, Err};
 ghost use Rattle.doc_hub.specs.Runs.{Happens};
-ghost use Rattle.doc_hub.specs.Events.{disconnect_on};
-ghost use Rattle.doc_hub.specs.declared.event.Event.TheVariants as events;
+ghost use Rattle.doc_hub_events.specs.Events.{disconnect_on};
+ghost use Rattle.doc_hub_events.specs.declared.event.Event.TheVariants as events;
 ghost use Rattle.doc_hub.specs.Worlds.{disconnected};
 ghost use Rattle.doc_server_rounds.specs.Served.{Serves, ServesOn, unread_len};
 

@@ -6,12 +6,12 @@ use Rattle.std.proofs.Math.Utf8.{encode}
 use Rattle.doc_page_parts.specs.Paths.{is_path}
 use Rattle.doc_store_readers.specs.Groups.{groups_of_names}
 use Rattle.doc_store.specs.declared.site_edit.SiteEdit.TheVariants as site_edits
-use Rattle.doc_hub.specs.Events.{push_on, step_on}
-use Rattle.doc_hub.specs.declared.event.Event.TheVariants as events
-use Rattle.doc_hub.specs.declared.event.ReaderEdit.TheVariants as reader_edits
-use Rattle.doc_hub.specs.declared.event.Step.TheVariants as steps
-use Rattle.doc_hub.specs.declared.outcome.Outcome.TheVariants as outcomes
-use Rattle.doc_hub.specs.declared.refusal.Refusal.TheVariants as refusals
+use Rattle.doc_hub_events.specs.Events.{push_on, step_on}
+use Rattle.doc_hub_events.specs.declared.event.Event.TheVariants as events
+use Rattle.doc_hub_events.specs.declared.event.ReaderEdit.TheVariants as reader_edits
+use Rattle.doc_hub_events.specs.declared.event.Step.TheVariants as steps
+use Rattle.doc_hub_events.specs.declared.outcome.Outcome.TheVariants as outcomes
+use Rattle.doc_hub_events.specs.declared.refusal.Refusal.TheVariants as refusals
 use Rattle.doc_server_script.specs.Edits.{put_line, move_line}
 use Rattle.doc_server_script.specs.Escapes.{escaped, spaceless, unescaped}
 use Rattle.doc_server_script.specs.Lines.{event_of}

@@ -5,7 +5,7 @@ use Rattle.std.specs.List.{list_all}
 use Rattle.std.proofs.lemmas.Str.{is_utf8-from_IsUtf8}
 use Rattle.doc_store_readers.specs.Groups.{IsGroups}
 use Rattle.doc_store.specs.declared.site_edit.SiteEdit.TheVariants as site_edits
-use Rattle.doc_hub.specs.declared.event.Event.TheVariants as events
+use Rattle.doc_hub_events.specs.declared.event.Event.TheVariants as events
 use Rattle.doc_server_script.specs.Edits.{put_line, remove_line, move_line, groups_text}
 use Rattle.doc_server_script.specs.Escapes.{is_printable, spaceless, escaped}
 use Rattle.doc_server_script.specs.Fields.{as_text, as_path, cut, groups_in, text_of, path_in}

@@ -8,7 +8,7 @@ use Rattle.std.specs.Str.{is_utf8}
 use Rattle.std.specs.Str.Parse.{digits_value}
 use Rattle.doc_page_parts.specs.Paths.{path_of}
 use Rattle.doc_store_readers.specs.Groups.{groups_of}
-use Rattle.doc_hub.specs.declared.event.ConnId.{ConnId}
+use Rattle.doc_hub_events.specs.declared.event.ConnId.{ConnId}
 use Rattle.doc_server_script.specs.Escapes.{unescaped}
 
 abbrev pub is_space : ℕ → Bool

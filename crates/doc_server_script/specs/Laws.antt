@@ -4,7 +4,7 @@ use Rattle.std.specs.List.{list_all}
 use Rattle.doc_page_parts.specs.Paths.{is_path}
 use Rattle.doc_store_readers.specs.Groups.{IsGroups}
 use Rattle.doc_store.specs.declared.site_edit.SiteEdit.TheVariants as site_edits
-use Rattle.doc_hub.specs.declared.event.Event.TheVariants as events
+use Rattle.doc_hub_events.specs.declared.event.Event.TheVariants as events
 use Rattle.doc_server_script.specs.Edits.{put_line, remove_line, move_line}
 use Rattle.doc_server_script.specs.Escapes.{is_byte, is_printable}
 use Rattle.doc_server_script.specs.Lines.{event_of}

@@ -1,13 +1,13 @@
 -- The lines of a script, one event each. All of this is this project's choice.
 use Rattle.std.specs.Prelude.{ℕ, List, Bool, bytes_eq, codes, Option, Some, None, option_and_then, if◌then◌else◌}
 use Rattle.doc_store.specs.declared.site_edit.SiteEdit.TheVariants as site_edits
-use Rattle.doc_hub.specs.Events.{push_on}
-use Rattle.doc_hub.specs.declared.event.ConnId.{ConnId}
-use Rattle.doc_hub.specs.declared.event.ConnectionEvent.{ConnectionEvent}
-use Rattle.doc_hub.specs.declared.event.ConnectionEvent.TheVariants as calls
-use Rattle.doc_hub.specs.declared.event.Event.{Event}
-use Rattle.doc_hub.specs.declared.event.Event.TheVariants as events
-use Rattle.doc_hub.specs.declared.event.ReaderEdit.TheVariants as reader_edits
+use Rattle.doc_hub_events.specs.Events.{push_on}
+use Rattle.doc_hub_events.specs.declared.event.ConnId.{ConnId}
+use Rattle.doc_hub_events.specs.declared.event.ConnectionEvent.{ConnectionEvent}
+use Rattle.doc_hub_events.specs.declared.event.ConnectionEvent.TheVariants as calls
+use Rattle.doc_hub_events.specs.declared.event.Event.{Event}
+use Rattle.doc_hub_events.specs.declared.event.Event.TheVariants as events
+use Rattle.doc_hub_events.specs.declared.event.ReaderEdit.TheVariants as reader_edits
 use Rattle.doc_server_script.specs.declared.command.Command.{Command}
 use Rattle.doc_server_script.specs.declared.command.Command.TheVariants as commands
 use Rattle.doc_server_script.specs.Escapes.{unescaped}

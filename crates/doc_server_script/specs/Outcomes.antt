@@ -4,12 +4,12 @@ use Rattle.doc_store_readers.specs.declared.readers.Set.{Set}
 use Rattle.doc_store_readers.specs.declared.readers.Set.TheVariants as sets
 use Rattle.doc_store.specs.declared.store.Put.{Put}
 use Rattle.doc_store.specs.declared.store.Put.TheVariants as puts
-use Rattle.doc_hub.specs.declared.event.Step.{Step}
-use Rattle.doc_hub.specs.declared.event.Step.TheVariants as steps
-use Rattle.doc_hub.specs.declared.outcome.Outcome.{Outcome}
-use Rattle.doc_hub.specs.declared.outcome.Outcome.TheVariants as outcomes
-use Rattle.doc_hub.specs.declared.refusal.Refusal.{Refusal}
-use Rattle.doc_hub.specs.declared.refusal.Refusal.TheVariants as refusals
+use Rattle.doc_hub_events.specs.declared.event.Step.{Step}
+use Rattle.doc_hub_events.specs.declared.event.Step.TheVariants as steps
+use Rattle.doc_hub_events.specs.declared.outcome.Outcome.{Outcome}
+use Rattle.doc_hub_events.specs.declared.outcome.Outcome.TheVariants as outcomes
+use Rattle.doc_hub_events.specs.declared.refusal.Refusal.{Refusal}
+use Rattle.doc_hub_events.specs.declared.refusal.Refusal.TheVariants as refusals
 use Rattle.doc_server_script.specs.Escapes.{escaped}
 
 abbrev pub truth_word : Bool → List ℕ

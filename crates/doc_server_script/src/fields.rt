@@ -8,7 +8,7 @@ ghost use Rattle.doc_server_script.specs.Reads.{Reads};
 
 use crate::field_error::FieldError;
 use crate::unescaping::unescape;
-use doc_hub::event::ConnId;
+use doc_hub_events::event::ConnId;
 use doc_page_parts::bytes::Bytes;
 use doc_page_parts::heap::{Heap, String};
 use doc_page_parts::path::{Path, PathError};

@@ -10,7 +10,7 @@ use crate::command::{Command, command_of};
 use crate::field_error::FieldError;
 use crate::fields::{connection_of, cut, groups_in, owner_in, path_in, text_of};
 use crate::unescaping::unescape;
-use doc_hub::event::{ConnectionEvent, Event, ReaderEdit};
+use doc_hub_events::event::{ConnectionEvent, Event, ReaderEdit};
 use doc_page_parts::failure::Memory;
 use doc_page_parts::heap::Heap;
 use doc_page_parts::text::Text;

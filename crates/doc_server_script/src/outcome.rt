@@ -5,9 +5,9 @@ ghost use Rattle.doc_server_script.specs.Escapes.{escaped};
 ghost use Rattle.doc_server_script.specs.Outcomes.{outcome_line, put_word, refusal_name, set_word, step_line, truth_word};
 
 use crate::escaping::{push_escaped, push_plain};
-use doc_hub::event::{ConnId, Step};
-use doc_hub::outcome::Outcome;
-use doc_hub::refusal::Refusal;
+use doc_hub_events::event::{ConnId, Step};
+use doc_hub_events::outcome::Outcome;
+use doc_hub_events::refusal::Refusal;
 use doc_page_parts::failure::Memory;
 use doc_page_parts::heap::String;
 use doc_store::readers::Set;

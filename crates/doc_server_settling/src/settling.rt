@@ -2,6 +2,7 @@
 
 ghost use Rattle.std.specs.Prelude.{◌≡◌, ◌⊎◌, ◌++◌, ◌∷◌, [], List, ℕ, Some, true, length, OnErr, OnOk};
 ghost use Rattle.doc_server_journal.specs.Journals.{IsOpen};
+ghost use Rattle.doc_server_listen.specs.Costs.{SharesTurn};
 ghost use Rattle.doc_server_listen.specs.Turns.{ServesAll};
 ghost use Rattle.doc_server_settling.specs.Settling.{GiveFronts, IsKept, IsSafe, Settles};
 
@@ -14,11 +15,12 @@ use doc_server_journal::journal::Journal;
 use doc_server_listen::channel::Channel;
 use doc_server_listen::client::Client;
 use doc_server_listen::edit_lines::EditLines;
+use doc_server_listen::share::Share;
 use doc_server_listen::turn::{send_all, take_in_all};
 
 /// A turn of a server with a journal, of the clients at these places: what is pending is handed over, then they are read and stepped,
 /// then the edits of these steps are added to the journal as one record, and at last the replies are handed over. After an `Err` the
-/// server ends: nothing of this turn's replies was handed over.
+/// server ends: nothing of this turn's replies was handed over. The share says what the steps may cost, and is left what they did.
 pub fn settled_turn<D: Device, R: Renderer + Drop, S: Channel + Drop>(
     heap: Heap,
     journal: &mut Journal<D>,
@@ -26,13 +28,15 @@ pub fn settled_turn<D: Device, R: Renderer + Drop, S: Channel + Drop>(
     clients: &mut [Client<S>],
     ready: &[usize],
     piece: &mut [u8],
+    share: &mut Share,
 ) -> Result<(), TurnFault>
     requires open { (texts : List (List ℕ))
         × IsOpen D.seen D.may_leave D.failed journal.old texts }
     ensures serves { (s : ServesAll (R.page hub.old.0) hub.old.1 clients.old
         hub.new.1 clients.new)
         × Settles D.seen D.may_leave D.failed D.moment D.left_since journal.old journal.new
-        (R.page hub.old.0) s.run hub.new.1 result }
+        (R.page hub.old.0) s.run hub.new.1 result
+        × SharesTurn clients.old ready.now s.run share.old share.new }
     ensures waits { OnErr result (GiveFronts clients.old clients.new) }
     ensures open { OnOk result ((texts : List (List ℕ))
         × IsOpen D.seen D.may_leave D.failed journal.new texts) }
@@ -40,7 +44,7 @@ pub fn settled_turn<D: Device, R: Renderer + Drop, S: Channel + Drop>(
 {
     send_all(hub, clients, ready);
     let mut edits = EditLines::kept(heap);
-    take_in_all(hub, clients, ready, piece, &mut edits);
+    take_in_all(hub, clients, ready, piece, &mut edits, share);
     write_down(heap, journal, &edits)?;
     send_all(hub, clients, ready);
     Ok(())

@@ -1,4 +1,4 @@
-use Rattle.doc_hub.specs.Events.{disconnect_on}
+use Rattle.doc_hub_events.specs.Events.{disconnect_on}
 use Rattle.doc_server_poll.proofs.Leading.{leads_by}
 use Rattle.doc_server_poll.proofs.peers.drop_connection.Goals as goal
 

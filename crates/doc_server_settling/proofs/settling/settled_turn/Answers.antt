@@ -1,18 +1,19 @@
-use Rattle.std.proofs.Common.{◌∙◌, sym, subst}
+use Rattle.std.proofs.Common.{[], ◌∙◌, sym, subst}
 use Rattle.doc_server_script.specs.PageLines.{lines_of}
 use Rattle.doc_server_listen.specs.Edits.{accepted}
 use Rattle.doc_server_settling.specs.Settling.{GiveFronts, IsKept}
-use Rattle.doc_server_listen.proofs.EditSteps.{all_keeping_join, all_quiet_keeps}
+use Rattle.doc_server_listen.proofs.CostSteps.{all_quiet_shares, all_sharing_join, whole_turn}
 use Rattle.doc_server_settling.proofs.Settlements.{at_err, fronts, lines_told, no_ok, same_some, still_open}
 use Rattle.doc_server_settling.proofs.settling.settled_turn.Goals as goal
 
 pub returns-in_err-write_down-clause-serves : goal.returns-in_err-write_down-clause-serves
 returns-in_err-write_down-clause-serves g c =
-    let r = all_keeping_join (g.R.Renderer.page c.args.hub.now.0) (g.R.Renderer.page c.send_all.new.hub.0) c.args.hub.now.1
+    let r = all_sharing_join (g.R.Renderer.page c.args.hub.now.0) (g.R.Renderer.page c.send_all.new.hub.0) c.args.hub.now.1
     c.send_all.new.hub.1 c.take_in_all.new.hub.1 c.args.clients.now c.send_all.new.clients c.take_in_all.new.clients c.kept-edits.result
-    c.kept-edits.result c.take_in_all.new.edits c.send_all.ensures.same
-    (all_quiet_keeps (g.R.Renderer.page c.args.hub.now.0) c.args.hub.now.1 c.send_all.new.hub.1 c.args.clients.now c.send_all.new.clients
-    c.kept-edits.result c.send_all.ensures.serves) c.take_in_all.ensures.serves in (
+    c.kept-edits.result c.take_in_all.new.edits [] c.args.ready.now c.args.share.now c.args.share.now c.take_in_all.new.share
+    c.send_all.ensures.same
+    (all_quiet_shares (g.R.Renderer.page c.args.hub.now.0) c.args.hub.now.1 c.send_all.new.hub.1 c.args.clients.now
+    c.send_all.new.clients c.kept-edits.result c.args.share.now c.send_all.ensures.serves) c.take_in_all.ensures.serves in (
       r.0,
       record {
         edits = r.1.edits;
@@ -22,6 +23,7 @@ returns-in_err-write_down-clause-serves g c =
         any_moment = c.in_err-write_down.ensures.any_moment (lines_of (accepted r.1.edits))
             (lines_told c.kept-edits.result c.take_in_all.new.edits (accepted r.1.edits) c.kept-edits.ensures r.1.adds);
       },
+      r.2,
     )
 
 pub returns-in_err-write_down-clause-waits : goal.returns-in_err-write_down-clause-waits
@@ -31,16 +33,12 @@ returns-in_err-write_down-clause-waits g c =
 
 pub returns-clause-serves : goal.returns-clause-serves
 returns-clause-serves g c =
-    let first = all_keeping_join (g.R.Renderer.page c.args.hub.now.0) (g.R.Renderer.page c.send_all.new.hub.0) c.args.hub.now.1
-    c.send_all.new.hub.1 c.take_in_all.new.hub.1 c.args.clients.now c.send_all.new.clients c.take_in_all.new.clients c.kept-edits.result
-    c.kept-edits.result c.take_in_all.new.edits c.send_all.ensures.same
-    (all_quiet_keeps (g.R.Renderer.page c.args.hub.now.0) c.args.hub.now.1 c.send_all.new.hub.1 c.args.clients.now c.send_all.new.clients
-    c.kept-edits.result c.send_all.ensures.serves) c.take_in_all.ensures.serves in
-    let r = all_keeping_join (g.R.Renderer.page c.args.hub.now.0) (g.R.Renderer.page c.take_in_all.new.hub.0) c.args.hub.now.1
-    c.take_in_all.new.hub.1 c.send_all-2.new.hub.1 c.args.clients.now c.take_in_all.new.clients c.send_all-2.new.clients c.kept-edits.result
-    c.take_in_all.new.edits c.take_in_all.new.edits (c.take_in_all.ensures.same ∙ c.send_all.ensures.same) first
-    (all_quiet_keeps (g.R.Renderer.page c.take_in_all.new.hub.0) c.take_in_all.new.hub.1 c.send_all-2.new.hub.1 c.take_in_all.new.clients
-    c.send_all-2.new.clients c.take_in_all.new.edits c.send_all-2.ensures.serves) in
+    let r = whole_turn (g.R.Renderer.page c.args.hub.now.0) (g.R.Renderer.page c.send_all.new.hub.0)
+    (g.R.Renderer.page c.take_in_all.new.hub.0) c.args.hub.now.1 c.send_all.new.hub.1 c.take_in_all.new.hub.1 c.send_all-2.new.hub.1
+    c.args.clients.now c.send_all.new.clients c.take_in_all.new.clients c.send_all-2.new.clients c.kept-edits.result
+    c.take_in_all.new.edits c.args.ready.now c.args.share.now c.take_in_all.new.share c.send_all.ensures.same
+    (c.take_in_all.ensures.same ∙ c.send_all.ensures.same) c.send_all.ensures.serves c.take_in_all.ensures.serves
+    c.send_all-2.ensures.serves in
     let down = c.in_ok-write_down.ensures.kept in
     let told = lines_told c.kept-edits.result c.take_in_all.new.edits (accepted r.1.edits) c.kept-edits.ensures r.1.adds in (
       r.0,
@@ -51,6 +49,7 @@ returns-clause-serves g c =
             (same_some down.1.0 (lines_of (accepted r.1.edits)) (sym down.1.1 ∙ told down.0)) down.1.2;
         any_moment = c.in_ok-write_down.ensures.any_moment (lines_of (accepted r.1.edits)) told;
       },
+      r.2,
     )
 
 pub returns-clause-open : goal.returns-clause-open

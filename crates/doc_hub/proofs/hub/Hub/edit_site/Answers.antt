@@ -1,6 +1,6 @@
 use Rattle.std.proofs.Common.{◌∙◌, ap, sym, refl}
 use Rattle.doc_store.specs.declared.site_edit.SiteEdit.TheVariants as site_edits
-use Rattle.doc_hub.specs.declared.event.Event.TheVariants as events
+use Rattle.doc_hub_events.specs.declared.event.Event.TheVariants as events
 use Rattle.doc_hub.proofs.CountSteps.{counted_so}
 use Rattle.doc_hub.proofs.RunSteps.{leaves_so}
 use Rattle.doc_hub.proofs.hub.Hub.edit_site.Goals as goal

@@ -1,4 +1,4 @@
-use Rattle.doc_hub.specs.declared.event.Event.TheVariants as events
+use Rattle.doc_hub_events.specs.declared.event.Event.TheVariants as events
 use Rattle.doc_hub.proofs.CountSteps.{counted_same, counted_so}
 use Rattle.doc_hub.proofs.RunSteps.{leaves_same, leaves_so}
 use Rattle.doc_hub.proofs.hub.Hub.happen.Goals as goal

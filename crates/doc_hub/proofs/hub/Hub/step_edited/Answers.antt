@@ -6,7 +6,7 @@ use Rattle.doc_hub.proofs.NumberSteps.{finished_have, same_have}
 use Rattle.doc_http.specs.Requests.{IsNext}
 use Rattle.doc_http.specs.declared.request.Next.TheVariants as nexts
 use Rattle.doc_hub.specs.Connections.{finished}
-use Rattle.doc_hub.specs.Events.{step_on}
+use Rattle.doc_hub_events.specs.Events.{step_on}
 use Rattle.doc_hub.proofs.StepCounts.{no_request_counts, request_counts}
 use Rattle.doc_hub.proofs.StepEdits.{step_tells}
 use Rattle.doc_hub.proofs.StoreSteps.{request_answered, world_of}

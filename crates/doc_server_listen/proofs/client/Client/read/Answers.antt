@@ -1,8 +1,8 @@
 use Rattle.std.proofs.Common.{refl, ap, ◌∙◌, sym, subst, take, append-nil, inl, inr}
 use Rattle.std.specs.Prelude.{Ok, Err}
 use Rattle.std.specs.Io.KnownBytes.{Consumes}
-use Rattle.doc_hub.specs.Events.{push_on, pushing}
-use Rattle.doc_hub.specs.declared.outcome.Outcome.TheVariants as outcomes
+use Rattle.doc_hub_events.specs.Events.{push_on, pushing}
+use Rattle.doc_hub_events.specs.declared.outcome.Outcome.TheVariants as outcomes
 use Rattle.doc_server_listen.specs.Channels.{came_len}
 use Rattle.doc_server_listen.specs.Peers.{Peer, left_of}
 use Rattle.doc_server_listen.proofs.Pieces.{nothing_done, quiet, stepped_on, drops_after, drops_only, kept, fine_first}

@@ -1,12 +1,14 @@
 use Rattle.std.proofs.Common.{◌<◌, ◌++◌, [], ◌∷◌, refl, ap, ◌∙◌, sym, subst, append-nil, inl, inr, length}
 use Rattle.std.specs.Prelude.{Ok, Err}
 use Rattle.std.proofs.KnownBytes.{Consumes-nil}
-use Rattle.doc_hub.specs.Events.{step_on, stepping}
+use Rattle.doc_hub_events.specs.Events.{step_on, stepping}
 use Rattle.doc_hub.specs.Runs.{Happens}
-use Rattle.doc_hub.specs.declared.event.Step.TheVariants as steps
-use Rattle.doc_hub.specs.declared.outcome.Outcome.TheVariants as outcomes
-use Rattle.doc_hub.specs.declared.refusal.StepError.TheVariants as step_errors
+use Rattle.doc_hub_events.specs.declared.event.Step.TheVariants as steps
+use Rattle.doc_hub_events.specs.declared.outcome.Outcome.TheVariants as outcomes
+use Rattle.doc_hub_events.specs.declared.refusal.StepError.TheVariants as step_errors
 use Rattle.doc_server_listen.specs.Peers.{Peer, left_of, most_pending}
+use Rattle.doc_server_listen.specs.Costs.{next_cost}
+use Rattle.doc_server_listen.proofs.CostSteps.{costs_last, costs_none, costs_step}
 use Rattle.doc_server_listen.proofs.EditSteps.{Told, quiet_records, step_records, last_records}
 use Rattle.doc_server_listen.proofs.HandingOver.{left_behind}
 use Rattle.doc_server_listen.proofs.Pieces.{quiet, replied, stepped_on, drops_after, kept}
@@ -19,6 +21,7 @@ returns-then-is_err-clause-serves g c =
       quiet (g.R.Renderer.page c.args.hub.now.0) c.args.hub.now.1 _ _ refl refl
           (Consumes-nil (g.S.Channel.unread c.self.inside.stream)) (λ _. refl) (kept _ _ _ _ refl pend) (λ f. f),
       quiet_records (g.R.Renderer.page c.args.hub.now.0) [] c.args.hub.now.1 c.args.edits.now tt,
+      costs_none (next_cost c.args.hub.now.1 c.self.inside.id.0),
     )
 
 pub returns-in-Ok-Sent-clause-serves : goal.returns-in-Ok-Sent-clause-serves
@@ -40,6 +43,7 @@ returns-in-Ok-Sent-clause-serves g c =
           (subst (λ s. Told (g.R.Renderer.page c.args.hub.now.0) c.args.hub.now.1 c.self.inside.id (Ok s) c.step_and_keep.new.hub.1
           c.args.edits.now c.step_and_keep.new.edits)
           c.in-Ok-Sent.field-0-is c.in-Ok-Sent.ensures.edit),
+      costs_step c.args.hub.now.1 c.self.inside.id,
     )
 
 pub returns-in-Ok-Last-clause-serves : goal.returns-in-Ok-Last-clause-serves
@@ -64,6 +68,7 @@ returns-in-Ok-Last-clause-serves g c =
           (subst (λ s. Told (g.R.Renderer.page c.args.hub.now.0) c.args.hub.now.1 c.self.inside.id (Ok s) c.step_and_keep.new.hub.1
           c.args.edits.now c.step_and_keep.new.edits)
           c.in-Ok-Last.field-0-is c.in-Ok-Last.ensures.edit),
+      costs_last c.args.hub.now.1 c.step_and_keep.new.hub.1 c.self.inside.id c.self.inside.id,
     )
 
 pub returns-in-Ok-More-clause-serves : goal.returns-in-Ok-More-clause-serves
@@ -82,6 +87,7 @@ returns-in-Ok-More-clause-serves g c =
           (subst (λ s. Told (g.R.Renderer.page c.args.hub.now.0) c.args.hub.now.1 c.self.inside.id (Ok s) c.step_and_keep.new.hub.1
           c.args.edits.now c.step_and_keep.new.edits)
           c.in-Ok-More.field-0-is c.in-Ok-More.ensures.edit),
+      costs_step c.args.hub.now.1 c.self.inside.id,
     )
 
 pub returns-in-Ok-Closed-clause-serves : goal.returns-in-Ok-Closed-clause-serves
@@ -105,6 +111,7 @@ returns-in-Ok-Closed-clause-serves g c =
           (subst (λ s. Told (g.R.Renderer.page c.args.hub.now.0) c.args.hub.now.1 c.self.inside.id (Ok s) c.step_and_keep.new.hub.1
           c.args.edits.now c.step_and_keep.new.edits)
           c.in-Ok-Closed.field-0-is c.in-Ok-Closed.ensures.edit),
+      costs_last c.args.hub.now.1 c.step_and_keep.new.hub.1 c.self.inside.id c.self.inside.id,
     )
 
 pub returns-in-Err-NoConnection-clause-serves : goal.returns-in-Err-NoConnection-clause-serves
@@ -128,6 +135,7 @@ returns-in-Err-NoConnection-clause-serves g c =
           (subst (λ s. Told (g.R.Renderer.page c.args.hub.now.0) c.args.hub.now.1 c.self.inside.id (Err s) c.step_and_keep.new.hub.1
           c.args.edits.now c.step_and_keep.new.edits)
           c.in-Err-NoConnection.field-0-is c.in-Err-NoConnection.ensures.edit),
+      costs_last c.args.hub.now.1 c.step_and_keep.new.hub.1 c.self.inside.id c.self.inside.id,
     )
 
 pub returns-in-Err-Memory-clause-serves : goal.returns-in-Err-Memory-clause-serves
@@ -146,4 +154,5 @@ returns-in-Err-Memory-clause-serves g c =
           (subst (λ s. Told (g.R.Renderer.page c.args.hub.now.0) c.args.hub.now.1 c.self.inside.id (Err s) c.step_and_keep.new.hub.1
           c.args.edits.now c.step_and_keep.new.edits)
           c.in-Err-Memory.field-0-is c.in-Err-Memory.ensures.edit),
+      costs_step c.args.hub.now.1 c.self.inside.id,
     )

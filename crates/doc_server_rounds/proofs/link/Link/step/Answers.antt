@@ -1,8 +1,8 @@
 use Rattle.std.proofs.Common.{refl, ap, ◌∙◌, sym, subst}
 use Rattle.std.specs.Prelude.{Ok, Err}
 use Rattle.doc_hub.specs.Runs.{Happens}
-use Rattle.doc_hub.specs.Events.{step_on}
-use Rattle.doc_hub.specs.declared.event.Step.TheVariants as steps
+use Rattle.doc_hub_events.specs.Events.{step_on}
+use Rattle.doc_hub_events.specs.declared.event.Step.TheVariants as steps
 use Rattle.doc_server_rounds.specs.Peers.{Peer}
 use Rattle.doc_server_rounds.specs.Served.{Serves}
 use Rattle.doc_server_rounds.proofs.Connections.{reply_takes}

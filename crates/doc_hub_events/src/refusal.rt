@@ -1,8 +1,8 @@
 //! Why a hub refuses a call. Each refusal leaves the hub as it was.
 
 ghost use Rattle.std.specs.Prelude.{◌≡◌};
-ghost use Rattle.doc_hub.specs.Events.{connect_refusal, edit_refusal, move_refusal};
-ghost use Rattle.doc_hub.specs.Events.{push_refusal, reader_refusal, step_refusal};
+ghost use Rattle.doc_hub_events.specs.Events.{connect_refusal, edit_refusal, move_refusal};
+ghost use Rattle.doc_hub_events.specs.Events.{push_refusal, reader_refusal, step_refusal};
 
 use doc_page_parts::failure::Memory;
 use doc_store::moving::MoveError;
@@ -22,7 +22,7 @@ pub enum HubError {
 
 impl From<Memory> for HubError {
     ghost use Rattle.std.specs.Prelude.{◌≡◌};
-    ghost use Rattle.doc_hub.specs.declared.refusal.HubError.TheVariants as refusals;
+    ghost use Rattle.doc_hub_events.specs.declared.refusal.HubError.TheVariants as refusals;
 
     ghost from_gives = { λ _ e. e ≡ refusals.Memory };
 
@@ -43,7 +43,7 @@ pub enum ConnectError {
 
 impl From<Memory> for ConnectError {
     ghost use Rattle.std.specs.Prelude.{◌≡◌};
-    ghost use Rattle.doc_hub.specs.declared.refusal.ConnectError.TheVariants as refusals;
+    ghost use Rattle.doc_hub_events.specs.declared.refusal.ConnectError.TheVariants as refusals;
 
     ghost from_gives = { λ _ e. e ≡ refusals.Memory };
 
@@ -70,7 +70,7 @@ pub enum PushError {
 
 impl From<Memory> for PushError {
     ghost use Rattle.std.specs.Prelude.{◌≡◌};
-    ghost use Rattle.doc_hub.specs.declared.refusal.PushError.TheVariants as refusals;
+    ghost use Rattle.doc_hub_events.specs.declared.refusal.PushError.TheVariants as refusals;
 
     ghost from_gives = { λ _ e. e ≡ refusals.Memory };
 
@@ -92,7 +92,7 @@ pub enum StepError {
 
 impl From<Memory> for StepError {
     ghost use Rattle.std.specs.Prelude.{◌≡◌};
-    ghost use Rattle.doc_hub.specs.declared.refusal.StepError.TheVariants as refusals;
+    ghost use Rattle.doc_hub_events.specs.declared.refusal.StepError.TheVariants as refusals;
 
     ghost from_gives = { λ _ e. e ≡ refusals.Memory };
 

@@ -28,7 +28,7 @@ use Rattle.doc_hub_editing.specs.EditAnswers.{move_done, move_named, move_page, 
 use Rattle.doc_hub_editing.specs.EditAnswers.{page_of, preview_at, put_at, put_done, put_page, put_text, read_source, regroup_done}
 use Rattle.doc_hub_editing.specs.EditAnswers.{regroup_named, regroup_page, remove_page, response_by, response_if, source_or_goal}
 use Rattle.doc_hub.proofs.AnswerEdits.{HoldsFor}
-use Rattle.doc_server_listen.proofs.ResponsePaths.{AtPaths, IsPath, written_is_path}
+use Rattle.doc_hub.proofs.ResponsePaths.{AtPaths, IsPath, written_is_path}
 
 abbrev Fits : EditingResponse → Type 0
 Fits response = AtPaths response.edit

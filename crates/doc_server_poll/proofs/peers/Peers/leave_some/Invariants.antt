@@ -1,5 +1,5 @@
 use Rattle.std.proofs.Common.{◌≡◌}
-use Rattle.doc_server_poll.proofs.peers.Peers.leave_all.Given as goal
+use Rattle.doc_server_poll.proofs.peers.Peers.leave_some.Given as goal
 
 abbrev pub invariant-places : goal.invariant-places
 invariant-places g l = record {

@@ -1,7 +1,7 @@
 //! What comes of events.
 
 ghost use Rattle.std.specs.Prelude.{◌≡◌};
-ghost use Rattle.doc_hub.specs.Events.{connecting, pushing, stepping, putting, moving, setting};
+ghost use Rattle.doc_hub_events.specs.Events.{connecting, pushing, stepping, putting, moving, setting};
 
 use crate::event::{ConnId, Step};
 use crate::refusal::{ConnectError, PushError, Refusal, StepError};
