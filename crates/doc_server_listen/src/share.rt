@@ -66,8 +66,7 @@ impl Share {
         true
     }
 
-    /// How many of the places that were served stand before the one with which the next turn ends: the last that took something dear, 0
-    /// where none did.
+    /// How many of the places come last in the next turn: those up to the last that took something dear, none where none did.
     pub fn behind(&self) -> usize {
         self.behind
     }
