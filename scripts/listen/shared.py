@@ -4,9 +4,10 @@
 - ask for `/broken`, each of a hundred on a connection of its own, and again once they are answered;
 - send 16 kB of such requests and are reset.
 
-Then all but the resets again with nginx between. The good reader's times are printed: the median, within which 99 in 100 come, and the longest. Each
-of its replies has to be the page, and, where a bound is given in milliseconds, 99 in 100 come within it, and all within two and a half
-times as long. Of the peers that are reset, or go while their requests wait, nothing is done once they are gone: the server then rests.
+Then all but the resets again with nginx between. The good reader's times are printed: the median, within which 99 in 100 come, and the
+longest. Each of its replies has to be the page, and, where a bound is given in milliseconds, 99 in 100 come within it, and all within two
+and a half times as long. Of the peers that are reset, or go while their requests wait, nothing is done once they are gone: the server then
+rests. A report is answered within 5 seconds beside two owners with 300 edits waiting each.
 
     python3 scripts/listen/shared.py PROGRAM [BOUND [PAGES]]
 
@@ -78,6 +79,10 @@ def resets(port):
         peer.close()
 
 
+def waiting_edits(port):
+    many(port, "/page/p0.md?groups=all", "PUT")
+
+
 ATTACKS = (waiting_reports, waiting_searches, waiting_contents, a_hundred_reports, resets)
 
 
@@ -129,6 +134,28 @@ def beside(port, attack, bound, way):
     process.join()
 
 
+def reports_beside_edits(server):
+    """A stream of edits keeps nobody off a list."""
+    others = [multiprocessing.get_context("fork").Process(target=waiting_edits, args=(server.port,), daemon=True) for _ in range(2)]
+    for process in others:
+        process.start()
+    time.sleep(0.3)
+    client, times = Client(server.port, "tok", timeout=60), []
+    for _ in range(5):
+        then = time.perf_counter()
+        try:
+            code, _, _ = client.ask("/broken", "HEAD")
+        except OSError:
+            code = None
+        times.append(time.perf_counter() - then)
+        if not scene.check("a report beside edits", code == 200 and times[-1] <= 5, f"{code} after {times[-1]:.1f} s"):
+            break
+    print(f"a report beside edits: {max(times) * 1e3:.0f} ms at most", flush=True)
+    for process in others:
+        process.kill()
+        process.join()
+
+
 def rests(server, name):
     """Once those have gone who had much waiting nothing is done any more."""
     time.sleep(1.0)
@@ -149,6 +176,7 @@ def cases():
         beside(server.port, attack, bound, "")
         if attack is not a_hundred_reports:
             rests(server, attack.__name__)
+    reports_beside_edits(server)
     nginx, port = proxied(server.port)
     # a proxy ends its own connection in order where its client is reset, and whoever only ends their sending is answered
     for attack in ATTACKS[:-1]:

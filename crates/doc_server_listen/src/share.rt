@@ -14,6 +14,8 @@ pub struct Share {
     dear: u32,
     place: usize,
     behind: usize,
+    /// Whether something dear was refused, so that whatever is dear waits behind it.
+    waits: bool,
 }
 
 impl Model for Share {
@@ -35,6 +37,7 @@ impl Share {
             dear: LIST_COST,
             place: 0,
             behind: 0,
+            waits: false,
         }
     }
 
@@ -47,7 +50,7 @@ impl Share {
         self.place = self.place.saturating_add(1);
     }
 
-    /// Takes what a step costs. False: so much isn't left, and nothing was taken.
+    /// Takes what a step costs. False: so much isn't left, or another one waits for more, and nothing was taken.
     pub fn take(&mut self, cost: u32) -> bool
         ensures taken { result ≡ true → Takes self.old self.new cost }
         ensures refused { result ≡ false → self.new ≡ self.old }
@@ -56,7 +59,8 @@ impl Share {
             return false;
         }
         if cost > PAGE_COST {
-            if cost > self.dear {
+            if self.waits || cost > self.dear {
+                self.waits = true;
                 return false;
             }
             self.dear -= cost;
