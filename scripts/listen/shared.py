@@ -6,8 +6,8 @@
 
 Then all but the resets again with nginx between. The good reader's times are printed: the median, within which 99 in 100 come, and the
 longest. Each of its replies has to be the page, and, where a bound is given in milliseconds, 99 in 100 come within it, and all within two
-and a half times as long. Of the peers that are reset, or go while their requests wait, nothing is done once they are gone: the server then
-rests. A report is answered within 5 seconds beside two owners with 300 edits waiting each.
+and a half times as long. Of the peers that are reset, or go while 300 requests wait, nothing is done once they are gone: the server then
+rests. (Of those with one request each that isn't judged: a peer that only ends its sending is answered.) A report is answered within 5 seconds beside two owners with 300 edits waiting each.
 
     python3 scripts/listen/shared.py PROGRAM [BOUND [PAGES]]
 
