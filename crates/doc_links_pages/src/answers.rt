@@ -1,5 +1,7 @@
 //! What the index of links answers.
 
+ghost use Rattle.std.specs.Prelude.{◌≡◌};
+
 use doc_page_parts::list::List;
 use doc_page_parts::path::Path;
 use doc_page_parts::rendered::Heading;
@@ -34,4 +36,29 @@ pub struct Broken {
 pub struct Entry {
     pub path: Path,
     pub headings: List<Heading>,
+}
+
+/// Whatever tells of a page what an entry does: a list is written of it without a copy.
+pub trait Listed {
+    ghost use Rattle.doc_links_pages.specs.declared.answers.Entry.{Entry as PageEntry};
+
+    ghost entry: { Self → PageEntry };
+
+    fn path(&self) -> &Path
+        ensures { result.now ≡ (entry self.now).path };
+
+    fn headings(&self) -> &[Heading]
+        ensures { result.now ≡ (entry self.now).headings };
+}
+
+impl Listed for Entry {
+    ghost entry = { λ page. page };
+
+    fn path(&self) -> &Path {
+        &self.path
+    }
+
+    fn headings(&self) -> &[Heading] {
+        self.headings.get()
+    }
 }

@@ -1,3 +1,4 @@
 pub mod AnswerSteps
 pub mod MemoSteps
+pub mod RecentSteps
 pub mod SearchSteps

@@ -1,12 +1,12 @@
 //! Broken links.
 
 ghost use Rattle.std.specs.Prelude.{◌≡◌, ◌++◌, [], ◌∷◌, IfOk, OnOk, option_map};
-ghost use Rattle.doc_links_seen.specs.Memos.{IsMemo};
+ghost use Rattle.doc_links_seen.specs.Memos.{IsAsking};
 ghost use Rattle.doc_links_seen.specs.SeenSteps.{IsInOrder};
 ghost use Rattle.doc_links_pages.specs.Links.{broken, broken_by, broken_from, fault_in, fault_of, page_among};
 ghost use Rattle.doc_links_seen.specs.SeenPages.{seen_page, seen_pages};
 
-use crate::memo::Memo;
+use crate::asking::Asking;
 use crate::seen::SeenPage;
 use doc_links_pages::answers::{Broken, Reason};
 use doc_links_pages::reference::with_anchor;
@@ -28,9 +28,9 @@ pub fn broken_in<S: Sight>(
         → IfOk result (λ all. all ≡ broken (S.goals sight.now) (seen_pages pages.now)) }
 {
     let mut all = Vec::new(heap);
-    let mut memo = Memo::new(heap);
+    let mut asking = Asking::new(heap, pages.len());
     for page in pages {
-        push_broken(heap, &mut all, page, pages, sight, &mut memo)?;
+        push_broken(heap, &mut all, page, pages, sight, &mut asking)?;
     }
     Ok(List::new(all))
 }
@@ -42,17 +42,17 @@ fn push_broken<'a, S: Sight>(
     page: &SeenPage<'a>,
     pages: &[SeenPage<'a>],
     sight: &S,
-    memo: &mut Memo<'a>,
+    asking: &mut Asking<'a>,
 ) -> Result<(), Memory>
-    requires { IsMemo (S.goals sight.now) (seen_pages pages.now) memo.old }
+    requires { IsAsking (S.goals sight.now) (seen_pages pages.now) asking.old }
     ensures all { IsInOrder (seen_pages pages.now) → OnOk result (all.new.items ≡ all.old.items
         ++ broken_from (S.goals sight.now) (seen_pages pages.now) page.now.path.now 1
         page.now.known.now.links) }
-    ensures memo { IsMemo (S.goals sight.now) (seen_pages pages.now) memo.new }
+    ensures asking { IsAsking (S.goals sight.now) (seen_pages pages.now) asking.new }
 {
     for (index, link) in page.links().iter().enumerate() {
         let place = index as u64 + 1;
-        if let Some((reason, target)) = fault_of(heap, link, pages, sight, memo)? {
+        if let Some((reason, target)) = fault_of(heap, link, pages, sight, asking)? {
             push_fault(heap, all, page.path(), place, reason, target)?;
         }
     }
@@ -87,17 +87,17 @@ fn fault_of<'a, S: Sight>(
     link: &'a LinkKind,
     pages: &[SeenPage<'a>],
     sight: &S,
-    memo: &mut Memo<'a>,
+    asking: &mut Asking<'a>,
 ) -> Result<Option<(Reason, Text)>, Memory>
-    requires { IsMemo (S.goals sight.now) (seen_pages pages.now) memo.old }
+    requires { IsAsking (S.goals sight.now) (seen_pages pages.now) asking.old }
     ensures fault { IsInOrder (seen_pages pages.now) → IfOk result (λ fault.
         fault ≡ fault_of (S.goals sight.now) (seen_pages pages.now) link.now) }
-    ensures memo { IsMemo (S.goals sight.now) (seen_pages pages.now) memo.new }
+    ensures asking { IsAsking (S.goals sight.now) (seen_pages pages.now) asking.new }
 {
     match link {
         LinkKind::External => Ok(None),
         LinkKind::Page { path, anchor } => {
-            let page = memo.page_among(path, pages, sight);
+            let page = asking.page_among(path, pages, sight);
             fault_in(heap, path, anchor, page)
         }
         LinkKind::Nowhere => Ok(Some((Reason::Path, Text::copy_of(heap, "-")?))),

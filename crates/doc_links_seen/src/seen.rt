@@ -5,11 +5,12 @@ ghost use Rattle.std.specs.List.{flat_map};
 ghost use Rattle.doc_index.specs.Held.{slot_at};
 ghost use Rattle.doc_page_parts.specs.Sights.{seen};
 ghost use Rattle.doc_links_seen.specs.SeenSteps.{IsInOrder, page_in};
-ghost use Rattle.doc_links_pages.specs.Links.{page_at};
+ghost use Rattle.doc_links_pages.specs.Links.{entry_of, page_at};
 ghost use Rattle.doc_links_seen.specs.SeenPages.{seen_page, seen_pages};
 
 use doc_index::held::Held;
 use doc_index::index::Index;
+use doc_links_pages::answers::Listed;
 use doc_links_pages::known::Known;
 use doc_page_parts::failure::Memory;
 use doc_page_parts::heap::{Heap, Vec};
@@ -57,6 +58,18 @@ impl<'a> SeenPage<'a> {
         ensures { result.now ≡ self.now.known.now }
     {
         self.known
+    }
+}
+
+impl<'a> Listed for SeenPage<'a> {
+    ghost entry = { λ page. entry_of (seen_page page) };
+
+    fn path(&self) -> &Path {
+        self.path
+    }
+
+    fn headings(&self) -> &[Heading] {
+        self.known.headings()
     }
 }
 

@@ -1,6 +1,6 @@
 //! Contents: the pages and their headings.
 
-ghost use Rattle.std.specs.Prelude.{◌≡◌, ◌++◌, string_bytes, None, OnOk, OnErr};
+ghost use Rattle.std.specs.Prelude.{◌≡◌, ◌++◌, decimal, string_bytes, None, IfSome, OnOk, OnErr, map as mapped};
 ghost use Rattle.std.specs.List.{flat_map};
 ghost use Rattle.std.specs.Io.{StartsWith};
 ghost use Rattle.doc_resolve.specs.Hrefs.{page_href};
@@ -8,7 +8,7 @@ ghost use Rattle.doc_listings.specs.Listings.{contents_text, entry_lines, headin
 ghost use Rattle.doc_listings.specs.Listings.{page_line, page_start};
 
 use crate::number::{MOST_DIGITS, push_number};
-use doc_links_pages::answers::Entry;
+use doc_links_pages::answers::Listed;
 use doc_page_encoding::encoding::{push_encoded, push_encoded_path};
 use doc_page_parts::escaping::push_escaped;
 use doc_page_parts::failure::Memory;
@@ -24,9 +24,9 @@ const LINE_ROOM: usize = 40;
 
 /// Writes a page of HTML with a list of pages and their headings, each a link.
 #[tactic(auto, using(doc_page_parts::proofs::BufferSteps::front_same, doc_page_parts::proofs::BufferSteps::front_more))]
-pub fn push_contents(heap: Heap, out: &mut String, pages: &[Entry]) -> Result<(), Memory>
-    ensures ok { OnOk result
-        (string_bytes out.new ≡ string_bytes out.old ++ contents_text pages.now) }
+pub fn push_contents<P: Listed>(heap: Heap, out: &mut String, pages: &[P]) -> Result<(), Memory>
+    ensures ok { OnOk result (string_bytes out.new
+        ≡ string_bytes out.old ++ contents_text (mapped P.entry pages.now)) }
     ensures err { OnErr result (StartsWith (string_bytes out.new) (string_bytes out.old)) }
 {
     out.reserve(room_of(pages))?;
@@ -37,9 +37,9 @@ pub fn push_contents(heap: Heap, out: &mut String, pages: &[Entry]) -> Result<()
 }
 
 #[tactic(auto, using(doc_page_parts::proofs::BufferSteps::front_same, doc_page_parts::proofs::BufferSteps::front_more))]
-fn push_pages(heap: Heap, out: &mut String, pages: &[Entry]) -> Result<(), Memory>
-    ensures ok { OnOk result
-        (string_bytes out.new ≡ string_bytes out.old ++ flat_map entry_lines pages.now) }
+fn push_pages<P: Listed>(heap: Heap, out: &mut String, pages: &[P]) -> Result<(), Memory>
+    ensures ok { OnOk result (string_bytes out.new
+        ≡ string_bytes out.old ++ flat_map (λ page. entry_lines (P.entry page)) pages.now) }
     ensures err { OnErr result (StartsWith (string_bytes out.new) (string_bytes out.old)) }
 {
     let mut digits = String::with_capacity(heap, MOST_DIGITS)?;
@@ -52,19 +52,19 @@ fn push_pages(heap: Heap, out: &mut String, pages: &[Entry]) -> Result<(), Memor
 
 /// Writes the lines of a page and its headings. Its address is made once, in a buffer of its own.
 #[tactic(auto, unfolding(crate::specs::Listings::entry_lines), using(doc_page_parts::proofs::BufferSteps::front_same, doc_page_parts::proofs::BufferSteps::front_more))]
-fn push_page(
+fn push_page<P: Listed>(
     out: &mut String,
     digits: &mut String,
     address: &mut String,
-    page: &Entry,
+    page: &P,
 ) -> Result<(), Memory>
     ensures ok { OnOk result
-        (string_bytes out.new ≡ string_bytes out.old ++ entry_lines page.now) }
+        (string_bytes out.new ≡ string_bytes out.old ++ entry_lines (P.entry page.now)) }
     ensures err { OnErr result (StartsWith (string_bytes out.new) (string_bytes out.old)) }
 {
-    set_address(address, &page.path)?;
-    push_page_line(out, address.as_str(), &page.path)?;
-    push_headings(out, digits, address.as_str(), page.headings.get())
+    set_address(address, page.path())?;
+    push_page_line(out, address.as_str(), page.path())?;
+    push_headings(out, digits, address.as_str(), page.headings())
 }
 
 /// Writes the address of a page alone, as links to the page have it.
@@ -139,9 +139,36 @@ fn push_heading_start(out: &mut String, digits: &mut String, level: u8) -> Resul
     ensures err { OnErr result (StartsWith (string_bytes out.new) (string_bytes out.old)) }
 {
     out.push_str("<li class=\"h")?;
-    push_number(out, digits, u64::from(level))?;
+    push_level(out, digits, level)?;
     out.push_str("\"><a href=\"")?;
     Ok(())
+}
+
+/// Writes the level of a heading, which is a digit but where a renderer gives another number.
+fn push_level(out: &mut String, digits: &mut String, level: u8) -> Result<(), Memory>
+    ensures ok { OnOk result (string_bytes out.new ≡ string_bytes out.old ++ decimal level) }
+    ensures err { OnErr result (StartsWith (string_bytes out.new) (string_bytes out.old)) }
+{
+    let Some(digit) = digit_of(level) else {
+        return push_number(out, digits, u64::from(level));
+    };
+    out.push_str(digit)?;
+    Ok(())
+}
+
+/// The digit of a level that CommonMark has.
+fn digit_of(level: u8) -> Option<&'static str>
+    ensures { IfSome result (λ digit. digit.now ≡ decimal level) }
+{
+    match level {
+        1 => Some("1"),
+        2 => Some("2"),
+        3 => Some("3"),
+        4 => Some("4"),
+        5 => Some("5"),
+        6 => Some("6"),
+        _ => None,
+    }
 }
 
 /// Writes the address of a heading in the page at an address.
@@ -170,7 +197,7 @@ fn push_link_text(out: &mut String, text: &str) -> Result<(), Memory>
 }
 
 /// How many bytes the lines take, where no byte has to be encoded: a guess, on which nothing rests.
-fn room_of(pages: &[Entry]) -> usize {
+fn room_of<P: Listed>(pages: &[P]) -> usize {
     let mut room: usize = 60;
     for page in pages {
         room = room.saturating_add(room_of_page(page));
@@ -178,10 +205,10 @@ fn room_of(pages: &[Entry]) -> usize {
     room
 }
 
-fn room_of_page(page: &Entry) -> usize {
-    let path = page.path.text().len();
+fn room_of_page<P: Listed>(page: &P) -> usize {
+    let path = page.path().text().len();
     let mut room: usize = path.saturating_mul(2).saturating_add(LINE_ROOM);
-    for heading in page.headings.get() {
+    for heading in page.headings() {
         room = room.saturating_add(room_of_heading(path, heading));
     }
     room

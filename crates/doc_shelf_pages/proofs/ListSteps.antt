@@ -1,14 +1,16 @@
 -- The lists that a reader is answered, from what is kept of a store's pages.
 use Rattle.std.proofs.Common.{◌≡◌, ℕ, List, [], ◌++◌, ◌∷◌, Bool, true, false, length, bytes_eq, refl, ap, sym, subst, ◌∙◌}
-use Rattle.std.specs.Prelude.{Option, Some, None, is_some, if◌then◌else◌}
+use Rattle.std.specs.Prelude.{Option, Some, None, is_some, if◌then◌else◌, map as mapped}
 use Rattle.std.proofs.lemmas.Bool.{both_ways}
 use Rattle.doc_index_tables.specs.Maps.{PairMap, TextMap}
-use Rattle.doc_links_pages.specs.Links.{backlinks, broken, contents, page_at as page_with_links}
+use Rattle.doc_links_pages.specs.Links.{backlinks, broken, contents, entry_of, page_at as page_with_links}
 use Rattle.doc_links_pages.specs.Names.{AreNames as WrittenNames}
 use Rattle.doc_links_pages.specs.PageLinks.{IsOnce, pages_of as pages_with_links}
 use Rattle.doc_links_pages.specs.declared.answers.Broken.{Broken}
 use Rattle.doc_links_pages.specs.declared.answers.Entry.{Entry}
 use Rattle.doc_links_pages.specs.declared.page_links.PageLinks.{PageLinks}
+use Rattle.doc_links_seen.specs.SeenPages.{seen_page, seen_pages as pages_shown}
+use Rattle.doc_links_seen.specs.declared.seen.SeenPage.{SeenPage}
 use Rattle.doc_listings.specs.Listings.{backlinks_text, contents_text, hits_text, report_text}
 use Rattle.std.proofs.lemmas.Simd.{map-map}
 use Rattle.doc_page_parts.specs.declared.rendered.Rendered.{Rendered}
@@ -69,6 +71,12 @@ linked_in view index = seen (goal_in view) (pages_with_links index)
 
 abbrev counted_in : View → PairMap (TextMap ℕ) → List (List ℕ × TextMap ℕ)
 counted_in view index = seen (goal_in view) (pages_with_words index)
+
+-- entries of pages that are seen
+pub entries_of_seen : (pages : List SeenPage) (all : List (List ℕ × PageLinks)) → pages_shown pages ≡ all
+    → mapped (λ page. entry_of (seen_page page)) pages ≡ contents all
+unfolding contents
+entries_of_seen pages all are = sym (map-map entry_of seen_page pages) ∙ ap (mapped entry_of) are
 
 module _ (render : Renders) (store : StoreState) (kept : Kept) (reader : Reader) (is : IsStore store) (k : IsKept render store kept)
     (view : View) (sees : view ≡ seen_in store reader) where

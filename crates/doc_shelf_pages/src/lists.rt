@@ -28,9 +28,9 @@ pub fn contents(
     ensures { (render : Renders) → IsStore store.now → IsKept render store.now kept.now
         → IfOk result (λ text. text ≡ contents_body render (seen_in store.now reader.now)) }
 {
-    let pages = kept.links().contents(&store.sight(reader))?;
+    let pages = kept.links().pages_seen(&store.sight(reader))?;
     let mut out = String::new(heap);
-    push_contents(heap, &mut out, pages.get())?;
+    push_contents(heap, &mut out, &pages)?;
     Ok(Text::new(out))
 }
 

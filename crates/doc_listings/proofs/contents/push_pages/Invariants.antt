@@ -5,4 +5,5 @@ use Rattle.doc_listings.proofs.contents.push_pages.Given as goal
 
 -- the lines so far are written
 abbrev pub invariant-loop-page : goal.invariant-loop-page
-invariant-loop-page l = string_bytes l.out ≡ string_bytes l.fn.out ++ flat_map entry_lines (take l.page-index l.pages)
+invariant-loop-page g l =
+    string_bytes l.out ≡ string_bytes l.fn.out ++ flat_map (λ page. entry_lines (g.P.Listed.entry page)) (take l.page-index l.pages)
