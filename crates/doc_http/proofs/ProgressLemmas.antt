@@ -1,6 +1,6 @@
 -- What is known of unread bytes, and what they begin with.
-use Rattle.std.proofs.Common.{◌≡◌, ℕ, ◌==◌, ◌-◌, ◌<◌, ◌≤◌, ◌^◌, true, false, List, [], ◌++◌, Option, Some, None, length, take, drop}
-use Rattle.std.proofs.Common.{slice_range, refl, ap, sym, ◌∙◌, subst, arith, length-drop, length-append, append-nil}
+use Rattle.std.proofs.Common.{◌≡◌, ℕ, ◌==◌, ◌-◌, ◌<◌, ◌^◌, true, false, List, [], ◌++◌, Option, Some, None, length, take, drop}
+use Rattle.std.proofs.Common.{slice_range, refl, ap, sym, ◌∙◌, subst, arith, length-drop, append-nil}
 use Rattle.std.specs.Prelude.{Ok, if◌then◌else◌}
 use Rattle.std.proofs.lemmas.Bool.{true≢false}
 use Rattle.std.proofs.lemmas.List.{drop-append-le, append_assoc, take_rest}
@@ -155,13 +155,7 @@ not_bad text head is_head good (Some other) is bad =
     in
     true≢false (sym bad ∙ same ∙ good)
 
--- ---- the unread bytes in their buffer
+-- ---- the unread bytes
 
-pub pushed : (progress : Progress) (taken : ℕ) (old new more : List ℕ) → new ≡ old ++ more → taken ≤ length old
-    → Knows progress (drop taken old)
-    → (taken ≤ length new) × Knows progress (drop taken new)
-pushed progress taken old new more is within knows = (
-  omega (arith, within, ap length is, length-append old more),
-  subst (λ b. Knows progress b) (sym (ap (drop taken) is ∙ drop-append-le taken old more within))
-      (knows_more_bytes progress (drop taken old) more knows),
-)
+pub pushed : (progress : Progress) (old new more : List ℕ) → new ≡ old ++ more → Knows progress old → Knows progress new
+pushed progress old new more is knows = subst (λ b. Knows progress b) (sym is) (knows_more_bytes progress old more knows)

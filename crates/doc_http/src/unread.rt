@@ -5,35 +5,33 @@ ghost use Rattle.doc_http.specs.Requests.{IsNext, BeginsWithRequest, UsesAtMost}
 
 use crate::progress::Progress;
 use crate::request::Next;
+use doc_http_queue::queue::ByteQueue;
 use doc_page_parts::failure::Memory;
-use doc_page_parts::heap::{Heap, Vec};
+use doc_page_parts::heap::Heap;
 use std::fmt;
 use std::fmt::Debug;
 use std::marker::Model;
 
 /// The unread bytes of a connection. Contracts see them as a list.
 ///
-/// Taken bytes stay in the buffer until they are at least as many as those that follow, so that
-/// taking many requests from one buffer moves each byte a bounded number of times. What the bytes begin
-/// with is read on from where the last reading of it came to.
+/// Taking many requests moves each byte a bounded number of times. What the bytes begin with is read on from where the last
+/// reading of it came to.
 #[derive(Drop)]
 pub struct Unread {
     heap: Heap,
-    buffer: Vec<u8>,
-    taken: usize,
+    bytes: ByteQueue,
     progress: Progress,
 }
 
 impl Model for Unread {
-    ghost use Rattle.std.specs.Prelude.{ℕ, List as Seq, ◌≤◌, drop, length};
+    ghost use Rattle.std.specs.Prelude.{ℕ, List as Seq};
     ghost use Rattle.doc_http.specs.KnowledgeSteps.{Knows};
 
     ghost Value = { Seq ℕ };
 
-    ghost view = { λ u. drop u.taken u.buffer.items };
+    ghost view = { λ u. u.bytes };
 
-    ghost invariant = { λ u.
-        (u.taken ≤ length u.buffer.items) × Knows u.progress (drop u.taken u.buffer.items) };
+    ghost invariant = { λ u. Knows u.progress u.bytes };
 }
 
 impl Unread {
@@ -43,8 +41,7 @@ impl Unread {
     {
         Unread {
             heap,
-            buffer: Vec::new(heap),
-            taken: 0,
+            bytes: ByteQueue::new(heap),
             progress: Progress::new(),
         }
     }
@@ -52,7 +49,7 @@ impl Unread {
     pub fn get(&self) -> &[u8]
         ensures { result.now ≡ self.now }
     {
-        &self.buffer[self.taken..]
+        self.bytes.get()
     }
 
     /// Adds bytes at the end.
@@ -60,8 +57,7 @@ impl Unread {
         ensures ok { OnOk result (self.new ≡ self.old ++ bytes.now) }
         ensures err { OnErr result (self.new ≡ self.old) }
     {
-        self.compact();
-        self.buffer.extend_from_slice(bytes)?;
+        self.bytes.push(bytes)?;
         Ok(())
     }
 
@@ -74,7 +70,7 @@ impl Unread {
         ensures memory { OnErr result (BeginsWithRequest self.old) }
         ensures same { self.new ≡ self.old }
     {
-        self.progress.next(self.heap, &self.buffer[self.taken..])
+        self.progress.next(self.heap, self.bytes.get())
     }
 
     /// Takes bytes from the front.
@@ -82,7 +78,7 @@ impl Unread {
         requires { count ≤ length self.old }
         ensures { self.new ≡ drop count self.old }
     {
-        self.taken += count;
+        self.bytes.take_front(count);
         self.progress = Progress::new();
     }
 
@@ -90,20 +86,8 @@ impl Unread {
     pub fn clear(&mut self)
         ensures { self.new ≡ [] }
     {
-        self.buffer.clear();
-        self.buffer.shrink_to_fit();
-        self.taken = 0;
+        self.bytes.clear();
         self.progress = Progress::new();
-    }
-
-    /// Moves the unread bytes to the buffer's front, where they are no more than the taken ones.
-    fn compact(&mut self)
-        ensures { self.new ≡ self.old }
-    {
-        if self.taken >= self.buffer.len() - self.taken {
-            self.buffer.drain(..self.taken);
-            self.taken = 0;
-        }
     }
 }
 

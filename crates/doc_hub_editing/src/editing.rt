@@ -23,7 +23,7 @@ use doc_hub_people::visit::{Visit, unauthorized};
 use doc_page::renderer::Renderer;
 use doc_page_parts::failure::Memory;
 use doc_people::settings::Browse;
-use doc_people_shell::statuses::refused_body;
+use doc_people_statuses::statuses::refused_body;
 use doc_store::reader::Reader;
 
 /// A request that edits, and who asks.

@@ -14,7 +14,7 @@ use doc_page_parts::text::Text;
 use doc_people::settings::{Browse, Offers};
 use doc_people::viewed::Viewed;
 use doc_people_shell::frame::Frame;
-use doc_people_shell::statuses::{moved_body, not_found_body, not_signed_in_body};
+use doc_people_statuses::statuses::{moved_body, not_found_body, not_signed_in_body};
 
 /// A request for people of a guest or a reader, and what its pages are made with.
 #[derive(Clone, Copy)]

@@ -1,5 +1,4 @@
-//! The templates that the pages for people stand in, written: the head, the bar at the top, the navigation, and the pages that say no
-//! more than a status.
+//! The templates that the pages for people stand in, written: the head, the bar at the top, the navigation, and the page as a whole.
 #![tactic(auto)]
 
 mod around;
@@ -9,6 +8,5 @@ mod foot;
 pub mod frame;
 mod head;
 pub mod shell;
-pub mod statuses;
 mod tools;
 mod tree;

@@ -1,5 +1,5 @@
 use Rattle.doc_page_parts.proofs.BufferSteps.{five_written}
-use Rattle.doc_people_shell.proofs.statuses.push_location.Goals as goal
+use Rattle.doc_people_statuses.proofs.statuses.push_location.Goals as goal
 
 pub returns : goal.returns
 returns c =

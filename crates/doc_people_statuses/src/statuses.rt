@@ -5,8 +5,6 @@ ghost use Rattle.doc_page_parts.specs.Escaping.{escaped};
 ghost use Rattle.doc_people.specs.Lines.{link};
 ghost use Rattle.doc_people.specs.Statuses.{begin_line, moved_body, not_found_body, not_signed_in_body, notice, refused_body, status_text, status_title};
 
-use crate::frame::Frame;
-use crate::shell::{bare, shell};
 use doc_page_parts::escaping::push_escaped;
 use doc_page_parts::failure::Memory;
 use doc_page_parts::heap::{Heap, String};
@@ -15,6 +13,8 @@ use doc_people::settings::Browse;
 use doc_people::viewed::Viewed;
 use doc_people_lines::lines::push_link;
 use doc_people_lines::links::push_edit_link;
+use doc_people_shell::frame::Frame;
+use doc_people_shell::shell::{bare, shell};
 
 /// The page of 301, by the value of the Location field.
 #[tactic(auto, unfolding(doc_people::specs::Statuses::moved_body))]
