@@ -1,6 +1,10 @@
+pub mod BlockSteps
 pub mod CountSteps
+pub mod CutSteps
 pub mod EntrySteps
+pub mod EntryWalk
 pub mod FlatSteps
+pub mod HalfSteps
 pub mod PackedSteps
 pub mod PairSteps
 pub mod PlaceSteps

@@ -3,7 +3,7 @@ use Rattle.std.proofs.Common.{◌≡◌, ℕ, zero, suc, ◌+◌, ◌<◌, ◌�
 use Rattle.std.specs.Prelude.{Some, None, Result, Ok, Err, OnOk, OnErr, insert, remove}
 use Rattle.std.specs.Cmp.{eq_by_cmp_equiv}
 use Rattle.std.specs.FinMap as map
-use Rattle.std.specs.FinMap.Entries.{by_order, find-where_key, is_sorted-put, is_sorted-where_key, where_key}
+use Rattle.std.specs.FinMap.Entries.{by_order, find-where_key, is_sorted-put, is_sorted-where_key}
 use Rattle.std.specs.List.{AllByRecursion, AllWithin, HoldsAt}
 use Rattle.std.specs.List.Sorted.{IsNonDecreasingBy, IsPartitionPoint, IsSortedBy, IsStrictlySortedBy}
 use Rattle.std.specs.Map.{keys_of}
@@ -14,6 +14,7 @@ use Rattle.std.proofs.lemmas.List.Sorted.{searchable_from_sorted}
 use Rattle.std.proofs.lemmas.Map.Lookups.{exact_unsigned}
 use Rattle.doc_page_parts.proofs.Maps.{find_before, is_sorted_keys}
 use Rattle.doc_page_parts.proofs.Orders.{is_eq_true}
+use Rattle.doc_index_tables.specs.Blocks.{without}
 use Rattle.doc_index_tables.specs.Maps.{NumberMap}
 
 abbrev pub IsInOrder : List (ℕ × ℕ) → Type 0
@@ -112,41 +113,61 @@ inserted_at k v (e ∷ es) (suc i) gap =
     ∙ ap (λ o. by_order o ((k, v) ∷ e ∷ es) ((e.0, v) ∷ es) (e ∷ map.put nat_cmp k v es)) (sym gap.0)
 
 -- the pairs with another number than k
-abbrev others : ℕ → List (ℕ × ℕ) → List (ℕ × ℕ)
-others k es = where_key nat_cmp (λ x. not (eq_by_cmp nat_cmp k x)) es
-
-all_others : (k : ℕ) (es : List (ℕ × ℕ)) → AllByRecursion (λ y. nat_cmp k y ≡ Less) (keys_of es) → others k es ≡ es
+all_others : (k : ℕ) (es : List (ℕ × ℕ)) → AllByRecursion (λ y. nat_cmp k y ≡ Less) (keys_of es) → without k es ≡ es
 all_others k [] above = refl
 all_others k (e ∷ es) above =
-    ap (λ o. cond (not (is_eq o)) (e ∷ others k es) (others k es)) above.0 ∙ ap (λ fs. e ∷ fs) (all_others k es above.1)
+    ap (λ o. cond (not (is_eq o)) (e ∷ without k es) (without k es)) above.0 ∙ ap (λ fs. e ∷ fs) (all_others k es above.1)
 
-removed_at : (k : ℕ) (es : List (ℕ × ℕ)) (i : ℕ) → IsStrictlySortedBy nat_cmp (keys_of es) → IsAt k es i → remove es i ≡ others k es
+removed_at : (k : ℕ) (es : List (ℕ × ℕ)) (i : ℕ) → IsStrictlySortedBy nat_cmp (keys_of es) → IsAt k es i → remove es i ≡ without k es
 unfolding IsStrictlySortedBy
 removed_at k [] i sorted at = absurd at
 removed_at k (e ∷ es) zero sorted at =
-    sym (ap (λ o. cond (not (is_eq o)) (e ∷ others k es) (others k es)) at
+    sym (ap (λ o. cond (not (is_eq o)) (e ∷ without k es) (without k es)) at
     ∙ all_others k es (subst (λ x. AllByRecursion (λ y. nat_cmp x y ≡ Less) (keys_of es)) (sym (exact_unsigned k e.0 at)) sorted.0))
 removed_at k (e ∷ es) (suc i) sorted at =
     ap (λ fs. e ∷ fs) (removed_at k es i sorted.1 at.1)
-    ∙ ap (λ o. cond (not (is_eq o)) (e ∷ others k es) (others k es)) (sym at.0)
+    ∙ ap (λ o. cond (not (is_eq o)) (e ∷ without k es) (without k es)) (sym at.0)
 
 other_way : {A : Type 0} (b : Bool) (x y : A) → cond (not b) x y ≡ cond b y x
 other_way true x y = refl
 other_way false x y = refl
 
+-- a number that has none is taken away
+pub none_removed : (m : NumberMap ℕ) (k : ℕ) → map.get m k ≡ None → map.remove m k ≡ m
+none_removed m k none = map.same_map nat_cmp_total exact_unsigned _ _ (λ q.
+    map.get-remove nat_cmp_total m k q ∙ by q (eq_by_cmp nat_cmp q k) refl)
+  where
+    by : (q : ℕ) (b : Bool) → eq_by_cmp nat_cmp q k ≡ b → cond b None (map.get m q) ≡ map.get m q
+    by q true e = sym (ap (map.get m) (exact_unsigned q k (is_eq_true (nat_cmp q k) e)) ∙ none)
+    by q false e = refl
+
 module _ (es : List (ℕ × ℕ)) (sorted : IsInOrder es) (m : NumberMap ℕ) (is : map.from_sorted es ≡ m) where
   pub entries_are : map.entries m ≡ es
   entries_are = ap map.entries (sym is) ∙ map.entries-from_sorted nat_cmp es sorted
 
-  found_in : (k : ℕ) → map.find nat_cmp k es ≡ map.get m k
+  pub found_in : (k : ℕ) → map.find nat_cmp k es ≡ map.get m k
   found_in k = sym (map.get-from_sorted nat_cmp es k sorted) ∙ ap (λ n. map.get n k) is
 
-  put_in : (k v : ℕ) (fs : List (ℕ × ℕ)) → fs ≡ map.put nat_cmp k v es → IsInOrder fs × (map.from_sorted fs ≡ map.insert m k v)
+  pub put_in : (k v : ℕ) (fs : List (ℕ × ℕ)) → fs ≡ map.put nat_cmp k v es → IsInOrder fs × (map.from_sorted fs ≡ map.insert m k v)
   put_in k v fs put =
       let order : IsInOrder fs = subst IsInOrder (sym put) (is_sorted-put nat_cmp nat_cmp_total k v es sorted) in (
         order,
         map.same_entries_map _ _ (map.entries-from_sorted nat_cmp fs order ∙ put
             ∙ sym (map.entries-insert nat_cmp_total m k v ∙ ap (map.put nat_cmp k v) entries_are)),
+      )
+
+  pub without_in : (k : ℕ) (fs : List (ℕ × ℕ)) → fs ≡ without k es → IsInOrder fs × (map.from_sorted fs ≡ map.remove m k)
+  without_in k fs left =
+      let order : IsInOrder fs =
+      subst IsInOrder (sym left) (is_sorted-where_key nat_cmp (λ x. not (eq_by_cmp nat_cmp k x)) es sorted) in (
+        order,
+        map.same_map nat_cmp_total exact_unsigned _ _ (λ q.
+            map.get-from_sorted nat_cmp fs q order ∙ ap (map.find nat_cmp q) left
+            ∙ find-where_key nat_cmp (λ x. not (eq_by_cmp nat_cmp k x)) q
+            (λ x tied. ap (λ y. not (eq_by_cmp nat_cmp k y)) (sym (exact_unsigned q x tied))) es
+            ∙ other_way (eq_by_cmp nat_cmp k q) (map.find nat_cmp q es) None
+            ∙ ap (λ b. cond b None (map.find nat_cmp q es)) ((eq_by_cmp_equiv nat_cmp_total).symm k q)
+            ∙ ap (cond (eq_by_cmp nat_cmp q k) None) (found_in q) ∙ sym (map.get-remove nat_cmp_total m k q)),
       )
 
   -- a number whose place a search found
@@ -161,19 +182,7 @@ module _ (es : List (ℕ × ℕ)) (sorted : IsInOrder es) (m : NumberMap ℕ) (i
     set_in v = put_in k v (set es i (k, v)) (set_at k v es i stands)
 
     pub removed_in : IsInOrder (remove es i) × (map.from_sorted (remove es i) ≡ map.remove m k)
-    removed_in =
-        let left : remove es i ≡ others k es = removed_at k es i (is_sorted_keys nat_cmp es sorted) stands in
-        let order : IsInOrder (remove es i) =
-        subst IsInOrder (sym left) (is_sorted-where_key nat_cmp (λ x. not (eq_by_cmp nat_cmp k x)) es sorted) in (
-          order,
-          map.same_map nat_cmp_total exact_unsigned _ _ (λ q.
-              map.get-from_sorted nat_cmp (remove es i) q order ∙ ap (map.find nat_cmp q) left
-              ∙ find-where_key nat_cmp (λ x. not (eq_by_cmp nat_cmp k x)) q
-              (λ x tied. ap (λ y. not (eq_by_cmp nat_cmp k y)) (sym (exact_unsigned q x tied))) es
-              ∙ other_way (eq_by_cmp nat_cmp k q) (map.find nat_cmp q es) None
-              ∙ ap (λ b. cond b None (map.find nat_cmp q es)) ((eq_by_cmp_equiv nat_cmp_total).symm k q)
-              ∙ ap (cond (eq_by_cmp nat_cmp q k) None) (found_in q) ∙ sym (map.get-remove nat_cmp_total m k q)),
-        )
+    removed_in = without_in k (remove es i) (removed_at k es i (is_sorted_keys nat_cmp es sorted) stands)
 
   -- a number that a search didn't find
   module _ (k i : ℕ) (within : i ≤ length es)
@@ -191,12 +200,7 @@ module _ (es : List (ℕ × ℕ)) (sorted : IsInOrder es) (m : NumberMap ℕ) (i
     inserted_in v = put_in k v (insert es i (k, v)) (inserted_at k v es i lacks)
 
     pub nothing_removed : map.remove m k ≡ m
-    nothing_removed = map.same_map nat_cmp_total exact_unsigned _ _ (λ q.
-        map.get-remove nat_cmp_total m k q ∙ by q (eq_by_cmp nat_cmp q k) refl)
-      where
-        by : (q : ℕ) (b : Bool) → eq_by_cmp nat_cmp q k ≡ b → cond b None (map.get m q) ≡ map.get m q
-        by q true e = sym (ap (map.get m) (exact_unsigned q k (is_eq_true (nat_cmp q k) e)) ∙ got_none)
-        by q false e = refl
+    nothing_removed = none_removed m k got_none
 
 -- what holds after a success and after a refusal
 pub either_way : {X E P Q R : Type 0} (r : Result X E) → OnOk r P → OnErr r Q → (P → R) → (Q → R) → R

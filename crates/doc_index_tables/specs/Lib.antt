@@ -1,4 +1,6 @@
+pub mod Blocks
 pub mod Maps
 pub mod Packed
 pub mod Pairs
+pub mod Rows
 pub mod TableSteps

@@ -1,32 +1,37 @@
-//! Pairs of numbers, one after another.
+//! The entries of blocks, one after another.
 
 ghost use Rattle.std.specs.Prelude.{◌≡◌};
 ghost use Rattle.std.specs.Iterator.{YieldsFirst, item_count};
+ghost use Rattle.doc_index_tables.specs.Blocks.{IsStart, joined};
 
-use crate::pairs::Pairs;
+use crate::block::Block;
 use std::marker::Model;
 
-/// The pairs of a list that are left, in its order. Contracts see the list of them.
+/// The entries of blocks that are left, in their order. Contracts see the list of them.
 #[derive(Drop)]
 pub struct Entries<'a> {
-    pairs: &'a Pairs,
+    blocks: &'a [Block],
     next: usize,
 }
 
 impl<'a> Model for Entries<'a> {
     ghost use Rattle.std.specs.Prelude.{ℕ, List as Seq, drop};
+    ghost use Rattle.doc_index_tables.specs.Blocks.{IsStart, joined};
 
     ghost Value = { Seq (ℕ × ℕ) };
 
-    ghost view = { λ e. drop e.next e.pairs.now };
+    ghost view = { λ e. drop e.next (joined e.blocks.now) };
+
+    ghost invariant = { λ e. IsStart e.next e.blocks.now };
 }
 
 impl<'a> Entries<'a> {
-    /// All pairs of a list.
-    pub fn new(pairs: &'a Pairs) -> Self
-        ensures { result ≡ pairs.now }
+    /// All entries of blocks.
+    pub fn new(blocks: &'a [Block]) -> Self
+        requires { IsStart 0 blocks.now }
+        ensures { result ≡ joined blocks.now }
     {
-        Entries { pairs, next: 0 }
+        Entries { blocks, next: 0 }
     }
 }
 
@@ -38,11 +43,18 @@ impl<'a> Iterator for Entries<'a> {
     ghost remaining = { item_count (λ s. s) };
 
     fn next(&mut self) -> Option<(u64, u64)> {
-        if self.next >= self.pairs.len() {
-            return None;
+        let (block, others) = self.blocks.split_first()?;
+        if self.next < block.len() {
+            let entry = block.at(self.next);
+            self.next += 1;
+            return Some(entry);
         }
-        let entry = self.pairs.at(self.next);
-        self.next += 1;
+        let (block, _) = others.split_first()?;
+        let entry = block.at(0);
+        *self = Entries {
+            blocks: others,
+            next: 1,
+        };
         Some(entry)
     }
 }

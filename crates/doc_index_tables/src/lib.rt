@@ -1,7 +1,9 @@
-//! Numbers by text and number, as a tree of rows by text, each row a list in the order of its numbers; and texts with numbers, packed
+//! Numbers by text and number, as a tree of rows by text, each row in the order of its numbers; and texts with numbers, packed
 //! one after another. The tables of `doc_index` are made of them.
 #![tactic(auto)]
 
+pub mod block;
+pub mod blocks;
 pub mod entries;
 pub mod packed;
 pub mod pairs;

@@ -1,7 +1,7 @@
 //! Pairs of numbers, in as few bytes as the largest of them needs.
 
 ghost use Rattle.std.specs.Prelude.{◌≡◌, ◌++◌, ◌∷◌, ◌<◌, ◌≤◌, [], IfOk, IfSome, OnErr, OnOk};
-ghost use Rattle.std.specs.Prelude.{insert, length, remove, slice_index_or, slice_set};
+ghost use Rattle.std.specs.Prelude.{drop, insert, length, remove, slice_index_or, slice_set, take};
 ghost use Rattle.std.specs.List.Sorted.{IsBinarySearchResult, IsSearchInRange};
 ghost use Rattle.std.specs.Ordering.{nat_cmp};
 
@@ -59,6 +59,38 @@ impl Pairs {
             Kept::Wide(pairs) => Kept::Wide(Vec::from_slice(heap, pairs)?),
         };
         Ok(Pairs { kept })
+    }
+
+    /// The pairs before a place, in no more room than they need.
+    pub fn before(&self, at: usize) -> Result<Pairs, Memory>
+        requires { at ≤ length self.now }
+        ensures { IfOk result (λ pairs. pairs ≡ take at self.now) }
+    {
+        let kept = match &self.kept {
+            Kept::Narrow(pairs) => Kept::Narrow(Vec::from_slice(self.heap(), &pairs[..at])?),
+            Kept::Wide(pairs) => Kept::Wide(Vec::from_slice(self.heap(), &pairs[..at])?),
+        };
+        Ok(Pairs { kept })
+    }
+
+    /// The pairs from a place on, in no more room than they need.
+    pub fn behind(&self, at: usize) -> Result<Pairs, Memory>
+        requires { at ≤ length self.now }
+        ensures { IfOk result (λ pairs. pairs ≡ drop at self.now) }
+    {
+        let kept = match &self.kept {
+            Kept::Narrow(pairs) => Kept::Narrow(Vec::from_slice(self.heap(), &pairs[at..])?),
+            Kept::Wide(pairs) => Kept::Wide(Vec::from_slice(self.heap(), &pairs[at..])?),
+        };
+        Ok(Pairs { kept })
+    }
+
+    /// The heap that they stand on.
+    pub fn heap(&self) -> Heap {
+        match &self.kept {
+            Kept::Narrow(pairs) => *pairs.allocator(),
+            Kept::Wide(pairs) => *pairs.allocator(),
+        }
     }
 
     /// How many pairs there are.

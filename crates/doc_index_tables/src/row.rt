@@ -3,32 +3,41 @@
 ghost use Rattle.std.specs.Prelude.{◌≡◌, OnOk, OnErr};
 ghost use Rattle.std.specs.FinMap as map;
 
+use crate::block::Block;
+use crate::blocks::{BLOCK_LIMIT, Blocks};
 use crate::entries::Entries;
-use crate::pairs::Pairs;
 use doc_page_parts::failure::Memory;
 use doc_page_parts::heap::Heap;
+use std::array::from_ref;
 use std::marker::Model;
 
 /// Numbers by number. Contracts see the map.
 #[derive(Drop)]
 pub struct Row {
-    entries: Pairs,
+    kept: Kept,
+}
+
+/// One block until it is full, and then many.
+#[derive(Drop)]
+enum Kept {
+    One(Block),
+    Many(Blocks),
 }
 
 impl Model for Row {
-    ghost use Rattle.std.specs.Prelude.{ℕ, T};
+    ghost use Rattle.std.specs.Prelude.{ℕ};
     ghost use Rattle.std.specs.Coded.{coded_ℕ};
     ghost use Rattle.std.specs.FinMap as map;
-    ghost use Rattle.std.specs.Ordering.{nat_cmp};
     ghost use Rattle.doc_index_tables.specs.Maps.{NumberMap};
+    ghost use Rattle.doc_index_tables.specs.Rows.{IsKept, row_of};
 
     ghost Value = { NumberMap ℕ };
 
     ghost coded = { map.code coded_ℕ coded_ℕ };
 
-    ghost view = { λ r. map.from_sorted r.entries };
+    ghost view = { λ r. row_of r.kept };
 
-    ghost invariant = { λ r. T (map.is_sorted nat_cmp r.entries) };
+    ghost invariant = { λ r. IsKept r.kept };
 }
 
 impl Row {
@@ -37,7 +46,7 @@ impl Row {
         ensures { result ≡ map.empty }
     {
         Row {
-            entries: Pairs::new(heap),
+            kept: Kept::One(Block::new(heap)),
         }
     }
 
@@ -45,16 +54,19 @@ impl Row {
     pub fn len(&self) -> usize
         ensures { result ≡ map.len self.now }
     {
-        self.entries.len()
+        match &self.kept {
+            Kept::One(block) => block.len(),
+            Kept::Many(blocks) => blocks.len(),
+        }
     }
 
     /// The number of a number.
     pub fn get(&self, number: u64) -> Option<u64>
         ensures { result ≡ map.get self.now number }
     {
-        match self.entries.search(number) {
-            Ok(at) => Some(self.entries.at(at).1),
-            Err(_) => None,
+        match &self.kept {
+            Kept::One(block) => block.get(number),
+            Kept::Many(blocks) => blocks.get(number),
         }
     }
 
@@ -62,7 +74,10 @@ impl Row {
     pub fn iter(&self) -> Entries<'_>
         ensures { result ≡ map.entries self.now }
     {
-        Entries::new(&self.entries)
+        match &self.kept {
+            Kept::One(block) => Entries::new(from_ref(block)),
+            Kept::Many(blocks) => blocks.iter(),
+        }
     }
 
     /// Sets the number of a number.
@@ -70,9 +85,16 @@ impl Row {
         ensures ok { OnOk result (self.new ≡ map.insert self.old number value) }
         ensures err { OnErr result (self.new ≡ self.old) }
     {
-        match self.entries.search(number) {
-            Ok(at) => self.entries.set(at, (number, value)),
-            Err(at) => self.entries.insert(at, (number, value)),
+        match &mut self.kept {
+            Kept::One(block) => {
+                if block.len() < BLOCK_LIMIT {
+                    return block.set(number, value);
+                }
+                let blocks = Blocks::of_full(block, number, value)?;
+                self.kept = Kept::Many(blocks);
+                Ok(())
+            }
+            Kept::Many(blocks) => blocks.set(number, value),
         }
     }
 
@@ -80,8 +102,9 @@ impl Row {
     pub fn take(&mut self, number: u64)
         ensures { self.new ≡ map.remove self.old number }
     {
-        if let Ok(at) = self.entries.search(number) {
-            self.entries.remove(at);
+        match &mut self.kept {
+            Kept::One(block) => block.take(number),
+            Kept::Many(blocks) => blocks.take(number),
         }
     }
 }

@@ -1,21 +1,12 @@
-use Rattle.std.proofs.Common.{◌∙◌, ap, subst, sym}
-use Rattle.std.specs.FinMap as map
-use Rattle.doc_index_tables.proofs.PlaceSteps.{IsInOrder, nothing_removed, removed_in}
+use Rattle.std.proofs.Common.{subst, sym}
+use Rattle.doc_index_tables.specs.Rows.{IsKept}
+use Rattle.doc_index_tables.proofs.CutSteps.{smaller}
 use Rattle.doc_index_tables.proofs.row.Row.take.Goals as goal
+use Rattle.doc_index_tables.proofs.row.Row.take.Goals.{in-One, in-Many}
 
 pub invariant_of-self : goal.invariant_of-self
-invariant_of-self c =
-    subst IsInOrder (sym c.remove.ensures)
-    (removed_in c.self.inside.entries c.self.invariant c.args.self.now c.self.view_is c.args.number c.in-Ok.at
-    c.in-Ok.ensures.within c.in-Ok.ensures.place).0
-
-pub returns-in-Ok : goal.returns-in-Ok
-returns-in-Ok c =
-    ap map.from_sorted c.remove.ensures
-    ∙ (removed_in c.self.inside.entries c.self.invariant c.args.self.now c.self.view_is c.args.number c.in-Ok.at
-    c.in-Ok.ensures.within c.in-Ok.ensures.place).1
-
-pub returns-in_default : goal.returns-in_default
-returns-in_default c =
-    sym (nothing_removed c.self.inside.entries c.self.invariant c.args.self.now c.self.view_is c.args.number c.in_default.field-0
-    c.in_default.ensures.within c.in_default.ensures.place)
+invariant_of-self c = elim c.match-self.branch [
+  | in-One w ↦ subst (λ s. IsKept s.kept) (sym w.self-inside-is)
+      (smaller c.args.number w.in-One.block w.take.new.self w.take.ensures (subst IsKept w.in-One.is c.self.invariant))
+  | in-Many w ↦ subst (λ s. IsKept s.kept) (sym w.self-inside-is) tt
+]

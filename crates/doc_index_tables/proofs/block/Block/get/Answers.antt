@@ -1,7 +1,7 @@
 use Rattle.std.proofs.Common.{◌∙◌, ap, sym}
 use Rattle.std.specs.Prelude.{Some}
 use Rattle.doc_index_tables.proofs.PlaceSteps.{got_at, got_none}
-use Rattle.doc_index_tables.proofs.row.Row.get.Goals as goal
+use Rattle.doc_index_tables.proofs.block.Block.get.Goals as goal
 
 pub returns-in-Ok : goal.returns-in-Ok
 returns-in-Ok c =

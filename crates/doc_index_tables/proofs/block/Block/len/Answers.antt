@@ -1,7 +1,7 @@
 use Rattle.std.proofs.Common.{◌∙◌, ap, length, sym}
 use Rattle.std.specs.FinMap as map
 use Rattle.doc_index_tables.proofs.PlaceSteps.{entries_are}
-use Rattle.doc_index_tables.proofs.row.Row.len.Goals as goal
+use Rattle.doc_index_tables.proofs.block.Block.len.Goals as goal
 
 pub returns : goal.returns
 returns c =
