@@ -12,7 +12,7 @@ use Rattle.std.proofs.lemmas.Option.{same_Some}
 use Rattle.doc_store.proofs.CountSteps.{met_counted, no_values, same_counts}
 use Rattle.doc_store.proofs.SumSteps.{sum_new, sum_set, sum_taken}
 use Rattle.doc_store.specs.GroupSets.{AreCounts, SetMap, groups_cmp, number_met, number_with, one_more, same_groups, set_of}
-use Rattle.doc_store.specs.MoveSteps.{restamped, with_stamped, with_stamped_at}
+use Rattle.doc_store_pages.specs.MoveSteps.{restamped, with_stamped, with_stamped_at}
 use Rattle.doc_store_readers.proofs.KeySteps.{not_none, stood}
 use Rattle.doc_store_readers.specs.declared.reader.Reader.{Reader}
 use Rattle.doc_store_readers.specs.Groups.{meet}

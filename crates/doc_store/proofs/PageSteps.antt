@@ -7,7 +7,7 @@ use Rattle.std.proofs.lemmas.Map.Lookups.{exact_bytes}
 use Rattle.doc_page_parts.proofs.Bools.{clash}
 use Rattle.doc_store_readers.proofs.KeySteps.{same_key, same_from, same_itself, get_set, get_taken, contains_set, contains_taken}
 use Rattle.doc_store_readers.specs.Maps.{TextMap}
-use Rattle.doc_store.specs.MoveSteps.{restamped, with_stamped, with_stamped_at}
+use Rattle.doc_store_pages.specs.MoveSteps.{restamped, with_stamped, with_stamped_at}
 use Rattle.doc_store_readers.specs.Pages.{StampedPage}
 
 pub is_true : (b : Bool) → b ≡ true → IsTrue b
@@ -86,15 +86,6 @@ module _ (pages : TextMap StampedPage) (from to : List ℕ) (stamp : ℕ) (stand
       by None e = absurd (page_is_there (sym e))
       by (Some page) e = page_renamed page (restamped stamp page) new (sym e) refl
           (is ∙ ap (with_stamped_at with_one from to stamp) e ∙ (λ i. map.insert (sym taken i) to (restamped stamp page)))
-
-pub no_page : (pages : TextMap StampedPage) (from : List ℕ) → IsTrue (map.contains_key pages from) → None ≡ map.get pages from → ⊥
-no_page pages from stands none = not_both (map.get pages from) stands (sym none)
-
-pub stamped_is : (pages without new : TextMap StampedPage) (from to : List ℕ) (stamp : ℕ) (page stamped : StampedPage)
-    → Some page ≡ map.get pages from → without ≡ map.remove pages from → stamped ≡ restamped stamp page
-    → new ≡ map.insert without to stamped → new ≡ with_stamped pages from to stamp
-stamped_is pages without new from to stamp page stamped found taken is set =
-    set ∙ (λ i. map.insert (taken i) to (is i)) ∙ ap (with_stamped_at pages from to stamp) found
 
 -- the room is taken back
 pub room_undone : {X : Type 0} (pages : TextMap X) (path : List ℕ) (one : X) → map.get pages path ≡ None

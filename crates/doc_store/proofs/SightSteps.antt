@@ -11,6 +11,7 @@ use Rattle.doc_store_readers.specs.Maps.{TextMap, map_values}
 use Rattle.doc_store_readers.specs.Pages.{Page, StampedPage}
 use Rattle.doc_store_readers.specs.Sites.{Site, IsSite, View, may_see, may_see_at, page_of_alias, goal_by, goal_in, view_of}
 use Rattle.doc_store.specs.Store.{site_with}
+use Rattle.doc_store_pages.specs.SeenSteps.{seen_goal, sees_at}
 use Rattle.doc_page_parts.proofs.Bools.{clash}
 
 module _ (site : Site) (is : IsSite site) (reader : Reader) where
@@ -88,15 +89,9 @@ module _ (pages : TextMap StampedPage) (aliases : TextMap (List ℕ)) (is : IsSi
       → map.get (map_values (λ p. p.page) pages) path ≡ option_map (λ p. p.page) o
   page_there o e = get-map_values (λ p. p.page) pages path ∙ ap (option_map (λ p. p.page)) (sym e)
 
-  pub sees_page : (page : StampedPage) (sees : Bool) → Some page ≡ map.get pages path → sees ≡ may_see (Some reader) page.page
-      → sees ≡ leads_to_itself (goal_in v path) path
-  sees_page page sees found can =
-      can ∙ ap (may_see_at (Some reader)) (sym (page_there (Some page) found)) ∙ sym (itself_is site is reader path)
-      ∙ ap (λ w. leads_to_itself (goal_in w path) path) view_is
-
-  pub sees_none : None ≡ map.get pages path → false ≡ leads_to_itself (goal_in v path) path
-  sees_none none =
-      ap (may_see_at (Some reader)) (sym (page_there None none)) ∙ sym (itself_is site is reader path)
+  pub sees_is : (sees : Bool) → sees ≡ sees_at pages reader path → sees ≡ leads_to_itself (goal_in v path) path
+  sees_is sees can =
+      can ∙ ap (may_see_at (Some reader)) (sym (page_there (map.get pages path) refl)) ∙ sym (itself_is site is reader path)
       ∙ ap (λ w. leads_to_itself (goal_in w path) path) view_is
 
   pub leads_to_page : (page : StampedPage) (sees : Bool) → Some page ≡ map.get pages path → sees ≡ may_see (Some reader) page.page
@@ -114,9 +109,8 @@ module _ (pages : TextMap StampedPage) (aliases : TextMap (List ℕ)) (is : IsSi
   pub leads_nowhere : None ≡ map.get pages path → None ≡ map.get aliases path → None ≡ goal_in v path
   leads_nowhere none no_alias = leads_by None none no_alias
 
-  pub leads_as_alias : (goal : List ℕ) (sees : Bool) → None ≡ map.get pages path → Some goal ≡ map.get aliases path
-      → sees ≡ leads_to_itself (goal_in v goal) goal → cond sees (Some goal) None ≡ goal_in v path
-  leads_as_alias goal sees none alias can =
-      ap (λ b. cond b (Some goal) None) (can ∙ ap (λ w. leads_to_itself (goal_in w goal) goal) (sym view_is)
-      ∙ itself_is site is reader goal)
+  pub leads_as_alias : (goal : List ℕ) (found : Option (List ℕ)) → None ≡ map.get pages path → Some goal ≡ map.get aliases path
+      → found ≡ seen_goal pages reader goal → found ≡ goal_in v path
+  leads_as_alias goal found none alias can =
+      can ∙ ap (λ p. cond (may_see_at (Some reader) p) (Some goal) None) (sym (get-map_values (λ p. p.page) pages goal))
       ∙ leads_by (Some goal) none alias

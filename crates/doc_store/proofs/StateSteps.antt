@@ -14,7 +14,7 @@ use Rattle.doc_store.proofs.PageSteps.{is_true}
 use Rattle.doc_store.proofs.StampLaw.{move_needs}
 use Rattle.doc_store.proofs.StoreSteps.{move_stays, put_stays, remove_stays, taken_out}
 use Rattle.doc_store_readers.specs.Maps.{TextMap, map_values}
-use Rattle.doc_store.specs.MoveSteps.{restamped, with_stamped, with_stamped_at}
+use Rattle.doc_store_pages.specs.MoveSteps.{restamped, with_stamped, with_stamped_at}
 use Rattle.doc_store_readers.specs.Pages.{Page, StampedPage, without_stamps}
 use Rattle.doc_store.specs.Store.{StoreState, IsStore, empty_store, state_of, with_page, put_by, fits, fits_in, without_goal, without_page}
 use Rattle.doc_store.specs.Store.{text_limit, page_limit, put_limit, aliases_after, may_move, move_fits, with_key_at, with_move, moved_by, moved_in}

@@ -1,6 +1,5 @@
 pub mod AliasSteps
 pub mod GroupSets
 pub mod Laws
-pub mod MoveSteps
 pub mod Names
 pub mod Store

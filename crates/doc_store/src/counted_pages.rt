@@ -3,15 +3,16 @@
 ghost use Rattle.std.specs.Prelude.{◌≡◌, ◌<◌, ◌^◌, Some, IsTrue, IfOk, OnOk, OnErr, length, option_copied, option_map};
 ghost use Rattle.std.specs.FinMap as map;
 ghost use Rattle.std.specs.List.{filter};
-ghost use Rattle.doc_store.specs.MoveSteps.{with_stamped};
+ghost use Rattle.doc_store_pages.specs.MoveSteps.{with_stamped};
+ghost use Rattle.doc_store_pages.specs.SeenSteps.{seen_goal, sees_at};
 ghost use Rattle.doc_store_readers.specs.Pages.{empty_page};
 ghost use Rattle.doc_store_readers.specs.Sites.{may_see};
 
 use crate::group_sets::GroupSets;
-use crate::pages::Pages;
 use doc_page_parts::failure::Memory;
 use doc_page_parts::heap::Heap;
 use doc_page_parts::path::Path;
+use doc_store_pages::pages::Pages;
 use doc_store_readers::page::Page;
 use doc_store_readers::reader::Reader;
 use std::collections::btree_map::Iter;
@@ -83,6 +84,20 @@ impl CountedPages {
         ensures { result ≡ map.contains_key self.now path.now }
     {
         self.pages.contains(path)
+    }
+
+    /// Whether a page stands under a path that the reader may see.
+    pub fn sees(&self, reader: &Reader, path: &Path) -> bool
+        ensures { result ≡ sees_at self.now reader.now path.now }
+    {
+        self.pages.sees(reader, path)
+    }
+
+    /// Where an alias of a path leads the reader.
+    pub fn seen_goal<'a>(&self, reader: &Reader, path: &'a Path) -> Option<&'a Path>
+        ensures { option_copied result ≡ seen_goal self.now reader.now path.now }
+    {
+        self.pages.seen_goal(reader, path)
     }
 
     /// How many of the pages a reader may see. It takes a step for each set of groups that pages have.

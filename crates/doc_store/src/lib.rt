@@ -10,7 +10,6 @@ mod goals;
 mod group_sets;
 pub mod laws;
 pub mod moving;
-mod pages;
 mod path_set;
 pub mod site_edit;
 pub mod site_sight;

@@ -2,7 +2,7 @@
 
 ghost use Rattle.std.specs.Prelude.{◌≡◌, ◌≢◌, ℕ, List as Seq, Some, None, IsTrue, OnOk, OnErr};
 ghost use Rattle.std.specs.FinMap as map;
-ghost use Rattle.doc_store.specs.MoveSteps.{with_stamped};
+ghost use Rattle.doc_store_pages.specs.MoveSteps.{with_stamped};
 ghost use Rattle.doc_store.specs.Store.{aliases_after};
 
 use crate::aliases::Aliases;

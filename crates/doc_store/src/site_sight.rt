@@ -59,10 +59,7 @@ impl<'a> Sight for SiteSight<'a> {
     ghost goals = { goal_in };
 
     fn sees(&self, path: &Path) -> bool {
-        match self.pages.get(path) {
-            Some(page) => self.reader.may_see(page),
-            None => false,
-        }
+        self.pages.sees(self.reader, path)
     }
 
     fn goal(&self, path: &Path) -> Option<&Path> {
@@ -74,6 +71,6 @@ impl<'a> Sight for SiteSight<'a> {
             };
         }
         let goal = self.aliases.get(path)?;
-        if self.sees(goal) { Some(goal) } else { None }
+        self.pages.seen_goal(self.reader, goal)
     }
 }

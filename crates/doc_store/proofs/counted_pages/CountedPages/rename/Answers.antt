@@ -1,7 +1,7 @@
 use Rattle.std.proofs.Common.{IsTrue, ap, sym, subst, ◌∙◌}
 use Rattle.std.specs.FinMap as map
 use Rattle.doc_store.specs.GroupSets.{AreCounts, number_with, one_more}
-use Rattle.doc_store.specs.MoveSteps.{with_stamped}
+use Rattle.doc_store_pages.specs.MoveSteps.{with_stamped}
 use Rattle.doc_store.proofs.PageCounts.{Counted, counted_renamed, room_stands}
 use Rattle.doc_store.proofs.counted_pages.CountedPages.rename.Goals as goal
 

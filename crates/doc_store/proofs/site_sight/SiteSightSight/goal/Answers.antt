@@ -28,18 +28,9 @@ returns-in_err-goal c =
     ∙ leads_nowhere i.pages.now i.aliases.now c.self.invariant i.reader.now c.args.self.now c.self.view_is c.args.path.now
     c.in_default.ensures.page (ap option_copied (sym c.in_err-goal.was) ∙ c.get.ensures)
 
-pub returns-then-sees : goal.returns-then-sees
-returns-then-sees c =
+pub returns : goal.returns
+returns c =
     let i = c.self.inside in
-    ap (λ b. cond b (Some c.in_ok-goal.goal.now) None) (sym c.if-sees.true)
-    ∙ leads_as_alias i.pages.now i.aliases.now c.self.invariant i.reader.now c.args.self.now c.self.view_is c.args.path.now
-    c.in_ok-goal.goal.now c.sees.result
-    c.in_default.ensures.page (ap option_copied (sym c.in_ok-goal.was) ∙ c.get.ensures) c.sees.ensures
-
-pub returns-else-sees : goal.returns-else-sees
-returns-else-sees c =
-    let i = c.self.inside in
-    ap (λ b. cond b (Some c.in_ok-goal.goal.now) None) (sym c.if-sees.false)
-    ∙ leads_as_alias i.pages.now i.aliases.now c.self.invariant i.reader.now c.args.self.now c.self.view_is c.args.path.now
-    c.in_ok-goal.goal.now c.sees.result
-    c.in_default.ensures.page (ap option_copied (sym c.in_ok-goal.was) ∙ c.get.ensures) c.sees.ensures
+    leads_as_alias i.pages.now i.aliases.now c.self.invariant i.reader.now c.args.self.now c.self.view_is c.args.path.now
+    c.in_ok-goal.goal.now _
+    c.in_default.ensures.page (ap option_copied (sym c.in_ok-goal.was) ∙ c.get.ensures) c.seen_goal.ensures

@@ -3,7 +3,7 @@ use Rattle.std.specs.FinMap as map
 use Rattle.std.proofs.lemmas.Cmp.{nat_list_cmp_total}
 use Rattle.std.proofs.lemmas.Map.Lookups.{exact_bytes}
 use Rattle.doc_page_parts.proofs.Maps.{inserted}
-use Rattle.doc_store.proofs.pages.Pages.insert.Goals as goal
+use Rattle.doc_store_pages.proofs.pages.Pages.insert.Goals as goal
 
 pub returns-in-Ok-insert-clause-ok : goal.returns-in-Ok-insert-clause-ok
 returns-in-Ok-insert-clause-ok c =

@@ -2,11 +2,13 @@
 
 ghost use Rattle.std.specs.Prelude.{◌≡◌, ◌<◌, ◌^◌, IsTrue, IfErr, OnOk, OnErr, option_copied, option_map};
 ghost use Rattle.std.specs.FinMap as map;
-ghost use Rattle.doc_store.specs.MoveSteps.{with_stamped};
+ghost use Rattle.doc_store_pages.specs.MoveSteps.{with_stamped};
+ghost use Rattle.doc_store_pages.specs.SeenSteps.{seen_goal, sees_at};
 
 use doc_page_parts::heap::{BTreeMap, Heap};
 use doc_page_parts::path::Path;
 use doc_store_readers::page::Page;
+use doc_store_readers::reader::Reader;
 use std::alloc::AllocFailed;
 use std::collections::btree_map::Iter;
 use std::marker::Model;
@@ -72,6 +74,27 @@ impl Pages {
         ensures { result ≡ map.contains_key self.now path.now }
     {
         self.entries.contains_key(path)
+    }
+
+    /// Whether a page stands under a path that the reader may see.
+    pub fn sees(&self, reader: &Reader, path: &Path) -> bool
+        ensures { result ≡ sees_at self.now reader.now path.now }
+    {
+        match self.get(path) {
+            Some(page) => reader.may_see(page),
+            None => false,
+        }
+    }
+
+    /// Where an alias of a path leads the reader.
+    pub fn seen_goal<'a>(&self, reader: &Reader, path: &'a Path) -> Option<&'a Path>
+        ensures { option_copied result ≡ seen_goal self.now reader.now path.now }
+    {
+        if self.sees(reader, path) {
+            Some(path)
+        } else {
+            None
+        }
     }
 
     /// Adds a page under a path, or sets it. A page that is refused for want of memory comes back.

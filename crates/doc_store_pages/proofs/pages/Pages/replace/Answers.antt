@@ -3,7 +3,7 @@ use Rattle.std.specs.FinMap as map
 use Rattle.std.proofs.lemmas.Cmp.{nat_list_cmp_total}
 use Rattle.std.proofs.lemmas.Map.Lookups.{exact_bytes}
 use Rattle.doc_page_parts.proofs.Maps.{inserted, looked_up}
-use Rattle.doc_store.proofs.pages.Pages.replace.Goals as goal
+use Rattle.doc_store_pages.proofs.pages.Pages.replace.Goals as goal
 
 stands_not : (b : Bool) → IsTrue b → false ≡ b → ⊥
 stands_not true stands none = cc

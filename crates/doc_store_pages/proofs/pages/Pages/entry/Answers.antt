@@ -4,7 +4,7 @@ use Rattle.std.proofs.lemmas.Cmp.{nat_list_cmp_total}
 use Rattle.std.proofs.lemmas.Map.Lookups.{exact_bytes}
 use Rattle.doc_page_parts.proofs.Maps.{looked_up}
 use Rattle.doc_store_readers.proofs.KeySteps.{entry_is}
-use Rattle.doc_store.proofs.pages.Pages.entry.Goals as goal
+use Rattle.doc_store_pages.proofs.pages.Pages.entry.Goals as goal
 
 pub returns-clause-page : goal.returns-clause-page
 returns-clause-page c =

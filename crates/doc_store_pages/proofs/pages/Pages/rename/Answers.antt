@@ -1,7 +1,7 @@
 use Rattle.std.proofs.Common.{IsTrue, sym, subst}
 use Rattle.std.specs.FinMap as map
-use Rattle.doc_store.proofs.PageSteps.{no_page, stamped_is}
-use Rattle.doc_store.proofs.pages.Pages.rename.Goals as goal
+use Rattle.doc_store_pages.proofs.RenameSteps.{no_page, stamped_is}
+use Rattle.doc_store_pages.proofs.pages.Pages.rename.Goals as goal
 
 pub replace-requires : goal.replace-requires
 replace-requires c = subst (λ m. IsTrue (map.contains_key m c.args.to.now)) (sym c.take.ensures.rest) c.requires.room

@@ -1,0 +1,2 @@
+pub mod MoveSteps
+pub mod SeenSteps
