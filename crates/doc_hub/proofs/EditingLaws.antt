@@ -22,8 +22,8 @@ use Rattle.doc_hub_editing.proofs.EditLaws.{edits_are_of_what_was_named, nothing
 use Rattle.doc_hub_editing.specs.EditAnswers.{by_entry, edit_response, response_if}
 use Rattle.doc_hub_editing.specs.EditRequests.{EditRequest, asked_by, at_page, at_route, edit_request_of}
 use Rattle.doc_hub_editing.specs.Laws.{path_of_edit}
-use Rattle.doc_hub_people.specs.Asking.{Asking, row_of}
-use Rattle.doc_hub_people.specs.Asking as asked
+use Rattle.doc_hub_asking.specs.Asking.{Asking, row_of}
+use Rattle.doc_hub_asking.specs.Asking as asked
 use Rattle.doc_hub_replies.specs.Answers.{answer_by, answer_of, dress_for, edited_or, is_for_people, style_answer, asks_for_style, unedited}
 use Rattle.doc_hub.specs.EditingLaws.{IsEditedBy, NamesWhatStood, NoPageIsReplacedUnasked, NoUpdateIsLost, ReplacesNothing}
 use Rattle.doc_hub.specs.Runs.{Happened}

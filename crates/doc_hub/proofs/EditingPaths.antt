@@ -17,8 +17,8 @@ use Rattle.doc_people.specs.declared.settings.Browse.{Browse}
 use Rattle.doc_people.specs.declared.settings.Offers.{Offers}
 use Rattle.doc_hub_answers.specs.Replies.{Renders, status_reply}
 use Rattle.doc_hub_answers.specs.declared.edit.Edit.TheVariants as edits
-use Rattle.doc_hub_people.specs.Asking.{Asking}
-use Rattle.doc_hub_people.specs.Asking as asked
+use Rattle.doc_hub_asking.specs.Asking.{Asking}
+use Rattle.doc_hub_asking.specs.Asking as asked
 use Rattle.doc_hub_people.specs.PeopleAnswers.{offers_for}
 use Rattle.doc_hub_editing.specs.EditRequests.{EditRequest, edit_request_of}
 use Rattle.doc_hub_editing.specs.EditRequests as requests

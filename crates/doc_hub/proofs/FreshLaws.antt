@@ -14,7 +14,7 @@ use Rattle.doc_store_readers.specs.Sites.{visible_to}
 use Rattle.doc_store.specs.Store.{put_limit}
 use Rattle.doc_store_readers.proofs.ViewLaw.{view_of_view}
 use Rattle.doc_http.specs.Passwords.{token_in}
-use Rattle.doc_hub_people.specs.Asking.{asking_by, guest_of, known_by, known_of, login_of, row_of}
+use Rattle.doc_hub_asking.specs.Asking.{asking_by, guest_of, known_by, known_of, login_of, row_of}
 use Rattle.doc_http.specs.Requests.{IsNext}
 use Rattle.doc_http.specs.declared.request.Request.{Request}
 use Rattle.doc_http.specs.declared.request.Next.{Next}

@@ -19,7 +19,7 @@ use Rattle.doc_store.specs.declared.store.EditError.TheVariants as edit_errors
 use Rattle.doc_store.proofs.StoreSteps.{taken_out}
 use Rattle.doc_http.specs.declared.request.Next.{Next}
 use Rattle.doc_http.specs.declared.request.Next.TheVariants as nexts
-use Rattle.doc_hub_people.specs.Asking.{known_of}
+use Rattle.doc_hub_asking.specs.Asking.{known_of}
 use Rattle.doc_hub.specs.Connections.{Connections, backlog_limit, finished, new_connection, pushed_at, with_pushed}
 use Rattle.doc_hub_answers.specs.Edits.{CanBeMade, CanMove, CanRegroup, regrouped, store_after}
 use Rattle.doc_hub_events.specs.Events.{Said, SaidOn, SaidSite}

@@ -33,7 +33,7 @@ use Rattle.doc_listings.specs.Listings.{backlinks_text, entry_lines, heading_lin
 use Rattle.doc_hub.specs.Connections.{pushed_onto, finished, backlog_limit}
 use Rattle.doc_hub_answers.specs.Edits.{puts_left}
 use Rattle.doc_hub_answers.specs.Replies.{Renders, fault_bytes}
-use Rattle.doc_hub_people.specs.Asking.{known_by}
+use Rattle.doc_hub_asking.specs.Asking.{known_by}
 use Rattle.doc_hub_replies.specs.Answers.{answer_of}
 use Rattle.doc_http_replies.specs.Heads.{dressed_bytes, dressed_head}
 use Rattle.doc_hub.specs.StepEdits.{edit_of_step}

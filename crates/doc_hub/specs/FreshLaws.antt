@@ -5,7 +5,7 @@ use Rattle.doc_store_readers.specs.declared.reader.Reader.{Reader}
 use Rattle.doc_store_readers.specs.Sites.{Site, empty_site}
 use Rattle.doc_store.specs.Store.{put_limit}
 use Rattle.doc_store_readers.specs.Readers.{ReaderTable}
-use Rattle.doc_hub_people.specs.Asking.{known_of}
+use Rattle.doc_hub_asking.specs.Asking.{known_of}
 use Rattle.doc_people.specs.declared.settings.Settings.{Settings}
 use Rattle.doc_http.specs.Requests.{IsNext}
 use Rattle.doc_http.specs.declared.request.Next.{Next}

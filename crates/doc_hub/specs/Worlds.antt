@@ -21,7 +21,7 @@ use Rattle.doc_http.specs.declared.request.Next.TheVariants as nexts
 use Rattle.doc_hub.specs.Connections.{Connections, new_connection, pushed, finished}
 use Rattle.doc_hub_answers.specs.Edits.{puts_left, store_after}
 use Rattle.doc_hub_answers.specs.Replies.{Renders, fault_bytes}
-use Rattle.doc_hub_people.specs.Asking.{Asking, login_of, reader_asking, row_of}
+use Rattle.doc_hub_asking.specs.Asking.{Asking, login_of, reader_asking, row_of}
 use Rattle.doc_hub_replies.specs.Answers.{answer_of}
 use Rattle.doc_people.specs.declared.settings.Settings.{Settings}
 use Rattle.doc_hub_answers.specs.declared.answer.Answer.{Answer}

@@ -25,8 +25,8 @@ use Rattle.doc_hub_answers.specs.Edits.{CanBeMade, CanMove, CanRegroup, puts_lef
 use Rattle.doc_hub_answers.specs.Replies.{Renders, status_reply}
 use Rattle.doc_hub_answers.specs.declared.edit.Edit.TheVariants as edits
 use Rattle.doc_hub_answers.proofs.OwnerSteps.{owner_aliases, owner_page, owner_pages, owner_stands}
-use Rattle.doc_hub_people.specs.Asking.{Asking, row_of}
-use Rattle.doc_hub_people.specs.Asking as asked
+use Rattle.doc_hub_asking.specs.Asking.{Asking, row_of}
+use Rattle.doc_hub_asking.specs.Asking as asked
 use Rattle.doc_hub_people.specs.PeopleAnswers.{offers_for}
 use Rattle.doc_hub_editing.specs.EditAnswers.{aliases_after_move, begins_path, by_entry, by_other, by_owner, edit_response, folder_begun}
 use Rattle.doc_hub_editing.specs.EditAnswers.{forbidden, form_at, groups_put, move_named, move_page, new_form, no_alias_room, no_room}

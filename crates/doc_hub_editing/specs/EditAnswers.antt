@@ -33,8 +33,8 @@ use Rattle.doc_store_tags.specs.Tags.{names_text, tag_of}
 use Rattle.doc_hub_answers.specs.Replies as plain
 use Rattle.doc_hub_answers.specs.Replies.{Renders, not_allowed, status_reply}
 use Rattle.doc_hub_answers.specs.declared.edit.Edit.TheVariants as edits
-use Rattle.doc_hub_people.specs.Asking.{Asking, owns}
-use Rattle.doc_hub_people.specs.Asking as asked
+use Rattle.doc_hub_asking.specs.Asking.{Asking, owns}
+use Rattle.doc_hub_asking.specs.Asking as asked
 use Rattle.doc_hub_people.specs.PeopleAnswers as people
 use Rattle.doc_hub_people.specs.PeopleAnswers.{offers_for}
 use Rattle.doc_hub_editing.specs.EditRequests.{EditRequest, edit_request_of}

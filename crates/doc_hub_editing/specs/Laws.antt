@@ -16,7 +16,7 @@ use Rattle.doc_store_tags.specs.Tags.{tag_of}
 use Rattle.doc_hub_answers.specs.Replies.{Renders, not_allowed, status_reply}
 use Rattle.doc_hub_answers.specs.declared.edit.Edit.{Edit}
 use Rattle.doc_hub_answers.specs.declared.edit.Edit.TheVariants as edits
-use Rattle.doc_hub_people.specs.Asking.{Asking}
+use Rattle.doc_hub_asking.specs.Asking.{Asking}
 use Rattle.doc_hub_editing.specs.EditAnswers.{by_entry, edit_response}
 use Rattle.doc_hub_editing.specs.EditRequests.{EditRequest}
 use Rattle.doc_hub_editing.specs.EditRequests as requests

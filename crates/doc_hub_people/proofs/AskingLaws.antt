@@ -13,7 +13,7 @@ use Rattle.doc_http.specs.Passwords.{basic_text, is_user, or_password, password_
 use Rattle.doc_page_parts.specs.Tokens.{is_token, is_token_byte}
 use Rattle.doc_store_readers.specs.Readers.{ReaderTable}
 use Rattle.doc_store_readers.specs.declared.reader.Reader.{Reader}
-use Rattle.doc_hub_people.specs.Asking.{asking_by, guest_of, is_guest, known_by, login_of}
+use Rattle.doc_hub_asking.specs.Asking.{asking_by, guest_of, is_guest, known_by, login_of}
 use Rattle.doc_hub_people.specs.Laws.{BasicIsBearer, BearersAloneAreKnown, FieldsAreNeverGuests, GuestsDependOnNoReaders, GuestsOwnNothing, IsNoGuest, OwnsNothing}
 
 -- ---- guests

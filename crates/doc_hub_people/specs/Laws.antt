@@ -6,8 +6,8 @@ use Rattle.doc_http.specs.declared.request.Request.{Request}
 use Rattle.doc_people.specs.declared.settings.Browse.{Browse}
 use Rattle.doc_store_readers.specs.Readers.{ReaderTable}
 use Rattle.doc_hub_answers.specs.AnswerSteps.{entry_of}
-use Rattle.doc_hub_people.specs.Asking.{Asking, asking_by, is_guest, known_by, reader_asking}
-use Rattle.doc_hub_people.specs.Asking as asked
+use Rattle.doc_hub_asking.specs.Asking.{Asking, asking_by, is_guest, known_by, reader_asking}
+use Rattle.doc_hub_asking.specs.Asking as asked
 
 -- nobody, or a reader whom a token names
 abbrev pub IsNoGuest : Asking → Type 0

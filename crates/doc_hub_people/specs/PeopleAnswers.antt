@@ -23,8 +23,8 @@ use Rattle.doc_people.specs.declared.settings.Browse.{Browse}
 use Rattle.doc_people.specs.declared.settings.Offers.{Offers}
 use Rattle.doc_store_readers.specs.Pages.{Page}
 use Rattle.doc_store_readers.specs.Sites.{View, goal_in, page_at}
-use Rattle.doc_hub_people.specs.Asking.{Asking}
-use Rattle.doc_hub_people.specs.Asking as asked
+use Rattle.doc_hub_asking.specs.Asking.{Asking}
+use Rattle.doc_hub_asking.specs.Asking as asked
 
 -- ---- replies
 

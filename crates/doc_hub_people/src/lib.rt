@@ -1,11 +1,9 @@
-//! What requests for people are answered, as definitions (`specs/PeopleAnswers`), who asks (`specs/Asking`), and the answer to a request
-//! for people.
+//! What requests for people are answered, as definitions (`specs/PeopleAnswers`), and the answer to a request for people.
 //!
 //! It is made of the view of who asks, through `doc_people::viewed::Viewed`, and of nothing else of the site. Which requests are for
 //! people, and what the others are answered, is of `doc_hub_replies`.
 #![tactic(auto)]
 
-pub mod asking;
 pub mod laws;
 mod lists;
 mod pages;

@@ -14,8 +14,8 @@ use Rattle.doc_hub_answers.specs.AnswerSteps.{entry_of}
 use Rattle.doc_hub_answers.specs.Replies.{Renders, method_of, plain_answer, reads, response_to}
 use Rattle.doc_hub_answers.specs.declared.answer.Answer.{Answer}
 use Rattle.doc_hub_people.proofs.AskingLaws.{bearers_alone_are_known, guests_own_nothing}
-use Rattle.doc_hub_people.specs.Asking.{Asking, is_guest, known_by, reader_asking, row_of}
-use Rattle.doc_hub_people.specs.Asking as asked
+use Rattle.doc_hub_asking.specs.Asking.{Asking, is_guest, known_by, reader_asking, row_of}
+use Rattle.doc_hub_asking.specs.Asking as asked
 use Rattle.doc_hub_people.specs.PeopleAnswers.{people_reply}
 use Rattle.doc_hub_editing.specs.EditAnswers.{edit_response}
 use Rattle.doc_hub_editing.specs.EditRequests.{asked_by, edit_request_of}

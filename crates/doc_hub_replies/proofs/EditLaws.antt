@@ -15,8 +15,8 @@ use Rattle.doc_store_readers.specs.declared.reader.Reader.{Reader}
 use Rattle.doc_hub_answers.specs.Replies.{Renders, method_of, reads}
 use Rattle.doc_hub_answers.specs.declared.method.Method.{Method}
 use Rattle.doc_hub_answers.specs.declared.method.Method.TheVariants.{Get, Head, Put, Delete, Post, Other}
-use Rattle.doc_hub_people.specs.Asking.{Asking, is_guest, owns, row_of}
-use Rattle.doc_hub_people.specs.Asking as asked
+use Rattle.doc_hub_asking.specs.Asking.{Asking, is_guest, owns, row_of}
+use Rattle.doc_hub_asking.specs.Asking as asked
 use Rattle.doc_hub_people.specs.Laws.{OwnsNothing}
 use Rattle.doc_hub_people.specs.PeopleAnswers.{offers_for}
 use Rattle.doc_hub_editing.specs.EditAnswers.{begins_path, by_entry, by_other, by_owner, edit_response, folder_begun, forbidden, form_at}

@@ -21,8 +21,8 @@ use Rattle.doc_hub_answers.specs.Edits.{store_after}
 use Rattle.doc_hub_answers.specs.Replies.{Renders, plain_answer, response_to}
 use Rattle.doc_hub_answers.specs.declared.answer.Answer.{Answer}
 use Rattle.doc_hub_answers.specs.declared.exchange.Exchange.{Exchange}
-use Rattle.doc_hub_people.specs.Asking.{Asking, is_guest, owns, reader_asking, row_of}
-use Rattle.doc_hub_people.specs.Asking as asked
+use Rattle.doc_hub_asking.specs.Asking.{Asking, is_guest, owns, reader_asking, row_of}
+use Rattle.doc_hub_asking.specs.Asking as asked
 use Rattle.doc_hub_people.specs.PeopleAnswers.{offers_for, on_route, people_reply, unauthorized_reply}
 use Rattle.doc_hub_people.specs.VisitSteps.{people_sent}
 use Rattle.doc_hub_editing.specs.EditAnswers.{by_entry, edit_response}

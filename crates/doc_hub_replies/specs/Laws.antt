@@ -9,8 +9,8 @@ use Rattle.doc_store_readers.specs.Sites.{Site, View, view_of}
 use Rattle.doc_hub_answers.specs.AnswerSteps.{entry_of}
 use Rattle.doc_hub_answers.specs.Replies.{Renders, plain_answer, response_to}
 use Rattle.doc_hub_answers.specs.declared.answer.Answer.{Answer}
-use Rattle.doc_hub_people.specs.Asking.{Asking, is_guest, reader_asking, row_of}
-use Rattle.doc_hub_people.specs.Asking as asked
+use Rattle.doc_hub_asking.specs.Asking.{Asking, is_guest, reader_asking, row_of}
+use Rattle.doc_hub_asking.specs.Asking as asked
 use Rattle.doc_hub_editing.specs.EditRequests.{edit_request_of}
 use Rattle.doc_hub_replies.specs.Answers.{answer_of, asks_for_style, dress_for, is_for_people, kept_from_guests, style_answer, unedited}
 use Rattle.doc_hub_replies.specs.ServingSteps.{closes_after}

@@ -2,8 +2,8 @@ use Rattle.std.proofs.Common.{Bool, Some, ap}
 use Rattle.doc_http.specs.declared.request.Request.{Request}
 use Rattle.doc_store_readers.specs.Sites.{view_of}
 use Rattle.doc_hub_answers.specs.Edits.{puts_left}
-use Rattle.doc_hub_people.specs.Asking.{is_guest}
-use Rattle.doc_hub_people.specs.AskingSteps.{asking_shown}
+use Rattle.doc_hub_asking.specs.Asking.{is_guest}
+use Rattle.doc_hub_asking.specs.AskingSteps.{asking_shown}
 use Rattle.doc_hub_editing.specs.EditAnswers.{by_entry, shows_preview}
 use Rattle.doc_hub_editing.specs.EditSteps.{edit_request_shown}
 use Rattle.doc_hub_replies.proofs.ServingSteps.{counted_as, editing_so}

@@ -1,8 +1,8 @@
 use Rattle.std.proofs.Common.{ap}
 use Rattle.doc_store_readers.specs.Sites.{view_of}
 use Rattle.doc_http.specs.declared.request.Request.{Request}
-use Rattle.doc_hub_people.specs.Asking.{row_of}
-use Rattle.doc_hub_people.specs.AskingSteps.{asking_shown}
+use Rattle.doc_hub_asking.specs.Asking.{row_of}
+use Rattle.doc_hub_asking.specs.AskingSteps.{asking_shown}
 use Rattle.doc_hub_replies.proofs.ServingSteps.{nobody_is_told, sent_to_people, somebody_is_shown}
 use Rattle.doc_hub_replies.proofs.serving.Serving.people.Goals as goal
 use Rattle.doc_hub_replies.specs.ServingSteps.{closes_after}

@@ -1,8 +1,8 @@
 -- Who asks, as the code has it.
-use Rattle.doc_hub_people.specs.Asking.{Asking}
-use Rattle.doc_hub_people.specs.Asking as asked
-use Rattle.doc_hub_people.specs.declared.asking.Asking as code
-use Rattle.doc_hub_people.specs.declared.asking.Asking.TheVariants as askings
+use Rattle.doc_hub_asking.specs.Asking.{Asking}
+use Rattle.doc_hub_asking.specs.Asking as asked
+use Rattle.doc_hub_asking.specs.declared.asking.Asking as code
+use Rattle.doc_hub_asking.specs.declared.asking.Asking.TheVariants as askings
 
 -- the same as it is defined
 abbrev pub asking_shown : code.Asking → Asking

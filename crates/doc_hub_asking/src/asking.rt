@@ -3,8 +3,8 @@
 ghost use Rattle.std.specs.Prelude.{◌≡◌, IfOk, Some, option_and_then, option_copied};
 ghost use Rattle.std.specs.FinMap as map;
 ghost use Rattle.doc_http.specs.Passwords.{password_in, token_in};
-ghost use Rattle.doc_hub_people.specs.Asking.{guest_by, is_guest, known_by, owns, reader_asking, row_of};
-ghost use Rattle.doc_hub_people.specs.AskingSteps.{asking_shown};
+ghost use Rattle.doc_hub_asking.specs.Asking.{guest_by, is_guest, known_by, owns, reader_asking, row_of};
+ghost use Rattle.doc_hub_asking.specs.AskingSteps.{asking_shown};
 
 use doc_http::bearer::bearer;
 use doc_http::password::password;
@@ -13,8 +13,8 @@ use doc_page_parts::bytes::Bytes;
 use doc_page_parts::failure::Memory;
 use doc_page_parts::heap::Heap;
 use doc_people::settings::Browse;
-use doc_store::reader::Reader;
-use doc_store::readers::Readers;
+use doc_store_readers::reader::Reader;
+use doc_store_readers::readers::Readers;
 
 /// Who asks, by the Authorization field of a request (RFC 9110, section 11.6.2).
 #[derive(Drop)]

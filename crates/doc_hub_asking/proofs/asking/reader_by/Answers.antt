@@ -1,7 +1,7 @@
 use Rattle.std.proofs.Common.{◌≡◌, subst}
 use Rattle.std.specs.Prelude.{IfOk, option_copied}
-use Rattle.doc_hub_people.proofs.FieldSteps.{by_bearer, by_nothing, by_password}
-use Rattle.doc_hub_people.proofs.asking.reader_by.Goals as goal
+use Rattle.doc_hub_asking.proofs.FieldSteps.{by_bearer, by_nothing, by_password}
+use Rattle.doc_hub_asking.proofs.asking.reader_by.Goals as goal
 
 pub returns-in-Some : goal.returns-in-Some
 returns-in-Some c =
