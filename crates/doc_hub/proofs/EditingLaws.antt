@@ -18,9 +18,10 @@ use Rattle.doc_hub_answers.specs.Replies.{Renders, Response, edit_page, method_o
 use Rattle.doc_hub_answers.specs.declared.edit.Edit.{Edit}
 use Rattle.doc_hub_answers.specs.declared.method.Method.{Method}
 use Rattle.doc_hub_answers.specs.declared.method.Method.TheVariants.{Get, Head, Put, Delete, Post, Other}
+use Rattle.doc_hub_editing_refusals.specs.Asked.{EditRequest}
 use Rattle.doc_hub_editing.proofs.EditLaws.{edits_are_of_what_was_named, nothing_is_replaced_unasked, owners_alone}
 use Rattle.doc_hub_editing.specs.EditAnswers.{by_entry, edit_response, response_if}
-use Rattle.doc_hub_editing.specs.EditRequests.{EditRequest, asked_by, at_page, at_route, edit_request_of}
+use Rattle.doc_hub_editing.specs.EditRequests.{asked_by, at_page, at_route, edit_request_of}
 use Rattle.doc_hub_editing.specs.Laws.{path_of_edit}
 use Rattle.doc_hub_asking.specs.Asking.{Asking, row_of}
 use Rattle.doc_hub_asking.specs.Asking as asked

@@ -20,8 +20,9 @@ use Rattle.doc_hub_answers.specs.declared.edit.Edit.TheVariants as edits
 use Rattle.doc_hub_asking.specs.Asking.{Asking}
 use Rattle.doc_hub_asking.specs.Asking as asked
 use Rattle.doc_hub_people.specs.PeopleAnswers.{offers_for}
-use Rattle.doc_hub_editing.specs.EditRequests.{EditRequest, edit_request_of}
-use Rattle.doc_hub_editing.specs.EditRequests as requests
+use Rattle.doc_hub_editing_refusals.specs.Asked.{EditRequest}
+use Rattle.doc_hub_editing_refusals.specs.Asked as requests
+use Rattle.doc_hub_editing.specs.EditRequests.{edit_request_of}
 use Rattle.doc_hub_editing.specs.EditResponses.{EditingReply, EditingResponse, Plain, full_by, refused_for, unless, unmet_by}
 use Rattle.doc_hub_editing.specs.EditAnswers.{begins_path, by_entry, by_other, by_owner, edit_response, folder_begun, form_at, groups_put}
 use Rattle.doc_hub_editing.specs.EditAnswers.{move_done, move_named, move_page, new_form, no_alias_room, no_room, not_found, open_form}

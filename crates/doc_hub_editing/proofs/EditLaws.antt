@@ -33,12 +33,13 @@ use Rattle.doc_hub_answers.specs.Replies.{Renders, method_of, status_reply}
 use Rattle.doc_hub_answers.specs.declared.edit.Edit.{Edit}
 use Rattle.doc_hub_answers.specs.declared.edit.Edit.TheVariants as edits
 use Rattle.doc_hub_people.specs.PeopleAnswers.{offers_for}
+use Rattle.doc_hub_editing_refusals.specs.Asked.{EditRequest}
+use Rattle.doc_hub_editing_refusals.specs.Asked as requests
 use Rattle.doc_hub_editing.specs.EditAnswers.{begins_path, by_entry, by_other, by_owner, edit_response, folder_begun, forbidden, form_at}
 use Rattle.doc_hub_editing.specs.EditAnswers.{form_or_goal, groups_put, move_named, move_page, new_form, no_alias_room, no_room}
 use Rattle.doc_hub_editing.specs.EditAnswers.{not_found, page_of, preview_at, preview_of, put_at, put_done, put_page, read_source}
 use Rattle.doc_hub_editing.specs.EditAnswers.{regroup_named, regroup_page, remove_page, response_if, source_or_goal, unauthorized}
-use Rattle.doc_hub_editing.specs.EditRequests.{EditRequest, asked_by}
-use Rattle.doc_hub_editing.specs.EditRequests as requests
+use Rattle.doc_hub_editing.specs.EditRequests.{asked_by}
 use Rattle.doc_hub_editing.specs.EditResponses.{EditingReply, EditingResponse, Plain, Shown, Told, full_by, only_reply, refused}
 use Rattle.doc_hub_editing.specs.EditResponses.{refused_for, reply_to_verdict, tag_at, unless, unmet_by}
 use Rattle.doc_hub_editing.specs.Laws.{EditsAreOfWhatWasNamed, NothingIsEditedWithoutTheSetting, NothingIsReplacedUnasked, OwnersAlone}

@@ -5,8 +5,9 @@ use Rattle.doc_http_replies.specs.declared.reply.Allow.TheVariants as resources
 use Rattle.doc_http_targets.specs.PeopleTargets.{target_path}
 use Rattle.doc_http_targets.specs.Targets.{origin_form, route_of}
 use Rattle.doc_people.specs.declared.settings.Browse.{Browse}
-use Rattle.doc_hub_editing.specs.EditRequests.{edit_request_of, ReadSource, PutSource, PutPage, Remove, Regroup, Move, Open, Preview}
-use Rattle.doc_hub_editing.specs.EditRequests.{NotAllowed}
+use Rattle.doc_hub_editing_refusals.specs.Asked.{ReadSource, PutSource, PutPage, Remove, Regroup, Move, Open, Preview}
+use Rattle.doc_hub_editing_refusals.specs.Asked.{NotAllowed}
+use Rattle.doc_hub_editing.specs.EditRequests.{edit_request_of}
 
 abbrev where_edited : Bool → Browse
 where_edited editing = record {

@@ -28,13 +28,14 @@ use Rattle.doc_hub_answers.proofs.OwnerSteps.{owner_aliases, owner_page, owner_p
 use Rattle.doc_hub_asking.specs.Asking.{Asking, row_of}
 use Rattle.doc_hub_asking.specs.Asking as asked
 use Rattle.doc_hub_people.specs.PeopleAnswers.{offers_for}
+use Rattle.doc_hub_editing_refusals.specs.Asked.{EditRequest}
+use Rattle.doc_hub_editing_refusals.specs.Asked as requests
 use Rattle.doc_hub_editing.specs.EditAnswers.{aliases_after_move, begins_path, by_entry, by_other, by_owner, edit_response, folder_begun}
 use Rattle.doc_hub_editing.specs.EditAnswers.{forbidden, form_at, groups_put, move_named, move_page, new_form, no_alias_room, no_room}
 use Rattle.doc_hub_editing.specs.EditAnswers.{not_found, page_of, preview_at, preview_of, put_at, put_done, put_page, read_source}
 use Rattle.doc_hub_editing.specs.EditAnswers.{regroup_named, regroup_page, remove_page, response_if, source_or_goal}
 use Rattle.doc_hub_editing.specs.EditAnswers.{unauthorized}
-use Rattle.doc_hub_editing.specs.EditRequests.{EditRequest, edit_request_of}
-use Rattle.doc_hub_editing.specs.EditRequests as requests
+use Rattle.doc_hub_editing.specs.EditRequests.{edit_request_of}
 use Rattle.doc_hub_editing.specs.EditResponses.{EditingReply, EditingResponse, Plain, Shown, full_by, only_reply, refused, refused_for}
 use Rattle.doc_hub_editing.specs.EditResponses.{unless, unmet_by}
 

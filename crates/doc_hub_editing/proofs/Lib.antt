@@ -1,4 +1,5 @@
 mod DeskSteps
+mod OtherSteps
 pub mod EditsCan
 mod MakingSteps
 mod FormSteps

@@ -1,8 +1,8 @@
 -- What requests that edit are answered: a function of the settings for people, of what a renderer makes of each text, of the view of who
 -- asks, of who asks, of whether a put is left, and of the request, and never of the whole site. Owners alone edit, and an owner's view is
 -- the site. All of this is this project's choice.
-use Rattle.std.specs.Prelude.{ℕ, ◌+◌, ◌-◌, List, [], ◌∷◌, ◌++◌, length, filter, slice_get, Bool, true, false, not, ◌&&◌, ◌||◌, nat_lt, nat_le}
-use Rattle.std.specs.Prelude.{bytes_eq, is_some, codes, Option, Some, None, option_map, Result, Ok, Err, if◌then◌else◌}
+use Rattle.std.specs.Prelude.{ℕ, ◌+◌, ◌-◌, List, [], ◌∷◌, ◌++◌, length, filter, slice_get, Bool, true, false, not, ◌&&◌, ◌||◌, nat_lt}
+use Rattle.std.specs.Prelude.{nat_le, bytes_eq, is_some, codes, Option, Some, None, option_map, Result, Ok, Err, if◌then◌else◌}
 use Rattle.std.specs.Str.{is_utf8}
 use Rattle.doc_http.specs.declared.request.Request.{Request}
 use Rattle.doc_http_replies.specs.PeopleReplies.{PeopleReply}
@@ -37,8 +37,9 @@ use Rattle.doc_hub_asking.specs.Asking.{Asking, owns}
 use Rattle.doc_hub_asking.specs.Asking as asked
 use Rattle.doc_hub_people.specs.PeopleAnswers as people
 use Rattle.doc_hub_people.specs.PeopleAnswers.{offers_for}
-use Rattle.doc_hub_editing.specs.EditRequests.{EditRequest, edit_request_of}
-use Rattle.doc_hub_editing.specs.EditRequests as requests
+use Rattle.doc_hub_editing_refusals.specs.Asked.{EditRequest}
+use Rattle.doc_hub_editing_refusals.specs.Asked as requests
+use Rattle.doc_hub_editing.specs.EditRequests.{edit_request_of}
 use Rattle.doc_hub_editing.specs.EditResponses.{EditingReply, EditingResponse, Plain, Shown, full_by, only_reply, page_reply, refused}
 use Rattle.doc_hub_editing.specs.EditResponses.{refused_for, unless, unmet_by}
 
@@ -265,7 +266,8 @@ by_owner render browse offers view puts_left for_people request (requests.Regrou
     regroup_named view puts_left (page_of view (path_written rest))
     (option_map groups_of (optional_parameter request.target (codes "groups"))) request
 by_owner render browse offers view puts_left for_people request (requests.Move rest) =
-    move_named view puts_left (page_of view (path_written rest)) (option_map path_of (optional_parameter request.target (codes "to"))) request
+    move_named view puts_left (page_of view (path_written rest))
+    (option_map path_of (optional_parameter request.target (codes "to"))) request
 by_owner render browse offers view puts_left for_people request (requests.Open rest) = open_form render browse offers view for_people rest
 by_owner render browse offers view puts_left for_people request (requests.Preview rest) =
     preview_at render browse view (path_written rest) request

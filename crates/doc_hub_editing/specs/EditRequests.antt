@@ -1,7 +1,6 @@
 -- What a request asks of the source of a page, by its target and its method. All of this is this project's choice.
 use Rattle.std.specs.Prelude.{ℕ, List, Option, Some, None, if◌then◌else◌}
 use Rattle.doc_http.specs.declared.request.Request.{Request}
-use Rattle.doc_http_replies.specs.declared.reply.Allow.{Allow}
 use Rattle.doc_http_replies.specs.declared.reply.Allow.TheVariants as resources
 use Rattle.doc_http_targets.specs.EditTargets.{EditRoute, edit_route_of}
 use Rattle.doc_http_targets.specs.EditTargets as edit_routes
@@ -11,19 +10,8 @@ use Rattle.doc_people.specs.declared.settings.Browse.{Browse}
 use Rattle.doc_hub_answers.specs.Replies.{method_of}
 use Rattle.doc_hub_answers.specs.declared.method.Method.{Method}
 use Rattle.doc_hub_answers.specs.declared.method.Method.TheVariants.{Get, Head, Put, Delete, Post, Other}
-
--- To read the text of a page, to put one at its source or at the page itself, to remove it, to change its groups, to move it, to open the
--- form that edits it, to see what a text would look like there; or something that a resource hasn't. REST is as the target writes it.
-pub data EditRequest : Type 0 where
-  ReadSource : List ℕ → EditRequest
-  PutSource : List ℕ → EditRequest
-  PutPage : List ℕ → EditRequest
-  Remove : List ℕ → EditRequest
-  Regroup : List ℕ → EditRequest
-  Move : List ℕ → EditRequest
-  Open : List ℕ → EditRequest
-  Preview : List ℕ → EditRequest
-  NotAllowed : Allow → EditRequest
+use Rattle.doc_hub_editing_refusals.specs.Asked.{EditRequest, ReadSource, PutSource, PutPage, Remove, Regroup, Move, Open, Preview}
+use Rattle.doc_hub_editing_refusals.specs.Asked.{NotAllowed}
 
 -- ---- by the route and the method
 

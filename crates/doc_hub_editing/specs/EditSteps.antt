@@ -2,29 +2,20 @@
 use Rattle.std.specs.Prelude.{ℕ, List, Bool, true, false, codes, Option, Some}
 use Rattle.doc_http.specs.declared.request.Request.{Request}
 use Rattle.doc_http_replies.specs.Manners.{dress_of}
+use Rattle.doc_http_replies.specs.ReplyForms.{reply_of}
 use Rattle.doc_http_targets.specs.Queries.{optional_parameter, parameter}
+use Rattle.doc_people.specs.declared.settings.Browse.{Browse}
 use Rattle.doc_store_readers.specs.Sites.{View, view_of}
 use Rattle.doc_hub_answers.specs.Edits.{puts_left}
 use Rattle.doc_hub_answers.specs.declared.answer.Answer.{Answer}
 use Rattle.doc_hub_answers.specs.declared.exchange.Exchange.{Exchange}
-use Rattle.doc_hub_editing.specs.EditRequests.{EditRequest}
-use Rattle.doc_hub_editing.specs.EditRequests as requests
-use Rattle.doc_hub_editing.specs.EditResponses.{EditingReply, EditingResponse, only_reply, reply_sent}
+use Rattle.doc_hub_people.specs.PeopleAnswers.{page_reply, unauthorized_reply}
+use Rattle.doc_hub_editing_refusals.specs.Asked.{EditRequest}
+use Rattle.doc_hub_editing_refusals.specs.Asked as requests
+use Rattle.doc_hub_editing_refusals.specs.declared.refusal.Refusal.{Refusal}
+use Rattle.doc_hub_editing_refusals.specs.declared.refusal.Refusal.TheVariants as refusals
+use Rattle.doc_hub_editing.specs.EditResponses.{EditingReply, EditingResponse, Plain, Shown, only_reply, reply_sent}
 use Rattle.doc_hub_editing.specs.declared.desk.Desk.{Desk}
-use Rattle.doc_hub_editing.specs.declared.edit_request.EditRequest as code
-use Rattle.doc_hub_editing.specs.declared.edit_request.EditRequest.TheVariants as edit_requests
-
--- what is asked, as it is defined
-abbrev pub edit_request_shown : code.EditRequest → EditRequest
-edit_request_shown (edit_requests.ReadSource rest) = requests.ReadSource rest.now
-edit_request_shown (edit_requests.PutSource rest) = requests.PutSource rest.now
-edit_request_shown (edit_requests.PutPage rest) = requests.PutPage rest.now
-edit_request_shown (edit_requests.Remove rest) = requests.Remove rest.now
-edit_request_shown (edit_requests.Regroup rest) = requests.Regroup rest.now
-edit_request_shown (edit_requests.Move rest) = requests.Move rest.now
-edit_request_shown (edit_requests.Open rest) = requests.Open rest.now
-edit_request_shown (edit_requests.Preview rest) = requests.Preview rest.now
-edit_request_shown (edit_requests.NotAllowed resource) = requests.NotAllowed resource
 
 -- whether a preview is asked for, for which a text may be rendered
 abbrev pub asks_preview : EditRequest → Bool
@@ -42,6 +33,12 @@ editing_sent exchange response = record {
 -- a reply to which no edit belongs
 abbrev pub reply_sent_in : Exchange → EditingReply → Answer
 reply_sent_in exchange reply = editing_sent exchange (only_reply reply)
+
+-- what one who is no owner is refused with, as a reply
+abbrev pub refusal_reply : Browse → Refusal → EditingReply
+refusal_reply browse (refusals.Plain form) = Plain (reply_of form)
+refusal_reply browse refusals.SignIn = Shown (unauthorized_reply browse)
+refusal_reply browse (refusals.Page body) = Shown (page_reply 403 body)
 
 -- what the owner sees who sits at a desk, whether a put is left, and what they ask
 abbrev pub view_at : Desk → View

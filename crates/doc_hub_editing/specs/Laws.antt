@@ -17,9 +17,9 @@ use Rattle.doc_hub_answers.specs.Replies.{Renders, not_allowed, status_reply}
 use Rattle.doc_hub_answers.specs.declared.edit.Edit.{Edit}
 use Rattle.doc_hub_answers.specs.declared.edit.Edit.TheVariants as edits
 use Rattle.doc_hub_asking.specs.Asking.{Asking}
+use Rattle.doc_hub_editing_refusals.specs.Asked.{EditRequest}
+use Rattle.doc_hub_editing_refusals.specs.Asked as requests
 use Rattle.doc_hub_editing.specs.EditAnswers.{by_entry, edit_response}
-use Rattle.doc_hub_editing.specs.EditRequests.{EditRequest}
-use Rattle.doc_hub_editing.specs.EditRequests as requests
 use Rattle.doc_hub_editing.specs.EditResponses.{Plain, Told, only_reply}
 
 -- where pages aren't edited so, no request is one that edits

@@ -1,11 +1,11 @@
-//! What a request asks of the source of a page.
+//! What a request asks of the source of a page, by its target and its method.
 
 ghost use Rattle.std.specs.Prelude.{◌≡◌, option_map};
 ghost use Rattle.doc_http_targets.specs.EditTargets.{edit_route_shown};
 ghost use Rattle.doc_http_targets.specs.Targets.{route_shown};
-ghost use Rattle.doc_hub_editing.specs.EditRequests as edit_requests;
+ghost use Rattle.doc_hub_editing_refusals.specs.Asked as edit_requests;
+ghost use Rattle.doc_hub_editing_refusals.specs.AskedSteps.{edit_request_shown};
 ghost use Rattle.doc_hub_editing.specs.EditRequests.{at_edit_route, at_page, at_route, at_source, edit_request_of, if_posted, if_put, if_read};
-ghost use Rattle.doc_hub_editing.specs.EditSteps.{edit_request_shown};
 
 use doc_http::reply::Allow;
 use doc_http::request::Request;
@@ -13,30 +13,8 @@ use doc_http_targets::edit_route::{EditRoute, edit_route};
 use doc_http_targets::route::Route;
 use doc_http_targets::routes::Routes;
 use doc_hub_answers::method::Method;
+use doc_hub_editing_refusals::edit_request::EditRequest;
 use doc_people::settings::Browse;
-
-/// What a request asks of the source of a page. REST is what follows the second `/` of its target's path, as it is written there.
-#[derive(Clone, Copy, Debug, PartialEq, Eq)]
-pub enum EditRequest<'a> {
-    /// GET and HEAD of `/source/REST`: the text of a page.
-    ReadSource(&'a str),
-    /// PUT of `/source/REST`: the body becomes the text of a page.
-    PutSource(&'a str),
-    /// The same at `/page/REST`.
-    PutPage(&'a str),
-    /// DELETE of `/source/REST` or of `/page/REST`.
-    Remove(&'a str),
-    /// PUT of `/groups/REST`: the groups of a page.
-    Regroup(&'a str),
-    /// PUT of `/move/REST`: the path of a page.
-    Move(&'a str),
-    /// GET and HEAD of `/edit/REST`: the form that edits a page. REST may be empty.
-    Open(&'a str),
-    /// POST of `/preview/REST`: what a text would look like there.
-    Preview(&'a str),
-    /// A method that the resource hasn't.
-    NotAllowed(Allow),
-}
 
 /// What a request asks of the source of a page, where pages are edited so.
 pub fn edit_request<'a>(

@@ -6,24 +6,25 @@ ghost use Rattle.doc_hub_answers.specs.AnswerSteps.{AnsweredSo};
 ghost use Rattle.doc_hub_answers.specs.Counts.{RendersPuts, moves_of, previews_of};
 ghost use Rattle.doc_hub_answers.specs.Edits.{puts_left};
 ghost use Rattle.doc_hub_people.specs.PeopleAnswers.{offers_for};
-ghost use Rattle.doc_hub_editing.specs.EditAnswers.{by_entry, by_other, by_owner, forbidden, shows_preview, unauthorized};
-ghost use Rattle.doc_hub_editing.specs.EditSteps.{asks_preview, edit_request_shown, editing_sent};
+ghost use Rattle.doc_hub_editing_refusals.specs.AskedSteps.{edit_request_shown};
+ghost use Rattle.doc_hub_editing.specs.EditAnswers.{by_entry, by_other, by_owner, shows_preview};
+ghost use Rattle.doc_hub_editing.specs.EditResponses.{only_reply};
+ghost use Rattle.doc_hub_editing.specs.EditSteps.{asks_preview, editing_sent, refusal_reply};
 
 use crate::desk::Desk;
-use crate::edit_request::EditRequest;
 use crate::forms::Forms;
 use crate::making::make;
 use crate::previews::preview;
 use doc_http::reply_form::ReplyForm;
-use doc_http::status::Status;
 use doc_hub_answers::Shelf;
 use doc_hub_answers::answer::Answer;
 use doc_hub_answers::exchange::Exchange;
+use doc_hub_editing_refusals::edit_request::EditRequest;
+use doc_hub_editing_refusals::refusal::{Refusal, refusal_to};
 use doc_hub_people::visit::{Visit, unauthorized};
 use doc_page::renderer::Renderer;
 use doc_page_parts::failure::Memory;
 use doc_people::settings::Browse;
-use doc_people_statuses::statuses::refused_body;
 use doc_store::reader::Reader;
 
 /// A request that edits, and who asks.
@@ -118,46 +119,10 @@ impl Editing<'_> {
             (seen_in shelf.now.1 self.now.reader.now) self.now.guest self.now.for_people
             (edit_request_shown asked.entry))) }
     {
-        if let EditRequest::NotAllowed(resource) = asked {
-            return self.exchange.reply(ReplyForm::NotAllowed(resource));
-        }
-        if self.guest {
-            return self.unauthorized();
-        }
-        self.forbidden(shelf, asked)
-    }
-
-    /// The answer that a guest hasn't signed in.
-    fn unauthorized(&self) -> Result<Answer, Memory>
-        ensures { IfOk result (λ a. a ≡ editing_sent self.now.exchange.now
-            (unauthorized self.now.browse.now self.now.for_people)) }
-    {
-        if self.for_people {
-            unauthorized(self.exchange, self.browse)
-        } else {
-            self.exchange.status(Status::Unauthorized)
-        }
-    }
-
-    /// The answer that a reader is no owner.
-    fn forbidden<R: Renderer + Drop>(
-        &self,
-        shelf: &Shelf<R>,
-        asked: EditRequest<'_>,
-    ) -> Result<Answer, Memory>
-        ensures { IfOk result (λ a. a ≡ editing_sent self.now.exchange.now (forbidden
-            (R.page shelf.now.0) self.now.browse.now
-            (offers_for self.now.browse.now self.now.guest self.now.reader.now.owner)
-            (seen_in shelf.now.1 self.now.reader.now) self.now.for_people
-            (edit_request_shown asked.entry))) }
-    {
-        if !self.for_people || !matches!(asked, EditRequest::Open(_)) {
-            return self.exchange.status(Status::Forbidden);
-        }
         let visit = self.visit();
         let view = shelf.view(self.reader);
-        let body = refused_body(visit.frame(), &view, 403)?;
-        visit.page(403, &body)
+        let refusal = refusal_to(visit.frame(), &view, self.guest, self.for_people, asked)?;
+        refused_with(visit, refusal)
     }
 
     /// What its pages are made with.
@@ -191,5 +156,17 @@ impl Editing<'_> {
             reader: self.reader,
             for_people: self.for_people,
         }
+    }
+}
+
+/// The answer that refuses what one who is no owner asks.
+fn refused_with(visit: Visit<'_>, refusal: Refusal) -> Result<Answer, Memory>
+    ensures { IfOk result (λ a. a ≡ editing_sent visit.entry.exchange.now
+        (only_reply (refusal_reply visit.entry.browse.now refusal))) }
+{
+    match refusal {
+        Refusal::Plain(form) => visit.exchange.reply(form),
+        Refusal::SignIn => unauthorized(visit.exchange, visit.browse),
+        Refusal::Page(body) => visit.page(403, &body),
     }
 }

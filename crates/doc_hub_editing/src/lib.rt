@@ -3,7 +3,8 @@
 //! browser, and previews.
 //!
 //! Owners alone edit. An answer is written whole before its edit is made, since an edit that was made could not be taken back where the
-//! answer then found no memory. Which requests come here, and what all others are answered, is of `doc_hub_replies`.
+//! answer then found no memory. What the others are answered here is of `doc_hub_editing_refusals`. Which requests come here, and what all
+//! the rest are answered, is of `doc_hub_replies`.
 #![tactic(auto)]
 
 mod conditions;

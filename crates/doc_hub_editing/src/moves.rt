@@ -1,11 +1,11 @@
 //! Moves of pages to another path.
 
-ghost use Rattle.std.specs.Prelude.{◌≡◌, true, None, IfOk, codes, is_some, option_copied, option_map};
+ghost use Rattle.std.specs.Prelude.{◌≡◌, true, None, Some, IfOk, codes, is_some, option_copied, option_map};
 ghost use Rattle.doc_http_targets.specs.Queries.{optional_parameter};
 ghost use Rattle.doc_http_targets.specs.WrittenPaths.{path_written};
 ghost use Rattle.doc_page_parts.specs.Paths.{path_of};
 ghost use Rattle.doc_store_readers.specs.Sites.{page_at};
-ghost use Rattle.doc_hub_editing.specs.EditAnswers.{move_named, move_page, no_alias_room, page_of};
+ghost use Rattle.doc_hub_editing.specs.EditAnswers.{move_done, move_named, move_page, no_alias_room, page_of};
 ghost use Rattle.doc_hub_editing.specs.EditSteps.{left_at, request_at, told_at, view_at};
 
 use crate::desk::Desk;
@@ -45,15 +45,33 @@ impl Desk<'_> {
             (move_page (view_at self.now) (left_at self.now)
             (page_of (view_at self.now) (path_written rest.now)) to (request_at self.now))) }
     {
-        let Some(from) = written_path(self.exchange.heap, rest)? else {
-            return self.status(Status::NotFound);
-        };
+        match written_path(self.exchange.heap, rest)? {
+            Some(from) => self.move_from(from, to),
+            None => self.status(Status::NotFound),
+        }
+    }
+
+    /// The same of the page under a path, or of none.
+    fn move_from(&self, from: Path, to: Path) -> Result<Answer, Memory>
+        ensures { self.now.reader.now.owner ≡ true → IfOk result (λ a. a ≡ told_at self.now
+            (move_page (view_at self.now) (left_at self.now)
+            (page_of (view_at self.now) (Some from)) to (request_at self.now))) }
+    {
         let Some(page) = self.page(&from) else {
             return self.status(Status::NotFound);
         };
-        if let Some(answer) = self.unmet(false, Some(page))? {
-            return Ok(answer);
+        match self.unmet(false, Some(page))? {
+            Some(answer) => Ok(answer),
+            None => self.move_standing(from, to),
         }
+    }
+
+    /// The same of a page that stands, where no condition is against it.
+    fn move_standing(&self, from: Path, to: Path) -> Result<Answer, Memory>
+        requires { is_some (page_at (view_at self.now).pages from) ≡ true }
+        ensures { self.now.reader.now.owner ≡ true → IfOk result (λ a. a ≡ told_at self.now
+            (move_done (view_at self.now) (left_at self.now) from to)) }
+    {
         if self.page(&to).is_some() {
             return self.refused_for(409, "a page stands at to");
         }

@@ -2,6 +2,7 @@
 
 ghost use Rattle.std.specs.Prelude.{◌≡◌, true, IfOk, Ok, codes, option_copied, option_map, if◌then◌else◌};
 ghost use Rattle.doc_http_targets.specs.WrittenPaths.{path_written};
+ghost use Rattle.doc_store_readers.specs.Groups.{groups_of};
 ghost use Rattle.doc_store_readers.specs.Sites.{page_at};
 ghost use Rattle.doc_hub_editing.specs.EditAnswers.{groups_at, groups_put, no_room, put_at, put_page, put_reply, put_text, why_no_groups};
 ghost use Rattle.doc_hub_editing.specs.EditResponses.{only_reply};
@@ -48,7 +49,25 @@ impl Desk<'_> {
             let groups = self.groups_at(stands)?;
             return self.put_page(at_source, path, stands, groups);
         };
-        match Groups::new(self.exchange.heap, names.get()) {
+        self.put_named(at_source, path, stands, names.get())
+    }
+
+    /// The same of groups that are named.
+    fn put_named(
+        &self,
+        at_source: bool,
+        path: Path,
+        stands: Option<&Page>,
+        names: &str,
+    ) -> Result<Answer, Memory>
+        requires { option_map (λ page. page.now.page) stands
+            ≡ page_at (view_at self.now).pages path }
+        ensures { self.now.reader.now.owner ≡ true → IfOk result (λ a. a ≡ told_at self.now
+            (put_page (view_at self.now) (left_at self.now) at_source path
+            (page_at (view_at self.now).pages path) (groups_of names.now)
+            (request_at self.now))) }
+    {
+        match Groups::new(self.exchange.heap, names) {
             Ok(groups) => self.put_page(at_source, path, stands, groups),
             Err(GroupsError::Memory) => Err(Memory),
             Err(e) => self.refused_for(400, why_no_groups(e)),

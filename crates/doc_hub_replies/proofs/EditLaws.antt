@@ -19,11 +19,12 @@ use Rattle.doc_hub_asking.specs.Asking.{Asking, is_guest, owns, row_of}
 use Rattle.doc_hub_asking.specs.Asking as asked
 use Rattle.doc_hub_people.specs.Laws.{OwnsNothing}
 use Rattle.doc_hub_people.specs.PeopleAnswers.{offers_for}
+use Rattle.doc_hub_editing_refusals.specs.Asked.{EditRequest}
+use Rattle.doc_hub_editing_refusals.specs.Asked as requests
 use Rattle.doc_hub_editing.specs.EditAnswers.{begins_path, by_entry, by_other, by_owner, edit_response, folder_begun, forbidden, form_at}
 use Rattle.doc_hub_editing.specs.EditAnswers.{is_preview, new_form, not_found, open_form, read_source, response_if}
 use Rattle.doc_hub_editing.specs.EditAnswers.{shows_preview, source_or_goal, unauthorized}
-use Rattle.doc_hub_editing.specs.EditRequests.{EditRequest, asked_by, at_edit_route, at_route, edit_request_of}
-use Rattle.doc_hub_editing.specs.EditRequests as requests
+use Rattle.doc_hub_editing.specs.EditRequests.{asked_by, at_edit_route, at_route, edit_request_of}
 use Rattle.doc_hub_editing.specs.EditResponses.{EditingReply, EditingResponse, unless, unmet_by}
 
 -- ---- to whom they are answered

@@ -25,8 +25,9 @@ use Rattle.doc_hub_asking.specs.Asking.{Asking, is_guest, owns, reader_asking, r
 use Rattle.doc_hub_asking.specs.Asking as asked
 use Rattle.doc_hub_people.specs.PeopleAnswers.{offers_for, on_route, people_reply, unauthorized_reply}
 use Rattle.doc_hub_people.specs.VisitSteps.{people_sent}
+use Rattle.doc_hub_editing_refusals.specs.Asked.{EditRequest}
 use Rattle.doc_hub_editing.specs.EditAnswers.{by_entry, edit_response}
-use Rattle.doc_hub_editing.specs.EditRequests.{EditRequest, edit_request_of}
+use Rattle.doc_hub_editing.specs.EditRequests.{edit_request_of}
 use Rattle.doc_hub_editing.specs.EditResponses.{EditingResponse, editing_answer, reply_sent}
 use Rattle.doc_hub_editing.specs.EditSteps.{editing_sent}
 use Rattle.doc_hub_replies.proofs.AnswerLaws.{answer_with, answer_without, is_edited, is_plain, is_shown, is_style, is_unedited}

@@ -2,7 +2,7 @@ use Rattle.std.proofs.Common.{ap, sym, subst}
 use Rattle.doc_hub_answers.specs.Edits.{CanBeMade}
 use Rattle.doc_hub_answers.specs.declared.answer.Answer.{Answer}
 use Rattle.doc_hub_people.specs.PeopleAnswers.{offers_for}
-use Rattle.doc_hub_editing.specs.EditSteps.{edit_request_shown}
+use Rattle.doc_hub_editing_refusals.specs.AskedSteps.{edit_request_shown}
 use Rattle.doc_hub_editing.proofs.EditsCan.{by_owner_can}
 use Rattle.doc_hub_editing.proofs.editing.Editing.answer.Goals as goal
 

@@ -4,8 +4,8 @@ use Rattle.doc_store_readers.specs.Sites.{view_of}
 use Rattle.doc_hub_answers.specs.Edits.{puts_left}
 use Rattle.doc_hub_asking.specs.Asking.{is_guest}
 use Rattle.doc_hub_asking.specs.AskingSteps.{asking_shown}
+use Rattle.doc_hub_editing_refusals.specs.AskedSteps.{edit_request_shown}
 use Rattle.doc_hub_editing.specs.EditAnswers.{by_entry, shows_preview}
-use Rattle.doc_hub_editing.specs.EditSteps.{edit_request_shown}
 use Rattle.doc_hub_replies.proofs.ServingSteps.{counted_as, editing_so}
 use Rattle.doc_hub_replies.proofs.serving.Serving.edited.Goals as goal
 use Rattle.doc_hub_replies.specs.Answers.{dress_for, is_for_people}
