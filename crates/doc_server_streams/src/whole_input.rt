@@ -13,7 +13,7 @@ use doc_page_parts::heap::{Heap, String, Vec};
 const READS: u64 = 0x1_0000_0000;
 
 /// How many bytes are read at once.
-const PIECE: usize = 65_536;
+const PIECE: usize = 16_384;
 
 /// The whole input, or `Refused` once it has given more bytes than the limit. `name` is what a fault
 /// calls it. The input is given up after 2^32 reads.
