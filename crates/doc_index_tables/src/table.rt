@@ -4,11 +4,13 @@ ghost use Rattle.std.specs.Prelude.{◌≡◌, ◌≢◌, ◌++◌, None, IfOk, 
 ghost use Rattle.std.specs.BTreeMap.{IsOrdered, values};
 ghost use Rattle.std.specs.FinMap as map;
 ghost use Rattle.std.specs.String.{string_cmp};
+ghost use Rattle.doc_index_tables.specs.Maps.{by_bytes};
 ghost use Rattle.doc_index_tables.specs.TableSteps.{left_in_row, number_at, numbers_of, row_numbers, with_number, without_number};
 
 use crate::row::Row;
 use doc_page_parts::failure::Memory;
 use doc_page_parts::heap::{BTreeMap, Heap, String, Vec};
+use std::collections::btree_map::Iter;
 use std::marker::Model;
 
 /// Numbers by text and number: a row for each text that has one. Contracts see the map of the rows.
@@ -53,6 +55,13 @@ impl Table {
         ensures { result ≡ number_at self.now text.now number }
     {
         self.row(text)?.get(number)
+    }
+
+    /// The rows with their texts, in the order of these.
+    pub fn iter(&self) -> Iter<'_, String, Row>
+        ensures { by_bytes result ≡ map.entries self.now }
+    {
+        self.rows.iter()
     }
 
     /// The numbers, by text and then by number.
