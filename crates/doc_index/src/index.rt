@@ -144,6 +144,14 @@ impl<T> Index<T> {
         self.postings.row(key)
     }
 
+    /// The slots of the pages that have a key, by keys, each with the count of the key in its page.
+    pub fn postings(&self) -> &Table
+        ensures { (key : Seq ℕ) (slot : ℕ)
+            → number_at result.now key slot ≡ count_in (slot_at self.now slot) key }
+    {
+        &self.postings
+    }
+
     /// Holds a page under a path and a stamp that none has. A refusal leaves the index as it was.
     pub fn add(
         &mut self,

@@ -10,4 +10,4 @@ pub mod counts;
 pub mod held;
 pub mod index;
 
-pub use doc_index_tables::row;
+pub use doc_index_tables::{row, table};
