@@ -2,3 +2,4 @@ pub mod AnchorSteps
 pub mod CountSteps
 mod Examples
 pub mod HeadingSteps
+pub mod RankSteps

@@ -2,3 +2,4 @@ pub mod KnownSteps
 pub mod Links
 pub mod Names
 pub mod PageLinks
+pub mod Ranks

@@ -3,7 +3,7 @@
 ghost use Rattle.std.specs.Prelude.{◌≡◌, ◌+◌, ℕ, List as Seq, IfOk, OnOk, if◌then◌else◌};
 ghost use Rattle.std.specs.FinMap as map;
 ghost use Rattle.doc_index_tables.specs.Maps.{text_map};
-ghost use Rattle.doc_links_pages.specs.KnownSteps.{HasKeys, count_at};
+ghost use Rattle.doc_links_pages.specs.KnownSteps.{HasKeys, HasSome, count_at};
 ghost use Rattle.doc_links_pages.specs.Names.{writes};
 
 use doc_page_parts::failure::Memory;
@@ -23,8 +23,10 @@ pub fn keys_of(heap: Heap, links: &[LinkKind]) -> Result<BTreeMap<String, u64>, 
 
 /// Counts the path that a link writes, if it writes one.
 fn count_link(heap: Heap, keys: &mut BTreeMap<String, u64>, link: &LinkKind) -> Result<(), Memory>
-    ensures { OnOk result ((path : Seq ℕ) → count_at (text_map keys.new) path
+    ensures counts { OnOk result ((path : Seq ℕ) → count_at (text_map keys.new) path
         ≡ count_at (text_map keys.old) path + (if writes path link.now then 1 else 0)) }
+    ensures some { OnOk result
+        (HasSome (text_map keys.old) → HasSome (text_map keys.new)) }
 {
     let LinkKind::Page { path, anchor: _ } = link else {
         return Ok(());
