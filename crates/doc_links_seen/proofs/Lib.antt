@@ -1,4 +1,6 @@
 pub mod AnswerSteps
+pub mod ColumnSteps
+pub mod FlagSteps
+pub mod FoundSteps
 pub mod MemoSteps
-pub mod RecentSteps
 pub mod SearchSteps

@@ -9,7 +9,8 @@ use Rattle.std.specs.List.Sorted.{IsBinarySearchResult, IsNonDecreasingBy, IsStr
 use Rattle.std.specs.Map.{keys_of}
 use Rattle.std.specs.Ordering.{nat_cmp, ordering_index}
 use Rattle.std.proofs.lemmas.Bool.{cases_lt}
-use Rattle.std.proofs.lemmas.Cmp.{nat_list_cmp_total}
+use Rattle.std.proofs.lemmas.Cmp.{nat_list_cmp_total, tied_itself}
+use Rattle.std.proofs.lemmas.List.{get_or_default}
 use Rattle.std.proofs.lemmas.Map.Lookups.{exact_bytes}
 use Rattle.std.proofs.lemmas.Map.Text.{is_eq-slice_cmp}
 use Rattle.doc_links_seen.specs.SeenSteps.{IsInOrder}
@@ -103,3 +104,12 @@ module _ {A : Type 0} (page : A → List ℕ × PageLinks) (path : List ℕ) whe
       | inl below ↦ not_both (path_cmp (page (get_or xs i d)).0 path) ((parted searchable).0 i d (omega arith) below) is
       | inr above ↦ not_greater (path_cmp (page (get_or xs i d)).0 path) ((parted searchable).1 i d above lt) is
     ]))
+
+    -- the page at a place, by its path
+    pub standing : (at : ℕ) (x : A) → x ≡ get_or xs at x → at < length xs → (page x).0 ≡ path
+        → Some (page x) ≡ page_at (mapped page xs) path
+    standing at x is within same =
+        searched_found at x is within (λ d.
+        ap (λ y. path_cmp (page y).0 path) (sym (is ∙ get_or_default xs at x d within))
+        ∙ ap (λ p. path_cmp p path) same
+        ∙ tied_itself nat_list_cmp_total path)

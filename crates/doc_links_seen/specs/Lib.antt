@@ -1,3 +1,4 @@
+pub mod Decisions
 pub mod Memos
 pub mod SeenPages
 pub mod SeenSteps

@@ -1,10 +1,11 @@
 //! The pages of an index that a sight sees.
 
-ghost use Rattle.std.specs.Prelude.{◌≡◌, ◌++◌, IfOk, OnOk, map as mapped, option_copied, option_map};
-ghost use Rattle.std.specs.List.{flat_map};
+ghost use Rattle.std.specs.Prelude.{◌≡◌, ◌++◌, ℕ, List as Seq, Bool, IfOk, OnOk, map as mapped, option_copied, option_map};
+ghost use Rattle.std.specs.List.{filter, flat_map};
 ghost use Rattle.doc_index.specs.Held.{slot_at};
 ghost use Rattle.doc_page_parts.specs.Sights.{seen};
-ghost use Rattle.doc_links_seen.specs.SeenSteps.{IsInOrder, page_in};
+ghost use Rattle.doc_links_pages.specs.declared.page_links.PageLinks.{PageLinks};
+ghost use Rattle.doc_links_seen.specs.SeenSteps.{IsInOrder, page_in, pages_at};
 ghost use Rattle.doc_links_pages.specs.Links.{entry_of, page_at};
 ghost use Rattle.doc_links_seen.specs.SeenPages.{seen_page, seen_pages};
 
@@ -105,6 +106,81 @@ fn push_seen<'a, S: Sight>(
     if !sight.sees(&page.path) {
         return Ok(());
     }
+    all.push(SeenPage {
+        path: &page.path,
+        known: &page.value,
+    })?;
+    Ok(())
+}
+
+/// Those of these slots whose pages are flagged: there is a flag for each slot that has a page, in this order.
+pub fn slots_flagged(
+    heap: Heap,
+    index: &Index<Known>,
+    slots: &[u64],
+    flags: &[bool],
+) -> Result<Vec<u64>, Memory>
+    ensures { (sees : Seq ℕ × PageLinks → Bool)
+        → flags.now ≡ mapped sees (pages_at index.now slots.now) → IfOk result (λ all.
+        pages_at index.now all.items ≡ filter sees (pages_at index.now slots.now)) }
+{
+    let mut all = Vec::with_capacity(heap, slots.len())?;
+    let mut rest = flags;
+    for slot in slots {
+        rest = push_flagged(&mut all, index, *slot, rest)?;
+    }
+    Ok(all)
+}
+
+/// Adds a slot, where it has a page and the first flag says so. The flags behind that are left.
+fn push_flagged<'a>(
+    all: &mut Vec<u64>,
+    index: &Index<Known>,
+    slot: u64,
+    flags: &'a [bool],
+) -> Result<&'a [bool], Memory>
+    ensures { (sees : Seq ℕ × PageLinks → Bool) (others : Seq (Seq ℕ × PageLinks))
+        → flags.now ≡ mapped sees (page_in (slot_at index.now slot) ++ others)
+        → IfOk result (λ rest. (rest.now ≡ mapped sees others)
+        × (pages_at index.now all.new.items ≡ pages_at index.now all.old.items
+        ++ filter sees (page_in (slot_at index.now slot)))) }
+{
+    if index.slot(slot as usize).is_none() {
+        return Ok(flags);
+    }
+    let Some((flag, rest)) = flags.split_first() else {
+        return Ok(flags);
+    };
+    if !*flag {
+        return Ok(rest);
+    }
+    all.push(slot)?;
+    Ok(rest)
+}
+
+/// The pages in these slots.
+pub fn pages_at<'a>(
+    heap: Heap,
+    index: &'a Index<Known>,
+    slots: &[u64],
+) -> Result<Vec<SeenPage<'a>>, Memory>
+    ensures { IfOk result (λ all. seen_pages all.items ≡ pages_at index.now slots.now) }
+{
+    let mut all = Vec::with_capacity(heap, slots.len())?;
+    for slot in slots {
+        push_page(&mut all, index.slot(*slot as usize))?;
+    }
+    Ok(all)
+}
+
+/// Adds the page of a slot, where there is one.
+fn push_page<'a>(all: &mut Vec<SeenPage<'a>>, page: Option<&'a Held<Known>>) -> Result<(), Memory>
+    ensures { OnOk result (seen_pages all.new.items
+        ≡ seen_pages all.old.items ++ page_in (option_copied page.entry)) }
+{
+    let Some(page) = page else {
+        return Ok(());
+    };
     all.push(SeenPage {
         path: &page.path,
         known: &page.value,
