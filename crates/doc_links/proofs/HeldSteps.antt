@@ -9,7 +9,7 @@ use Rattle.doc_index.specs.declared.held.Held.{Held}
 use Rattle.doc_index_tables.proofs.PairSteps.{pairs_exact, pairs_total}
 use Rattle.doc_index_tables.proofs.TableSteps.{on_ok}
 use Rattle.doc_page_parts.specs.Sights.{leads_to_itself, seen}
-use Rattle.doc_links_seen.specs.SeenSteps.{page_in}
+use Rattle.doc_links_seen.specs.SeenSteps.{page_in, pages_at}
 use Rattle.doc_links.specs.IndexSteps.{with_values, without_counts}
 use Rattle.doc_links_pages.specs.PageLinks.{pages_of}
 use Rattle.doc_links_pages.specs.declared.page_links.PageLinks.{PageLinks}
@@ -94,3 +94,22 @@ seen_of_slots goals slots order given same is =
     ∙ ap (λ ns. seen goals (mapped entry_at (entries_of (mapped (slot_at slots) ns)))) same
     ∙ ap (λ es. seen goals (mapped entry_at es)) is
     ∙ ap (seen goals) (sym (pages_are slots))
+
+-- the pages of slots, one slot after another
+pages_by_slots : (slots : List (Option (Held PageLinks))) (numbers : List ℕ)
+    → pages_at slots numbers ≡ mapped entry_at (entries_of (mapped (slot_at slots) numbers))
+pages_by_slots slots [] = refl
+pages_by_slots slots (n ∷ numbers) = by (slot_at slots n) (pages_by_slots slots numbers)
+  where
+    by : (page : Option (Held PageLinks)) {xs : List (List ℕ × PageLinks)}
+        → xs ≡ mapped entry_at (entries_of (mapped (slot_at slots) numbers))
+        → page_in page ++ xs ≡ mapped entry_at (entries_of (page ∷ mapped (slot_at slots) numbers))
+    by None e = e
+    by (Some page) e = ap (λ ys. (page.path, page.value) ∷ ys) e
+
+-- the pages of all slots, in the order of what is held
+pub all_of_slots : (slots : List (Option (Held PageLinks))) (order given : List ℕ) → given ≡ order
+    → entries_of (mapped (slot_at slots) order) ≡ map.entries (held slots)
+    → pages_at slots given ≡ pages_of (without_counts slots)
+all_of_slots slots order given same is =
+    ap (pages_at slots) same ∙ pages_by_slots slots order ∙ ap (mapped entry_at) is ∙ sym (pages_are slots)

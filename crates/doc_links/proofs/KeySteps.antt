@@ -8,7 +8,7 @@ use Rattle.doc_index.specs.Held.{Known, held}
 use Rattle.doc_index_tables.specs.Maps.{pair_cmp}
 use Rattle.doc_index.proofs.HeldSteps.{not_some, some_is}
 use Rattle.doc_index_tables.proofs.PairSteps.{pairs_total}
-use Rattle.doc_links.specs.IndexSteps.{AreKeyed}
+use Rattle.doc_links_seen.specs.SeenSteps.{AreKeyed}
 use Rattle.doc_links_pages.specs.KnownSteps.{HasKeys}
 use Rattle.doc_links_pages.specs.declared.page_links.PageLinks.{PageLinks}
 

@@ -22,8 +22,9 @@ use Rattle.doc_page_parts.proofs.Maps.{entries_in_order}
 use Rattle.doc_page_parts.specs.Sights.{leads_to_itself, seen}
 use Rattle.doc_resolve.specs.declared.link_kind.LinkKind.{LinkKind}
 use Rattle.doc_resolve.specs.declared.link_kind.LinkKind.TheVariants.{External, Page, Nowhere}
-use Rattle.doc_links.specs.IndexSteps.{AreKeyed, IsTally, goes_to, if_seen, sources_of, without_counts, written_at}
+use Rattle.doc_links.specs.IndexSteps.{IsTally, goes_to, if_seen, sources_of, without_counts, written_at}
 use Rattle.doc_links_pages.specs.KnownSteps.{HasKeys, count_at}
+use Rattle.doc_links_seen.specs.SeenSteps.{AreKeyed}
 use Rattle.doc_links_seen.specs.SeenSteps.{IsInOrder}
 use Rattle.doc_links_pages.specs.Links.{backlinks, page_at}
 use Rattle.doc_links_pages.specs.Names.{AreNames, is_written, writes}
@@ -412,7 +413,7 @@ module _ (goals : List ℕ → Option (List ℕ)) (target : List ℕ) where
                 → sum_by (λ name. written_at slots name i) names ≡ links_to page.value
             counted sees =
                 (λ j. sum_by (λ name. unwrap_or (count_in_at name j) 0) names)
-                ∙ (λ j. sum_by (λ name. keys name j) names)
+                ∙ (λ j. sum_by (λ name. keys.0 name j) names)
                 ∙ counted_names names are.once are.lead page.value.links (λ q h. are.all q
                 (written_in path page.value pages (found_seen path (pages_of (without_counts slots))
                 ∙ ap (λ ps. cond (leads_to_itself (goals path) path) (map.find path_cmp path ps) None) (pages_are slots)

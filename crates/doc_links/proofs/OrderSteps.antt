@@ -1,6 +1,6 @@
 -- Pages in the order of their paths.
 use Rattle.std.proofs.Common.{◌≡◌, ℕ, List, [], ◌∷◌, Bool, true, false, cond, ◌||◌, is_eq, refl, ap, sym, subst, ◌∙◌}
-use Rattle.std.specs.Prelude.{Option, map as mapped}
+use Rattle.std.specs.Prelude.{Option, Some, None, bytes_eq, map as mapped}
 use Rattle.std.specs.declared.cmp.Ordering.{Ordering}
 use Rattle.std.specs.declared.cmp.Ordering.TheVariants.{Less, Equal, Greater}
 use Rattle.std.specs.Cmp.Lexicographic.{slice_cmp}
@@ -15,7 +15,10 @@ use Rattle.doc_index_tables.specs.Maps.{PairMap, pair_cmp}
 use Rattle.doc_index_tables.proofs.PairSteps.{pairs_total, same_pair}
 use Rattle.doc_page_parts.specs.Sights.{leads_to_itself, seen}
 use Rattle.doc_links_seen.proofs.SearchSteps.{path_cmp}
+use Rattle.doc_links_seen.specs.Decisions.{AreSeen}
 use Rattle.doc_links_seen.specs.SeenSteps.{IsInOrder}
+use Rattle.doc_page_parts.proofs.Texts.{bytes_eq_true}
+use Rattle.doc_links_pages.specs.Links.{page_at}
 use Rattle.doc_links_pages.specs.PageLinks.{IsOnce, pages_of}
 use Rattle.doc_links_pages.specs.declared.page_links.PageLinks.{PageLinks}
 use Rattle.doc_links.proofs.MapSteps.{sorted_is}
@@ -96,3 +99,30 @@ pub seen_in_order : (goals : List ℕ → Option (List ℕ)) (held : PairMap Pag
 seen_in_order goals held pages once is =
     subst IsInOrder (sym is)
     (filtered_in_order (λ page. leads_to_itself (goals page.0) page.0) (pages_of held) (once_in_order held once))
+
+module _ (goals : List ℕ → Option (List ℕ)) where
+  filtered_are_seen : (pages : List (List ℕ × PageLinks)) → AreSeen goals (seen goals pages)
+  filtered_are_seen [] path page is = absurd (no_page is)
+    where
+      no_page : {x : List ℕ × PageLinks} → None ≡ Some x → ⊥
+      no_page e = cc
+  filtered_are_seen (x ∷ pages) path page is =
+      by (leads_to_itself (goals x.0) x.0) refl is (filtered_are_seen pages path page)
+    where
+      first : leads_to_itself (goals x.0) x.0 ≡ true → (b : Bool) → bytes_eq x.0 path ≡ b
+          → cond b (Some x) (page_at (seen goals pages) path) ≡ Some page
+          → (page_at (seen goals pages) path ≡ Some page → leads_to_itself (goals path) path ≡ true)
+          → leads_to_itself (goals path) path ≡ true
+      first sees true same is rest = subst (λ p. leads_to_itself (goals p) p ≡ true) (bytes_eq_true x.0 path same) sees
+      first sees false same is rest = rest is
+
+      by : (b : Bool) → leads_to_itself (goals x.0) x.0 ≡ b
+          → page_at (cond b (x ∷ seen goals pages) (seen goals pages)) path ≡ Some page
+          → (page_at (seen goals pages) path ≡ Some page → leads_to_itself (goals path) path ≡ true)
+          → leads_to_itself (goals path) path ≡ true
+      by true sees is rest = first sees (bytes_eq x.0 path) refl is rest
+      by false hidden is rest = rest is
+
+  -- the pages that are seen are so
+  pub they_are_seen : (held : PairMap PageLinks) (pages : List (List ℕ × PageLinks)) → pages ≡ seen goals (pages_of held) → AreSeen goals pages
+  they_are_seen held pages is = subst (AreSeen goals) (sym is) (filtered_are_seen (pages_of held))

@@ -9,7 +9,7 @@ use Rattle.doc_index.specs.declared.held.Held.{Held}
 use Rattle.doc_page_parts.specs.Sights.{leads_to_itself}
 use Rattle.doc_resolve.specs.declared.link_kind.LinkKind.{LinkKind}
 use Rattle.doc_resolve.specs.declared.link_kind.LinkKind.TheVariants.{External, Page, Nowhere}
-use Rattle.doc_links_pages.specs.KnownSteps.{HasKeys, count_at}
+use Rattle.doc_links_pages.specs.KnownSteps.{count_at}
 use Rattle.doc_links_pages.specs.declared.page_links.PageLinks.{PageLinks}
 
 -- the same keys, with other values
@@ -38,11 +38,6 @@ source_of path count = if count == 0 then [] else (path, count) ∷ []
 -- the pages that have links to a target
 abbrev pub sources_of : (List ℕ → Option (List ℕ)) → List ℕ → List (List ℕ × PageLinks) → List (List ℕ × ℕ)
 sources_of goals target pages = flat_map (λ page. source_of page.0 (count_by (goes_to goals target) page.1.links)) pages
-
--- each page is held with the counts of the paths that its links write
-abbrev pub AreKeyed : List (Option (Held PageLinks)) → Type 0
-AreKeyed slots =
-    (k : List ℕ × ℕ) (page : Known PageLinks) → map.get (held slots) k ≡ Some page → HasKeys page.value.links page.counts
 
 -- no two slots have pages with the same path
 abbrev pub AreSingle : List (Option (Held PageLinks)) → Type 0

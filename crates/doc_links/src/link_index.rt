@@ -1,24 +1,26 @@
 //! Pages held under a path and a stamp, and asked for their links.
 
-ghost use Rattle.std.specs.Prelude.{◌≡◌, None, IfOk, IsTrue, OnOk, OnErr, is_some, map as mapped, option_copied};
+ghost use Rattle.std.specs.Prelude.{◌≡◌, ℕ, List as Seq, Bool, None, IfOk, IsTrue, OnOk, OnErr, is_some, map as mapped, option_copied};
 ghost use Rattle.std.specs.Prelude.{option_map};
 ghost use Rattle.std.specs.FinMap as map;
-ghost use Rattle.doc_page_parts.specs.Sights.{seen};
+ghost use Rattle.std.specs.List.{filter};
+ghost use Rattle.doc_page_parts.specs.Sights.{leads_to_itself, seen};
 ghost use Rattle.doc_links_pages.specs.Links.{backlinks, broken, contents, page_at};
 ghost use Rattle.doc_links_pages.specs.Names.{AreNames};
 ghost use Rattle.doc_links_pages.specs.PageLinks.{IsOnce, page_links, pages_of};
+ghost use Rattle.doc_links_pages.specs.declared.page_links.PageLinks.{PageLinks};
 ghost use Rattle.doc_links_seen.specs.SeenPages.{seen_page, seen_pages};
-ghost use Rattle.doc_links.specs.IndexSteps.{links_to};
+ghost use Rattle.doc_links_seen.specs.SeenSteps.{pages_at};
+ghost use Rattle.doc_links.specs.IndexSteps.{links_to, without_counts};
 
 use crate::entries::entries_of;
 use crate::sources::{count_to, sources_in};
 use crate::tally::tally_of;
 use doc_index::index::Index;
 use doc_links_pages::answers::{Broken, Entry};
-use doc_links_pages::keys::keys_of;
 use doc_links_pages::known::Known;
-use doc_links_seen::report::broken_in;
-use doc_links_seen::seen::{SeenPage, seen_in};
+use doc_links_seen::report::{broken_at, broken_in};
+use doc_links_seen::seen::{SeenPage, pages_at, seen_in, slots_flagged};
 use doc_page_parts::failure::Memory;
 use doc_page_parts::heap::{Heap, Vec};
 use doc_page_parts::list::List;
@@ -58,7 +60,7 @@ impl Model for LinkIndex {
 
     ghost view = { λ i. without_counts i.pages };
 
-    ghost use Rattle.doc_links.specs.IndexSteps.{AreKeyed};
+    ghost use Rattle.doc_links_seen.specs.SeenSteps.{AreKeyed};
 
     ghost invariant = { λ i. AreKeyed i.pages };
 }
@@ -97,8 +99,7 @@ impl LinkIndex {
             (page_links path.now pieces.now headings.now)) }
         ensures err { OnErr result (self.new ≡ self.old) }
     {
-        let known = Known::new(self.heap, path, pieces, headings)?;
-        let keys = keys_of(self.heap, known.links())?;
+        let (known, keys) = Known::with_keys(self.heap, path, pieces, headings)?;
         self.pages.add(path, stamp, known, &keys)
     }
 
@@ -152,6 +153,21 @@ impl LinkIndex {
         seen_in(self.heap, &self.pages, &slots, sight)
     }
 
+    /// As `pages_seen`, told of each page that is held, by path and then by stamp, whether it is seen.
+    pub fn pages_flagged<S: Sight>(
+        &self,
+        flags: &[bool],
+        sight: &S,
+    ) -> Result<Vec<SeenPage<'_>>, Memory>
+        requires seen { flags.now ≡ mapped
+            (λ page. leads_to_itself (S.goals sight.now page.0) page.0) (pages_of self.now) }
+        ensures { IfOk result (λ all.
+            seen_pages all.items ≡ seen (S.goals sight.now) (pages_of self.now)) }
+    {
+        let slots = slots_seen(self.heap, &self.pages, flags)?;
+        pages_at(self.heap, &self.pages, &slots)
+    }
+
     /// The pages that a sight sees, by path, with their headings.
     pub fn contents<S: Sight>(&self, sight: &S) -> Result<List<Entry>, Memory>
         ensures { IfOk result (λ all.
@@ -169,6 +185,22 @@ impl LinkIndex {
     {
         let pages = self.pages_seen(sight)?;
         broken_in(self.heap, &pages, sight)
+    }
+
+    /// As `broken`, told of each page that is held, by path and then by stamp, whether it is seen.
+    pub fn broken_flagged<S: Sight>(
+        &self,
+        flags: &[bool],
+        sight: &S,
+    ) -> Result<List<Broken>, Memory>
+        requires once { IsOnce self.now }
+        requires seen { flags.now ≡ mapped
+            (λ page. leads_to_itself (S.goals sight.now page.0) page.0) (pages_of self.now) }
+        ensures { IfOk result (λ all.
+            all ≡ broken (S.goals sight.now) (seen (S.goals sight.now) (pages_of self.now))) }
+    {
+        let slots = slots_seen(self.heap, &self.pages, flags)?;
+        broken_at(self.heap, &self.pages, &slots, sight)
     }
 
     /// The pages that a sight sees and that have links to a page which it sees, by path, each with the number of these links. There
@@ -204,4 +236,14 @@ impl LinkIndex {
         let tally = tally_of(self.heap, &self.pages, names, sight)?;
         tally.list(self.heap)
     }
+}
+
+/// The slots of the pages that are flagged, by path and then by stamp.
+fn slots_seen(heap: Heap, pages: &Index<Known>, flags: &[bool]) -> Result<Vec<u64>, Memory>
+    ensures { (sees : Seq ℕ × PageLinks → Bool)
+        → flags.now ≡ mapped sees (pages_of (without_counts pages.now)) → IfOk result (λ slots.
+        pages_at pages.now slots.items ≡ filter sees (pages_of (without_counts pages.now))) }
+{
+    let slots = pages.in_order(heap)?;
+    slots_flagged(heap, pages, &slots, flags)
 }

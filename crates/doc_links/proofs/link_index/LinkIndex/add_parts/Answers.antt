@@ -1,8 +1,7 @@
-use Rattle.std.proofs.Common.{ℕ, List, ap, subst, ◌∙◌}
+use Rattle.std.proofs.Common.{ℕ, List, ap, ◌∙◌}
 use Rattle.std.specs.FinMap as map
 use Rattle.doc_index.specs.Held.{known_as}
 use Rattle.doc_index_tables.specs.Maps.{text_map}
-use Rattle.doc_links_pages.specs.KnownSteps.{HasKeys}
 use Rattle.doc_links.proofs.HeldSteps.{added, free}
 use Rattle.doc_links.proofs.KeySteps.{keyed_after}
 use Rattle.doc_links.proofs.link_index.LinkIndex.add_parts.Goals as goal
@@ -14,11 +13,10 @@ add-requires c =
 
 pub returns-clause-ok : goal.returns-clause-ok
 returns-clause-ok c =
-    added c.self.inside.pages _ c.add.new.self (c.args.path.now, c.args.stamp) c.add.result c.self.view_is c.in_ok-known.ensures
+    added c.self.inside.pages _ c.add.new.self (c.args.path.now, c.args.stamp) c.add.result c.self.view_is c.in_ok-known.ensures.known
     c.add.ensures.ok
 
 pub invariant_of-self : goal.invariant_of-self
 invariant_of-self c =
     keyed_after c.self.inside.pages c.add.new.self (c.args.path.now, c.args.stamp) c.self.invariant c.add.result
-    (known_as c.in_ok-known.known (text_map c.in_ok-keys.keys))
-    (subst (λ links. HasKeys links (text_map c.in_ok-keys.keys)) c.links.ensures c.in_ok-keys.ensures) c.add.ensures.ok c.add.ensures.err
+    (known_as c.in_ok-known.known (text_map c.in_ok-known.keys)) c.in_ok-known.ensures.keys c.add.ensures.ok c.add.ensures.err

@@ -1,5 +1,6 @@
 use Rattle.std.proofs.Common.{ap, subst, sym, ◌∙◌}
-use Rattle.doc_links.specs.IndexSteps.{AreKeyed, without_counts}
+use Rattle.doc_links_seen.specs.SeenSteps.{AreKeyed}
+use Rattle.doc_links.specs.IndexSteps.{without_counts}
 use Rattle.doc_links.proofs.HeldSteps.{nothing}
 use Rattle.doc_links.proofs.KeySteps.{keyed_none}
 use Rattle.doc_links.proofs.link_index.LinkIndex.new.Goals as goal
