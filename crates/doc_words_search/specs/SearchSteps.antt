@@ -1,5 +1,5 @@
 -- A search over the slots of the pages that are seen, in the order of their paths.
-use Rattle.std.specs.Prelude.{◌≡◌, ⊤, ℕ, suc, ◌+◌, ◌*◌, ◌/◌, List, [], ◌∷◌, length, take, Bool, true, false, cond, if◌then◌else◌}
+use Rattle.std.specs.Prelude.{◌≡◌, ⊤, ℕ, suc, ◌+◌, ◌*◌, ◌/◌, List, [], ◌∷◌, drop, length, take, Bool, true, false, cond, if◌then◌else◌}
 use Rattle.std.specs.Prelude.{Option, Some, None, is_some, unwrap_or, map as mapped, option_copied, slice_index_or, sum_by}
 use Rattle.std.specs.FinMap as map
 use Rattle.std.specs.List.{filter, list_all}
@@ -13,6 +13,7 @@ use Rattle.doc_words_search.specs.Words.{capped}
 use Rattle.doc_words_search.specs.declared.hit.Hit.{Hit}
 use Rattle.doc_words_search.specs.declared.search.Found.{Found}
 use Rattle.doc_words_search.specs.declared.weighing.Postings.{Postings}
+use Rattle.doc_words_search.specs.declared.weighing.Postings.TheVariants.{AtPlaces, InRow}
 use Rattle.doc_words_search.specs.declared.weighing.Weighed.{Weighed}
 
 abbrev pub page_in : {T : Type 0} → Option (Held T) → List (List ℕ × TextMap ℕ)
@@ -90,9 +91,18 @@ abbrev pub MarksWords : {T : Type 0} → List (Option (Held T)) → List Bool �
 MarksWords slots marks [] = ⊤
 MarksWords slots marks (word ∷ words) = MarksWord slots marks word × MarksWords slots marks words
 
+-- of the slots that have a page, those whose flag is set: the first flag is that of the first of them
+abbrev pub flagged : {T : Type 0} → List (Option (Held T)) → List Bool → List ℕ → List ℕ
+flagged slots flags [] = []
+flagged slots flags (n ∷ ns) =
+    if is_some (slot_at slots n)
+    then (if marked_at flags 0 then n ∷ flagged slots (drop 1 flags) ns else flagged slots (drop 1 flags) ns)
+    else flagged slots flags ns
+
 -- the count of a word in a slot, by what was looked up
 abbrev pub count_at : Postings → ℕ → Option ℕ
-count_at postings slot = number_in (option_copied postings.row) slot
+count_at (InRow row) slot = number_in (option_copied row) slot
+count_at (AtPlaces counts) slot = slice_index_or counts.items slot None
 
 -- a word with its row and its quotient
 pub record IsWeighed {T : Type 0} (slots : List (Option (Held T))) (rarity : List ℕ → ℕ) (word : List ℕ) (weighed : Weighed) : Type 0 where

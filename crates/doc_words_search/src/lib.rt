@@ -9,6 +9,7 @@
 
 pub mod characters;
 pub mod counter;
+pub mod flagging;
 pub mod hit;
 pub mod in_order;
 pub mod marking;
