@@ -1,8 +1,9 @@
 //! Pages held under a path and a stamp, and searched by their words.
 
-ghost use Rattle.std.specs.Prelude.{◌≡◌, None, IfOk, OnOk, OnErr, length, option_copied, option_map};
+ghost use Rattle.std.specs.Prelude.{◌≡◌, ℕ, List as Seq, Option as Maybe, None, IfOk, OnOk, OnErr, length, option_copied, option_map};
+ghost use Rattle.std.specs.Prelude.{map as mapped};
 ghost use Rattle.std.specs.FinMap as map;
-ghost use Rattle.doc_page_parts.specs.Sights.{seen};
+ghost use Rattle.doc_page_parts.specs.Sights.{leads_to_itself, seen};
 ghost use Rattle.doc_words_search.specs.Held.{counts_or_none};
 ghost use Rattle.doc_words_search.specs.Searches.{pages_of, search};
 ghost use Rattle.doc_words_search.specs.Words.{word_counts};
@@ -15,6 +16,7 @@ use doc_page_parts::list::List;
 use doc_page_parts::path::Path;
 use doc_page_parts::rendered::Rendered;
 use doc_page_parts::sight::Sight;
+use doc_words_search::flagging::slots_flagged;
 use doc_words_search::hit::Hit;
 use doc_words_search::marking::slots_for;
 use doc_words_search::search::{search_in, seen_among};
@@ -153,5 +155,43 @@ impl WordIndex {
         let marked = slots_for(heap, &self.pages, words)?;
         let seen = seen_among(heap, &self.pages, &marked, sight)?;
         search_in(heap, &self.pages, &seen, count, words)
+    }
+
+    /// As `search`, told of each held page, by path and then by stamp, whether it is seen.
+    pub fn search_flagged(
+        &self,
+        heap: Heap,
+        words: &[Word],
+        flags: &[bool],
+    ) -> Result<List<Hit>, Memory>
+        ensures { (goals : Seq ℕ → Maybe (Seq ℕ))
+            → flags.now ≡ mapped (λ page. leads_to_itself (goals page.0) page.0) (pages_of self.now)
+            → IfOk result (λ hits. hits ≡ search (seen goals (pages_of self.now)) words.now) }
+    {
+        let slots = self.pages.in_order(heap)?;
+        let seen = slots_flagged(heap, &self.pages, &slots, flags)?;
+        search_in(heap, &self.pages, &seen, seen.len() as u64, words)
+    }
+
+    /// How many pages have one of these words at least, whether they are seen or not: as many as have the
+    /// most frequent of them, and all where there are no words. A guess, on which nothing rests: of so many
+    /// pages `search_among` asks the sight.
+    pub fn reach(&self, words: &[Word]) -> usize {
+        if words.is_empty() {
+            return self.pages.len();
+        }
+        let mut most = 0;
+        for word in words {
+            most = most.max(self.holders(word));
+        }
+        most
+    }
+
+    /// How many pages have a word.
+    fn holders(&self, word: &Word) -> usize {
+        let Some(row) = self.pages.of_key(word.text()) else {
+            return 0;
+        };
+        row.len()
     }
 }
