@@ -71,7 +71,8 @@ module _ {T : Type 0} (slots : List (Option (Held T))) where
             (which (leads_to_itself (goals page.path) page.path) (ih rest refl))
           where
             which : (b : Bool) → pages_at slots (flagged slots (told (pages_at slots ns)) ns) ≡ seen goals (pages_at slots ns)
-                → pages_at slots (if b then n ∷ flagged slots (told (pages_at slots ns)) ns else flagged slots (told (pages_at slots ns)) ns)
+                → pages_at slots (if b then n ∷ flagged slots (told (pages_at slots ns)) ns
+                else flagged slots (told (pages_at slots ns)) ns)
                 ≡ cond b ((page.path, page.counts) ∷ seen goals (pages_at slots ns)) (seen goals (pages_at slots ns))
             which true ih =
                 ap (λ o. onto_page o (pages_at slots (flagged slots (told (pages_at slots ns)) ns))) e

@@ -31,7 +31,8 @@ fn push_flagged<'a>(
     slot: u64,
     flags: &'a [bool],
 ) -> Result<&'a [bool], Memory>
-    ensures { IfOk result (λ left. (rest : Seq ℕ) → seen.new.items ++ flagged pages.now left.now rest
+    ensures { IfOk result (λ left. (rest : Seq ℕ)
+        → seen.new.items ++ flagged pages.now left.now rest
         ≡ seen.old.items ++ flagged pages.now flags.now (slot ∷ rest)) }
 {
     if pages.slot(slot as usize).is_none() {

@@ -2,9 +2,9 @@
 //! in slots of an index.
 //!
 //! A word is a run of letters, marks and numbers with its case folded. A page's words are those of its texts, each once with its
-//! count; a query has 1 to 16 different ones. The pages that have one of the words are marked, the words are weighed by how rare they
-//! are among the pages that are seen, and of the pages that have each word the first 100 are answered, by score falling and then by
-//! path.
+//! count; a query has 1 to 16 different ones. The pages that have one of the words are marked, or each page has a flag that tells
+//! whether it is seen. Then the words are weighed by how rare they are among the pages that are seen, and of the pages that have each
+//! word the first 100 are answered, by score falling and then by path.
 #![tactic(auto)]
 
 pub mod characters;
