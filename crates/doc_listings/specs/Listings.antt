@@ -42,6 +42,12 @@ unfoldable pub entry_lines : Entry → List ℕ
 entry_lines page =
     page_line (page_href page.path None) page.path ++ flat_map (heading_line (page_href page.path None)) page.headings
 
+-- contents of pages, of each of which these are the lines
+abbrev pub contents_of_lines : List (List ℕ) → List ℕ
+contents_of_lines pages =
+    codes "<!DOCTYPE html>\n<title>Contents</title>\n<ul>\n" ++ flat_map (λ lines. lines) pages ++ codes "</ul>\n"
+
+-- contents of pages with their headings
 abbrev pub contents_text : List Entry → List ℕ
 contents_text pages =
     codes "<!DOCTYPE html>\n<title>Contents</title>\n<ul>\n" ++ flat_map entry_lines pages ++ codes "</ul>\n"

@@ -6,6 +6,7 @@ ghost use Rattle.std.specs.Io.{StartsWith};
 ghost use Rattle.doc_resolve.specs.Hrefs.{page_href};
 ghost use Rattle.doc_listings.specs.Listings.{contents_text, entry_lines, heading_address, heading_line, heading_start, link_text};
 ghost use Rattle.doc_listings.specs.Listings.{page_line, page_start};
+ghost use Rattle.doc_links_pages.specs.declared.answers.Entry.{Entry};
 
 use crate::number::{MOST_DIGITS, push_number};
 use doc_links_pages::answers::Listed;
@@ -18,6 +19,9 @@ use doc_page_parts::rendered::Heading;
 
 /// Room for the address of a page.
 const ADDRESS_ROOM: usize = 256;
+
+/// What an address has before the path.
+const ADDRESS_START: usize = 6;
 
 /// What a line has beside an address and a text, at most.
 const LINE_ROOM: usize = 40;
@@ -45,26 +49,45 @@ fn push_pages<P: Listed>(heap: Heap, out: &mut String, pages: &[P]) -> Result<()
     let mut digits = String::with_capacity(heap, MOST_DIGITS)?;
     let mut address = String::with_capacity(heap, ADDRESS_ROOM)?;
     for page in pages {
-        push_page(out, &mut digits, &mut address, page)?;
+        push_page(out, &mut digits, &mut address, page.path(), page.headings())?;
     }
     Ok(())
 }
 
+/// Writes the lines of one page and its headings, as contents have them.
+#[tactic(auto, using(doc_page_parts::proofs::BufferSteps::front_same, doc_page_parts::proofs::BufferSteps::front_more))]
+pub fn push_entry_lines(
+    heap: Heap,
+    out: &mut String,
+    path: &Path,
+    headings: &[Heading],
+) -> Result<(), Memory>
+    ensures ok { OnOk result (string_bytes out.new ≡ string_bytes out.old
+        ++ entry_lines (record { path = path.now; headings = headings.now })) }
+    ensures err { OnErr result (StartsWith (string_bytes out.new) (string_bytes out.old)) }
+{
+    out.reserve(room_of_page(path, headings))?;
+    let mut digits = String::new(heap);
+    let mut address = String::with_capacity(heap, address_room(path))?;
+    push_page(out, &mut digits, &mut address, path, headings)
+}
+
 /// Writes the lines of a page and its headings. Its address is made once, in a buffer of its own.
 #[tactic(auto, unfolding(crate::specs::Listings::entry_lines), using(doc_page_parts::proofs::BufferSteps::front_same, doc_page_parts::proofs::BufferSteps::front_more))]
-fn push_page<P: Listed>(
+fn push_page(
     out: &mut String,
     digits: &mut String,
     address: &mut String,
-    page: &P,
+    path: &Path,
+    headings: &[Heading],
 ) -> Result<(), Memory>
-    ensures ok { OnOk result
-        (string_bytes out.new ≡ string_bytes out.old ++ entry_lines (P.entry page.now)) }
+    ensures ok { OnOk result (string_bytes out.new ≡ string_bytes out.old
+        ++ entry_lines (record { path = path.now; headings = headings.now })) }
     ensures err { OnErr result (StartsWith (string_bytes out.new) (string_bytes out.old)) }
 {
-    set_address(address, page.path())?;
-    push_page_line(out, address.as_str(), page.path())?;
-    push_headings(out, digits, address.as_str(), page.headings())
+    set_address(address, path)?;
+    push_page_line(out, address.as_str(), path)?;
+    push_headings(out, digits, address.as_str(), headings)
 }
 
 /// Writes the address of a page alone, as links to the page have it.
@@ -196,19 +219,24 @@ fn push_link_text(out: &mut String, text: &str) -> Result<(), Memory>
     Ok(())
 }
 
+/// How many bytes the address of a page has, where none has to be encoded: a guess, on which nothing rests.
+fn address_room(path: &Path) -> usize {
+    path.text().len().saturating_add(ADDRESS_START)
+}
+
 /// How many bytes the lines take, where no byte has to be encoded: a guess, on which nothing rests.
 fn room_of<P: Listed>(pages: &[P]) -> usize {
     let mut room: usize = 60;
     for page in pages {
-        room = room.saturating_add(room_of_page(page));
+        room = room.saturating_add(room_of_page(page.path(), page.headings()));
     }
     room
 }
 
-fn room_of_page<P: Listed>(page: &P) -> usize {
-    let path = page.path().text().len();
+fn room_of_page(path: &Path, headings: &[Heading]) -> usize {
+    let path = path.text().len();
     let mut room: usize = path.saturating_mul(2).saturating_add(LINE_ROOM);
-    for heading in page.headings() {
+    for heading in headings {
         room = room.saturating_add(room_of_heading(path, heading));
     }
     room

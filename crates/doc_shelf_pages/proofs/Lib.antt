@@ -1,4 +1,6 @@
 pub mod HeldSteps
+pub mod FlagSteps
+pub mod LinedSteps
 pub mod KeptSteps
 pub mod CutAnswers
 mod Examples

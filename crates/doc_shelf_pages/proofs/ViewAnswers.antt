@@ -32,7 +32,7 @@ module _ (render : Renders) (store : StoreState) (reader : Reader) (is : IsStore
       ∙ seen_of_known (λ page. render page.1.text) store.site reader is.site
 
   -- the same with what is made of each rendering
-  changed_seen : {X : Type 0} (change : List ℕ → Rendered → X)
+  pub changed_seen : {X : Type 0} (change : List ℕ → Rendered → X)
       → seen (goal_in (seen_in store reader)) (by_path (with_each change (held_of render store)))
       ≡ mapped (λ page. (page.0, change page.0 page.1)) (rendered_pages render (seen_in store reader))
   changed_seen {X = X} change =

@@ -1,16 +1,19 @@
 //! What is kept of pages.
 
-ghost use Rattle.std.specs.Prelude.{◌≡◌, OnOk, OnErr, option_copied};
+ghost use Rattle.std.specs.Prelude.{◌≡◌, IfOk, OnOk, OnErr, map as mapped, option_copied};
 ghost use Rattle.std.specs.FinMap as map;
+ghost use Rattle.doc_shelf_pages.specs.Held.{by_path};
 ghost use Rattle.doc_shelf_pages.specs.KeptPages.{IsFree, carried, none_kept, with_page, without_page};
+ghost use Rattle.doc_shelf_pages.specs.RenderingSteps.{flagged, lines_at, texts_of};
 
 use crate::copying::kept_of;
 use crate::renderings::Renderings;
 use doc_links::LinkIndex;
 use doc_page_parts::failure::Memory;
-use doc_page_parts::heap::Heap;
+use doc_page_parts::heap::{Heap, Vec};
 use doc_page_parts::path::Path;
 use doc_page_parts::rendered::Rendered;
+use doc_page_parts::text::Text;
 use doc_words::index::WordIndex;
 use std::marker::Model;
 
@@ -94,6 +97,14 @@ impl KeptPages {
         ensures { option_copied result ≡ map.get self.now.renderings (path.now, stamp) }
     {
         self.renderings.get(path, stamp)
+    }
+
+    /// The lines that contents have of the pages whose flags are set, where each page has one, in the order of the paths.
+    pub fn lines_of(&self, flags: &[bool]) -> Result<Vec<&Text>, Memory>
+        ensures { IfOk result (λ lines. texts_of lines.items
+            ≡ mapped lines_at (flagged flags.now (by_path self.now.renderings))) }
+    {
+        self.renderings.lines_of(flags)
     }
 
     /// Keeps a page under a path and a stamp under which none is kept. Memory is taken for its links, for its words and then for its

@@ -14,7 +14,9 @@
 mod copying;
 pub mod edit_laws;
 pub mod edits;
+mod flags;
 mod kept_pages;
+mod lined;
 pub mod lists;
 pub mod named;
 mod renderings;

@@ -9,7 +9,8 @@ ghost use Rattle.doc_store_readers.specs.Sites.{page_at};
 ghost use Rattle.doc_store.specs.Store.{IsStore};
 
 use crate::KeptPages;
-use doc_listings::{push_backlinks, push_contents, push_hits, push_report};
+use crate::flags::flags_of;
+use doc_listings::{push_backlinks, push_contents_of_lines, push_hits, push_report};
 use doc_page_parts::failure::Memory;
 use doc_page_parts::heap::{Heap, String};
 use doc_page_parts::path::Path;
@@ -28,9 +29,10 @@ pub fn contents(
     ensures { (render : Renders) → IsStore store.now → IsKept render store.now kept.now
         → IfOk result (λ text. text ≡ contents_body render (seen_in store.now reader.now)) }
 {
-    let pages = kept.links().pages_seen(&store.sight(reader))?;
+    let flags = flags_of(heap, store, reader)?;
+    let lines = kept.lines_of(&flags)?;
     let mut out = String::new(heap);
-    push_contents(heap, &mut out, &pages)?;
+    push_contents_of_lines(&mut out, &lines)?;
     Ok(Text::new(out))
 }
 

@@ -1,22 +1,26 @@
 //! Renderings that are held under a path and a stamp.
 
-ghost use Rattle.std.specs.Prelude.{◌≡◌, None, OnOk, OnErr, option_copied};
+ghost use Rattle.std.specs.Prelude.{◌≡◌, None, IfOk, OnOk, OnErr, map as mapped, option_copied};
 ghost use Rattle.std.specs.FinMap as map;
-ghost use Rattle.doc_shelf_pages.specs.RenderingSteps.{with_copy};
+ghost use Rattle.doc_shelf_pages.specs.Held.{by_path};
+ghost use Rattle.doc_shelf_pages.specs.RenderingSteps.{flagged, lines_at, texts_of, with_copy};
 
 use crate::copying::copy_of;
+use crate::lined::{Lined, flagged_lines};
 use doc_index::index::Index;
 use doc_page_parts::failure::Memory;
-use doc_page_parts::heap::{BTreeMap, Heap, String};
+use doc_page_parts::heap::{BTreeMap, Heap, String, Vec};
 use doc_page_parts::path::Path;
 use doc_page_parts::rendered::Rendered;
+use doc_page_parts::text::Text;
 use std::marker::Model;
 
-/// Renderings, each held under a path and a stamp. Contracts see the map.
+/// Renderings, each held under a path and a stamp, with the lines that contents have of its page at that path. Contracts see the map of
+/// the renderings.
 #[derive(Drop)]
 pub struct Renderings {
     heap: Heap,
-    pages: Index<Rendered>,
+    pages: Index<Lined>,
 }
 
 impl Model for Renderings {
@@ -32,6 +36,10 @@ impl Model for Renderings {
     ghost coded = { map.code (coded× (coded_list coded_ℕ) coded_ℕ) one.the_row.coded };
 
     ghost view = { λ r. renderings_in r.pages };
+
+    ghost use Rattle.doc_shelf_pages.specs.RenderingSteps.{AreLined};
+
+    ghost invariant = { λ r. AreLined r.pages };
 }
 
 impl Renderings {
@@ -47,7 +55,19 @@ impl Renderings {
     pub fn get(&self, path: &Path, stamp: u64) -> Option<&Rendered>
         ensures { option_copied result ≡ map.get self.now (path.now, stamp) }
     {
-        self.pages.get(path, stamp)
+        let Some(lined) = self.pages.get(path, stamp) else {
+            return None;
+        };
+        Some(&lined.page)
+    }
+
+    /// The lines that contents have of the pages whose flags are set, where each page has one, in the order of the paths.
+    pub fn lines_of(&self, flags: &[bool]) -> Result<Vec<&Text>, Memory>
+        ensures { IfOk result (λ lines. texts_of lines.items
+            ≡ mapped lines_at (flagged flags.now (by_path self.now))) }
+    {
+        let slots = self.pages.in_order(self.heap)?;
+        flagged_lines(self.heap, &self.pages, &slots, flags)
     }
 
     /// Holds a rendering under a path and a stamp that none has. A refusal drops it and leaves the others.
@@ -57,8 +77,9 @@ impl Renderings {
             ≡ map.insert self.old (path.now, stamp) page) }
         ensures err { OnErr result (self.new ≡ self.old) }
     {
+        let lined = Lined::new(self.heap, path, page)?;
         let keys = no_keys(self.heap);
-        self.pages.add(path, stamp, page, &keys)
+        self.pages.add(path, stamp, lined, &keys)
     }
 
     /// Holds a copy of the rendering under one path and stamp, where there is one, under another path and stamp, that none has. A

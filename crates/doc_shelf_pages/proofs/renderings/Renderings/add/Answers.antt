@@ -1,6 +1,8 @@
-use Rattle.std.proofs.Common.{ℕ, List, ap, refl, ◌∙◌}
+use Rattle.std.proofs.Common.{ℕ, List, ap, ◌∙◌}
 use Rattle.std.specs.FinMap as map
+use Rattle.doc_shelf_pages.specs.declared.lined.Lined.{Lined}
 use Rattle.doc_shelf_pages.proofs.HeldSteps.{added, free}
+use Rattle.doc_shelf_pages.proofs.LinedSteps.{lined_after}
 use Rattle.doc_shelf_pages.proofs.renderings.Renderings.add.Goals as goal
 
 pub add-requires : goal.add-requires
@@ -10,5 +12,10 @@ add-requires c =
 
 pub returns-clause-ok : goal.returns-clause-ok
 returns-clause-ok c =
-    added c.self.inside.pages _ c.add.new.self (c.args.path.now, c.args.stamp) c.add.result c.self.view_is refl
-    c.add.ensures.ok
+    added c.self.inside.pages c.in_ok-lined.lined _ c.add.new.self (c.args.path.now, c.args.stamp) c.add.result c.self.view_is
+    (ap (λ (it : Lined). it.page) c.in_ok-lined.ensures) c.add.ensures.ok
+
+pub invariant_of-self : goal.invariant_of-self
+invariant_of-self c =
+    lined_after c.self.inside.pages c.add.new.self (c.args.path.now, c.args.stamp) c.self.invariant c.add.result c.in_ok-lined.lined
+    c.args.page _ c.in_ok-lined.ensures c.add.ensures.ok c.add.ensures.err
