@@ -7,9 +7,12 @@ use Rattle.std.specs.List.{AllByRecursion, filter}
 use Rattle.std.specs.Ordering.{nat_cmp}
 use Rattle.std.proofs.lemmas.Cmp.{nat_list_cmp_total}
 use Rattle.std.proofs.lemmas.List.Folds.{flat_map-map}
+use Rattle.doc_index_tables.specs.Maps.{PairMap, TextMap}
 use Rattle.doc_index_tables.proofs.EntrySteps.{each_found}
 use Rattle.doc_index_tables.proofs.PairSteps.{pairs_exact, pairs_total}
 use Rattle.doc_links_pages.specs.Links.{contents, entry_of}
+use Rattle.doc_links_pages.specs.PageLinks.{pages_of as pages_with_links}
+use Rattle.doc_links_pages.specs.declared.page_links.PageLinks.{PageLinks}
 use Rattle.doc_listings.specs.Listings.{contents_of_lines, entry_lines}
 use Rattle.doc_page_parts.specs.Sights.{leads_to_itself}
 use Rattle.doc_page_parts.specs.declared.rendered.Rendered.{Rendered}
@@ -17,9 +20,12 @@ use Rattle.doc_store.proofs.SightSteps.{itself_is}
 use Rattle.doc_store.specs.Store.{StoreState, IsStore}
 use Rattle.doc_store_readers.proofs.FilterSteps.{keys_in_order}
 use Rattle.doc_store_readers.specs.Pages.{Page, StampedPage, without_stamps}
-use Rattle.doc_store_readers.specs.Sites.{goal_in, may_see, may_see_at}
+use Rattle.doc_store_readers.specs.Sites.{View, goal_in, may_see, may_see_at}
 use Rattle.doc_store_readers.specs.declared.reader.Reader.{Reader}
+use Rattle.doc_words_search.specs.Searches.{pages_of as pages_with_words}
+use Rattle.doc_words_search.specs.Words.{word_counts}
 use Rattle.doc_shelf_pages.proofs.HeldLaws.{by_path-held_of, what_is_held}
+use Rattle.doc_shelf_pages.proofs.KeptEdits.{what_is_kept_is_held}
 use Rattle.doc_shelf_pages.proofs.KeptSteps.{headings_of_kept}
 use Rattle.doc_shelf_pages.proofs.MapSteps.{by_path-with_each, get-with_each}
 use Rattle.doc_shelf_pages.proofs.ViewAnswers.{changed_seen}
@@ -142,3 +148,22 @@ module _ (render : Renders) (store : StoreState) (kept : Kept) (reader : Reader)
       ap contents_of_lines (is ∙ lines_seen flags are)
       ∙ ap (λ body. codes "<!DOCTYPE html>\n<title>Contents</title>\n<ul>\n" ++ body ++ codes "</ul>\n")
       (flat_map-map (λ lines. lines) entry_lines (mapped entry_of (linked_pages render (seen_in store reader))))
+
+-- ---- what indexes are told
+
+module _ (render : Renders) (store : StoreState) (kept : Kept) (reader : Reader) (is : IsStore store) (k : IsKept render store kept)
+    (flags : List Bool) (are : flags ≡ mapped (λ page. may_see (Some reader) page.1) (map.entries store.site.pages)) where
+  -- the flags say of what an index of links holds whether it is seen
+  pub links_flagged : (view : View) → view ≡ seen_in store reader → (index : PairMap PageLinks) → index ≡ kept.links
+      → flags ≡ mapped (leads (goal_in view)) (pages_with_links index)
+  links_flagged view sees index same =
+      are ∙ flags_of_held store reader is render links_in
+      ∙ sym (ap₂ (λ v m. mapped (leads (goal_in v)) (pages_with_links m)) sees (same ∙ (what_is_kept_is_held render store kept k).links))
+
+  -- and of what one of words holds
+  pub words_flagged : (index : PairMap (TextMap ℕ)) → index ≡ kept.words
+      → flags ≡ mapped (leads (goal_in (seen_in store reader))) (pages_with_words index)
+  words_flagged index same =
+      are ∙ flags_of_held store reader is render (λ path page. word_counts page)
+      ∙ sym (ap (λ m. mapped (leads (goal_in (seen_in store reader))) (pages_with_words m))
+      (same ∙ (what_is_kept_is_held render store kept k).words))

@@ -1,17 +1,14 @@
 -- The lists that a reader is answered, from what is kept of a store's pages.
 use Rattle.std.proofs.Common.{◌≡◌, ℕ, List, [], ◌++◌, ◌∷◌, Bool, true, false, length, bytes_eq, refl, ap, sym, subst, ◌∙◌}
-use Rattle.std.specs.Prelude.{Option, Some, None, is_some, if◌then◌else◌, map as mapped}
+use Rattle.std.specs.Prelude.{Option, Some, None, is_some, if◌then◌else◌}
 use Rattle.std.proofs.lemmas.Bool.{both_ways}
 use Rattle.doc_index_tables.specs.Maps.{PairMap, TextMap}
-use Rattle.doc_links_pages.specs.Links.{backlinks, broken, contents, entry_of, page_at as page_with_links}
+use Rattle.doc_links_pages.specs.Links.{backlinks, broken, page_at as page_with_links}
 use Rattle.doc_links_pages.specs.Names.{AreNames as WrittenNames}
 use Rattle.doc_links_pages.specs.PageLinks.{IsOnce, pages_of as pages_with_links}
 use Rattle.doc_links_pages.specs.declared.answers.Broken.{Broken}
-use Rattle.doc_links_pages.specs.declared.answers.Entry.{Entry}
 use Rattle.doc_links_pages.specs.declared.page_links.PageLinks.{PageLinks}
-use Rattle.doc_links_seen.specs.SeenPages.{seen_page, seen_pages as pages_shown}
-use Rattle.doc_links_seen.specs.declared.seen.SeenPage.{SeenPage}
-use Rattle.doc_listings.specs.Listings.{backlinks_text, contents_text, hits_text, report_text}
+use Rattle.doc_listings.specs.Listings.{backlinks_text, report_text}
 use Rattle.std.proofs.lemmas.Simd.{map-map}
 use Rattle.doc_page_parts.specs.declared.rendered.Rendered.{Rendered}
 use Rattle.doc_store_readers.proofs.KeySteps.{bytes_eq_is, same_from, same_itself}
@@ -21,11 +18,11 @@ use Rattle.doc_shelf_pages.specs.Shelves.{IsKept}
 use Rattle.doc_shelf_pages.specs.KeptPages.{Kept}
 use Rattle.doc_shelf_pages.proofs.HeldLaws.{each_is_held_once}
 use Rattle.doc_shelf_pages.proofs.KnownLaws.{counts_of_seen, linked, names_of_targets}
-use Rattle.doc_shelf_pages.proofs.ViewAnswers.{backlinks_are_the_views, broken_are_the_views, contents_are_the_views, hits_are_the_views}
+use Rattle.doc_shelf_pages.proofs.ViewAnswers.{backlinks_are_the_views, broken_are_the_views, hits_are_the_views}
 use Rattle.doc_shelf_pages.proofs.ViewAnswers.{links_are}
 use Rattle.doc_shelf_pages.specs.Held.{held_links, held_words}
 use Rattle.doc_shelf_pages.specs.ViewLaws.{links_seen, seen_in, words_seen}
-use Rattle.doc_shelf_pages.specs.Views.{Renders, backlinks_body, backlinks_in, broken_in, contents_body, links_in, report_body, search_body}
+use Rattle.doc_shelf_pages.specs.Views.{Renders, backlinks_body, backlinks_in, broken_in, hits_in, links_in, report_body}
 use Rattle.doc_store.specs.Names.{AreNames, names_of}
 use Rattle.doc_store_readers.specs.Pages.{Page}
 use Rattle.doc_store_readers.specs.Sites.{View, goal_in, page_at}
@@ -72,12 +69,6 @@ linked_in view index = seen (goal_in view) (pages_with_links index)
 abbrev counted_in : View → PairMap (TextMap ℕ) → List (List ℕ × TextMap ℕ)
 counted_in view index = seen (goal_in view) (pages_with_words index)
 
--- entries of pages that are seen
-pub entries_of_seen : (pages : List SeenPage) (all : List (List ℕ × PageLinks)) → pages_shown pages ≡ all
-    → mapped (λ page. entry_of (seen_page page)) pages ≡ contents all
-unfolding contents
-entries_of_seen pages all are = sym (map-map entry_of seen_page pages) ∙ ap (mapped entry_of) are
-
 module _ (render : Renders) (store : StoreState) (kept : Kept) (reader : Reader) (is : IsStore store) (k : IsKept render store kept)
     (view : View) (sees : view ≡ seen_in store reader) where
   module _ (index : PairMap PageLinks) (same : index ≡ kept.links) where
@@ -86,11 +77,6 @@ module _ (render : Renders) (store : StoreState) (kept : Kept) (reader : Reader)
 
     linked_are : linked_in view index ≡ links_seen store reader index
     linked_are = ap (λ v. linked_in v index) sees
-
-    pub contents_are : (pages : List Entry) → pages ≡ contents (linked_in view index)
-        → contents_text pages ≡ contents_body render (seen_in store reader)
-    contents_are pages are =
-        ap contents_text (are ∙ ap contents linked_are ∙ contents_are_the_views render store reader index is held)
 
     pub broken_are : (links : List Broken) → links ≡ broken (goal_in view) (linked_in view index)
         → links ≡ broken_in render (seen_in store reader)
@@ -150,10 +136,9 @@ module _ (render : Renders) (store : StoreState) (kept : Kept) (reader : Reader)
     words_held = same ∙ (what_is_kept_is_held render store kept k).words
 
     pub hits_are : (words : List (List ℕ)) (hits : List Hit) → hits ≡ search (counted_in view index) words
-        → hits_text hits ≡ search_body render (seen_in store reader) words
+        → hits ≡ hits_in render (seen_in store reader) words
     hits_are words hits are =
-        ap hits_text
-        (are ∙ ap (λ pages. search pages words) counted_are ∙ hits_are_the_views render store reader index words is words_held)
+        are ∙ ap (λ pages. search pages words) counted_are ∙ hits_are_the_views render store reader index words is words_held
 
     pub count_is : length (seen_in store reader).pages ≡ length (counted_in view index)
     count_is = counts_of_seen render store reader index is words_held ∙ sym (ap length counted_are)

@@ -2,19 +2,20 @@
 //!
 //! A page is kept under its path and a stamp in three maps, for its links, its words and its rendering, which change together: a call
 //! changes all of them, or, where memory is refused, none. To let a page go takes no memory. The texts of renderings are kept where what is
-//! kept was made so, and no edit changes that.
+//! kept was made so, and no edit changes that. Beside each rendering stand the lines that contents have of its page.
 //!
 //! `specs/Views` says what each list is of a reader's view, and `specs/Held` what indexes hold of the pages of a store; `view_laws` carry
 //! one to the other: what is held, asked by what a reader sees, answers what the definitions say of the reader's view. `specs/Shelves`
 //! says what is kept of the pages of a store, and which documents may stand in a cache; `edit_laws` say that edits of the store, with
-//! what goes with them, keep both so. `edits` makes these edits, `lists` the lists, `named` finds paths that texts are, and `visible` the
-//! page that a reader may see.
+//! what goes with them, keep both so. `edits` makes these edits, `lists` the lists, of which `flags` tells the pages that are seen and
+//! `hits` what a search finds; `named` finds paths that texts are, and `visible` the page that a reader may see.
 #![tactic(auto)]
 
 mod copying;
 pub mod edit_laws;
 pub mod edits;
 mod flags;
+mod hits;
 mod kept_pages;
 mod lined;
 pub mod lists;

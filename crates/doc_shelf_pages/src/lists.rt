@@ -10,6 +10,7 @@ ghost use Rattle.doc_store.specs.Store.{IsStore};
 
 use crate::KeptPages;
 use crate::flags::flags_of;
+use crate::hits::hits_of;
 use doc_listings::{push_backlinks, push_contents_of_lines, push_hits, push_report};
 use doc_page_parts::failure::Memory;
 use doc_page_parts::heap::{Heap, String};
@@ -72,11 +73,7 @@ pub fn search(
         → IfOk result (λ text. text
         ≡ search_body render (seen_in store.now reader.now) words.now) }
 {
-    let count = store.count_seen(reader);
-    let sight = store.sight(reader);
-    let hits = kept
-        .words()
-        .search_among(heap, words, &sight, count as u64)?;
+    let hits = hits_of(heap, store, kept, words, reader)?;
     let mut out = String::new(heap);
     push_hits(heap, &mut out, hits.get())?;
     Ok(Text::new(out))
@@ -88,7 +85,8 @@ pub fn report(heap: Heap, store: &Store, kept: &KeptPages, reader: &Reader) -> R
     ensures { (render : Renders) → IsKept render store.now kept.now
         → IfOk result (λ text. text ≡ report_body render (seen_in store.now reader.now)) }
 {
-    let links = kept.links().broken(&store.sight(reader))?;
+    let flags = flags_of(heap, store, reader)?;
+    let links = kept.links().broken_flagged(&flags, &store.sight(reader))?;
     let mut out = String::new(heap);
     push_report(heap, &mut out, links.get())?;
     Ok(Text::new(out))

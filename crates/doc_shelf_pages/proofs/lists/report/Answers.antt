@@ -1,6 +1,21 @@
 use Rattle.std.proofs.Common.{◌∙◌}
-use Rattle.doc_shelf_pages.proofs.ListSteps.{made, report_is}
+use Rattle.doc_shelf_pages.proofs.FlagSteps.{links_flagged}
+use Rattle.doc_shelf_pages.proofs.ListSteps.{is_once, made, report_is}
 use Rattle.doc_shelf_pages.proofs.lists.report.Goals as goal
+
+pub broken_flagged-requires : goal.broken_flagged-requires
+broken_flagged-requires c =
+    let render = c.requires.kept.0 in
+    let store = c.args.store.now in
+    let kept = c.args.kept.now in
+    let reader = c.args.reader.now in
+    let is = c.requires.kept.1 in
+    let k = c.requires.kept.2 in
+    record {
+      once = is_once render store kept reader is k c.sight.result c.sight.ensures c.links.result.now c.links.ensures;
+      seen = links_flagged render store kept reader is k c.deref.result.now (c.deref.ensures.value ∙ c.in_ok-flags.ensures)
+          c.sight.result c.sight.ensures c.links.result.now c.links.ensures;
+    }
 
 pub returns : goal.returns
 returns c render k =
