@@ -16,7 +16,7 @@ use doc_store::store::Store;
 use doc_words::hit::Hit;
 use doc_words::word::Word;
 
-/// Of so many pages one is asked for by its path in the time in which all are walked over.
+/// All pages are walked over where more than one in so many may have one of the words.
 const WALKED: usize = 8;
 
 /// The best pages that have each word. Where many pages have one of them, one walk over all tells which are seen; else each page that has
@@ -46,8 +46,8 @@ fn hits_by_flags(
     words: &[Word],
     reader: &Reader,
 ) -> Result<List<Hit>, Memory>
-    ensures { (render : Renders) → IsStore store.now → IsKept render store.now kept.now → IfOk result
-        (λ hits. hits ≡ hits_in render (seen_in store.now reader.now) words.now) }
+    ensures { (render : Renders) → IsStore store.now → IsKept render store.now kept.now
+        → IfOk result (λ hits. hits ≡ hits_in render (seen_in store.now reader.now) words.now) }
 {
     let flags = flags_of(heap, store, reader)?;
     kept.words().search_flagged(heap, words, &flags)
