@@ -3,5 +3,6 @@ mod BrowsingExamples
 mod ListeningExamples
 mod KeySteps
 mod FolderPageSteps
+mod OverlapSteps
 mod PartSteps
 mod RowSteps

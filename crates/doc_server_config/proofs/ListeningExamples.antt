@@ -1,16 +1,18 @@
 -- The definitions on worked examples.
-use Rattle.std.proofs.Common.{◌≡◌, [], ◌∷◌, codes, refl}
+use Rattle.std.proofs.Common.{◌≡◌, [], ◌∷◌, true, false, codes, refl}
 use Rattle.std.specs.Prelude.{Some, None, Ok, Err}
 use Rattle.std.specs.Str.{chars}
 use Rattle.toml.proofs.OnLiterals.{toml_on_literals}
 use Rattle.doc_page_parts.specs.declared.path.PathError.TheVariants.{BadPath}
 use Rattle.doc_page_parts.specs.Paths.{is_path}
 use Rattle.doc_store_readers.specs.Groups.{groups_of_names}
-use Rattle.doc_server_config.specs.declared.folder.FolderFault.TheVariants.{OtherKey, BadFile, BadPrefix, BadGroups}
+use Rattle.doc_server_config.specs.declared.folder.FolderFault.TheVariants.{OtherKey, BadFile, BadPrefix, BadGroups, BadExcept}
 use Rattle.doc_server_config.specs.declared.listening.ListeningError.TheVariants.{BadToml, BadListen, BadConnections, BadIdleSeconds}
 use Rattle.doc_server_config.specs.declared.listening.ListeningError.TheVariants.{BadFolders, BadFolder}
+use Rattle.doc_server_config.specs.Excepted.{is_excepted}
 use Rattle.doc_server_config.specs.FileNames.{path_in_folder}
 use Rattle.doc_server_config.specs.Listenings.{listening_of}
+use Rattle.doc_server_config.specs.Overlaps.{first_overlap}
 
 -- ---- what is read
 
@@ -24,11 +26,16 @@ other_keys_of_the_document : listening_of (codes "cache = 0\npage = 1\n[listen]\
 unfolding toml_on_literals
 other_keys_of_the_document = refl
 
-all_keys : listening_of (codes "[[folder]]\npath = \"../d\"\nprefix = \"g/h\"\ngroups = [\"b\", \"a\"]\n[[folder]]\npath = \"\"\n[listen]\nconnections = 1\nidle_seconds = 86400\n")
+all_keys : listening_of (codes "[[folder]]\npath = \"../d\"\nprefix = \"g/h\"\ngroups = [\"b\", \"a\"]\nexcept = [\"x/y\", \".z\"]\n[[folder]]\npath = \"\"\n[listen]\nconnections = 1\nidle_seconds = 86400\n")
     ≡ Ok (record {
       bounds = record { connections = 1; idle_seconds = 86400 };
-      folders = record { file = codes "../d"; prefix = codes "g/h"; groups = codes "a" ∷ codes "b" ∷ [] }
-          ∷ record { file = []; prefix = []; groups = [] } ∷ [];
+      folders = record {
+        file = codes "../d";
+        prefix = codes "g/h";
+        groups = codes "a" ∷ codes "b" ∷ [];
+        except = codes "x/y" ∷ codes ".z" ∷ [];
+      }
+          ∷ record { file = []; prefix = []; groups = []; except = [] } ∷ [];
     })
 unfolding toml_on_literals is_path chars groups_of_names
 all_keys = refl
@@ -88,6 +95,27 @@ bad_groups : listening_of (codes "[[folder]]\npath = \"d\"\ngroups = [\"A\"]\n")
 unfolding toml_on_literals groups_of_names
 bad_groups = refl
 
+bad_except : listening_of (codes "[[folder]]\npath = \"d\"\nexcept = \"x\"\n") ≡ Err (BadFolder 1 BadExcept)
+unfolding toml_on_literals groups_of_names
+bad_except = refl
+
+an_excepted_folder_has_no_slash_behind_it : listening_of (codes "[[folder]]\npath = \"d\"\nexcept = [\"x/\"]\n") ≡ Err (BadFolder 1 BadExcept)
+unfolding toml_on_literals groups_of_names
+an_excepted_folder_has_no_slash_behind_it = refl
+
+-- groups are refused before excepted folders
+groups_come_first : listening_of (codes "[[folder]]\npath = \"d\"\ngroups = 1\nexcept = [\"..\"]\n") ≡ Err (BadFolder 1 BadGroups)
+unfolding toml_on_literals groups_of_names
+groups_come_first = refl
+
+-- ---- the files in folders that are passed over
+
+below_an_excepted_folder : is_excepted (codes "x/y" ∷ codes "z" ∷ []) (codes "x/y/a.md") ≡ true
+below_an_excepted_folder = refl
+
+beside_an_excepted_folder : is_excepted (codes "x/y" ∷ codes "z" ∷ []) (codes "x/yy/a.md") ≡ false
+beside_an_excepted_folder = refl
+
 -- ---- the paths of files
 
 in_a_folder : path_in_folder (codes "g") (codes "a/b.md") ≡ Ok (Some (codes "g/a/b.md"))
@@ -113,3 +141,15 @@ hidden_folder = refl
 no_path_of_a_page : path_in_folder [] (codes "what?.md") ≡ Err BadPath
 unfolding is_path chars
 no_path_of_a_page = refl
+
+-- ---- paths that two sources give
+
+-- the first in the order of the rows, not the first that comes again
+in_the_order_of_rows : first_overlap (codes "a.md" ∷ codes "b.md" ∷ []) (codes "b.md" ∷ codes "a.md" ∷ []) ≡ Some (codes "a.md")
+in_the_order_of_rows = refl
+
+two_folders : first_overlap (codes "a.md" ∷ []) (codes "b.md" ∷ codes "c.md" ∷ codes "b.md" ∷ []) ≡ Some (codes "b.md")
+two_folders = refl
+
+rows_alone : first_overlap (codes "a.md" ∷ codes "a.md" ∷ []) (codes "b.md" ∷ []) ≡ None
+rows_alone = refl

@@ -4,9 +4,12 @@ pub mod PageRows
 pub mod Settings
 pub mod Bounds
 pub mod BoundSteps
+pub mod Excepted
 pub mod FileNames
 pub mod Folders
 pub mod Keys
 pub mod Listenings
+pub mod Overlaps
+pub mod OverlapSteps
 pub mod FolderPages
 pub mod Browsing

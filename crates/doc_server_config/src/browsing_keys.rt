@@ -126,7 +126,7 @@ fn groups_of(heap: Heap, value: &Value) -> Result<Option<Groups>, Memory>
 }
 
 /// The strings of an array that holds nothing else.
-fn strings_in(heap: Heap, array: &Array) -> Result<Option<Vec<&str>>, Memory>
+pub(crate) fn strings_in(heap: Heap, array: &Array) -> Result<Option<Vec<&str>>, Memory>
     ensures { IfOk result
         (λ texts. option_map (λ found. texts_of found.items) texts
         ≡ strings_in (array_view array.now)) }

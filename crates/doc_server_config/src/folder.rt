@@ -5,6 +5,7 @@ ghost use Rattle.toml.specs.Data.{get};
 ghost use Rattle.toml.specs.View.{items_view, view};
 ghost use Rattle.doc_server_config.specs.Folders.{file_at, folder_of, folders_from, has_other_key, prefix_at};
 
+use crate::except::except_in;
 use crate::file_name::is_prefix;
 use crate::growth::push;
 use crate::listening::ListeningError;
@@ -21,7 +22,7 @@ use toml::Value;
 /// Why a table is no folder.
 #[derive(Clone, Copy, Debug)]
 pub enum FolderFault {
-    /// It has a key other than `path`, `prefix` and `groups`.
+    /// It has a key other than `path`, `prefix`, `groups` and `except`.
     OtherKey,
     /// `path` isn't there, or no string.
     BadFile,
@@ -29,6 +30,8 @@ pub enum FolderFault {
     BadPrefix,
     /// `groups` is no array of names of groups, or has too many.
     BadGroups,
+    /// `except` is no array of names of folders.
+    BadExcept,
 }
 
 impl fmt::Display for FolderFault {
@@ -38,6 +41,7 @@ impl fmt::Display for FolderFault {
             FolderFault::BadFile => "`path` is bad",
             FolderFault::BadPrefix => "`prefix` is bad",
             FolderFault::BadGroups => "`groups` is bad",
+            FolderFault::BadExcept => "`except` is bad",
         })
     }
 }
@@ -51,6 +55,8 @@ pub struct Folder {
     pub prefix: Text,
     /// The groups whose readers see the pages.
     pub groups: Groups,
+    /// The names of the folders in it that are passed over, with all that stands below them.
+    pub except: List<Text>,
 }
 
 /// The folders of tables, or the first table that is none, counted from 1.
@@ -85,10 +91,14 @@ fn folder_of(heap: Heap, table: &Value) -> Result<Result<Folder, FolderFault>, M
     let Some(groups) = groups_in(heap, table)? else {
         return Ok(Err(FolderFault::BadGroups));
     };
+    let Some(except) = except_in(heap, table)? else {
+        return Ok(Err(FolderFault::BadExcept));
+    };
     Ok(Ok(Folder {
         file,
         prefix,
         groups,
+        except,
     }))
 }
 
@@ -96,7 +106,7 @@ fn has_other_key(table: &Value) -> bool
     ensures { result ≡ has_other_key (view table.now) }
 {
     match table.as_table() {
-        Some(table) => !has_only(table, &["groups", "path", "prefix"]),
+        Some(table) => !has_only(table, &["except", "groups", "path", "prefix"]),
         None => false,
     }
 }

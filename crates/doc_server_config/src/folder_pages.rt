@@ -1,15 +1,17 @@
 //! The pages of a folder.
 
-ghost use Rattle.std.specs.Prelude.{◌≡◌, ◌≤◌, Ok, Some, IfOk, OnOk, length};
+ghost use Rattle.std.specs.Prelude.{◌≡◌, ◌≤◌, false, Ok, Some, IfOk, OnOk, length};
 ghost use Rattle.std.specs.List.{All};
 ghost use Rattle.doc_store.specs.Store.{text_limit};
+ghost use Rattle.doc_server_config.specs.Excepted.{is_excepted};
 ghost use Rattle.doc_server_config.specs.FileNames.{path_in_folder};
 ghost use Rattle.doc_server_config.specs.FolderPages.{IsPageOf};
 
+use crate::except::is_excepted;
 use crate::file_name::path_in_folder;
 use crate::folder::Folder;
 use crate::growth::push;
-use crate::walk::{files_in, joined};
+use crate::walk::{check_folders, files_in, joined};
 use doc_page_parts::heap::{Heap, String, Vec};
 use doc_page_parts::list::List;
 use doc_page_parts::path::{Path, PathError};
@@ -34,8 +36,9 @@ pub struct FolderPage {
 }
 
 /// The pages of a folder, in the order of their paths: each regular file in it and below whose name ends in `.md`. Names that begin
-/// with `.`, and links, are passed over. `CannotRead` names a folder that can't be read, or a file that can't, whose text isn't UTF-8
-/// or too long for a page, or whose name makes no path of one. Which files a folder has no clause says, and of a refusal nothing.
+/// with `.`, links, and the folders that it excepts are passed over. `CannotRead` names a folder that can't be read, an excepted one
+/// that isn't there, or a file that can't be read, whose text isn't UTF-8 or too long for a page, or whose name makes no path of one.
+/// Which files a folder has no clause says, and of a refusal nothing.
 pub fn read_folder<R: AllocGlobal + Files + Clone + Drop>(
     rt: &R,
     heap: Heap,
@@ -43,7 +46,9 @@ pub fn read_folder<R: AllocGlobal + Files + Clone + Drop>(
 ) -> Result<List<FolderPage>, Fault>
     ensures { IfOk result (λ pages. All (IsPageOf folder.now) pages) }
 {
-    let files = files_in(rt, heap, folder.file.get())?;
+    let (root, except) = (folder.file.get(), folder.except.get());
+    let files = files_in(rt, heap, root, except)?;
+    check_folders(rt, heap, root, except)?;
     let mut pages = Vec::new(heap);
     for file in files.as_slice() {
         add_file(rt, heap, folder, file.as_str(), &mut pages)?;
@@ -62,6 +67,9 @@ fn add_file<R: AllocGlobal + Files + Clone + Drop>(
     ensures { All (IsPageOf folder.now) pages.old.items
         → OnOk result (All (IsPageOf folder.now) pages.new.items) }
 {
+    if is_excepted(folder.except.get(), file) {
+        return Ok(());
+    }
     match path_of(heap, folder, file)? {
         Some(path) => add_page(rt, heap, folder, path, file, pages),
         None => Ok(()),
@@ -96,7 +104,8 @@ fn add_page<R: AllocGlobal + Files + Clone + Drop>(
     file: &str,
     pages: &mut Vec<FolderPage>,
 ) -> Result<(), Fault>
-    requires { path_in_folder folder.now.prefix file.now ≡ Ok (Some path) }
+    requires inside { is_excepted folder.now.except file.now ≡ false }
+    requires path { path_in_folder folder.now.prefix file.now ≡ Ok (Some path) }
     ensures { All (IsPageOf folder.now) pages.old.items
         → OnOk result (All (IsPageOf folder.now) pages.new.items) }
 {

@@ -62,9 +62,10 @@ pub struct Listening {
 impl Listening {
     /// What `listen` goes by, of a TOML 1.1 document: its table `listen` with `connections` (1 to 65,535,
     /// else 1,024) and `idle_seconds` (1 to 86,400, else 30), and its array `folder`, each with a `path`,
-    /// a `prefix` (else none) and `groups` (an array of names, else none). These tables have no other
-    /// keys; those of the document are not its concern. Refusals come in the order of
-    /// [`ListeningError`], but that `Memory` may be answered before another one is found.
+    /// a `prefix` (else none), `groups` (an array of names, else none) and `except` (an array of names
+    /// of folders in it, else none). These tables have no other keys; those of the document are not its
+    /// concern. Refusals come in the order of [`ListeningError`], but that `Memory` may be answered
+    /// before another one is found.
     pub fn from_toml(heap: Heap, text: &str) -> Result<Listening, ListeningError>
         ensures read { IfOk result (λ listening. listening_of text.now ≡ Ok listening) }
         ensures refused { IfErr result

@@ -4,28 +4,33 @@ use crate::file_name;
 use crate::growth::push;
 use doc_page_parts::failure::Memory;
 use doc_page_parts::heap::{Heap, String, Vec};
+use doc_page_parts::text::Text;
 use doc_server_streams::fault::Fault;
 use doc_server_streams::whole_input::cannot_read;
 use std::alloc::AllocGlobal;
-use std::fs::{DirEntry, FileType, ReadDir, read_dir};
+use std::fs::{DirEntry, FileType, ReadDir, read_dir, symlink_metadata};
 use std::io;
 use std::rt::Files;
 
 /// What was found so far: folders that are still to be looked into, and files. Each is named from the folder that the walk began in.
 #[derive(Drop)]
-struct Found {
+struct Found<'a> {
+    /// The folders that aren't looked into.
+    except: &'a [Text],
     folders: Vec<String>,
     files: Vec<String>,
 }
 
 /// The names of the regular files whose name ends in `.md` in a folder and below, in the order of their bytes, each named from that
-/// folder. Names that begin with `.` are passed over, and so are links.
+/// folder. Names that begin with `.` are passed over, and so are links and the folders of the names `except`.
 pub fn files_in<R: AllocGlobal + Files + Clone + Drop>(
     rt: &R,
     heap: Heap,
     root: &str,
+    except: &[Text],
 ) -> Result<Vec<String>, Fault> {
     let mut found = Found {
+        except,
         folders: Vec::new(heap),
         files: Vec::new(heap),
     };
@@ -39,7 +44,7 @@ fn look_below<R: AllocGlobal + Files + Clone + Drop>(
     rt: &R,
     heap: Heap,
     root: &str,
-    found: &mut Found,
+    found: &mut Found<'_>,
 ) -> Result<(), Fault> {
     push(&mut found.folders, String::new(heap))?;
     for _ in 0..u64::MAX {
@@ -57,7 +62,7 @@ fn look_into<R: AllocGlobal + Files + Clone + Drop>(
     heap: Heap,
     root: &str,
     folder: &str,
-    found: &mut Found,
+    found: &mut Found<'_>,
 ) -> Result<(), Fault> {
     let name = joined(heap, root, folder)?;
     match read_dir(rt, name.as_str()) {
@@ -72,7 +77,7 @@ fn note_all<R: AllocGlobal + Files + Clone + Drop>(
     name: &str,
     folder: &str,
     entries: ReadDir<R>,
-    found: &mut Found,
+    found: &mut Found<'_>,
 ) -> Result<(), Fault> {
     for entry in entries {
         note_entry(heap, name, folder, entry, found)?;
@@ -86,7 +91,7 @@ fn note_entry<R: AllocGlobal + Files + Clone + Drop>(
     name: &str,
     folder: &str,
     entry: io::Result<DirEntry<R>>,
-    found: &mut Found,
+    found: &mut Found<'_>,
 ) -> Result<(), Fault> {
     match entry {
         Ok(entry) => note(heap, folder, &entry, found),
@@ -99,7 +104,7 @@ fn note<R: AllocGlobal + Files + Clone + Drop>(
     heap: Heap,
     folder: &str,
     entry: &DirEntry<R>,
-    found: &mut Found,
+    found: &mut Found<'_>,
 ) -> Result<(), Fault> {
     let name = entry.file_name();
     if name.starts_with('.') {
@@ -113,14 +118,56 @@ fn note<R: AllocGlobal + Files + Clone + Drop>(
 }
 
 /// Adds a folder, or a file whose name ends in `.md`.
-fn add_by_kind(found: &mut Found, kind: FileType, path: String) -> Result<(), Memory> {
+fn add_by_kind(found: &mut Found<'_>, kind: FileType, path: String) -> Result<(), Memory> {
     if kind.is_dir() {
+        if is_one_of(found.except, path.as_str()) {
+            return Ok(());
+        }
         return push(&mut found.folders, path);
     }
     if kind.is_file() && path.as_str().ends_with(".md") {
         return push(&mut found.files, path);
     }
     Ok(())
+}
+
+fn is_one_of(names: &[Text], name: &str) -> bool {
+    names.iter().any(|one| one.get() == name)
+}
+
+/// Looks whether each of these names is a folder's in the folder, without a link on the way. `CannotRead` names the first that isn't.
+pub fn check_folders<R: AllocGlobal + Files>(
+    rt: &R,
+    heap: Heap,
+    root: &str,
+    names: &[Text],
+) -> Result<(), Fault> {
+    for name in names {
+        let path = joined(heap, root, name.get())?;
+        if !is_folder(rt, heap, root, name.get())? {
+            return Err(cannot_read(heap, path.as_str()));
+        }
+    }
+    Ok(())
+}
+
+/// Whether a name in the folder is a folder's, and each part in front of it, too. A link is none.
+fn is_folder<R: AllocGlobal + Files>(
+    rt: &R,
+    heap: Heap,
+    root: &str,
+    name: &str,
+) -> Result<bool, Memory> {
+    let mut path = String::from_str(heap, root)?;
+    for part in name.split('/') {
+        path.push_str("/")?;
+        path.push_str(part)?;
+        match symlink_metadata(rt, path.as_str()) {
+            Ok(found) if found.is_dir() => {}
+            _ => return Ok(false),
+        }
+    }
+    Ok(true)
 }
 
 /// A name behind a folder and a slash; without a folder or a name the other alone.

@@ -7,5 +7,11 @@ pub returns : goal.returns
 returns g c =
     let page : FolderPage = record { path = c.args.path; groups = c.in_ok-groups.groups; text = c.in_ok-text.text } in
     let is : IsPageOf c.args.folder.now page =
-    record { name = c.args.file.now; path = c.requires; groups = c.in_ok-groups.ensures; short = c.in_ok-text.ensures } in
+    record {
+      name = c.args.file.now;
+      inside = c.requires.inside;
+      path = c.requires.path;
+      groups = c.in_ok-groups.ensures;
+      short = c.in_ok-text.ensures;
+    } in
     λ all. all_more (IsPageOf c.args.folder.now) c.args.pages.now.items c.push.new.list.items page all is c.in_ok-push.ensures

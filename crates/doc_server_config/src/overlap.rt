@@ -1,0 +1,126 @@
+//! Paths that two sources give, of which one is a folder.
+
+ghost use Rattle.std.specs.Prelude.{◌≡◌, IfOk, OnOk, option_copied};
+ghost use Rattle.std.specs.FinMap as map;
+ghost use Rattle.std.specs.List.{find};
+ghost use Rattle.doc_server_config.specs.Overlaps.{first_overlap, paths_of};
+ghost use Rattle.doc_server_config.specs.OverlapSteps.{AreMarks, is_again};
+
+use crate::page_row::PageRow;
+use doc_page_parts::failure::Memory;
+use doc_page_parts::heap::{BTreeMap, Heap};
+use doc_page_parts::path::Path;
+use std::marker::Model;
+
+/// The paths of pages, each with whether it came again. Contracts see the map.
+#[derive(Drop)]
+struct Marks {
+    entries: BTreeMap<Path, bool>,
+}
+
+impl Model for Marks {
+    ghost use Rattle.std.specs.Prelude.{Bool};
+    ghost use Rattle.std.specs.Coded.{coded_bool, coded_ℕ, coded_list};
+    ghost use Rattle.std.specs.FinMap as map;
+    ghost use Rattle.doc_store_readers.specs.Maps.{TextMap};
+
+    ghost Value = { TextMap Bool };
+
+    ghost coded = { map.code (coded_list coded_ℕ) coded_bool };
+
+    ghost view = { λ m. map.from_entries m.entries.entries };
+}
+
+impl Marks {
+    /// Those of these pages.
+    fn of(heap: Heap, pages: &[PageRow]) -> Result<Marks, Memory>
+        ensures { IfOk result (λ marks. AreMarks (paths_of pages.now) marks) }
+    {
+        let mut marks = Marks::none(heap);
+        for page in pages {
+            marks.add(page.path.copy(heap)?)?;
+        }
+        Ok(marks)
+    }
+
+    fn none(heap: Heap) -> Marks
+        ensures { result ≡ map.empty }
+    {
+        Marks {
+            entries: BTreeMap::new(heap),
+        }
+    }
+
+    /// Adds a path, which comes again where it is there.
+    fn add(&mut self, path: Path) -> Result<(), Memory>
+        ensures { OnOk result
+            (self.new ≡ map.insert self.old path (map.contains_key self.old path)) }
+    {
+        let again = self.has(&path);
+        self.insert(path, again)
+    }
+
+    fn insert(&mut self, path: Path, again: bool) -> Result<(), Memory>
+        ensures { OnOk result (self.new ≡ map.insert self.old path again) }
+    {
+        self.entries.insert(path, again)?;
+        Ok(())
+    }
+
+    fn has(&self, path: &Path) -> bool
+        ensures { result ≡ map.contains_key self.now path.now }
+    {
+        self.entries.contains_key(path)
+    }
+
+    fn is_again(&self, path: &Path) -> bool
+        ensures { result ≡ is_again (map.get self.now path.now) }
+    {
+        match self.entries.get(path) {
+            Some(again) => *again,
+            None => false,
+        }
+    }
+
+    /// The first path of some pages that is there.
+    fn first_of<'a>(&self, pages: &'a [PageRow]) -> Option<&'a Path>
+        ensures { option_copied result ≡ find (map.contains_key self.now) (paths_of pages.now) }
+    {
+        for page in pages {
+            if self.has(&page.path) {
+                return Some(&page.path);
+            }
+        }
+        None
+    }
+
+    /// The first path of some pages that came again.
+    fn first_again<'a>(&self, pages: &'a [PageRow]) -> Option<&'a Path>
+        ensures { option_copied result
+            ≡ find (λ path. is_again (map.get self.now path)) (paths_of pages.now) }
+    {
+        for page in pages {
+            if self.is_again(&page.path) {
+                return Some(&page.path);
+            }
+        }
+        None
+    }
+}
+
+/// The first path, in the order of the rows of a configuration and of the pages of its folders behind them, that two of these give, of
+/// which one is a folder's.
+pub fn first_overlap<'a>(
+    heap: Heap,
+    rows: &'a [PageRow],
+    others: &'a [PageRow],
+) -> Result<Option<&'a Path>, Memory>
+    ensures { IfOk result (λ path.
+        option_copied path ≡ first_overlap (paths_of rows.now) (paths_of others.now)) }
+{
+    let marks = Marks::of(heap, others)?;
+    match marks.first_of(rows) {
+        Some(path) => Ok(Some(path)),
+        None => Ok(marks.first_again(others)),
+    }
+}
