@@ -15,6 +15,7 @@ scene = Scene(seconds=200)
 PAGE = '[[page]]\npath = "a.md"\n'
 SITES = {"good": 'text = "A"\n', "absent": 'file = "absent.md"\n', "long": 'file = "long.md"\n',
          "bounds": 'text = "A"\n[listen]\nconnections = 0\n', "folder": 'text = "A"\n[[folder]]\npath = "nowhere"\n',
+         "twice": 'text = "A"\n[[folder]]\npath = "pages"\n', "except": 'text = "A"\n[[folder]]\npath = "pages"\nexcept = ["b/"]\n',
          "both": 'file = "absent.md"\n[listen]\nidle_seconds = -1\n'}
 DIFFER = {"good": [b"put b.md - B\n"], "no_edit": [b"put b.md - B\n", b"connect\n"], "refused": [b"remove b.md\n"],
           "long_path": [b"put " + b"a" * 201 + b" - B\n"], "empty_line": [b"\n"], "no_text": [b"put b.md -\n"],
@@ -43,6 +44,7 @@ def files():
     for name, text in SITES.items():
         put(f"{name}.toml", OWNER + PAGE + text)
     put("no.toml", "x =\n")
+    put("pages/a.md", "A\n")
     put("long.md", "a" * 1_048_577)
     for name, texts in DIFFER.items():
         put(name, written(texts))
@@ -78,6 +80,8 @@ class Later:
             self.both("both.toml", journal, "config: `idle_seconds` is bad")
             self.both("absent.toml", journal, "cannot read absent.md")
             self.both("folder.toml", journal, "cannot read nowhere")
+            self.both("except.toml", journal, "config: folder 1: `except` is bad")
+            self.both("twice.toml", journal, "config: a.md twice")
         stops(["listen", "long.toml", self.taken, "--journal", "damaged"], "refused", stdout=self.full)
 
     def journals(self):

@@ -1,6 +1,6 @@
 """A site whose pages are files of a folder (`[[folder]]`, which `listen` and `compact` alone read): which files are pages and who sees
-them, that an edit in the journal wins over the file at the next start and a file without an edit is read anew, and which files and bounds
-are refused, by name.
+them, that an edit in the journal wins over the file at the next start and a file without an edit is read anew, which folders are
+passed over, and which files, paths and bounds are refused, by name.
 
     python3 scripts/listen/folders.py PROGRAM
 
@@ -99,6 +99,43 @@ def bare():
     scene.ends(server, "no prefix")
 
 
+# ---- folders that are passed over, and paths that two sources give
+
+def excepted():
+    """A folder in a folder, with groups of its own; its neighbours by name stay."""
+    put("docs/b/c.md", "Second.\n")
+    config(FOLDER.format("docs") + 'except = ["b/d", ".git"]\n[[folder]]\npath = "docs/b/d"\nprefix = "handbook/b/d"\ngroups = ["ops"]\n')
+    server = scene.listen("site.toml")
+    for token, path, status in (("ann", "b/c.md", 200), ("ann", "b-c.md", 200), ("ann", "b/d/e/f.md", 404), ("bob", "b/d/e/f.md", 200),
+                                ("bob", "b/c.md", 404)):
+        found = Client(server.port, token).ask("/page/handbook/" + path)[0]
+        scene.check(f"{path} to {token}", found == status, found)
+    scene.ends(server, "an excepted folder")
+    for name, value in (("a string", '"b"'), ("a slash at the end", '["b/"]'), ("a way up", '["b/../b"]'), ("an empty name", '[""]'),
+                        ("a number", "[1]")):
+        config(FOLDER.format("docs") + f"except = {value}\n")
+        refused(f"except: {name}", "config: folder 1: `except` is bad\n")
+    for name in ("absent", "a.md", "folder", "folder/d", "b/c.md"):
+        config(FOLDER.format("docs") + f'except = ["b", "{name}"]\n')
+        refused(f"except: {name}", f"cannot read docs/{name}\n")
+
+
+def twice():
+    """The first path in the order of the rows is told; rows alone may share one."""
+    for name in ("one/a.md", "one/b.md", "two/c.md", "two/a.md"):
+        put(name, "X\n")
+    row, folder = '[[page]]\npath = "{}"\ntext = "X"\n', '[[folder]]\npath = "{}"\n'
+    rows = row.format("x.md") + row.format("b.md") + row.format("a.md")
+    for name, text, path in (("a row and a folder", rows + folder.format("one"), "b.md"),
+                             ("a row behind its folder", folder.format("two") + row.format("c.md"), "c.md"),
+                             ("two folders", folder.format("two") + folder.format("one"), "a.md"),
+                             ("a folder twice", folder.format("one") * 2, "a.md")):
+        config(text)
+        refused(name, f"config: {path} twice\n")
+    config(rows + row.format("a.md") + folder.format("one") + 'prefix = "one"\n')
+    scene.ends(scene.listen("site.toml"), "rows alone")
+
+
 # ---- what is refused, and where it isn't read
 
 def bad_files():
@@ -134,6 +171,8 @@ def main():
     pages()
     next_start()
     bare()
+    excepted()
+    twice()
     bad_files()
     bad_tables()
 

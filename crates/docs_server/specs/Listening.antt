@@ -1,7 +1,12 @@
 -- What the command `listen` is of, and what stops it.
+use Rattle.std.specs.Prelude.{◌≡◌, ◌++◌, List, None, Ok}
+use Rattle.toml.specs.Data.{Members}
+use Rattle.doc_server_config.specs.declared.config.SiteConfig.{SiteConfig}
 use Rattle.doc_server_config.specs.declared.page_row.PageRow.{PageRow}
 use Rattle.doc_server_config.specs.declared.page_row.Source.TheVariants as sources
 use Rattle.doc_server_config.specs.declared.folder_pages.FolderPage.{FolderPage}
+use Rattle.doc_server_config.specs.Configurations.{config_of_document}
+use Rattle.doc_server_config.specs.Overlaps.{first_overlap, paths_of}
 use Rattle.doc_server_streams.specs.declared.fault.Fault.{Fault}
 use Rattle.doc_server_streams.specs.declared.fault.Fault.TheVariants as faults
 use Rattle.doc_server_poll.specs.declared.fault.PollFault.{PollFault}
@@ -10,6 +15,19 @@ use Rattle.doc_server_poll.specs.declared.fault.PollFault.TheVariants as poll_fa
 -- a page of a folder, as one of the configuration
 abbrev pub row_of : FolderPage → PageRow
 row_of page = record { path = page.path; groups = page.groups; source = sources.Text page.text }
+
+-- Some pages, and behind them others, of folders: no two of all these have one path of which one is a folder's.
+pub record HasOthers (rows pages : List PageRow) : Type 0 where
+  pub others : List PageRow
+  pub all : pages ≡ rows ++ others
+  pub apart : first_overlap (paths_of rows) (paths_of others) ≡ None
+
+-- The pages of a configuration that is some document's, and behind them such others.
+pub record HasOwnPaths (config : SiteConfig) : Type 0 where
+  pub document : Members
+  pub own : SiteConfig
+  pub is_own : config_of_document document ≡ Ok own
+  pub others : HasOthers own.pages config.pages
 
 -- where the server doesn't run
 abbrev pub poll_fault_of : PollFault → Fault

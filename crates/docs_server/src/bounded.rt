@@ -1,7 +1,8 @@
 //! The site of a server that runs, with the pages of its folders.
 
-ghost use Rattle.std.specs.Prelude.{◌≡◌};
-ghost use Rattle.docs_server.specs.Listening.{row_of};
+ghost use Rattle.std.specs.Prelude.{◌≡◌, ◌++◌, IfOk, OnOk, None};
+ghost use Rattle.doc_server_config.specs.Overlaps.{first_overlap, paths_of};
+ghost use Rattle.docs_server.specs.Listening.{HasOthers, HasOwnPaths, row_of};
 
 use crate::files::{Pages, Site, config_of, document_of, read_file, site_of};
 use crate::listen_fault::ListenFault;
@@ -16,6 +17,7 @@ use doc_server_config::document::Document;
 use doc_server_config::folder::Folder;
 use doc_server_config::folder_pages::{FolderPage, read_folder};
 use doc_server_config::listening::{Listening, ListeningError};
+use doc_server_config::overlap::first_overlap;
 use doc_server_config::page_row::{PageRow, Source};
 use doc_server_streams::fault::Fault;
 use std::rt::Files;
@@ -26,11 +28,14 @@ pub struct Bounded {
     pub bounds: Bounds,
 }
 
-/// The site of the configuration of this name, its folders' pages behind its own, and its bounds. Folders are read last.
+/// The site of the configuration of this name, its folders' pages behind its own, and its bounds. Folders are read last; `Twice` has
+/// the first path, in the order of these pages, that a page of a folder and another page have.
 pub fn read_bounded<R: AllocGlobal + Files + Clone + Drop>(
     rt: &R,
     name: &str,
-) -> Result<Bounded, ListenFault> {
+) -> Result<Bounded, ListenFault>
+    ensures { IfOk result (λ bounded. HasOwnPaths bounded.site.pages.config) }
+{
     let heap = rt.alloc();
     let text = read_file(rt, heap, name)?;
     let document = document_of(heap, &text)?;
@@ -69,7 +74,10 @@ fn with_folders<R: AllocGlobal + Files + Clone + Drop>(
     heap: Heap,
     pages: Pages,
     folders: &[Folder],
-) -> Result<Pages, Fault> {
+) -> Result<Pages, ListenFault>
+    ensures { IfOk result
+        (λ all. HasOthers pages.config.pages all.config.pages) }
+{
     let Pages { config, texts } = pages;
     let SiteConfig {
         keep_alive,
@@ -79,22 +87,56 @@ fn with_folders<R: AllocGlobal + Files + Clone + Drop>(
         pages,
         browse,
     } = config;
-    let mut rows = pages.into_inner();
-    for folder in folders {
-        let found = read_folder(rt, heap, folder)?;
-        add_rows(&mut rows, found)?;
-    }
+    let rows = pages.into_inner();
+    let others = read_folders(rt, heap, folders)?;
+    check_overlap(heap, &rows, &others)?;
+    let pages = joined(rows, others)?;
     Ok(Pages {
         config: SiteConfig {
             keep_alive,
             cache,
             entities,
             readers,
-            pages: List::new(rows),
+            pages,
             browse,
         },
         texts,
     })
+}
+
+/// The pages of folders.
+fn read_folders<R: AllocGlobal + Files + Clone + Drop>(
+    rt: &R,
+    heap: Heap,
+    folders: &[Folder],
+) -> Result<Vec<PageRow>, Fault> {
+    let mut rows = Vec::new(heap);
+    for folder in folders {
+        let found = read_folder(rt, heap, folder)?;
+        add_rows(&mut rows, found)?;
+    }
+    Ok(rows)
+}
+
+/// Refuses pages of folders that have a path which another page has.
+fn check_overlap(heap: Heap, rows: &[PageRow], others: &[PageRow]) -> Result<(), ListenFault>
+    ensures { OnOk result (first_overlap (paths_of rows.now) (paths_of others.now) ≡ None) }
+{
+    match first_overlap(heap, rows, others)? {
+        Some(path) => Err(ListenFault::Twice(path.copy(heap)?)),
+        None => Ok(()),
+    }
+}
+
+/// Some pages, and others behind them.
+fn joined(rows: Vec<PageRow>, others: Vec<PageRow>) -> Result<List<PageRow>, Memory>
+    ensures { IfOk result (λ pages. pages ≡ rows.items ++ others.items) }
+{
+    let mut pages = rows;
+    for page in others {
+        pages.push(page)?;
+    }
+    Ok(List::new(pages))
 }
 
 /// Adds the pages of a folder.

@@ -1,5 +1,9 @@
 //! The files that the arguments and a configuration name.
 
+ghost use Rattle.std.specs.Prelude.{◌≡◌, Ok, IfOk};
+ghost use Rattle.toml.specs.View.{table_view};
+ghost use Rattle.doc_server_config.specs.Configurations.{config_of_document};
+
 use doc_lines::entities::Entities;
 use doc_page_parts::failure::Memory;
 use doc_page_parts::heap::{Heap, String, Vec};
@@ -39,7 +43,9 @@ pub fn read_site<R: AllocGlobal + Files>(rt: &R, name: &str) -> Result<Site, Fau
 }
 
 /// The site of a configuration.
-pub fn site_of<R: Files>(rt: &R, heap: Heap, config: SiteConfig) -> Result<Site, Fault> {
+pub fn site_of<R: Files>(rt: &R, heap: Heap, config: SiteConfig) -> Result<Site, Fault>
+    ensures { IfOk result (λ site. site.pages.config ≡ config) }
+{
     let table = read_table(rt, heap, &config)?;
     let texts = read_pages(rt, heap, config.pages.get())?;
     let entities = match table {
@@ -75,7 +81,10 @@ pub fn document_of(heap: Heap, text: &str) -> Result<Document, Fault> {
 }
 
 /// The configuration that a document is.
-pub fn config_of(heap: Heap, document: &Document) -> Result<SiteConfig, Fault> {
+pub fn config_of(heap: Heap, document: &Document) -> Result<SiteConfig, Fault>
+    ensures { IfOk result (λ config.
+        config_of_document (table_view document.now.table) ≡ Ok config) }
+{
     match document.config(heap) {
         Ok(config) => Ok(config),
         Err(e) => Err(fault_of(e)),

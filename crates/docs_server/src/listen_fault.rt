@@ -1,6 +1,7 @@
 //! What stops the commands `listen` and `compact`.
 
 use doc_page_parts::failure::Memory;
+use doc_page_parts::path::Path;
 use doc_server_config::browsing::BrowseError;
 use doc_server_config::listening::ListeningError;
 use doc_server_journal::fault::OpenFault;
@@ -24,6 +25,9 @@ pub enum ListenFault {
     /// What it says of the pages for people is bad.
     #[error("config: {0}")]
     Browsing(BrowseError),
+    /// Two pages have this path, of which one is a folder's.
+    #[error("config: {} twice", .0.text())]
+    Twice(Path),
     /// The journal's file isn't opened.
     #[error("{0}")]
     File(FileFault),
