@@ -17,7 +17,7 @@ SITES = {"good": 'text = "A"\n', "absent": 'file = "absent.md"\n', "long": 'file
          "bounds": 'text = "A"\n[listen]\nconnections = 0\n', "folder": 'text = "A"\n[[folder]]\npath = "nowhere"\n',
          "twice": 'text = "A"\n[[folder]]\npath = "pages"\n', "except": 'text = "A"\n[[folder]]\npath = "pages"\nexcept = ["b/"]\n',
          "both": 'file = "absent.md"\n[listen]\nidle_seconds = -1\n'}
-DIFFER = {"good": [b"put b.md - B\n"], "no_edit": [b"put b.md - B\n", b"connect\n"], "refused": [b"remove b.md\n"],
+DIFFER = {"good": [b"put b.md - B\n"], "no_edit": [b"put b.md - B\n", b"connect\n"], "refused": [b"remove b.md\n", b"move b.md c.md\n"],
           "long_path": [b"put " + b"a" * 201 + b" - B\n"], "empty_line": [b"\n"], "no_text": [b"put b.md -\n"],
           "latin": [b"put b.md - \xff\n"]}
 USAGES = (["listen"], ["listen", "good.toml"], ["listen", "good.toml", f"{HOST}:0", "--journal"], ["compact"],
@@ -90,7 +90,7 @@ class Later:
         self.both("good.toml", "damaged", "journal record 1")
         for name in ("no_edit", "long_path", "empty_line", "no_text", "latin"):
             self.both("good.toml", name, f"bad journal record {len(DIFFER[name])}")
-        self.both("good.toml", "refused", "journal record 1 refused")
+        self.both("good.toml", "refused", "journal record 2 refused")
         with open("damaged", "rb+") as file:
             fcntl.flock(file, fcntl.LOCK_EX)
             self.both("good.toml", "damaged", "journal in use")

@@ -1,6 +1,6 @@
 """A site whose pages are files of a folder (`[[folder]]`, which `listen` and `compact` alone read): which files are pages and who sees
-them, that an edit in the journal wins over the file at the next start and a file without an edit is read anew, which folders are
-passed over, and which files, paths and bounds are refused, by name.
+them, that an edit in the journal wins over the file at the next start and a file without an edit is read anew, that a removal stays where
+its file is gone, which folders are passed over, and which files, paths and bounds are refused, by name.
 
     python3 scripts/listen/folders.py PROGRAM
 
@@ -86,7 +86,9 @@ def next_start():
     shown(server, wanted, ["handbook/b/c.md"])
     scene.ends(server, "the next start")
     os.remove("docs/b/c.md")
-    refused("a removed page that isn't in the folder any more", "journal record 2 refused\n", journal="journal")
+    server = scene.listen("site.toml", journal="journal")
+    shown(server, wanted, ["handbook/b/c.md"])
+    scene.ends(server, "a removed page that isn't in the folder any more")
 
 
 def bare():

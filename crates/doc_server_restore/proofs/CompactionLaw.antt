@@ -3,7 +3,7 @@ use Rattle.std.proofs.Common.{◌≡◌, ℕ, ◌+◌, List, [], ◌∷◌, ◌+
 use Rattle.std.specs.Prelude.{map as mapped, Option, Some, None, option_map, Ok, if◌then◌else◌}
 use Rattle.std.specs.FinMap as map
 use Rattle.std.specs.Option.{ok_or}
-use Rattle.doc_store.specs.Store.{remove_page, StoreState, effect_of}
+use Rattle.doc_store.specs.Store.{remove_page, StoreState, effect_of, without_page}
 use Rattle.doc_store.specs.declared.site_edit.SiteEdit.{SiteEdit}
 use Rattle.doc_store.specs.declared.site_edit.SiteEdit.TheVariants as site_edits
 use Rattle.doc_server_script.proofs.ReplayLaw.{replay_gives_the_site}
@@ -16,26 +16,14 @@ use Rattle.doc_server_restore.specs.Laws.{AreEdits, CompactionIsRestored}
 use Rattle.doc_server_restore.specs.Restores.{after_record, all_made, made, restored, restored_from, unstamped}
 use Rattle.doc_server_restore.proofs.Effects.{no_some, same_some}
 use Rattle.doc_server_restore.proofs.LineLaws.{lines_are_read}
-use Rattle.doc_server_restore.proofs.MadeSteps.{store_put, store_moved}
+use Rattle.doc_server_restore.proofs.MadeSteps.{store_put, store_moved, store_removed}
 use Rattle.doc_server_restore.proofs.RecordSteps.{as_onto}
 
 -- ---- stamps decide nothing
 
 made_unstamped : (store : StoreState) (edit : SiteEdit) → made (unstamped store) edit ≡ made store edit
 made_unstamped store (site_edits.Put path groups text) = store_put store path (record { groups = groups; text = text })
-made_unstamped store (site_edits.Remove path) = by (map.contains_key store.site.pages path)
-  where
-    by : (b : Bool) → option_map unstamped (if b then Some (if b then (record {
-      site = effect_of store.site (remove_page path);
-      stamps = map.remove (map.empty) path;
-      puts = store.puts;
-    }) else unstamped store) else None) ≡ option_map unstamped (if b then Some (if b then (record {
-      site = effect_of store.site (remove_page path);
-      stamps = map.remove store.stamps path;
-      puts = store.puts;
-    }) else store) else None)
-    by true = refl
-    by false = refl
+made_unstamped store (site_edits.Remove path) = store_removed store (without_page store path) path refl
 made_unstamped store (site_edits.Move from to) = store_moved store from to
 
 -- ---- edits one after the other
@@ -53,18 +41,36 @@ none_replayed : (edits : List SiteEdit) → replayed None edits ≡ None
 none_replayed [] = refl
 none_replayed (edit ∷ edits) = refl
 
-all_replayed : (edits : List SiteEdit) (store : StoreState) → all_made (unstamped store) edits
-    ≡ option_map unstamped (replayed (Some store) edits)
-all_replayed [] store = refl
-all_replayed (edit ∷ edits) store =
-    as_behind edits (made (unstamped store) edit)
-    ∙ (ap (behind edits) (made_unstamped store edit) ∙ by (edited store edit) (λ next. all_replayed edits next))
+-- what is accepted is made
+accepted_is_made : (store next : StoreState) (edit : SiteEdit) → edited store edit ≡ Some next → made store edit ≡ Some (unstamped next)
+accepted_is_made store next (site_edits.Put path groups text) is = ap (option_map unstamped) is
+accepted_is_made store next (site_edits.Remove path) is = by (map.contains_key store.site.pages path) is
   where
-    by : (mid : Option StoreState)
-        → ((next : StoreState) → all_made (unstamped next) edits ≡ option_map unstamped (replayed (Some next) edits))
-        → behind edits (option_map unstamped mid) ≡ option_map unstamped (replayed mid edits)
-    by None each = sym (ap (option_map unstamped) (none_replayed edits))
-    by (Some next) each = each next
+    by : (b : Bool) → (if b then Some (if b then (record {
+      site = effect_of store.site (remove_page path);
+      stamps = map.remove store.stamps path;
+      puts = store.puts;
+    }) else store) else None) ≡ Some next → Some (unstamped (if b then (record {
+      site = effect_of store.site (remove_page path);
+      stamps = map.remove store.stamps path;
+      puts = store.puts;
+    }) else store)) ≡ Some (unstamped next)
+    by true is = ap (option_map unstamped) is
+    by false is = absurd (no_some next is)
+accepted_is_made store next (site_edits.Move from to) is = ap (option_map unstamped) is
+
+all_replayed : (edits : List SiteEdit) (store after : StoreState) → replayed (Some store) edits ≡ Some after
+    → all_made (unstamped store) edits ≡ Some (unstamped after)
+all_replayed [] store after is = ap (option_map unstamped) is
+all_replayed (edit ∷ edits) store after is = by (edited store edit) refl (λ next. all_replayed edits next after) is
+  where
+    by : (mid : Option StoreState) → edited store edit ≡ mid
+        → ((next : StoreState) → replayed (Some next) edits ≡ Some after → all_made (unstamped next) edits ≡ Some (unstamped after))
+        → replayed mid edits ≡ Some after → all_made (unstamped store) (edit ∷ edits) ≡ Some (unstamped after)
+    by None one each more = absurd (no_some after (sym (none_replayed edits) ∙ more))
+    by (Some next) one each more =
+        as_behind edits (made (unstamped store) edit)
+        ∙ (ap (behind edits) (made_unstamped store edit ∙ accepted_is_made store next edit one) ∙ each next more)
 
 all_joined : (edits more : List SiteEdit) (store : StoreState) → all_made store (edits ++ more) ≡ behind more (all_made store edits)
 all_joined [] more store = refl
@@ -117,6 +123,6 @@ compaction_is_restored store site records is_config is_site room are lines =
       unstamped after,
       ap (restored (unstamped store)) lines.are
           ∙ parts_restored lines.parts 1 (unstamped store) (unstamped after) (subst AreEdits (sym lines.all) are)
-          (ap (all_made (unstamped store)) lines.all ∙ (all_replayed edits store ∙ ap (option_map unstamped) all)),
+          (ap (all_made (unstamped store)) lines.all ∙ all_replayed edits store after all),
       same_some after.site site is,
     )

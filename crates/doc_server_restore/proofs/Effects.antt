@@ -11,12 +11,11 @@ use Rattle.doc_store.specs.declared.site_edit.SiteEdit.TheVariants as site_edits
 use Rattle.doc_store.specs.declared.moving.MoveError.{MoveError}
 use Rattle.doc_store.specs.declared.store.EditError.{EditError}
 use Rattle.doc_hub_events.specs.declared.event.Event.{Event}
-use Rattle.doc_server_script.specs.Compactions.{effects}
 use Rattle.doc_server_script.specs.Replays.{unless_refused}
 use Rattle.doc_server_restore.specs.declared.fault.RestoreFault.{RestoreFault}
 use Rattle.doc_server_restore.specs.declared.fault.RestoreFault.TheVariants as faults
 use Rattle.doc_server_restore.specs.Restores.{HaveEffect, after_record, all_in_front, all_made, edit_in, edits_in, edits_of, edits_of_all}
-use Rattle.doc_server_restore.specs.Restores.{in_front, made, restored_from, unstamped}
+use Rattle.doc_server_restore.specs.Restores.{effect_made, effects_made, in_front, made, restored_from, unstamped}
 use Rattle.doc_server_restore.specs.RestoreSteps.{made_by, made_of}
 
 pub no_some : {X : Type 0} (x : X) → None ≡ Some x → ⊥
@@ -49,14 +48,14 @@ put_site store next path page stands (Err e) is = absurd (no_some next is)
 put_site store next path page stands (Ok fine) is = sym (ap (λ o. (some_or next o).site) is)
 
 removed_site : (store next : StoreState) (path : List ℕ) (b : Bool)
-    → option_map unstamped (if b then Some (if b then (record {
+    → Some (unstamped (if b then (record {
       site = effect_of store.site (remove_page path);
       stamps = map.remove store.stamps path;
       puts = store.puts;
-    }) else store) else None) ≡ Some next
-    → next.site ≡ effect_of store.site (remove_page path)
+    }) else store)) ≡ Some next
+    → next.site ≡ (if b then effect_of store.site (remove_page path) else store.site)
 removed_site store next path true is = sym (ap (λ o. (some_or next o).site) is)
-removed_site store next path false is = absurd (no_some next is)
+removed_site store next path false is = sym (ap (λ o. (some_or next o).site) is)
 
 moved_site : (store next : StoreState) (from to : List ℕ) (said : Result (Unit {0}) MoveError)
     → option_map unstamped (unless_refused (moved_by store from to said).0 (moved_by store from to said).1) ≡ Some next
@@ -64,7 +63,7 @@ moved_site : (store next : StoreState) (from to : List ℕ) (said : Result (Unit
 moved_site store next from to (Err e) is = absurd (no_some next is)
 moved_site store next from to (Ok fine) is = sym (ap (λ o. (some_or next o).site) is)
 
-one_site : (store next : StoreState) (edit : SiteEdit) → made store edit ≡ Some next → next.site ≡ effect_of store.site edit
+one_site : (store next : StoreState) (edit : SiteEdit) → made store edit ≡ Some next → next.site ≡ effect_made store.site edit
 one_site store next (site_edits.Put path groups text) is =
     put_site store next path (record { groups = groups; text = text }) (map.contains_key store.site.pages path)
     (fits_in store path text) is
@@ -74,22 +73,23 @@ one_site store next (site_edits.Move from to) is = moved_site store next from to
 -- ---- many edits
 
 site_behind : (store next : StoreState) (edit : SiteEdit) (edits : List SiteEdit) (mid : Option StoreState) → made store edit ≡ mid
-    → ((after : StoreState) → all_made after edits ≡ Some next → next.site ≡ effects after.site edits)
+    → ((after : StoreState) → all_made after edits ≡ Some next → next.site ≡ effects_made after.site edits)
     → ◌≡◌ {A = Option StoreState} (elim mid [ None ↦ None | Some after ↦ all_made after edits ]) (Some next)
-    → next.site ≡ effects (effect_of store.site edit) edits
+    → next.site ≡ effects_made (effect_made store.site edit) edits
 site_behind store next edit edits None one each more = absurd (no_some next more)
 site_behind store next edit edits (Some after) one each more =
-    each after more ∙ ap (λ site. effects site edits) (one_site store after edit one)
+    each after more ∙ ap (λ site. effects_made site edits) (one_site store after edit one)
 
 all_site : (edits : List SiteEdit) (store next : StoreState) → all_made store edits ≡ Some next
-    → next.site ≡ effects store.site edits
+    → next.site ≡ effects_made store.site edits
 all_site [] store next is = sym (ap (λ o. (some_or next o).site) is)
 all_site (edit ∷ edits) store next is =
     site_behind store next edit edits (made store edit) refl (λ after. all_site edits after next) is
 
-effects_joined : (site : Site) (edits more : List SiteEdit) → effects site (edits ++ more) ≡ effects (effects site edits) more
+effects_joined : (site : Site) (edits more : List SiteEdit)
+    → effects_made site (edits ++ more) ≡ effects_made (effects_made site edits) more
 effects_joined site [] more = refl
-effects_joined site (edit ∷ edits) more = effects_joined (effect_of site edit) edits more
+effects_joined site (edit ∷ edits) more = effects_joined (effect_made site edit) edits more
 
 -- ---- events that are edits
 
@@ -132,7 +132,7 @@ second text texts n store next edits behind said (Some after) made_is more =
     record {
       edits = edits ++ rest.edits;
       said = ap (λ o. all_in_front o (edits_of_all texts)) said ∙ ap (all_in_front (Some edits)) rest.said;
-      site = rest.site ∙ ap (λ site. effects site rest.edits) (all_site edits store after made_is)
+      site = rest.site ∙ ap (λ site. effects_made site rest.edits) (all_site edits store after made_is)
           ∙ sym (effects_joined store.site edits rest.edits);
     }
 

@@ -11,7 +11,6 @@ use Rattle.doc_store.specs.declared.store.EditError.{EditError}
 use Rattle.doc_hub.specs.Worlds.{World, store_of, with_store, world_removed}
 use Rattle.doc_server_script.specs.Replays.{unless_refused}
 use Rattle.doc_server_restore.specs.Restores.{made, unstamped}
-use Rattle.doc_server_restore.specs.RestoreSteps.{Tells}
 
 -- ---- calls that answer by a store and a result
 
@@ -31,15 +30,9 @@ pub hub_accepted : {X E : Type 0} (w v : World) (r : StoreState × Result X E) (
 hub_accepted w v r x is =
     ap (λ said. option_map unstamped (unless_refused r.0 said)) (ap (λ p. p.1) is) ∙ ap (λ p. Some (store_of p.0)) is
 
-removed_if : (b : Bool) (store : StoreState) → Tells b (option_map unstamped (if b then Some store else None)) (unstamped store)
-removed_if true store = refl
-removed_if false store = refl
-
 pub hub_removed : (w v : World) (path : List ℕ) (said : Bool) → ◌≡◌ {A = World × Bool} (world_removed w path) (v, said)
-    → Tells said (made (store_of w) (remove_page path)) (store_of v)
-hub_removed w v path said is =
-    subst (λ p. Tells p.1 (made (store_of w) (remove_page path)) (store_of p.0)) is
-    (removed_if (map.contains_key w.site.pages path) (without_page (store_of w) path))
+    → made (store_of w) (remove_page path) ≡ Some (store_of v)
+hub_removed w v path said is = subst (λ p. made (store_of w) (remove_page path) ≡ Some (store_of p.0)) is refl
 
 -- ---- stamps decide nothing
 
@@ -71,21 +64,19 @@ pub store_accepted : {X E : Type 0} (new : StoreState) (r : StoreState × Result
     → option_map unstamped (unless_refused r.0 r.1) ≡ Some (unstamped new)
 store_accepted new r x is = ap (λ p. option_map unstamped (unless_refused p.0 p.1)) is
 
-pub store_removed : (old new : StoreState) (path : List ℕ) (said : Bool) → said ≡ map.contains_key old.site.pages path
-    → new ≡ without_page old path → Tells said (made (unstamped old) (remove_page path)) (unstamped new)
-store_removed old new path said answer state =
-    subst (λ b. Tells b (made (unstamped old) (remove_page path)) (unstamped new)) (sym answer)
-    (subst (λ s. Tells (map.contains_key old.site.pages path) (made (unstamped old) (remove_page path)) (unstamped s)) (sym state)
-    (by (map.contains_key old.site.pages path)))
+pub store_removed : (old new : StoreState) (path : List ℕ) → new ≡ without_page old path
+    → made (unstamped old) (remove_page path) ≡ Some (unstamped new)
+store_removed old new path state =
+    ap Some (by (map.contains_key old.site.pages path) ∙ ap unstamped (sym state))
   where
-    by : (b : Bool) → Tells b (option_map unstamped (if b then Some (if b then (record {
+    by : (b : Bool) → unstamped (if b then (record {
       site = effect_of old.site (remove_page path);
       stamps = map.remove (map.empty) path;
       puts = old.puts;
-    }) else unstamped old) else None)) (unstamped (if b then (record {
+    }) else unstamped old) ≡ unstamped (if b then (record {
       site = effect_of old.site (remove_page path);
       stamps = map.remove old.stamps path;
       puts = old.puts;
-    }) else old))
+    }) else old)
     by true = refl
     by false = refl

@@ -5,12 +5,13 @@ use Rattle.std.specs.FinMap as map
 use Rattle.std.specs.Option.{ok_or}
 use Rattle.std.specs.Result.{result_ok}
 use Rattle.std.specs.Str.{is_utf8}
-use Rattle.doc_store.specs.Store.{StoreState}
+use Rattle.doc_store_readers.specs.Sites.{Site}
+use Rattle.doc_store.specs.Store.{StoreState, effect_of, without_page}
 use Rattle.doc_store.specs.declared.site_edit.SiteEdit.{SiteEdit}
+use Rattle.doc_store.specs.declared.site_edit.SiteEdit.TheVariants as site_edits
 use Rattle.doc_hub_events.specs.declared.event.Event.{Event}
 use Rattle.doc_hub_events.specs.declared.event.Event.TheVariants as events
 use Rattle.doc_server.specs.Scripts.{events_of}
-use Rattle.doc_server_script.specs.Compactions.{effects}
 use Rattle.doc_server_script.specs.Replays.{edited}
 use Rattle.doc_server_restore.specs.declared.fault.RestoreFault.{RestoreFault}
 use Rattle.doc_server_restore.specs.declared.fault.RestoreFault.TheVariants as faults
@@ -54,9 +55,11 @@ edits_of_all (text ∷ texts) = all_in_front (edits_of text) (edits_of_all texts
 abbrev pub unstamped : StoreState → StoreState
 unstamped store = record { site = store.site; stamps = map.empty; puts = store.puts }
 
--- the store after an edit, unless it is refused or removes no page
+-- the store after an edit, unless it is refused: a removal is done also where no page stands
 abbrev pub made : StoreState → SiteEdit → Option StoreState
-made store edit = option_map unstamped (edited store edit)
+made store (site_edits.Put path groups text) = option_map unstamped (edited store (site_edits.Put path groups text))
+made store (site_edits.Remove path) = Some (unstamped (without_page store path))
+made store (site_edits.Move from to) = option_map unstamped (edited store (site_edits.Move from to))
 
 -- the store after some edits, unless one of them is refused
 abbrev pub all_made : StoreState → List SiteEdit → Option StoreState
@@ -80,8 +83,20 @@ restored_from n store (text ∷ texts) = elim (after_record store n (edits_of te
 abbrev pub restored : StoreState → List (List ℕ) → Result StoreState RestoreFault
 restored store texts = restored_from 1 store texts
 
+-- what an edit that is made makes of a site: a removal where no page stands makes nothing
+abbrev pub effect_made : Site → SiteEdit → Site
+effect_made site (site_edits.Put path groups text) = effect_of site (site_edits.Put path groups text)
+effect_made site (site_edits.Remove path) =
+    if map.contains_key site.pages path then effect_of site (site_edits.Remove path) else site
+effect_made site (site_edits.Move from to) = effect_of site (site_edits.Move from to)
+
+-- the same of some edits, one after the other
+abbrev pub effects_made : Site → List SiteEdit → Site
+effects_made site [] = site
+effects_made site (edit ∷ edits) = effects_made (effect_made site edit) edits
+
 -- the site after the records is what their edits make of the site before, one after the other
 pub record HaveEffect (texts : List (List ℕ)) (old new : StoreState) : Type 0 where
   pub edits : List SiteEdit
   pub said : edits_of_all texts ≡ Some edits
-  pub site : new.site ≡ effects old.site edits
+  pub site : new.site ≡ effects_made old.site edits

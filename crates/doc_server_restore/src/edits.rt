@@ -1,6 +1,6 @@
 //! Pages that edits are made on.
 
-ghost use Rattle.std.specs.Prelude.{◌≡◌, IfOk};
+ghost use Rattle.std.specs.Prelude.{◌≡◌, Some, IfOk};
 ghost use Rattle.doc_store.specs.Store.{StoreState, set_page, remove_page, move_page};
 ghost use Rattle.doc_server_restore.specs.Restores.{made};
 ghost use Rattle.doc_server_restore.specs.RestoreSteps.{Tells};
@@ -13,7 +13,7 @@ use doc_store::groups::Groups;
 use doc_store::moving::MoveError;
 use doc_store::store::{EditError, Store};
 
-/// Pages that edits are made on: those of a hub, or of a store alone. An edit answers whether it was accepted.
+/// Pages that edits are made on: those of a hub, or of a store alone. A put or a move answers whether it was accepted.
 pub trait Edits {
     /// The site, and how many puts and moves were accepted.
     ghost store: { Self → StoreState };
@@ -28,10 +28,9 @@ pub trait Edits {
             (store self.new)) }
         ensures alike { alike self.old self.new };
 
-    /// Removes a page. `false` says that none stands there.
-    fn make_remove(&mut self, path: &Path) -> bool
-        ensures made { Tells result (made (store self.old) (remove_page path.now))
-            (store self.new) }
+    /// Removes a page, where one stands.
+    fn make_remove(&mut self, path: &Path)
+        ensures made { made (store self.old) (remove_page path.now) ≡ Some (store self.new) }
         ensures alike { alike self.old self.new };
 
     /// Moves a page.
@@ -62,8 +61,8 @@ impl<R: Renderer + Drop> Edits for Hub<R> {
         }
     }
 
-    fn make_remove(&mut self, path: &Path) -> bool {
-        self.remove_page(path)
+    fn make_remove(&mut self, path: &Path) {
+        let _ = self.remove_page(path);
     }
 
     fn make_move(&mut self, from: &Path, to: &Path) -> Result<bool, Memory> {
@@ -98,8 +97,8 @@ impl Edits for Store {
         }
     }
 
-    fn make_remove(&mut self, path: &Path) -> bool {
-        self.remove(path)
+    fn make_remove(&mut self, path: &Path) {
+        let _ = self.remove(path);
     }
 
     fn make_move(&mut self, from: &Path, to: &Path) -> Result<bool, Memory> {

@@ -15,7 +15,7 @@ use doc_store::site_edit::SiteEdit;
 
 /// Makes the edits of a journal's records, in their order. A record is a text of lines, each the edit that doc_server_script reads
 /// of it; none of a record's edits is made where one of its lines is none. The first record that is no such text, and the first of
-/// which an edit is refused or removes no page, ends it: then the edits before it stand.
+/// which an edit is refused, ends it: then the edits before it stand.
 pub fn restore<E: Edits>(heap: Heap, site: &mut E, records: &[Bytes]) -> Result<(), RestoreFault>
     ensures restored { OnOk result
         (restored (E.store site.old) records.now ≡ Ok (E.store site.new)) }
@@ -100,7 +100,10 @@ fn make_edit<E: Edits>(site: &mut E, edit: &SiteEdit) -> Result<bool, Memory>
 {
     match edit {
         SiteEdit::Put(path, groups, text) => site.make_put(path, groups, text.get()),
-        SiteEdit::Remove(path) => Ok(site.make_remove(path)),
+        SiteEdit::Remove(path) => {
+            site.make_remove(path);
+            Ok(true)
+        }
         SiteEdit::Move(from, to) => site.make_move(from, to),
     }
 }
