@@ -1,16 +1,17 @@
 """What ends `listen`, and what doesn't: its standard input as a pipe (closed at once, closed later, written to), as a file, /dev/null, a
-terminal, or closed; signals; standard output that takes nothing; fewer files than connections. Each time a client asks beside it, and a
+terminal or a socket, also one that hangs up, or closed; signals; peers that are silent, and a server that is stopped for a while; standard output that takes nothing; fewer files than connections. Each time a client asks beside it, and a
 program that goes on is ended in the end.
 
     python3 scripts/listen/ends.py PROGRAM
 
 Builds nothing. Needs python3. Some seconds.
 """
-import os, pty, resource, signal, subprocess, sys, time
+import os, pty, resource, signal, socket, subprocess, sys, time
 sys.path.insert(1, os.path.dirname(__file__) + "/../lib")
 from scene import HOST, OWNER, Client, Scene, free_port, page_of, put, start, until
 
 scene = Scene(seconds=120)
+SITE = OWNER + '[[page]]\npath = "a.md"\ntext = "Hello"\n'
 
 
 class Started:
@@ -75,6 +76,12 @@ def other_inputs():
         goes_on("a file", Started(file))
     _, its_end = pty.openpty()
     goes_on("a terminal", Started(its_end))
+    for name, (ours, its_end) in (("a terminal", pty.openpty()), ("a socket", [end.detach() for end in socket.socketpair()])):
+        started = Started(its_end)
+        os.close(its_end)
+        scene.check(f"{name} that hangs up: it answers", until(started.answers, 10))
+        os.close(ours)
+        goes_on(f"{name} that has hung up", started)
     goes_on("closed", Started(None, before=lambda: os.close(0)))
     started = Started(None, None, before=lambda: [os.close(number) for number in (0, 1, 2)])
     scene.check("all three closed: there is nowhere to tell the address", (found := started.ended()) == (2, ""), found)
@@ -92,6 +99,26 @@ def signals():
     time.sleep(0.7)
     started.process.send_signal(signal.SIGCONT)
     goes_on("SIGCONT", started)
+
+
+def silence():
+    """A silent peer is let go after `idle_seconds`, and not behind a while in which the server doesn't run."""
+    put("idle.toml", "[listen]\nidle_seconds = 1\n" + SITE)
+    server = scene.listen("idle.toml")
+    client = Client(server.port, "tok")
+    scene.check("one who asks is answered", client.ask("/page/a.md")[0] == 200)
+    asked = time.monotonic()
+    scene.check("one who is silent", client.socket.recv(1) == b"")
+    took = time.monotonic() - asked
+    scene.check("is let go after a second", 0.9 < took < 2, took)
+    client = Client(server.port, "tok")
+    client.ask("/page/a.md")
+    server.process.send_signal(signal.SIGSTOP)
+    time.sleep(3)
+    server.process.send_signal(signal.SIGCONT)
+    time.sleep(0.1)
+    scene.check("a long stop silences nobody", client.ask("/page/a.md")[0] == 200)
+    scene.ends(server, "silence")
 
 
 def full_output():
@@ -129,10 +156,11 @@ def few_files():
 
 
 def main():
-    put("site.toml", "[listen]\nconnections = 100\n" + OWNER + '[[page]]\npath = "a.md"\ntext = "Hello"\n')
+    put("site.toml", "[listen]\nconnections = 100\n" + SITE)
     pipes()
     other_inputs()
     signals()
+    silence()
     full_output()
     few_files()
 

@@ -42,6 +42,8 @@ pub struct Client<S: Channel + Drop> {
     replies: VecDeque<Bytes, Heap>,
     sent: usize,
     stage: Stage,
+    /// Whether memory was lacking for its last step.
+    is_starved: bool,
 }
 
 impl<S: Channel + Drop> Model for Client<S> {
@@ -90,6 +92,7 @@ impl<S: Channel + Drop> Client<S> {
             replies: VecDeque::new(heap),
             sent: 0,
             stage: Stage::Reads,
+            is_starved: false,
         })
     }
 
@@ -126,6 +129,11 @@ impl<S: Channel + Drop> Client<S> {
         !self.replies.is_empty()
     }
 
+    /// Whether memory was lacking for a step when it was last taken in: then its request waits, and another try may find memory.
+    pub fn is_starved(&self) -> bool {
+        self.is_starved
+    }
+
     /// Closes a client, whatever it was about to do. What is pending may still be handed over.
     pub fn close<R: Renderer + Drop>(&mut self, hub: &mut Hub<R>)
         ensures cuts { Cuts (R.page hub.old.0) hub.old.1 self.old hub.new.1 self.new }
@@ -159,6 +167,7 @@ impl<S: Channel + Drop> Client<S> {
         if self.has_pending() {
             return;
         }
+        self.is_starved = false;
         self.read(hub, piece);
         if !self.is_open() {
             return;
@@ -295,6 +304,7 @@ impl<S: Channel + Drop> Client<S> {
         ensures same { R.page hub.new.0 ≡ R.page hub.old.0 }
     {
         if self.replies.reserve(1).is_err() {
+            self.is_starved = true;
             return None;
         }
         match step_and_keep(hub, self.id, edits) {
@@ -320,7 +330,10 @@ impl<S: Channel + Drop> Client<S> {
                 self.stage = dropped(hub, self.id, Stage::Ends);
                 None
             }
-            Err(StepError::Memory) => None,
+            Err(StepError::Memory) => {
+                self.is_starved = true;
+                None
+            }
         }
     }
 }

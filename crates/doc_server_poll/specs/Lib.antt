@@ -1,3 +1,4 @@
 pub mod Keepings
 pub mod MioChannels
 pub mod Servers
+pub mod Silences

@@ -19,7 +19,6 @@ use mio::{Interest, Registry, Token};
 use std::io::ErrorKind;
 use std::net::SocketAddr;
 use std::rc::Rc;
-use std::time::Instant;
 
 /// How many peers are accepted in a turn.
 const ACCEPTS: u32 = 64;
@@ -86,7 +85,6 @@ impl Door {
         hub: &mut Hub<R>,
         registry: &Registry,
         peers: &mut Peers,
-        now: Instant,
         is_watched: bool,
     )
         requires bound { length peers.old ≤ self.old.most }
@@ -99,7 +97,7 @@ impl Door {
             if !self.is_open(peers) {
                 return;
             }
-            self.accept_one(hub, registry, peers, now, is_watched);
+            self.accept_one(hub, registry, peers, is_watched);
         }
     }
 
@@ -109,7 +107,6 @@ impl Door {
         hub: &mut Hub<R>,
         registry: &Registry,
         peers: &mut Peers,
-        now: Instant,
         is_watched: bool,
     )
         requires room { length peers.old < self.old.most }
@@ -121,7 +118,7 @@ impl Door {
         let Some(wires) = self.next(is_watched) else {
             return;
         };
-        keep(self.heap, hub, registry, peers, wires, now);
+        keep(self.heap, hub, registry, peers, wires);
     }
 
     /// The next peer's wires, where there is one, and memory for them.
@@ -179,7 +176,6 @@ fn keep<R: Renderer + Drop>(
     registry: &Registry,
     peers: &mut Peers,
     wires: Wires,
-    now: Instant,
 )
     requires new { has_failed wires.channel ≡ false }
     ensures one { length peers.new ≤ length peers.old + 1 }
@@ -191,7 +187,7 @@ fn keep<R: Renderer + Drop>(
         return;
     };
     let id = client.id();
-    if is_taken(registry, peers, client, table, now) {
+    if is_taken(registry, peers, client, table) {
         return;
     }
     drop_connection(hub, id.0);
@@ -203,14 +199,13 @@ fn is_taken(
     peers: &mut Peers,
     client: Client<MioChannel>,
     wire: Rc<Wire, Heap>,
-    now: Instant,
 ) -> bool
     ensures { length peers.new ≤ length peers.old + 1 }
 {
     if !is_registered(registry, &wire, client.id()) {
         return false;
     }
-    peers.insert(client, wire, now).is_ok()
+    peers.insert(client, wire).is_ok()
 }
 
 /// Has the poll give the events of a connection, and answers whether it does.

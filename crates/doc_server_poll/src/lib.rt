@@ -7,6 +7,7 @@ pub mod fault;
 pub mod keeping;
 mod peers;
 pub mod server;
+mod silence;
 mod slot;
 mod tape;
 pub mod watch;

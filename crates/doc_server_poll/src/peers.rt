@@ -21,7 +21,7 @@ use std::alloc::AllocError;
 use std::marker::Model;
 use std::ops::Range;
 use std::rc::Rc;
-use std::time::{Duration, Instant};
+use std::time::Instant;
 
 /// The clients that are served. Beside each stands its slot, at the same place, which moves where another client is let go; a client
 /// is found by the number of its connection.
@@ -92,7 +92,6 @@ impl Peers {
         &mut self,
         client: Client<MioChannel>,
         wire: Rc<Wire, Heap>,
-        now: Instant,
     ) -> Result<(), AllocError>
         ensures taken { OnOk result (self.new ≡ self.old ++ client ∷ []) }
         ensures refused { OnErr result (self.new ≡ self.old) }
@@ -103,7 +102,7 @@ impl Peers {
         self.going.reserve(1)?;
         self.places.insert(number, self.clients.len())?;
         self.clients.push_reserved(client);
-        self.slots.push_reserved(Slot::new(wire, now));
+        self.slots.push_reserved(Slot::new(wire));
         self.going.push_reserved(number);
         Ok(())
     }
@@ -124,7 +123,7 @@ impl Peers {
     }
 
     /// Takes the client with this number into the turn that runs.
-    pub fn enter(&mut self, number: u64, now: Instant)
+    pub fn enter(&mut self, number: u64)
         ensures { self.new ≡ self.old }
     {
         let Some(place) = self.places.get(&number) else {
@@ -134,30 +133,30 @@ impl Peers {
         let Some(slot) = self.slots.get_mut(place) else {
             return;
         };
-        if slot.enter(now) {
+        if slot.enter() {
             let _ = self.ready.push(place);
         }
     }
 
     /// Takes those in that the turn before has left ready.
-    pub fn enter_going(&mut self, now: Instant)
+    pub fn enter_going(&mut self)
         ensures { self.new ≡ self.old }
     {
         'numbers: for at in 0..self.going.len() {
-            self.enter_going_at(at, now);
+            self.enter_going_at(at);
         }
         self.going.clear();
     }
 
     /// Takes one of them in.
-    fn enter_going_at(&mut self, at: usize, now: Instant)
+    fn enter_going_at(&mut self, at: usize)
         ensures { self.new ≡ self.old }
     {
         let Some(number) = self.going.get(at) else {
             return;
         };
         let number = *number;
-        self.enter(number, now);
+        self.enter(number);
     }
 
     /// The turn of those that were taken in, behind which the watcher is told, and those that end are let go. After an `Err` the server
@@ -258,19 +257,18 @@ impl Peers {
             return;
         };
         slot.tell(client, now, watch);
-        let _ = match slot.leave(client, piece, now) {
+        let _ = match slot.leave(client, piece) {
             Fate::Waits => Ok(()),
             Fate::Goes => self.going.push(client.id().0),
             Fate::Gone => self.gone.push(client.id().0),
         };
     }
 
-    /// Lets those go whose time is over.
+    /// Lets those go that were silent for so many seconds, and has those take part in the next turn for which memory was lacking.
     pub fn sweep<R: Renderer + Drop, W: Watch>(
         &mut self,
         hub: &mut Hub<R>,
-        idle: Duration,
-        now: Instant,
+        idle_seconds: u64,
         watch: &mut W,
     )
         ensures leads { Leads (R.page hub.old.0) hub.old.1 hub.new.1 }
@@ -278,19 +276,22 @@ impl Peers {
         ensures none { length self.new ≤ length self.old }
     {
         'places: for at in 0..self.slots.len() {
-            self.sweep_at(at, idle, now);
+            self.sweep_at(at, idle_seconds);
         }
         self.let_go(hub, watch);
     }
 
     /// Has the client at this place let go, where its time is over.
-    fn sweep_at(&mut self, place: usize, idle: Duration, now: Instant)
+    fn sweep_at(&mut self, place: usize, idle_seconds: u64)
         requires { place < length self.old }
         ensures { self.new ≡ self.old }
     {
-        if self.slots[place].is_over(idle, now) {
-            let _ = self.gone.push(self.clients[place].id().0);
-        }
+        let number = self.clients[place].id().0;
+        let _ = match self.slots[place].sweep(idle_seconds) {
+            Fate::Waits => Ok(()),
+            Fate::Goes => self.going.push(number),
+            Fate::Gone => self.gone.push(number),
+        };
     }
 
     /// Tells who is let go.

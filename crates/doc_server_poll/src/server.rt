@@ -37,8 +37,8 @@ const MOST_EVENTS: usize = 256;
 /// How many bytes a read gives at most.
 const PIECE: usize = 16_384;
 
-/// How long a poll waits at most, in milliseconds.
-const WAIT: u64 = 500;
+/// How long a poll waits at most, in milliseconds: a little longer than it is to the next sweep.
+const WAIT: u64 = 260;
 
 /// How long it is at least from one sweep to the next, in milliseconds.
 const SWEEP: u64 = 250;
@@ -50,8 +50,8 @@ pub struct Server {
     events: Events<Heap>,
     door: Door,
     peers: Peers,
-    /// After how long a silence a connection ends.
-    idle: Duration,
+    /// After how many seconds of silence a connection ends.
+    idle_seconds: u64,
     piece: Vec<u8>,
     swept: Instant,
 }
@@ -65,7 +65,7 @@ impl Drop for Server {
             events: _,
             door: _,
             peers: _,
-            idle: _,
+            idle_seconds: _,
             piece: _,
             swept: _,
         } = self;
@@ -85,17 +85,25 @@ impl Model for Server {
 
 impl Server {
     /// A server that listens at this address, with at most so many connections at once, each of which ends after so many seconds
-    /// without an event. It accepts nobody before it serves.
+    /// of silence, counted in sweeps. It accepts nobody before it serves.
     pub fn bind<R: Clock + Net>(
         rt: &R,
         heap: Heap,
         address: SocketAddr,
         connections: usize,
         idle_seconds: u64,
+        ends_with_input: bool,
     ) -> Result<Server, PollFault>
         ensures { IfOk result (λ server. server ≡ record { most = connections; clients = [] }) }
     {
-        let mut server = Server::listening(rt, heap, address, connections, idle_seconds)?;
+        let mut server = Server::listening(
+            rt,
+            heap,
+            address,
+            connections,
+            idle_seconds,
+            ends_with_input,
+        )?;
         server.reserve(connections)?;
         Ok(server)
     }
@@ -107,10 +115,11 @@ impl Server {
         address: SocketAddr,
         connections: usize,
         idle_seconds: u64,
+        ends_with_input: bool,
     ) -> Result<Server, PollFault>
         ensures { IfOk result (λ server. server ≡ record { most = connections; clients = [] }) }
     {
-        let Ok((poll, listener, swept)) = opened(rt, address) else {
+        let Ok((poll, listener, swept)) = opened(rt, address, ends_with_input) else {
             return Err(PollFault::Socket);
         };
         Ok(Server {
@@ -119,7 +128,7 @@ impl Server {
             events: Events::with_capacity(heap, MOST_EVENTS)?,
             door: Door::new(heap, listener, connections),
             peers: Peers::new(heap),
-            idle: Duration::from_secs(idle_seconds),
+            idle_seconds,
             piece: Vec::new(heap),
             swept,
         })
@@ -176,7 +185,7 @@ impl Server {
         ensures bound { length self.new.clients ≤ self.new.most }
     {
         let now = self.wait_for_events(rt)?;
-        let ends = self.take_in(now);
+        let ends = self.take_in();
         self.peers
             .turn(self.heap, keeping, hub, &mut self.piece, now, watch)?;
         if ends {
@@ -202,12 +211,12 @@ impl Server {
     }
 
     /// Takes those into the turn whose events came, and those that go on. True: standard input has ended.
-    fn take_in(&mut self, now: Instant) -> bool
+    fn take_in(&mut self) -> bool
         ensures { self.new ≡ self.old }
     {
         lose_gone(&self.events, &mut self.peers);
-        self.peers.enter_going(now);
-        take_events(&self.events, &mut self.door, &mut self.peers, now)
+        self.peers.enter_going();
+        take_events(&self.events, &mut self.door, &mut self.peers)
     }
 
     /// Lets those go whose time is over, and accepts others.
@@ -224,7 +233,8 @@ impl Server {
     {
         self.sweep(hub, now, watch);
         let is_watched = watch.is_watching();
-        self.door.accept(hub, self.poll.registry(), &mut self.peers, now, is_watched);
+        self.door
+            .accept(hub, self.poll.registry(), &mut self.peers, is_watched);
     }
 
     /// How long the next poll waits: not at all where something is left to do.
@@ -246,19 +256,23 @@ impl Server {
         }
         self.swept = now;
         self.door.wake();
-        self.peers.sweep(hub, self.idle, now, watch);
+        self.peers.sweep(hub, self.idle_seconds, watch);
     }
 }
 
-/// A poll, a listener at this address whose events it gives, and the time. The poll gives the end of standard input, too.
+/// A poll, a listener at this address whose events it gives, and the time. The poll gives the end of standard input, too, where
+/// that is wanted.
 fn opened<R: Clock + Net>(
     rt: &R,
     address: SocketAddr,
+    ends_with_input: bool,
 ) -> std::io::Result<(Poll, TcpListener, Instant)> {
     let poll = Poll::new(rt)?;
     let listener = listener_of(rt, &poll, address)?;
     let now = Instant::now(rt)?;
-    watch_input(&poll);
+    if ends_with_input {
+        watch_input(&poll);
+    }
     Ok((poll, listener, now))
 }
 
@@ -270,7 +284,7 @@ fn listener_of<R: Net>(rt: &R, poll: &Poll, address: SocketAddr) -> std::io::Res
     Ok(listener)
 }
 
-/// Has the poll give the end of standard input, which isn't read. A file can't be waited for: then nothing but a signal ends the server.
+/// Has the poll give the end of standard input, which isn't read.
 fn watch_input(poll: &Poll) {
     let _ = poll.registry().register(
         &mut SourceFd(&STANDARD_INPUT),
@@ -291,7 +305,7 @@ fn lose_gone(events: &Events<Heap>, peers: &mut Peers)
 }
 
 /// Takes those in whose events came. True: standard input has ended.
-fn take_events(events: &Events<Heap>, door: &mut Door, peers: &mut Peers, now: Instant) -> bool
+fn take_events(events: &Events<Heap>, door: &mut Door, peers: &mut Peers) -> bool
     ensures most { door.new.most ≡ door.old.most }
     ensures peers { peers.new ≡ peers.old }
 {
@@ -300,7 +314,7 @@ fn take_events(events: &Events<Heap>, door: &mut Door, peers: &mut Peers, now: I
         match event.token().0 {
             LISTENER => door.knocked(),
             INPUT => ends = ends || event.is_read_closed(),
-            number => peers.enter(number as u64, now),
+            number => peers.enter(number as u64),
         }
     }
     ends

@@ -1,21 +1,22 @@
-//! What the loop keeps beside a client: its wire, and when its peer was last heard.
+//! What the loop keeps beside a client: its wire, and how long its peer is silent.
+
+ghost use Rattle.std.specs.Prelude.{◌≡◌, ◌≤◌, true, false};
+ghost use Rattle.doc_server_poll.specs.Silences.{sweeps_until};
 
 use crate::channel::MioChannel;
+use crate::silence::Silence;
 use crate::watch::Watch;
 use crate::wire::Wire;
 use doc_page_parts::heap::Heap;
 use doc_server_listen::channel::Came;
 use doc_server_listen::client::Client;
 use std::rc::Rc;
-use std::time::{Duration, Instant};
+use std::time::Instant;
 
-/// For how many seconds a peer that was sent its last reply may go on sending.
-const LINGERS: u64 = 2;
-
-/// What becomes of a client behind a turn.
+/// What becomes of a client behind a turn or a sweep.
 #[derive(Clone, Copy)]
 pub enum Fate {
-    /// It waits for an event of its stream.
+    /// It waits for an event of its stream, or rests until the next sweep.
     Waits,
     /// It takes part in the next turn, whether an event comes or not.
     Goes,
@@ -27,27 +28,26 @@ pub enum Fate {
 #[derive(Drop)]
 pub struct Slot {
     wire: Rc<Wire, Heap>,
-    /// When an event of its stream came last, or when it was sent its last reply.
-    seen: Instant,
-    /// Whether it was sent its last reply, so that what still comes is dropped.
-    lingers: bool,
+    silence: Silence,
     /// Whether it takes part in the turn that runs.
     is_ready: bool,
     /// Whether nothing of it was told yet.
     is_new: bool,
     /// Whether its peer has gone.
     is_lost: bool,
+    /// Whether memory was lacking for it: it takes part in no turn before the next sweep.
+    rests: bool,
 }
 
 impl Slot {
-    pub fn new(wire: Rc<Wire, Heap>, now: Instant) -> Slot {
+    pub fn new(wire: Rc<Wire, Heap>) -> Slot {
         Slot {
             wire,
-            seen: now,
-            lingers: false,
+            silence: Silence::new(),
             is_ready: false,
             is_new: true,
             is_lost: false,
+            rests: false,
         }
     }
 
@@ -58,16 +58,15 @@ impl Slot {
         is_news
     }
 
-    /// Takes it into the turn that runs. False: it takes part already, or its peer has gone.
-    pub fn enter(&mut self, now: Instant) -> bool {
-        if self.is_ready || self.is_lost {
+    /// Takes it into the turn that runs. False: it takes part already, its peer has gone, or it rests.
+    pub fn enter(&mut self) -> bool
+        ensures { self.old.rests ≡ true → result ≡ false }
+    {
+        if self.is_ready || self.is_lost || self.rests {
             return false;
         }
         self.is_ready = true;
         self.wire.begin();
-        if !self.lingers {
-            self.seen = now;
-        }
         true
     }
 
@@ -81,8 +80,11 @@ impl Slot {
     }
 
     /// Ends its part in a turn, by which its client has come to stand as it does.
-    pub fn leave(&mut self, client: &Client<MioChannel>, piece: &mut [u8], now: Instant) -> Fate {
+    pub fn leave(&mut self, client: &Client<MioChannel>, piece: &mut [u8]) -> Fate {
         self.is_ready = false;
+        if self.wire.is_heard() {
+            self.silence.hear();
+        }
         if self.wire.is_broken() {
             return Fate::Gone;
         }
@@ -90,20 +92,31 @@ impl Slot {
             return Fate::Waits;
         }
         if client.is_open() {
-            return if self.wire.is_dry() {
-                Fate::Waits
-            } else {
-                Fate::Goes
-            };
+            return self.go_on(client.is_starved());
         }
-        self.linger(piece, now)
+        self.linger(piece)
+    }
+
+    /// What becomes of a client that is open, and waits for nothing that is to be handed over. Where its requests wait for their part
+    /// of a turn, it isn't its peer that is silent.
+    fn go_on(&mut self, is_starved: bool) -> Fate
+        ensures { is_starved ≡ true → (result ≡ Fate.Waits) × (self.new.rests ≡ true) }
+    {
+        if is_starved {
+            self.rests = true;
+            return Fate::Waits;
+        }
+        if self.wire.is_dry() {
+            return Fate::Waits;
+        }
+        self.silence.hear();
+        Fate::Goes
     }
 
     /// Behind the last reply its peer is told of the end, and what still comes is dropped.
-    fn linger(&mut self, piece: &mut [u8], now: Instant) -> Fate {
-        if !self.lingers {
-            self.lingers = true;
-            self.seen = now;
+    fn linger(&mut self, piece: &mut [u8]) -> Fate {
+        if !self.silence.lingers {
+            self.silence.linger();
             if !self.wire.end() {
                 return Fate::Gone;
             }
@@ -115,12 +128,18 @@ impl Slot {
         }
     }
 
-    /// Whether its time is over.
-    pub fn is_over(&self, idle: Duration, now: Instant) -> bool {
-        let silent = now.duration_since(self.seen);
-        if self.lingers {
-            return silent >= Duration::from_secs(LINGERS);
+    /// A sweep: it is let go where its time is over, and rests no longer.
+    pub fn sweep(&mut self, idle_seconds: u64) -> Fate
+        ensures over { result ≡ Fate.Gone
+            → sweeps_until idle_seconds self.new.silence.lingers ≤ self.new.silence.sweeps }
+        ensures awake { self.new.rests ≡ false }
+    {
+        let rested = self.rests;
+        self.rests = false;
+        self.silence.sweep();
+        if self.silence.is_over(idle_seconds) {
+            return Fate::Gone;
         }
-        silent >= idle
+        if rested { Fate::Goes } else { Fate::Waits }
     }
 }

@@ -20,6 +20,7 @@ pub struct Wire {
     stream: TcpStream,
     is_dry: Cell<bool>,
     is_broken: Cell<bool>,
+    is_heard: Cell<bool>,
     turn: Cell<u64>,
 }
 
@@ -29,6 +30,7 @@ impl Wire {
             stream,
             is_dry: Cell::new(false),
             is_broken: Cell::new(false),
+            is_heard: Cell::new(false),
             turn: Cell::new(0),
         }
     }
@@ -38,9 +40,10 @@ impl Wire {
         self.stream.as_raw_fd()
     }
 
-    /// A turn begins: whatever a read said before is forgotten.
+    /// A turn begins: whatever its calls said before is forgotten.
     pub fn begin(&self) {
         self.is_dry.set(false);
+        self.is_heard.set(false);
         self.turn.set(self.turn.get().wrapping_add(1));
     }
 
@@ -52,6 +55,11 @@ impl Wire {
     /// Whether a read of this turn found nothing.
     pub fn is_dry(&self) -> bool {
         self.is_dry.get()
+    }
+
+    /// Whether a read of this turn gave bytes, or a write took some.
+    pub fn is_heard(&self) -> bool {
+        self.is_heard.get()
     }
 
     /// Whether a call has failed.
@@ -72,7 +80,8 @@ impl Wire {
         let result = read_whenever(&self.stream, buf);
         match result {
             Ok(Came::Nothing) => self.is_dry.set(true),
-            Ok(_) => {}
+            Ok(Came::Bytes(_)) => self.is_heard.set(true),
+            Ok(Came::End) => {}
             Err(_) => self.is_broken.set(true),
         }
         result
@@ -83,8 +92,10 @@ impl Wire {
         ensures { took_len result ≤ length buf.now }
     {
         let result = write_whenever(&self.stream, buf);
-        if result.is_err() {
-            self.is_broken.set(true);
+        match result {
+            Ok(0) => {}
+            Ok(_) => self.is_heard.set(true),
+            Err(_) => self.is_broken.set(true),
         }
         result
     }

@@ -23,11 +23,15 @@ use doc_server_journal::file_device::FileDevice;
 use doc_server_poll::keeping::Keeping;
 use doc_server_poll::server::Server;
 use doc_server_streams::write_to::WriteTo;
-use std::fs::File;
+use std::fs::{File, metadata};
 use std::io;
 use std::net::Net;
+use std::os::unix::fs::FileTypeExt;
 use std::rt::{Clock, Files};
 use std::sync::ledger::{Blank, Ledger};
+
+/// Where the system tells what standard input is.
+const INPUT: &str = "/proc/self/fd/0";
 
 /// Runs `listen` over pages of CommonMark, and answers the status to end with.
 pub fn run_listen<
@@ -98,7 +102,11 @@ fn serve_journal<R: Renderer + Drop, P: Clock + Eprint + Files<File = File> + Ne
 }
 
 /// Binds the address, tells it, and serves until the program is told to stop.
-fn serve_keeping<D: Device + Drop, R: Renderer + Drop, P: Clock + Eprint + Net + Print>(
+fn serve_keeping<
+    D: Device + Drop,
+    R: Renderer + Drop,
+    P: Clock + Eprint + Files<File = File> + Net + Print,
+>(
     rt: &P,
     heap: Heap,
     hub: &mut Hub<R>,
@@ -114,8 +122,17 @@ fn serve_keeping<D: Device + Drop, R: Renderer + Drop, P: Clock + Eprint + Net +
         command.address,
         bounds.connections,
         bounds.idle_seconds,
+        is_pipe(rt),
     )?;
     tell_address(&mut WriteTo::new(io::writer(rt)), command.written)?;
     serve_logging(rt, heap, command.log, &mut server, keeping, hub)?;
     Ok(0)
+}
+
+/// Whether standard input is a pipe, whose end ends the server. The end of a terminal or a socket is no word to it.
+fn is_pipe<P: Files>(rt: &P) -> bool {
+    match metadata(rt, INPUT) {
+        Ok(found) => found.file_type().is_fifo(),
+        Err(_) => false,
+    }
 }

@@ -120,7 +120,14 @@ fn parts_of<P: Clock + Net, R: Renderer + Drop>(
 {
     let keeping = keeping_of(heap, hub, bounds.calls, file)?;
     let address = SocketAddr::from((Ipv4Addr::LOCALHOST, 0));
-    match Server::bind(rt, heap, address, bounds.connections, bounds.idle_seconds) {
+    match Server::bind(
+        rt,
+        heap,
+        address,
+        bounds.connections,
+        bounds.idle_seconds,
+        false,
+    ) {
         Ok(server) => Some((server, keeping)),
         Err(_) => None,
     }
