@@ -1,14 +1,14 @@
-"""Tries what stops `listen` and `compact` before they do anything, by the line and the status that they end with: each fault alone, and
+"""Tries what stops `listen` and `compact` before they do anything, and a journal that loses its name while `listen` runs, by the line and the status that they end with: each fault alone, and
 with the next ones, of which the earlier one is told. No fault changes a journal. What is wanted is worked out from docs/RUNNING.md; what
 stops all commands alike is tried by scripts/site/faults.py, and each way to damage a journal by scripts/listen/damage.py.
 
     python3 scripts/listen/faults.py PROGRAM
 
-Builds nothing. Needs python3. Some seconds.
+Builds nothing. Needs python3. Half a minute.
 """
 import fcntl, os, resource, socket, subprocess, sys
 sys.path.insert(1, os.path.dirname(__file__) + "/../lib")
-from scene import HOST, OWNER, Scene, got, put
+from scene import HOST, OWNER, Client, Scene, got, put
 from journals import written
 
 scene = Scene(seconds=200)
@@ -25,6 +25,7 @@ USAGES = (["listen"], ["listen", "good.toml"], ["listen", "good.toml", f"{HOST}:
           ["listen", "good.toml", f"{HOST}:0", "--Journal", "good"], ["compact", "good.toml", "good"],
           ["listen", "good.toml", f"{HOST}:0", "--journal", "good", "x"], ["compact", "good.toml", "--journal"],
           ["compact", "good.toml", "--journal", "good", "x"], ["compact", "good.toml", "--log", "good"])
+MOVED = "docs_server: journal moved\n"
 NO_ADDRESSES = ("", HOST, "localhost:80", ":80", f"{HOST}:", f"{HOST}:65536", "256.0.0.1:80", "::1:80")
 
 
@@ -106,6 +107,29 @@ class Later:
         stops(["listen", "good.toml", f"{HOST}:0"], "socket", limit=lambda: resource.setrlimit(resource.RLIMIT_NOFILE, (6, 6)))
 
 
+def moved():
+    """A journal whose name is lost while the server runs: nothing of the turn's replies is sent, or it ends within some seconds."""
+    for name, lose in (("renamed", lambda: os.rename("kept", "elsewhere")), ("removed", lambda: os.remove("kept")),
+                       ("replaced", lambda: os.rename("good", "kept"))):
+        server = scene.listen("good.toml", journal="kept")
+        client = Client(server.port, "tok")
+        scene.check(f"{name}: an edit before", client.ask("/page/b.md", "PUT", b"B")[0] == 201)
+        lose()
+        try:
+            found = client.ask("/page/c.md", "PUT", b"C")
+        except OSError:
+            found = None
+        scene.check(f"{name}: an edit isn't answered", found is None, found)
+        scene.check(f"{name}: it ends", server.ends(5) and (server.process.returncode, server.said()) == (2, MOVED), server.said())
+        for file in ("kept", "elsewhere"):
+            if os.path.exists(file):
+                os.remove(file)
+    put("good", written(DIFFER["good"]))
+    server = scene.listen("good.toml", journal="kept")
+    os.remove("kept")
+    scene.check("removed at rest: it ends", server.ends(14) and (server.process.returncode, server.said()) == (2, MOVED), server.said())
+
+
 def main():
     files()
     full = os.open("/dev/full", os.O_WRONLY)
@@ -117,6 +141,7 @@ def main():
         later.addresses()
     for name, texts in DIFFER.items():
         scene.check(f"the journal {name} is as it was", got(name) == written(texts))
+    moved()
     scene.check("the damaged one is too", got("damaged") == b"no journal at all")
     scene.check("no file is left", not [name for name in os.listdir(".") if name.endswith(".compacting")], os.listdir("."))
 

@@ -10,12 +10,25 @@ use doc_page::renderer::Renderer;
 use doc_page_parts::heap::Heap;
 use doc_server_journal::device::Device;
 use doc_server_journal::journal::Journal;
+use doc_server_journal::memory::MemoryDevice;
 use doc_server_listen::channel::Channel;
 use doc_server_listen::client::Client;
 use doc_server_listen::share::Share;
 use doc_server_listen::turn::turn;
 use doc_server_settling::fault::TurnFault;
 use doc_server_settling::settling::settled_turn;
+
+/// A device that knows whether what is written to it can be found again.
+pub trait Found {
+    /// Whether the name that it was opened by still leads to it.
+    fn is_found(&self) -> bool;
+}
+
+impl Found for MemoryDevice {
+    fn is_found(&self) -> bool {
+        true
+    }
+}
 
 /// What becomes of the edits that clients make.
 pub enum Keeping<D: Device> {
@@ -31,6 +44,16 @@ impl<D: Device + Drop> Drop for Keeping<D> {
         match self {
             Keeping::Forgets => {}
             Keeping::Keeps(_) => {}
+        }
+    }
+}
+
+impl<D: Device + Found> Keeping<D> {
+    /// Whether the journal can be found again, where there is one.
+    pub fn is_found(&self) -> bool {
+        match self {
+            Keeping::Forgets => true,
+            Keeping::Keeps(journal) => journal.device.is_found(),
         }
     }
 }

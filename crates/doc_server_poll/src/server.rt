@@ -6,7 +6,7 @@ ghost use Rattle.doc_server_poll.specs.Servers.{Leads};
 
 use crate::door::Door;
 use crate::fault::PollFault;
-use crate::keeping::Keeping;
+use crate::keeping::{Found, Keeping};
 use crate::peers::Peers;
 use crate::watch::Watch;
 use doc_hub::hub::Hub;
@@ -43,6 +43,9 @@ const WAIT: u64 = 260;
 /// How long it is at least from one sweep to the next, in milliseconds.
 const SWEEP: u64 = 250;
 
+/// How long it is from one look for the journal to the next, in seconds.
+const LOOK: u64 = 10;
+
 /// A server that accepts while it serves.
 pub struct Server {
     heap: Heap,
@@ -54,6 +57,8 @@ pub struct Server {
     idle_seconds: u64,
     piece: Vec<u8>,
     swept: Instant,
+    /// When it was looked whether the journal can be found.
+    looked: Instant,
 }
 
 /// Written out, so that it is proved here once: what a derived drop does is proved wherever a value is let go.
@@ -68,6 +73,7 @@ impl Drop for Server {
             idle_seconds: _,
             piece: _,
             swept: _,
+            looked: _,
         } = self;
     }
 }
@@ -119,7 +125,7 @@ impl Server {
     ) -> Result<Server, PollFault>
         ensures { IfOk result (λ server. server ≡ record { most = connections; clients = [] }) }
     {
-        let Ok((poll, listener, swept)) = opened(rt, address, ends_with_input) else {
+        let Ok((poll, listener, now)) = opened(rt, address, ends_with_input) else {
             return Err(PollFault::Socket);
         };
         Ok(Server {
@@ -130,7 +136,8 @@ impl Server {
             peers: Peers::new(heap),
             idle_seconds,
             piece: Vec::new(heap),
-            swept,
+            swept: now,
+            looked: now,
         })
     }
 
@@ -149,7 +156,7 @@ impl Server {
 
     /// Serves until standard input ends, where that is a pipe; any other one doesn't end it. Each of its turns keeps the bound, whoever
     /// watches.
-    pub fn serve<D: Device, T: Renderer + Drop, R: Clock, W: Watch>(
+    pub fn serve<D: Device + Found, T: Renderer + Drop, R: Clock, W: Watch>(
         &mut self,
         rt: &R,
         keeping: &mut Keeping<D>,
@@ -170,7 +177,7 @@ impl Server {
     }
 
     /// One turn. True: standard input has ended, and nobody is accepted any more.
-    pub fn turn<D: Device, T: Renderer + Drop, R: Clock, W: Watch>(
+    pub fn turn<D: Device + Found, T: Renderer + Drop, R: Clock, W: Watch>(
         &mut self,
         rt: &R,
         keeping: &mut Keeping<D>,
@@ -185,6 +192,7 @@ impl Server {
         ensures bound { length self.new.clients ≤ self.new.most }
     {
         let now = self.wait_for_events(rt)?;
+        self.look(keeping, now)?;
         let ends = self.take_in();
         self.peers
             .turn(self.heap, keeping, hub, &mut self.piece, now, watch)?;
@@ -208,6 +216,25 @@ impl Server {
             Ok(now) => Ok(now),
             Err(_) => Err(PollFault::Socket),
         }
+    }
+
+    /// Looks from time to time whether the journal can be found again. Where it can't, what is answered from now on would be lost.
+    fn look<D: Device + Found>(
+        &mut self,
+        keeping: &Keeping<D>,
+        now: Instant,
+    ) -> Result<(), PollFault>
+        ensures same { self.new ≡ self.old }
+        ensures bound { length self.new.clients ≤ self.new.most }
+    {
+        if now.duration_since(self.looked) < Duration::from_secs(LOOK) {
+            return Ok(());
+        }
+        self.looked = now;
+        if !keeping.is_found() {
+            return Err(PollFault::CannotWrite);
+        }
+        Ok(())
     }
 
     /// Takes those into the turn whose events came, and those that go on. True: standard input has ended.

@@ -1,5 +1,6 @@
 pub mod Arguments
 pub mod Compacting
 pub mod Listening
+pub mod NamedDevices
 pub mod RequestLines
 pub mod Serving

@@ -34,6 +34,9 @@ pub enum ListenFault {
     /// The journal isn't read.
     #[error("{0}")]
     Journal(OpenFault),
+    /// The journal's file lost its name while the server ran.
+    #[error("journal moved")]
+    Moved,
     /// The journal's edits can't be made.
     #[error("{0}")]
     Restore(RestoreFault),

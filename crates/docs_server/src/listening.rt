@@ -10,6 +10,7 @@ use crate::files::{Pages, Site};
 use crate::held::hold;
 use crate::journal::open_journal;
 use crate::listen_fault::ListenFault;
+use crate::named_device::NamedDevice;
 use crate::serving::tell_address;
 use crate::status::status_of;
 use doc_html::CommonMark;
@@ -19,9 +20,10 @@ use doc_page_parts::heap::Heap;
 use doc_server::site::site_hub;
 use doc_server_config::bounds::Bounds;
 use doc_server_journal::device::Device;
-use doc_server_journal::file_device::FileDevice;
-use doc_server_poll::keeping::Keeping;
+use doc_server_journal::memory::MemoryDevice;
+use doc_server_poll::keeping::{Found, Keeping};
 use doc_server_poll::server::Server;
+use doc_server_streams::fault::Fault;
 use doc_server_streams::write_to::WriteTo;
 use std::fs::{File, metadata};
 use std::io;
@@ -80,7 +82,7 @@ fn listen_on<R: Renderer + Drop, P: Clock + Eprint + Files<File = File> + Net + 
     let _held = hold(rt, heap, command.config)?;
     match command.journal {
         None => {
-            let mut forgets: Keeping<FileDevice> = Keeping::Forgets;
+            let mut forgets: Keeping<MemoryDevice> = Keeping::Forgets;
             serve_keeping(rt, heap, hub, bounds, command, &mut forgets)
         }
         Some(name) => serve_journal(rt, heap, hub, bounds, command, name),
@@ -96,14 +98,19 @@ fn serve_journal<R: Renderer + Drop, P: Clock + Eprint + Files<File = File> + Ne
     command: &Listen<'_>,
     name: &str,
 ) -> Result<u8, ListenFault> {
-    let device = FileDevice::open(rt, name)?;
+    let device = NamedDevice::open(rt, name)?;
     let mut keeps = Keeping::Keeps(open_journal(heap, device, hub)?);
-    serve_keeping(rt, heap, hub, bounds, command, &mut keeps)
+    match serve_keeping(rt, heap, hub, bounds, command, &mut keeps) {
+        Err(ListenFault::Command(Fault::CannotWrite)) if !keeps.is_found() => {
+            Err(ListenFault::Moved)
+        }
+        ended => ended,
+    }
 }
 
 /// Binds the address, tells it, and serves until the program is told to stop.
 fn serve_keeping<
-    D: Device + Drop,
+    D: Device + Found + Drop,
     R: Renderer + Drop,
     P: Clock + Eprint + Files<File = File> + Net + Print,
 >(

@@ -12,6 +12,7 @@ mod journal;
 mod listen_fault;
 mod listen_options;
 mod listening;
+mod named_device;
 mod request_line;
 mod serving;
 mod site_store;
