@@ -1,6 +1,7 @@
 """What ends `listen`, and what doesn't: its standard input as a pipe (closed at once, closed later, written to), as a file, /dev/null, a
-terminal or a socket, also one that hangs up, or closed; signals; peers that are silent, and a server that is stopped for a while; standard output that takes nothing; fewer files than connections. Each time a client asks beside it, and a
-program that goes on is ended in the end.
+terminal or a socket, also one that hangs up, or closed; signals; peers that are silent, a server that is stopped for a while, and one
+without memory; standard output that takes nothing; fewer files than connections. Each time a client asks beside it, and a program that
+goes on is ended in the end.
 
     python3 scripts/listen/ends.py PROGRAM
 
@@ -121,6 +122,33 @@ def silence():
     scene.ends(server, "silence")
 
 
+def starved():
+    """One for whose reply there is no memory: the server goes on without spinning, and answers once there is some, or lets it go."""
+    put("large.toml", "[listen]\nidle_seconds = 2\n" + SITE + "".join(
+        f'[[page]]\npath = "{number:04}{"x" * 150}.md"\ntext = "# {"h" * 300}"\n' for number in range(4_000)))
+    for name, more in (("for a second", True), ("for long", False)):
+        server = scene.listen("large.toml")
+        Client(server.port, "tok").ask("/page/a.md")
+        with open(f"/proc/{server.pid}/status") as lines:
+            size = next(int(line.split()[1]) * 1024 for line in lines if line.startswith("VmSize:"))
+        resource.prlimit(server.pid, resource.RLIMIT_AS, (size + 200_000, resource.RLIM_INFINITY))
+        client, before, asked = Client(server.port, "tok"), sum(server.used()), time.monotonic()
+        client.send("/contents")
+        time.sleep(1)
+        scene.check(f"no memory {name}: others are answered", Client(server.port, "tok").ask("/page/a.md")[0] == 200)
+        scene.check(f"no memory {name}: it doesn't spin", (took := sum(server.used()) - before) < 500_000, took)
+        if more:
+            resource.prlimit(server.pid, resource.RLIMIT_AS, (resource.RLIM_INFINITY, resource.RLIM_INFINITY))
+        try:
+            found = client.reply()[0]
+        except OSError:
+            found = None
+        took = time.monotonic() - asked
+        scene.check(f"no memory {name}: it is answered or let go", found == 200 and took < 2 if more else found is None and 1.9 < took < 4,
+                    f"{found} after {took}")
+        scene.ends(server, f"no memory {name}")
+
+
 def full_output():
     with open("/dev/full", "w") as full:
         found = Started(subprocess.DEVNULL, full).ended()
@@ -161,6 +189,7 @@ def main():
     other_inputs()
     signals()
     silence()
+    starved()
     full_output()
     few_files()
 
