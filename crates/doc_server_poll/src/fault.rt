@@ -11,7 +11,7 @@ pub enum PollFault {
     /// The address can't be listened at, or the system can't be asked for events or for the time.
     #[error("the address can't be listened at")]
     Socket,
-    /// The edits of a turn can't be written down.
+    /// The edits of a turn can't be written down, or the journal can't be found by its name.
     #[error("cannot write")]
     CannotWrite,
     #[error("{}", Memory)]
