@@ -5,7 +5,7 @@ use Rattle.std.specs.Prelude.{not, ◌&&◌, ◌||◌, ◌==◌, Option, Some, N
 use Rattle.doc_http.specs.declared.request.Request.{Request}
 use Rattle.doc_http_replies.specs.Heads.{Dress}
 use Rattle.doc_hub_answers.proofs.AnswerEdits.{response_can}
-use Rattle.doc_hub_answers.specs.Edits.{CanBeMade, puts_left}
+use Rattle.doc_hub_answers.specs.Edits.{CanBeMade, puts_taken}
 use Rattle.doc_hub_answers.specs.Replies.{Renders, Response, plain_answer, refused, response_to}
 use Rattle.doc_hub_answers.specs.declared.answer.Answer.{Answer}
 use Rattle.doc_hub_answers.specs.declared.edit.Edit.{Edit}
@@ -75,12 +75,13 @@ can_holds store text None can = tt
 can_holds store text (Some response) can = can
 
 -- the edit can be made
-pub answer_can_be_made : (render : Renders) (settings : Settings) (store : StoreState) (asking : Asking) (request : Request)
+pub answer_can_be_made : (takes : Bool) (render : Renders) (settings : Settings) (store : StoreState) (asking : Asking)
+    (request : Request)
     → CanBeMade store request.body
-    (answer_of settings render (view_of store.site (row_of asking)) asking (puts_left store.puts) request).edit
-answer_can_be_made render settings store asking request =
-    answer_holds (CanBeMade store request.body) tt render (view_of store.site (row_of asking)) asking (puts_left store.puts) request
-    (response_can render store (row_of asking) request)
+    (answer_of settings render (view_of store.site (row_of asking)) asking (puts_taken takes store.puts) request).edit
+answer_can_be_made takes render settings store asking request =
+    answer_holds (CanBeMade store request.body) tt render (view_of store.site (row_of asking)) asking (puts_taken takes store.puts) request
+    (response_can takes render store (row_of asking) request)
     (λ browse. can_holds store request.body
-    (edit_response render browse (view_of store.site (row_of asking)) asking (puts_left store.puts) (is_for_people request) request)
-    (edit_response_can render browse store asking (is_for_people request) request)) settings
+    (edit_response render browse (view_of store.site (row_of asking)) asking (puts_taken takes store.puts) (is_for_people request) request)
+    (edit_response_can takes render browse store asking (is_for_people request) request)) settings

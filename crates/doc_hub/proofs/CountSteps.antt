@@ -161,6 +161,9 @@ module _ (render : Renders) (rendered rendered' : ℕ) (w v : World) where
   event_counts (events.Reader edit) said h same =
       quiet (events.Reader edit) (outcome_of (events.Reader edit) said) refl refl same
       (stand_beside render w v (events.Reader edit) said tt h).puts
+  event_counts (events.TakePuts takes) said h same =
+      quiet (events.TakePuts takes) (outcome_of (events.TakePuts takes) said) refl refl same
+      (stand_beside render w v (events.TakePuts takes) said tt h).puts
 
   -- the same as a run tells it
   pub counted_same : (event same : Event) (outcome : Outcome) → event ≡ same → CountedHere same outcome → CountedHere event outcome

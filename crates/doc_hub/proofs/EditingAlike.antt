@@ -1,4 +1,4 @@
--- A request that edits asks whether a put is left only where it is a PUT of an owner.
+-- A request that edits asks whether a put is taken only where it is a PUT of an owner.
 use Rattle.std.proofs.Common.{◌≡◌, ℕ, List, Bool, true, false, refl, ap}
 use Rattle.std.specs.Prelude.{Option, Some, None, if◌then◌else◌}
 use Rattle.doc_http.specs.declared.request.Request.{Request}
@@ -23,7 +23,7 @@ use Rattle.doc_hub_asking.specs.Asking.{Asking, row_of}
 use Rattle.doc_hub_asking.specs.Asking as asked
 use Rattle.doc_hub_people.specs.PeopleAnswers.{offers_for}
 
--- ---- what asks whether a put is left
+-- ---- what asks whether a put is taken
 
 -- a put of a page, other groups for it, or a move
 abbrev takes_put : EditRequest → Bool

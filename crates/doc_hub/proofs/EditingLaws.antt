@@ -12,7 +12,7 @@ use Rattle.doc_people.specs.declared.settings.Settings.{Settings}
 use Rattle.doc_store_readers.specs.Sites.{View, page_at, view_of}
 use Rattle.doc_store_readers.specs.declared.reader.Reader.{Reader}
 use Rattle.doc_hub_answers.proofs.OwnerSteps.{owner_page}
-use Rattle.doc_hub_answers.specs.Edits.{puts_left}
+use Rattle.doc_hub_answers.specs.Edits.{puts_taken}
 use Rattle.doc_hub_answers.specs.Replies as plain
 use Rattle.doc_hub_answers.specs.Replies.{Renders, Response, edit_page, method_of, on_route, only_reply, reads, reply_at, response_to}
 use Rattle.doc_hub_answers.specs.declared.edit.Edit.{Edit}
@@ -156,30 +156,30 @@ module _ (render : Renders) (h : Happened) (request : Request) (edit : Edit) (ed
   abbrev view : View
   view = view_of w.site (reader_of w request)
 
-  found : Asked render edited.browse view (puts_left w.puts) request edit edited.editing (asking_of w request)
+  found : Asked render edited.browse view (puts_taken w.takes_puts w.puts) request edit edited.editing (asking_of w request)
   found =
-      edit_asked render edited.browse view (puts_left w.puts) request edit edited.editing w.settings (asking_of w request) edited.settings
+      edit_asked render edited.browse view (puts_taken w.takes_puts w.puts) request edit edited.editing w.settings (asking_of w request) edited.settings
       edited.made
 
   -- what stands for the owner who asked stands in the site
   stands_so : map.get w.site.pages (path_of_edit edit) ≡ page_at view.pages (path_of_edit edit)
   stands_so =
       sym (owner_page w.site found.row (path_of_edit edit)
-      (owner_asked render edited.browse view (puts_left w.puts) request edit edited.editing found.guest found.row found.what found.is_edit))
+      (owner_asked render edited.browse view (puts_taken w.takes_puts w.puts) request edit edited.editing found.guest found.row found.what found.is_edit))
       ∙ ap (λ r. page_at (view_of w.site r).pages (path_of_edit edit)) (sym found.is_row)
 
 names_what_stood : (render : Renders) (h : Happened) → NamesWhatStood render h
 names_what_stood render h request edit value tags edited match names =
     let asks = found render h request edit edited in
     let (page, stands, has) = edits_are_of_what_was_named render edited.browse (view render h request edit edited) asks.guest asks.row
-    (puts_left h.world.puts) (is_for_people request) request asks.what edit value tags asks.is_edit match names in
+    (puts_taken h.world.takes_puts h.world.puts) (is_for_people request) request asks.what edit value tags asks.is_edit match names in
     (page, stands_so render h request edit edited ∙ stands, has)
 
 replaces_nothing : (render : Renders) (h : Happened) → ReplacesNothing render h
 replaces_nothing render h request edit value edited match names =
     let asks = found render h request edit edited in
     stands_so render h request edit edited
-    ∙ nothing_is_replaced_unasked render edited.browse (view render h request edit edited) asks.guest asks.row (puts_left h.world.puts)
+    ∙ nothing_is_replaced_unasked render edited.browse (view render h request edit edited) asks.guest asks.row (puts_taken h.world.takes_puts h.world.puts)
     (is_for_people request) request asks.what edit value asks.is_edit match names
 
 pub no_update_is_lost : NoUpdateIsLost

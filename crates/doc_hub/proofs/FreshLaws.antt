@@ -1,4 +1,4 @@
--- In any run, each reply is that of a fresh server, while puts are left.
+-- In any run, each reply is that of a fresh server, while puts are taken.
 use Rattle.std.proofs.Common.{◌≡◌, ◌≤◌, ◌+◌, ℕ, List, length, suc, Bool, true, cond, refl, ap, sym, ◌∙◌, subst, arith}
 use Rattle.std.specs.Prelude.{nat_lt, Option, Some, None, option_and_then, Result, Ok, Err, All}
 use Rattle.std.specs.FinMap as map
@@ -21,10 +21,10 @@ use Rattle.doc_http.specs.declared.request.Next.{Next}
 use Rattle.doc_http.specs.declared.request.Next.TheVariants as nexts
 use Rattle.doc_http.proofs.LawLemmas.{read_in_one_way}
 use Rattle.doc_hub.specs.Connections.{Connections}
-use Rattle.doc_hub_answers.specs.Edits.{puts_left}
+use Rattle.doc_hub_answers.specs.Edits.{puts_left, puts_taken}
 use Rattle.doc_hub_events.specs.Events.{stepping, step_refusal}
 use Rattle.doc_hub.specs.FreshLaws.{LeavesPut, NewRepliesAsFresh, PutsAreLeft, RepliesAsFresh, SendsAsFresh, SendsAsFreshAlways, StepSays}
-use Rattle.doc_hub.specs.FreshLaws.{first_connection, fresh, fresh_for, only_reader}
+use Rattle.doc_hub.specs.FreshLaws.{TakesPut, first_connection, fresh, fresh_for, only_reader}
 use Rattle.doc_hub_answers.specs.Replies.{Renders}
 use Rattle.doc_hub.specs.Runs.{Happened, Leaves, Runs, nothing, first}
 use Rattle.doc_hub.specs.StepLaws.{Agree, AgreeOn, connection, is_owners_put, open_with, site_seen}
@@ -40,6 +40,7 @@ use Rattle.doc_hub_events.specs.declared.refusal.StepError.{StepError}
 use Rattle.doc_hub_events.specs.declared.refusal.StepError.TheVariants as step_errors
 use Rattle.doc_hub.proofs.PutCounts.{counted, puts_are_counted}
 use Rattle.doc_hub.proofs.StepLaws.{said_alike, said_of}
+use Rattle.doc_hub.proofs.Takings.{taking_stands}
 
 -- ---- the fresh server
 
@@ -72,9 +73,9 @@ asking_again guest login readers (Some value) =
     ap known_by (reader_again readers token
     ∙ ap (λ o. option_and_then (map.get (only_reader token o)) token) (known_again (option_and_then (map.get readers) token)))
 
--- a world is alike for a request with its fresh server, where both have a put left or no owner puts a page
+-- a world is alike for a request with its fresh server, where both take a put or no owner puts a page
 fresh_agrees : (puts : ℕ) (w : World) (request : Request) (unread : List ℕ)
-    → (is_owners_put (reader_of w request) request ≡ true → puts_left w.puts ≡ true) → puts_left puts ≡ true
+    → (is_owners_put (reader_of w request) request ≡ true → puts_taken w.takes_puts w.puts ≡ true) → puts_left puts ≡ true
     → Agree w (fresh puts (site_seen w request) (token_of w request) (known_of (asking_of w request)) w.settings unread) request
 fresh_agrees puts w request unread room also =
     let v : World = fresh puts (site_seen w request) (token_of w request) (known_of (asking_of w request)) w.settings unread in
@@ -171,10 +172,13 @@ replies_as_fresh render w v run (first x y z event outcome rest leaves runs) =
 no_less : (a b n : ℕ) → a ≤ b → nat_lt b n ≡ true → nat_lt a n ≡ true
 no_less a b n le lt = grind (arith, nat_tests)
 
-always_left : (w : World) (next : Next) → puts_left w.puts ≡ true → LeavesPut w next
-always_left w nexts.More room = tt
-always_left w (nexts.Fault code bare) room = tt
-always_left w (nexts.Request used request) room = λ owns. room
+taken_where : (takes : Bool) (puts : ℕ) → takes ≡ true → puts_left puts ≡ true → puts_taken takes puts ≡ true
+taken_where takes puts is left = ap (λ t. puts_taken t puts) is ∙ left
+
+always_left : (w : World) (next : Next) → puts_left w.puts ≡ true → TakesPut w next → LeavesPut w next
+always_left w nexts.More room takes = tt
+always_left w (nexts.Fault code bare) room takes = tt
+always_left w (nexts.Request used request) room takes = λ owns. taken_where w.takes_puts w.puts (takes owns) room
 
 at_first : (a n : ℕ) → a ≤ a + n
 at_first a n = omega arith
@@ -188,8 +192,8 @@ always_as_fresh render w v run (nothing x) few = All-nil (SendsAsFreshAlways ren
 always_as_fresh render w v run (first x y z event outcome rest leaves runs) few =
     let n = length rest in
     All-cons (SendsAsFreshAlways render) (record { world = x; event = event; outcome = outcome }) rest
-    (λ unread next said is. sends_as_fresh render x y event outcome leaves unread next said is
-    (always_left x next (no_less x.puts (x.puts + suc n) put_limit (at_first x.puts (suc n)) few)))
+    (λ unread next said is takes. sends_as_fresh render x y event outcome leaves unread next said is
+    (always_left x next (no_less x.puts (x.puts + suc n) put_limit (at_first x.puts (suc n)) few) takes))
     (always_as_fresh render y z rest runs (no_less (y.puts + n) (x.puts + suc n) put_limit
     (then_more x.puts y.puts n (counted render x y event outcome leaves)) few))
 
@@ -202,5 +206,6 @@ new_replies_as_fresh render readers settings v run runs few =
 
 pub puts_are_left : PutsAreLeft
 puts_are_left render readers settings v run runs few =
-    no_less v.puts (length run) put_limit
-    (subst (λ n. v.puts ≤ n) (none_before (length run)) (puts_are_counted render (new_world readers settings) v run runs)) few
+    let left = no_less v.puts (length run) put_limit
+    (subst (λ n. v.puts ≤ n) (none_before (length run)) (puts_are_counted render (new_world readers settings) v run runs)) few in
+    (left, λ others. taken_where v.takes_puts v.puts (taking_stands render (new_world readers settings) v run runs others) left)

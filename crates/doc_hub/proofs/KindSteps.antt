@@ -30,10 +30,10 @@ by_equation {S = S} P given v said after is = subst (λ (q : World × S). P q.0)
 -- ---- edits of the site
 
 -- all but the site and the number of puts is as before
-abbrev HasSiteOf : World → World → Type 0
+abbrev pub HasSiteOf : World → World → Type 0
 HasSiteOf w v = v ≡ record w { site = v.site; puts = v.puts }
 
-leaves_all_but_site : (w v : World) (edit : SiteEdit) (said : SaidSite edit) → HappensSite w edit v said → HasSiteOf w v
+pub leaves_all_but_site : (w v : World) (edit : SiteEdit) (said : SaidSite edit) → HappensSite w edit v said → HasSiteOf w v
 leaves_all_but_site w v (site_edits.Put path groups text) said h =
     by_gives (HasSiteOf w) edit_errors.Memory (world_put w path groups text) w v said refl refl h
 leaves_all_but_site w v (site_edits.Remove path) said h = by_equation (HasSiteOf w) (world_removed w path) v said refl h
@@ -57,10 +57,10 @@ IsBeside (events.Site edit) = ⊥
 IsBeside event = ⊤
 
 -- all but the readers is as before
-abbrev HasReadersOf : World → World → Type 0
+abbrev pub HasReadersOf : World → World → Type 0
 HasReadersOf w v = v ≡ record w { readers = v.readers }
 
-leaves_all_but_readers : (w v : World) (edit : ReaderEdit) (said : SaidReader edit) → HappensReader w edit v said → HasReadersOf w v
+pub leaves_all_but_readers : (w v : World) (edit : ReaderEdit) (said : SaidReader edit) → HappensReader w edit v said → HasReadersOf w v
 leaves_all_but_readers w v (reader_edits.Set token reader) said h =
     by_gives (HasReadersOf w) reader_errors.Memory (world_reader_set w token reader) w v said refl refl h
 leaves_all_but_readers w v (reader_edits.Remove token) said h =
@@ -79,6 +79,12 @@ stand_beside render w v (events.Reader edit) said is h =
       given = ap (λ (x : World). x.given) same;
       connections = ap (λ (x : World). x.connections) same;
     }
+stand_beside render w v (events.TakePuts takes) said is h = record {
+  site = ap (λ (x : World). x.site) h;
+  puts = ap (λ (x : World). x.puts) h;
+  given = ap (λ (x : World). x.given) h;
+  connections = ap (λ (x : World). x.connections) h;
+}
 
 -- ---- events of no connection
 

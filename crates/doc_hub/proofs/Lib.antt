@@ -30,4 +30,5 @@ pub mod StepEdits
 mod StepLaws
 mod StoreSteps
 mod StoredSteps
+mod Takings
 pub mod ToldPaths

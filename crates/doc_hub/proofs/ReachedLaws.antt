@@ -192,7 +192,7 @@ module _ (render : Renders) where
   front_can w n k (nexts.Request used request) found can =
       let a = answer_in render w request in
       record {
-        stored = edit_can w request.body a.edit (answer_can_be_made render w.settings (store_of w)
+        stored = edit_can w request.body a.edit (answer_can_be_made w.takes_puts render w.settings (store_of w)
             (asking_of w request) request) can.stored;
         short = set_short w.connections n (finished k used a.closes) can.short (finished_length k used a.closes (can.short n k found));
       }
@@ -266,12 +266,12 @@ within_limits w can = record {
 }
 
 made_one : (render : Renders) (h : Happened) → CanBe h.world → SendsAsFreshAlways render h → SendsAsMade render h
-made_one render h can replies unread used request said is =
+made_one render h can replies unread used request said is takes =
     let site = site_seen h.world request in
     let reader = reader_of h.world request in
     let made = fresh_is_made render site (token_of h.world request) (known_of (asking_of h.world request)) h.world.settings unread
     (cut_within h.world.site reader (within_limits h.world can)) (can.short is.c.0 (open_with unread) is.stands) in
-    (made, replies unread (nexts.Request used request) said is (makings site) made.left)
+    (made, replies unread (nexts.Request used request) said is takes (makings site) made.left)
 
 new_can : (readers : ReaderTable) (settings : Settings) → CanBe (new_world readers settings)
 new_can readers settings = record { stored = nothing_stored; short = none_short }

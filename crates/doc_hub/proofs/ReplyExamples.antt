@@ -31,7 +31,7 @@ use Rattle.doc_resolve.specs.WrittenPaths.{path_written as target_path_written}
 use Rattle.doc_links_pages.specs.Links.{backlinks, broken, contents}
 use Rattle.doc_listings.specs.Listings.{backlinks_text, entry_lines, heading_line, report_text}
 use Rattle.doc_hub.specs.Connections.{pushed_onto, finished, backlog_limit}
-use Rattle.doc_hub_answers.specs.Edits.{puts_left}
+use Rattle.doc_hub_answers.specs.Edits.{puts_taken}
 use Rattle.doc_hub_answers.specs.Replies.{Renders, fault_bytes}
 use Rattle.doc_hub_asking.specs.Asking.{known_by}
 use Rattle.doc_hub_replies.specs.Answers.{answer_of}
@@ -419,7 +419,7 @@ abbrev edit_seen : View → Option Reader → Bool → Request → Option Edit
 edit_seen view reader left request = (answer_by_entry plain_page view reader left true request).edit
 
 step_tells_what_is_seen : (w : World) (used : ℕ) (request : Request) (view : View) (reader : Option Reader) (left : Bool)
-    → view_of w.site (reader_of w request) ≡ view → asking_of w request ≡ known_by reader → puts_left w.puts ≡ left
+    → view_of w.site (reader_of w request) ≡ view → asking_of w request ≡ known_by reader → puts_taken w.takes_puts w.puts ≡ left
     → w.settings ≡ plain_settings true
     → edit_of_step plain_page w (nexts.Request used request) ≡ edit_seen view reader left request
 step_tells_what_is_seen w used request view reader left sees is remains keeps =

@@ -116,7 +116,7 @@ module _ (render : Renders) where
   next_site w n c (nexts.Fault code bare) = refl
   next_site w n c (nexts.Request used request) =
       made_site (store_of w) request.body (answer_in render w request).edit
-      (answer_can_be_made render w.settings (store_of w) (asking_of w request) request)
+      (answer_can_be_made w.takes_puts render w.settings (store_of w) (asking_of w request) request)
 
   open_edits : (w v : World) (n : ℕ) (c : Connection) (said : Step) (closed : Bool)
       → MatchBool closed (Stays w (Ok steps.Closed) v (Ok said)) (Answers render w n v (Ok said) c)

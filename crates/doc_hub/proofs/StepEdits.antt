@@ -67,7 +67,7 @@ module _ (render : Renders) (w v : World) where
   next_changes n c (nexts.Fault code bare) site = site
   next_changes n c (nexts.Request used request) site =
       edit_changes request.body (answer_in render w request).edit
-      (answer_can_be_made render w.settings (store_of w) (asking_of w request) request) site
+      (answer_can_be_made w.takes_puts render w.settings (store_of w) (asking_of w request) request) site
 
   open_changes : (n : ℕ) (c : Connection) (said : Step) (edit : Option Edit) (closed : Bool)
       → MatchBool closed (Stays w (Ok steps.Closed) v (Ok said)) (Answers render w n v (Ok said) c)

@@ -18,7 +18,7 @@ use Rattle.doc_hub_events.specs.declared.event.Step.{Step}
 use Rattle.doc_hub_answers.specs.declared.method.Method.{Method}
 use Rattle.doc_hub_answers.specs.declared.method.Method.TheVariants.{Get, Head, Put, Delete, Post, Other}
 use Rattle.doc_hub_events.specs.declared.refusal.StepError.{StepError}
-use Rattle.doc_hub_answers.specs.Edits.{puts_left}
+use Rattle.doc_hub_answers.specs.Edits.{puts_taken}
 use Rattle.doc_hub_answers.specs.Replies.{Renders, Response, at_route, edit_at, edit_page, method_of, on_route, only_reply, plain_answer}
 use Rattle.doc_hub_answers.specs.Replies.{put_by, reads, refused, reply_at, response_to}
 use Rattle.doc_hub_asking.specs.Asking.{Asking, is_guest, row_of}
@@ -32,7 +32,7 @@ use Rattle.doc_hub.specs.StepLaws.{AgreeOn, AnswersAlike, StepsAlike, connection
 use Rattle.doc_hub.specs.Worlds.{World, Steps, StepsAt, asking_of, reader_of, stepped_by, step_said}
 use Rattle.doc_hub.proofs.EditingAlike.{edit_response_alike}
 
--- ---- a PUT of an owner alone asks whether a put is left
+-- ---- a PUT of an owner alone asks whether a put is taken
 
 by_name : (get head put delete post : Bool)
     → ◌≡◌ {A = Method} (if get then Get else (if head then Head else (if put then Put else (if delete then Delete
@@ -150,11 +150,11 @@ module _ (render : Renders) (view : View) (left other : Bool) (request : Request
 
 pub answers_alike : AnswersAlike
 answers_alike render w v request agree =
-    asks_of_puts render (view_of w.site (reader_of w request)) (puts_left w.puts) (puts_left v.puts) request w.settings
-    (asking_of w request) agree.puts
+    asks_of_puts render (view_of w.site (reader_of w request)) (puts_taken w.takes_puts w.puts) (puts_taken v.takes_puts v.puts)
+    request w.settings (asking_of w request) agree.puts
     ∙ (λ i. answer_of (agree.settings i) render
     (record { pages = map.entries (agree.sites i).pages; aliases = map.entries (agree.sites i).aliases })
-    (agree.asking i) (puts_left v.puts) request)
+    (agree.asking i) (puts_taken v.takes_puts v.puts) request)
 
 -- what a step answers, by what the unread bytes begin with
 pub said_alike : (render : Renders) (w v : World) (c d : ℕ) (one other : Connection) (next : Next) → AgreeOn w v next

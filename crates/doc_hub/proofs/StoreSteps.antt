@@ -88,17 +88,24 @@ gives_so memory w given bare_given store new (Err e) alike answer gives =
     (subst (λ said. IsAnswer memory said (Err e)) (sym answer) gives.0, ap (with_store w) gives.1)
 
 -- the world of a hub with this store
-abbrev pub world_of : StoreState → ReaderTable → Settings → ℕ → Connections → World
-world_of store readers settings given connections =
-    record { site = store.site; puts = store.puts; readers = readers; settings = settings; given = given; connections = connections }
+abbrev pub world_of : StoreState → Bool → ReaderTable → Settings → ℕ → Connections → World
+world_of store takes readers settings given connections = record {
+  site = store.site;
+  puts = store.puts;
+  takes_puts = takes;
+  readers = readers;
+  settings = settings;
+  given = given;
+  connections = connections;
+}
 
-module _ (readers : ReaderTable) (settings : Settings) (given : ℕ) (connections : Connections) (store new : StoreState) (w : World)
-    (view_is : world_of store readers settings given connections ≡ w) where
+module _ (takes : Bool) (readers : ReaderTable) (settings : Settings) (given : ℕ) (connections : Connections) (store new : StoreState) (w : World)
+    (view_is : world_of store takes readers settings given connections ≡ w) where
   abbrev before : World
-  before = world_of store readers settings given connections
+  before = world_of store takes readers settings given connections
 
   abbrev after : World
-  after = world_of new readers settings given connections
+  after = world_of new takes readers settings given connections
 
   pub put_so : (path : List ℕ) (groups : List (List ℕ)) (text : List ℕ) (r : Result Put EditError)
       → Gives edit_errors.Memory (put_into store path groups text) store new r
@@ -127,32 +134,32 @@ module _ (readers : ReaderTable) (settings : Settings) (given : ℕ) (connection
 
 -- ---- a step that answers a request
 
-module _ (render : Renders) (readers : ReaderTable) (settings : Settings) (given : ℕ) (connections after : Connections)
+module _ (render : Renders) (takes : Bool) (readers : ReaderTable) (settings : Settings) (given : ℕ) (connections after : Connections)
     (store new : StoreState)
-    (w : World) (view_is : world_of store readers settings given connections ≡ w) (id : ℕ) (c : Connection)
+    (w : World) (view_is : world_of store takes readers settings given connections ≡ w) (id : ℕ) (c : Connection)
     (found : Some c ≡ map.get connections id) (is_open : c.closed ≡ false) (used : ℕ) (request : Request)
     (begins : IsNext c.unread (nexts.Request used request)) (answer : Answer)
-    (answer_is : answer ≡ answer_in render (world_of store readers settings given connections) request)
+    (answer_is : answer ≡ answer_in render (world_of store takes readers settings given connections) request)
     (made : new ≡ store_after store request.body answer.edit)
     (set : after ≡ map.insert connections id (finished c used answer.closes)) where
   abbrev left_by : World
-  left_by = world_of new readers settings given after
+  left_by = world_of new takes readers settings given after
 
   edited : bare (store_after (bare store) request.body answer.edit) ≡ bare new
   edited = after_alike store request.body answer.edit ∙ ap bare (sym made)
 
   stepped : ◌≡◌ {A = World × Result Step StepError}
-      (stepped_by render (world_of store readers settings given connections) id c (nexts.Request used request))
+      (stepped_by render (world_of store takes readers settings given connections) id c (nexts.Request used request))
       (left_by, Ok (step_said answer.closes answer.bytes))
   stepped =
-      let old = world_of store readers settings given connections in
+      let old = world_of store takes readers settings given connections in
       ap (λ (a : Answer). (with_finished (world_after old request a) id c used a.closes, Ok (step_said a.closes a.bytes))) (sym answer_is)
-      ∙ (λ i. (world_of (edited i) readers settings given (sym set i), Ok (step_said answer.closes answer.bytes)))
+      ∙ (λ i. (world_of (edited i) takes readers settings given (sym set i), Ok (step_said answer.closes answer.bytes)))
 
   pub request_answered : (shown : Renders) → render ≡ shown → (said : Step) → said ≡ step_said answer.closes answer.bytes
       → Steps shown w id left_by (Ok said)
   request_answered shown same said said_is =
-      let old = world_of store readers settings given connections in
+      let old = world_of store takes readers settings given connections in
       let Of : Bool → Type 0 = λ closed. MatchBool closed (Stays old (Ok steps.Closed) left_by (Ok said))
       (Answers render old id left_by (Ok said) c) in
       subst (λ (r : Renders). Steps r w id left_by (Ok said)) same (

@@ -5,7 +5,7 @@ use Rattle.doc_store_readers.specs.Sites.{view_of}
 use Rattle.doc_http.specs.Requests.{IsNext}
 use Rattle.doc_http.specs.declared.request.Next.{Next}
 use Rattle.doc_http.specs.declared.request.Next.TheVariants as nexts
-use Rattle.doc_hub_answers.specs.Edits.{puts_left}
+use Rattle.doc_hub_answers.specs.Edits.{puts_taken}
 use Rattle.doc_hub_answers.specs.Replies.{Renders}
 use Rattle.doc_hub_answers.specs.declared.edit.Edit.{Edit}
 use Rattle.doc_hub_replies.specs.Answers.{is_for_people}
@@ -21,9 +21,9 @@ module _ (render : Renders) (w : World) where
   next_at_paths nexts.More = tt
   next_at_paths (nexts.Fault code bare) = tt
   next_at_paths (nexts.Request used request) =
-      answer_holds AtPaths tt render (view_of w.site (reader_of w request)) (asking_of w request) (puts_left w.puts) request
-      (response_at_paths render (view_of w.site (reader_of w request)) (reader_of w request) (puts_left w.puts) request)
-      (λ browse. edits_at_paths (view_of w.site (reader_of w request)) (puts_left w.puts) request render browse (is_for_people request)
+      answer_holds AtPaths tt render (view_of w.site (reader_of w request)) (asking_of w request) (puts_taken w.takes_puts w.puts) request
+      (response_at_paths render (view_of w.site (reader_of w request)) (reader_of w request) (puts_taken w.takes_puts w.puts) request)
+      (λ browse. edits_at_paths (view_of w.site (reader_of w request)) (puts_taken w.takes_puts w.puts) request render browse (is_for_people request)
       (asking_of w request)) w.settings
 
   open_at_paths : (c : Connection) (told : Option Edit) (closed : Bool)

@@ -11,12 +11,14 @@ use Rattle.doc_http.specs.Requests.{IsNext}
 use Rattle.doc_http.specs.declared.request.Next.{Next}
 use Rattle.doc_http.specs.declared.request.Next.TheVariants as nexts
 use Rattle.doc_hub_events.specs.declared.event.ConnId.{ConnId}
+use Rattle.doc_hub_events.specs.declared.event.Event.{Event}
+use Rattle.doc_hub_events.specs.declared.event.Event.TheVariants as events
 use Rattle.doc_hub_events.specs.Events.{step_on}
 use Rattle.doc_hub_events.specs.declared.event.Step.{Step}
 use Rattle.doc_hub_events.specs.declared.outcome.Outcome.TheVariants as outcomes
 use Rattle.doc_hub_events.specs.declared.refusal.StepError.{StepError}
 use Rattle.doc_hub_events.specs.declared.refusal.StepError.TheVariants as step_errors
-use Rattle.doc_hub_answers.specs.Edits.{puts_left}
+use Rattle.doc_hub_answers.specs.Edits.{puts_left, puts_taken}
 use Rattle.doc_hub_answers.specs.Replies.{Renders}
 use Rattle.doc_hub.specs.Runs.{Happens, Happened, Runs}
 use Rattle.doc_hub.specs.StepLaws.{connection, is_owners_put, open_with, site_seen}
@@ -29,12 +31,13 @@ abbrev pub only_reader : Option (List ℕ) → Option Reader → ReaderTable
 only_reader (Some token) (Some reader) = map.insert map.empty token reader
 only_reader token reader = map.empty
 
--- a server that holds only this site, after so many puts and moves, and this reader, with one connection
+-- a server that takes puts and holds only this site, after so many puts and moves, and this reader, with one connection
 abbrev pub fresh : ℕ → Site → Option (List ℕ) → Option Reader → Settings → List ℕ → World
 fresh puts site token reader settings unread =
     record {
       site = site;
       puts = puts;
+      takes_puts = true;
       readers = only_reader token reader;
       settings = settings;
       given = 1;
@@ -67,9 +70,15 @@ pub record IsAnswered (h : Happened) (unread : List ℕ) (next : Next) (said : S
   pub begins : IsNext unread next
   pub told : h.outcome ≡ outcomes.Stepped said
 
--- where the unread bytes begin with a PUT of an owner, a put is left
+-- where the unread bytes begin with a PUT of an owner, the server takes puts
+abbrev pub TakesPut : World → Next → Type 0
+TakesPut w (nexts.Request used request) = is_owners_put (reader_of w request) request ≡ true → w.takes_puts ≡ true
+TakesPut w next = ⊤
+
+-- and a put is left
 abbrev pub LeavesPut : World → Next → Type 0
-LeavesPut w (nexts.Request used request) = is_owners_put (reader_of w request) request ≡ true → puts_left w.puts ≡ true
+LeavesPut w (nexts.Request used request) =
+    is_owners_put (reader_of w request) request ≡ true → puts_taken w.takes_puts w.puts ≡ true
 LeavesPut w next = ⊤
 
 -- a fresh server, however many puts and moves made it what it is, answers so
@@ -77,14 +86,14 @@ abbrev pub FreshAnswers : Renders → World → List ℕ → Next → Step → T
 FreshAnswers render w unread next said =
     (puts : ℕ) → puts_left puts ≡ true → StepSays render (fresh_for puts w unread next) first_connection said
 
--- what a step answered, where no put was missing, is what the step of that fresh server answers
+-- what a step answered, where no put was refused for want of one, is what the step of that fresh server answers
 abbrev pub SendsAsFresh : Renders → Happened → Type 0
 SendsAsFresh render h =
     (unread : List ℕ) (next : Next) (said : Step) → IsAnswered h unread next said → LeavesPut h.world next
     → FreshAnswers render h.world unread next said
 
 -- Noninterference: in any run, whatever other connections did and whatever growths were refused, each reply is that of a fresh server
--- that holds only what its reader may see at that step; that of a PUT of an owner, as long as a put is left.
+-- that holds only what its reader may see at that step; that of a PUT of an owner, as long as puts are taken and one is left.
 abbrev pub RepliesAsFresh : Type 0
 RepliesAsFresh = (render : Renders) (w v : World) (run : List Happened) → Runs render w run v → All (SendsAsFresh render) run
 
@@ -94,18 +103,30 @@ RepliesAsFresh = (render : Renders) (w v : World) (run : List Happened) → Runs
 abbrev pub PutsAreCounted : Type 0
 PutsAreCounted = (render : Renders) (w v : World) (run : List Happened) → Runs render w run v → v.puts ≤ w.puts + length run
 
--- a run of fewer than 2^64 - 1 events from a new server leaves a put
+-- no event but the one for that changes whether the server takes puts
+abbrev pub IsNoTaking : Event → Type 0
+IsNoTaking (events.TakePuts takes) = ⊥
+IsNoTaking event = ⊤
+
+abbrev pub TakingStands : Type 0
+TakingStands =
+    (render : Renders) (w v : World) (run : List Happened) → Runs render w run v → All (λ h. IsNoTaking h.event) run
+    → v.takes_puts ≡ w.takes_puts
+
+-- a run of fewer than 2^64 - 1 events from a new server leaves a put; and it is taken, where none of the events was to say whether to
 abbrev pub PutsAreLeft : Type 0
 PutsAreLeft =
     (render : Renders) (readers : ReaderTable) (settings : Settings) (v : World) (run : List Happened)
-    → Runs render (new_world readers settings) run v → nat_lt (length run) put_limit ≡ true → puts_left v.puts ≡ true
+    → Runs render (new_world readers settings) run v → nat_lt (length run) put_limit ≡ true
+    → (puts_left v.puts ≡ true) × (All (λ h. IsNoTaking h.event) run → puts_taken v.takes_puts v.puts ≡ true)
 
--- the same, whether or not a put is left
+-- what a step answered, where the server takes puts, is what the step of that fresh server answers, whether or not a put is left
 abbrev pub SendsAsFreshAlways : Renders → Happened → Type 0
 SendsAsFreshAlways render h =
-    (unread : List ℕ) (next : Next) (said : Step) → IsAnswered h unread next said → FreshAnswers render h.world unread next said
+    (unread : List ℕ) (next : Next) (said : Step) → IsAnswered h unread next said → TakesPut h.world next
+    → FreshAnswers render h.world unread next said
 
--- Noninterference from a new server, in a run of fewer than 2^64 - 1 events: nothing is asked of puts.
+-- Noninterference from a new server, in a run of fewer than 2^64 - 1 events: nothing is asked of how many puts were accepted.
 abbrev pub NewRepliesAsFresh : Type 0
 NewRepliesAsFresh =
     (render : Renders) (readers : ReaderTable) (settings : Settings) (v : World) (run : List Happened)

@@ -12,7 +12,7 @@ use Rattle.doc_http.specs.declared.request.Request.{Request}
 use Rattle.doc_http.specs.declared.request.Next.TheVariants as nexts
 use Rattle.doc_hub.specs.Connections.{backlog_limit}
 use Rattle.doc_hub_answers.specs.Edits.{puts_left}
-use Rattle.doc_hub.specs.FreshLaws.{IsAnswered, StepSays, first_connection, fresh, fresh_for, only_reader}
+use Rattle.doc_hub.specs.FreshLaws.{IsAnswered, StepSays, TakesPut, first_connection, fresh, fresh_for, only_reader}
 use Rattle.doc_hub_answers.specs.Replies.{Renders}
 use Rattle.doc_hub.specs.Runs.{Happened, Runs}
 use Rattle.doc_hub.specs.StepLaws.{site_seen}
@@ -74,6 +74,7 @@ FreshIsMade =
 abbrev pub SendsAsMade : Renders → Happened → Type 0
 SendsAsMade render h =
     (unread : List ℕ) (used : ℕ) (request : Request) (said : Step) → IsAnswered h unread (nexts.Request used request) said
+    → TakesPut h.world (nexts.Request used request)
     → IsMade render (site_seen h.world request) (token_of h.world request) (known_of (asking_of h.world request)) h.world.settings unread
     × StepSays render (fresh_for (makings (site_seen h.world request)) h.world unread (nexts.Request used request)) first_connection said
 

@@ -8,7 +8,7 @@ use Rattle.doc_store.specs.declared.store.EditError.TheVariants as edit_errors
 use Rattle.doc_hub_events.specs.Events.{Said, SaidOn, SaidReader, SaidSite, outcome_of}
 use Rattle.doc_hub_answers.specs.Replies.{Renders}
 use Rattle.doc_hub.specs.Worlds.{World, connected, world_pushed, disconnected, world_put, world_removed, world_moved, world_reader_set}
-use Rattle.doc_hub.specs.Worlds.{world_reader_removed, Steps}
+use Rattle.doc_hub.specs.Worlds.{world_reader_removed, world_taking, Steps}
 use Rattle.doc_store.specs.declared.site_edit.SiteEdit.{SiteEdit}
 use Rattle.doc_store.specs.declared.site_edit.SiteEdit.TheVariants as site_edits
 use Rattle.doc_hub_events.specs.declared.event.ConnectionEvent.{ConnectionEvent}
@@ -46,6 +46,7 @@ Happens render w events.Connect v said = Gives connect_errors.Memory (connected 
 Happens render w (events.On id call) v said = HappensOn render w id.0 call v said
 Happens render w (events.Site edit) v said = HappensSite w edit v said
 Happens render w (events.Reader edit) v said = HappensReader w edit v said
+Happens render w (events.TakePuts takes) v said = v ≡ world_taking w takes
 
 -- The event leaves this world, and its outcome is what its call answers.
 abbrev pub Leaves : Renders → World → Event → World → Outcome → Type 0

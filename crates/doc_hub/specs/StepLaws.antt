@@ -11,7 +11,7 @@ use Rattle.doc_hub.specs.declared.connection.Connection.{Connection}
 use Rattle.doc_hub_events.specs.declared.event.ConnId.{ConnId}
 use Rattle.doc_hub_events.specs.Events.{step_on}
 use Rattle.doc_hub_events.specs.declared.event.Step.{Step}
-use Rattle.doc_hub_answers.specs.Edits.{puts_left}
+use Rattle.doc_hub_answers.specs.Edits.{puts_taken}
 use Rattle.doc_hub_answers.specs.Replies.{Renders}
 use Rattle.doc_hub.specs.Runs.{Happens}
 use Rattle.doc_hub.specs.Worlds.{World, answer_in, asking_of, reader_of}
@@ -20,18 +20,18 @@ use Rattle.doc_hub.specs.Worlds.{World, answer_in, asking_of, reader_of}
 abbrev pub site_seen : World → Request → Site
 site_seen w request = visible_to w.site (reader_of w request)
 
--- whether the request is a PUT of an owner, the one whose answer knows whether a put is left
+-- whether the request is a PUT of an owner, the one whose answer knows whether puts are taken and one is left
 abbrev pub is_owners_put : Option Reader → Request → Bool
 is_owners_put None request = false
 is_owners_put (Some reader) request = reader.owner && bytes_eq request.method (codes "PUT")
 
--- two worlds are alike for a request: the same settings, the same who asks, and one view; and where an owner puts a page, a put is left
+-- two worlds are alike for a request: the same settings, the same who asks, and one view; and where an owner puts a page, a put is taken
 -- in both or in neither
 pub record Agree (w v : World) (request : Request) : Type 0 where
   pub settings : w.settings ≡ v.settings
   pub asking : asking_of w request ≡ asking_of v request
   pub sites : site_seen w request ≡ site_seen v request
-  pub puts : is_owners_put (reader_of w request) request ≡ true → puts_left w.puts ≡ puts_left v.puts
+  pub puts : is_owners_put (reader_of w request) request ≡ true → puts_taken w.takes_puts w.puts ≡ puts_taken v.takes_puts v.puts
 
 -- alike for what the unread bytes begin with: a fault, and what is no request yet, ask for nothing
 abbrev pub AgreeOn : World → World → Next → Type 0

@@ -1,7 +1,7 @@
 -- The world that a hub stands for, and one function of it for each call.
 use Rattle.std.specs.Prelude.{◌≡◌, ℕ, List, ◌+◌, ◌^◌, ◌-◌, Bool, true, nat_lt, nat_le, ◌&&◌, MatchBool, Option, Some, None, option_map}
 use Rattle.std.specs.Prelude.{Result, Ok, Err, if◌then◌else◌, refl}
-use Rattle.std.specs.Coded.{Coded, code_by, coded×, coded_ℕ}
+use Rattle.std.specs.Coded.{Coded, code_by, coded×, coded_bool, coded_ℕ}
 use Rattle.std.specs.FinMap as map
 use Rattle.doc_store_readers.specs.declared.reader.Reader.{Reader}
 use Rattle.doc_store_readers.specs.Sites.{Site, empty_site, site_code, view_of}
@@ -19,7 +19,7 @@ use Rattle.doc_http.specs.declared.request.Request.{Request}
 use Rattle.doc_http.specs.declared.request.Next.{Next}
 use Rattle.doc_http.specs.declared.request.Next.TheVariants as nexts
 use Rattle.doc_hub.specs.Connections.{Connections, new_connection, pushed, finished}
-use Rattle.doc_hub_answers.specs.Edits.{puts_left, store_after}
+use Rattle.doc_hub_answers.specs.Edits.{puts_taken, store_after}
 use Rattle.doc_hub_answers.specs.Replies.{Renders, fault_bytes}
 use Rattle.doc_hub_asking.specs.Asking.{Asking, login_of, reader_asking, row_of}
 use Rattle.doc_hub_replies.specs.Answers.{answer_of}
@@ -37,11 +37,12 @@ use Rattle.doc_hub_events.specs.declared.refusal.PushError.{PushError}
 use Rattle.doc_hub_events.specs.declared.refusal.StepError.{StepError}
 use Rattle.doc_hub_events.specs.declared.refusal.StepError.TheVariants as step_errors
 
--- the site, how many puts and moves were accepted, the readers, the settings, the number of connections given, and the connections by
--- number; no reply knows the stamp of a page
+-- the site, how many puts and moves were accepted, whether puts are taken, the readers, the settings, the number of connections given,
+-- and the connections by number; no reply knows the stamp of a page
 pub record World : Type 0 where
   pub site : Site
   pub puts : ℕ
+  pub takes_puts : Bool
   pub readers : ReaderTable
   pub settings : Settings
   pub given : ℕ
@@ -50,23 +51,25 @@ pub record World : Type 0 where
 -- a world as its parts, which tell worlds apart
 abbrev pub world_code : Coded ReaderTable → Coded Settings → Coded Connection → Coded World
 world_code readers settings one =
-    code_by (Site × (ℕ × (ReaderTable × (Settings × (ℕ × Connections)))))
-    (coded× site_code (coded× coded_ℕ (coded× readers (coded× settings (coded× coded_ℕ (map.code coded_ℕ one))))))
-    (λ w. (w.site, (w.puts, (w.readers, (w.settings, (w.given, w.connections))))))
+    code_by (Site × (ℕ × (Bool × (ReaderTable × (Settings × (ℕ × Connections))))))
+    (coded× site_code (coded× coded_ℕ (coded× coded_bool (coded× readers (coded× settings (coded× coded_ℕ (map.code coded_ℕ one)))))))
+    (λ w. (w.site, (w.puts, (w.takes_puts, (w.readers, (w.settings, (w.given, w.connections)))))))
     (λ p. record {
       site = p.0;
       puts = p.1.0;
-      readers = p.1.1.0;
-      settings = p.1.1.1.0;
-      given = p.1.1.1.1.0;
-      connections = p.1.1.1.1.1;
+      takes_puts = p.1.1.0;
+      readers = p.1.1.1.0;
+      settings = p.1.1.1.1.0;
+      given = p.1.1.1.1.1.0;
+      connections = p.1.1.1.1.1.1;
     }) (λ _. refl)
 
--- a server without pages and connections
+-- a server without pages and connections, which takes puts
 abbrev pub new_world : ReaderTable → Settings → World
 new_world readers settings = record {
   site = empty_site;
   puts = 0;
+  takes_puts = true;
   readers = readers;
   settings = settings;
   given = 0;
@@ -123,7 +126,7 @@ reader_of w request = row_of (asking_of w request)
 -- the answer to a request, from what its reader may see
 abbrev pub answer_in : Renders → World → Request → Answer
 answer_in render w request =
-    answer_of w.settings render (view_of w.site (reader_of w request)) (asking_of w request) (puts_left w.puts) request
+    answer_of w.settings render (view_of w.site (reader_of w request)) (asking_of w request) (puts_taken w.takes_puts w.puts) request
 
 -- the world's site and puts as a store's, whose edits are the world's: which stamps its pages have changes nothing else, so they have none
 abbrev pub store_of : World → StoreState
@@ -170,7 +173,7 @@ StepsAt render old id new result (Some c) =
 abbrev pub Steps : Renders → World → ℕ → World → Result Step StepError → Type 0
 Steps render old id new result = StepsAt render old id new result (map.get old.connections id)
 
--- ---- edits of the site and of the readers, as the store makes them
+-- ---- edits of the site and of the readers, as the store makes them: whether puts are taken, requests alone ask
 
 -- a put of a page with these groups and this text under a path
 abbrev pub world_put : World → List ℕ → List (List ℕ) → List ℕ → World × Result Put EditError
@@ -191,6 +194,10 @@ world_reader_set w token reader = let r = set_reader w.readers token reader in (
 -- the reader of a token is removed, and whether there was one
 abbrev pub world_reader_removed : World → List ℕ → World × Bool
 world_reader_removed w token = (record w { readers = map.remove w.readers token }, map.contains_key w.readers token)
+
+-- from here on owners' puts are taken, or none is
+abbrev pub world_taking : World → Bool → World
+world_taking w takes = record w { takes_puts = takes }
 
 -- ---- what owners and editors ask for without a request
 

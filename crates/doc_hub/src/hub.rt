@@ -62,6 +62,7 @@ pub struct Hub<R: Renderer + Drop> {
     readers: Readers,
     settings: Settings,
     shelf: Shelf<R>,
+    takes_puts: bool,
     given: u64,
     connections: Connections,
 }
@@ -75,6 +76,7 @@ impl<R: Renderer + Drop> Drop for Hub<R> {
             readers: _,
             settings: _,
             shelf: _,
+            takes_puts: _,
             given: _,
             connections: _,
         } = self;
@@ -98,6 +100,7 @@ impl<R: Renderer + Drop> Model for Hub<R> {
       record {
         site = h.shelf.1.site;
         puts = h.shelf.1.puts;
+        takes_puts = h.takes_puts;
         readers = h.readers;
         settings = h.settings;
         given = h.given;
@@ -109,7 +112,7 @@ impl<R: Renderer + Drop> Model for Hub<R> {
 }
 
 impl<R: Renderer + Drop> Hub<R> {
-    /// A hub without pages and connections, and without pages for people. `keep_alive` says whether
+    /// A hub without pages and connections, which takes puts, and without pages for people. `keep_alive` says whether
     /// connections stay open where a request allows it. `cache` is how many documents of pages may be kept
     /// for the next reader, 1 to 4,096.
     pub fn new(
@@ -152,6 +155,7 @@ impl<R: Renderer + Drop> Hub<R> {
             readers,
             settings,
             shelf,
+            takes_puts: true,
             given: 0,
             connections: Connections::new(heap),
         })
@@ -232,6 +236,7 @@ impl<R: Renderer + Drop> Hub<R> {
                     routes: &self.routes,
                     readers: &self.readers,
                     settings: &self.settings,
+                    takes_puts: self.takes_puts,
                 };
                 let answer = serving.answer(&mut self.shelf, &request)?;
                 self.connections.finish(id.0, used, answer.closes);
@@ -325,6 +330,17 @@ impl<R: Renderer + Drop> Hub<R> {
         self.readers.remove(token)
     }
 
+    /// Whether owners' puts are taken from here on, with the moves and the changes of groups that ask for a stamp as they do. Where they
+    /// aren't, each is answered as by a store that takes no more; all else is answered as ever. It takes no memory.
+    pub fn take_puts(&mut self, takes: bool)
+        ensures world { Happens (R.page self.old.0) self.old.1
+            (Event.TakePuts takes) self.new.1 result }
+        ensures same { R.page self.new.0 ≡ R.page self.old.0 }
+        ensures counted { R.count self.new.0 ≡ R.count self.old.0 }
+    {
+        self.takes_puts = takes;
+    }
+
     /// The lines of the links that are broken for the reader of a token, each a page, a number of a link there, a reason and what the
     /// link leads to. There are none where no reader has the token.
     pub fn report(&mut self, token: &str) -> Result<Option<Text>, Memory>
@@ -368,6 +384,10 @@ impl<R: Renderer + Drop> Hub<R> {
             Event::On(id, call) => self.happen_on(*id, call),
             Event::Site(edit) => self.edit_site(edit),
             Event::Reader(edit) => self.edit_reader(edit),
+            Event::TakePuts(takes) => {
+                self.take_puts(*takes);
+                Outcome::PutsSet
+            }
         }
     }
 

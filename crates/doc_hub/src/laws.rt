@@ -6,7 +6,7 @@ ghost use Rattle.doc_hub.specs.CutLaws.{DecisionsOfCut};
 ghost use Rattle.doc_hub.specs.EditLaws.{SiteIsOfEdits};
 ghost use Rattle.doc_hub.specs.EditingLaws.{NoPageIsReplacedUnasked, NoUpdateIsLost};
 ghost use Rattle.doc_hub.specs.FreshLaws.{NewRepliesAsFresh, PutsAreCounted, PutsAreLeft};
-ghost use Rattle.doc_hub.specs.FreshLaws.{RepliesAsFresh};
+ghost use Rattle.doc_hub.specs.FreshLaws.{RepliesAsFresh, TakingStands};
 ghost use Rattle.doc_hub.specs.HiddenLaws.{HiddenAsNone, LinksToHiddenAsToNone};
 ghost use Rattle.doc_hub.specs.MadeLaws.{FreshIsMade, MadeReplies};
 ghost use Rattle.doc_hub.specs.RunLaws.{RunsAlike};
@@ -14,7 +14,7 @@ ghost use Rattle.doc_hub.specs.StepEdits.{StepsChange};
 ghost use Rattle.doc_hub.specs.StepLaws.{AnswersAlike, StepsAlike};
 
 /// A request has one answer, with one edit, in two worlds with the same settings, the same who asks (nobody,
-/// a guest, or a reader of one entry), and one view for them; and, where it is a PUT of an owner, a put left
+/// a guest, or a reader of one entry), and one view for them; and, where it is a PUT of an owner, a put taken
 /// in both or in neither. Nothing else of the worlds matters.
 #[tactic(auto, using(crate::proofs::StepLaws::answers_alike))]
 pub fn answers_are_noninterfering()
@@ -39,7 +39,7 @@ pub fn a_link_to_a_hidden_page_is_shown_as_one_to_none()
 /// Step noninterference. Two steps send equal bytes and do the same where their connections are open,
 /// their unread bytes begin with the same thing, both are answered (memory sufficed for both), and,
 /// where that is a request, the worlds have the same settings, the same who asks, and one view for them;
-/// and, where it is a PUT of an owner, a put left in both or in neither.
+/// and, where it is a PUT of an owner, a put taken in both or in neither.
 pub fn steps_are_noninterfering()
     ensures { StepsAlike }
 {}
@@ -47,14 +47,14 @@ pub fn steps_are_noninterfering()
 /// In any run, from any world, what a step of an open connection answers is what the step of a fresh
 /// server answers, and nothing else but where memory runs out there: one with the same settings that holds
 /// only what the request's reader may see at that step, and that reader's entry, where a token names it.
-/// Two premises: the connection stands and is open, and a put is left at that step, where the request is a
-/// PUT of an owner. A step that answered that memory ran out sent nothing, and nothing is said of it.
+/// Two premises: the connection stands and is open, and puts are taken and one is left at that step, where the
+/// request is a PUT of an owner. A step that answered that memory ran out sent nothing, and nothing is said of it.
 pub fn replies_are_a_fresh_servers()
     ensures { RepliesAsFresh }
 {}
 
 /// The same of a step of an open connection in a run from a new hub, in place of the put that is left: the
-/// run has fewer than 2^64 - 1 events.
+/// run has fewer than 2^64 - 1 events. Puts are taken at that step still, where the request is a PUT of an owner.
 pub fn replies_of_a_new_hub_are_a_fresh_servers()
     ensures { NewRepliesAsFresh }
 {}
@@ -72,8 +72,8 @@ pub fn a_hub_can_be_a_fresh_server()
 /// Noninterference by hubs alone. In a run of fewer than 2^64 - 1 events from a new hub, what a step of
 /// an open connection answers to a request is what a hub answers that was new with that request's reader
 /// alone (or none), in which the pages of the view were put, its aliases made by moves, one connection
-/// made and its unread bytes pushed, and nothing else was done. The length of the run is the one premise
-/// beside the open connection.
+/// made and its unread bytes pushed, and nothing else was done. The premises beside the open connection: the
+/// length of the run, and that puts are taken at that step, where the request is a PUT of an owner.
 pub fn replies_are_those_of_a_hub_of_the_view()
     ensures { MadeReplies }
 {}
@@ -94,7 +94,13 @@ pub fn an_event_puts_at_most_once()
     ensures { PutsAreCounted }
 {}
 
-/// A run of fewer than 2^64 - 1 events from a new hub leaves a put.
+/// No event but `TakePuts` changes whether puts are taken.
+#[tactic(auto, using(crate::proofs::Takings::taking_stands))]
+pub fn puts_are_taken_as_they_were()
+    ensures { TakingStands }
+{}
+
+/// A run of fewer than 2^64 - 1 events from a new hub leaves a put; and it is taken, where no event was `TakePuts`.
 #[tactic(auto, using(crate::proofs::FreshLaws::puts_are_left))]
 pub fn short_runs_leave_a_put()
     ensures { PutsAreLeft }

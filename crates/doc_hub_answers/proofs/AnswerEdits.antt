@@ -13,7 +13,7 @@ use Rattle.doc_http_targets.specs.Queries.{parameter}
 use Rattle.doc_http_targets.specs.Targets.{Route, route_of}
 use Rattle.doc_http_targets.specs.Targets as routes
 use Rattle.doc_http_targets.specs.WrittenPaths.{path_written}
-use Rattle.doc_hub_answers.specs.Edits.{CanBeMade, puts_left}
+use Rattle.doc_hub_answers.specs.Edits.{CanBeMade, puts_taken}
 use Rattle.doc_hub_answers.specs.Replies.{Renders, Response, at_route, delete_at, edit_at, edit_page, edited, has_room, method_of}
 use Rattle.doc_hub_answers.specs.Replies.{on_route, only_reply, put_at, put_by, put_page, reads, refused, reply_at, response_to}
 use Rattle.doc_hub_answers.specs.declared.method.Method.{Method}
@@ -21,25 +21,25 @@ use Rattle.doc_hub_answers.specs.declared.method.Method.TheVariants.{Get, Head, 
 use Rattle.doc_hub_answers.specs.declared.edit.Edit.TheVariants as edits
 use Rattle.doc_hub_answers.proofs.OwnerSteps.{owner_fits, owner_stands}
 
-module _ (store : StoreState) (reader : Reader) where
+module _ (takes : Bool) (store : StoreState) (reader : Reader) where
   abbrev Can : List ℕ → Response → Type 0
   Can text response = CanBeMade store text response.edit
 
   -- ---- what an owner asks for
 
   page_can : (path : List ℕ) (groups : List (List ℕ)) (text : List ℕ) (code : ℕ) (room : Bool) → reader.owner ≡ true → is_utf8 text ≡ true
-      → has_room (view_of store.site (Some reader)) (puts_left store.puts) path text ≡ room
+      → has_room (view_of store.site (Some reader)) (puts_taken takes store.puts) path text ≡ room
       → Can text (if room then edited code (edits.Put path groups) else refused 507)
-  page_can path groups text code true owns utf8 is = (utf8, owner_fits store reader path text owns is)
+  page_can path groups text code true owns utf8 is = (utf8, owner_fits takes store reader path text owns is)
   page_can path groups text code false owns utf8 is = tt
 
   text_can : (path : List ℕ) (groups : List (List ℕ)) (text : List ℕ) (utf8 : Bool) → reader.owner ≡ true → is_utf8 text ≡ utf8
-      → Can text (if utf8 then put_page (view_of store.site (Some reader)) (puts_left store.puts) path groups text else refused 400)
+      → Can text (if utf8 then put_page (view_of store.site (Some reader)) (puts_taken takes store.puts) path groups text else refused 400)
   text_can path groups text true owns is = page_can path groups text _ _ owns is refl
   text_can path groups text false owns is = tt
 
   put_can : (path : Option (List ℕ)) (groups : Result (List (List ℕ)) GroupsError) (text : List ℕ) → reader.owner ≡ true
-      → Can text (put_at (view_of store.site (Some reader)) (puts_left store.puts) path groups text)
+      → Can text (put_at (view_of store.site (Some reader)) (puts_taken takes store.puts) path groups text)
   put_can None groups text owns = tt
   put_can (Some path) (Err e) text owns = tt
   put_can (Some path) (Ok groups) text owns = text_can path groups text _ owns refl
@@ -57,7 +57,7 @@ module _ (store : StoreState) (reader : Reader) where
   -- ---- what any reader asks for
 
   put_if : (rest : List ℕ) (request : Request) (owner : Bool) → reader.owner ≡ owner
-      → Can request.body (if owner then put_by (view_of store.site (Some reader)) (puts_left store.puts) rest request else refused 403)
+      → Can request.body (if owner then put_by (view_of store.site (Some reader)) (puts_taken takes store.puts) rest request else refused 403)
   put_if rest request true owns = put_can (path_written rest) (groups_of (parameter request.target (codes "groups"))) request.body owns
   put_if rest request false owns = tt
 
@@ -67,7 +67,7 @@ module _ (store : StoreState) (reader : Reader) where
   delete_if rest request false owns = tt
 
   page_can_be : (rest : List ℕ) (request : Request) (method : Method)
-      → Can request.body (edit_page (view_of store.site (Some reader)) reader.owner (puts_left store.puts) rest request method)
+      → Can request.body (edit_page (view_of store.site (Some reader)) reader.owner (puts_taken takes store.puts) rest request method)
   page_can_be rest request Get = tt
   page_can_be rest request Head = tt
   page_can_be rest request Put = put_if rest request reader.owner refl
@@ -76,7 +76,7 @@ module _ (store : StoreState) (reader : Reader) where
   page_can_be rest request Other = tt
 
   edit_can : (route : Route) (request : Request) (method : Method)
-      → Can request.body (edit_at (view_of store.site (Some reader)) reader.owner (puts_left store.puts) route request method)
+      → Can request.body (edit_at (view_of store.site (Some reader)) reader.owner (puts_taken takes store.puts) route request method)
   edit_can (routes.Page rest) request method = page_can_be rest request method
   edit_can (routes.Backlinks rest) request method = tt
   edit_can routes.Contents request method = tt
@@ -89,18 +89,18 @@ module _ (store : StoreState) (reader : Reader) where
   if_reads reply edit text false can = can
 
   at_can : (render : Renders) (route : Route) (request : Request) (method : Method)
-      → Can request.body (at_route render (view_of store.site (Some reader)) reader.owner (puts_left store.puts) route request method)
+      → Can request.body (at_route render (view_of store.site (Some reader)) reader.owner (puts_taken takes store.puts) route request method)
   at_can render route request method =
       if_reads (reply_at render (view_of store.site (Some reader)) route request) _ request.body (reads method)
       (edit_can route request method)
 
   route_can : (render : Renders) (route : Option Route) (request : Request)
-      → Can request.body (on_route render (view_of store.site (Some reader)) reader.owner (puts_left store.puts) route request)
+      → Can request.body (on_route render (view_of store.site (Some reader)) reader.owner (puts_taken takes store.puts) route request)
   route_can render None request = tt
   route_can render (Some route) request = at_can render route request (method_of request.method)
 
 -- the edit that goes with a response can be made
-pub response_can : (render : Renders) (store : StoreState) (reader : Option Reader) (request : Request)
-    → CanBeMade store request.body (response_to render (view_of store.site reader) reader (puts_left store.puts) request).edit
-response_can render store None request = tt
-response_can render store (Some reader) request = route_can store reader render (route_of request.target) request
+pub response_can : (takes : Bool) (render : Renders) (store : StoreState) (reader : Option Reader) (request : Request)
+    → CanBeMade store request.body (response_to render (view_of store.site reader) reader (puts_taken takes store.puts) request).edit
+response_can takes render store None request = tt
+response_can takes render store (Some reader) request = route_can takes store reader render (route_of request.target) request

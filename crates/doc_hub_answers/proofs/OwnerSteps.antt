@@ -7,6 +7,7 @@ use Rattle.std.specs.Cmp.Lexicographic.{slice_cmp}
 use Rattle.std.specs.FinMap as map
 use Rattle.std.specs.FinMap.Entries.{find-where_key, is_sorted, is_sorted-where_key}
 use Rattle.std.specs.Ordering.{nat_cmp}
+use Rattle.std.proofs.lemmas.Bool.{and_parts}
 use Rattle.std.proofs.lemmas.Bool.Decides.{nat_tests}
 use Rattle.std.proofs.lemmas.Cmp.{nat_list_cmp_total}
 use Rattle.std.proofs.lemmas.Map.Lookups.{exact_bytes}
@@ -22,7 +23,7 @@ use Rattle.doc_page_parts.proofs.Bools.{clash}
 use Rattle.doc_store_readers.proofs.KeySteps.{bytes_eq_is, get_taken, same_key}
 use Rattle.doc_store_readers.proofs.ViewLaw.{entry_at-entries, get-visible_aliases, get-visible_pages, goals_of_views}
 use Rattle.doc_store.proofs.AliasSteps.{len-aliases_after}
-use Rattle.doc_hub_answers.specs.Edits.{puts_left}
+use Rattle.doc_hub_answers.specs.Edits.{puts_left, puts_taken}
 use Rattle.doc_hub_answers.specs.Replies.{has_room}
 
 -- an owner may see whatever stands
@@ -150,13 +151,27 @@ room_fits pages stands puts text =
     (λ i. within (length text) text_limit _ refl i && (stands || below pages page_limit _ refl i) && below puts put_limit _ refl i)
     ∙ room_by (nat_lt text_limit (length text)) stands (nat_le page_limit pages) (nat_le put_limit puts)
 
--- an owner's view has room for a text where the store has
-pub owner_room : (store : StoreState) (reader : Reader) (path text : List ℕ) → reader.owner ≡ true
+-- where the server takes puts, an owner's view has room for a text where the store has
+room_where_taken : (store : StoreState) (reader : Reader) (path text : List ℕ) → reader.owner ≡ true
     → has_room (view_of store.site (Some reader)) (puts_left store.puts) path text ≡ is_ok (fits_in store path text)
-owner_room store reader path text owns =
+room_where_taken store reader path text owns =
     (λ i. nat_le (length text) text_limit && (owner_stands store.site reader path owns i || nat_lt (owner_pages store.site reader owns i)
     page_limit) && puts_left store.puts)
     ∙ room_fits (map.len store.site.pages) (map.contains_key store.site.pages path) store.puts text
+
+-- where it takes none there is room for none
+no_room_by : (short some : Bool) → (short && some && false) ≡ false
+no_room_by true true = refl
+no_room_by true false = refl
+no_room_by false some = refl
+
+-- an owner's view has room for a text where the server takes puts and the store has room
+pub owner_room : (takes : Bool) (store : StoreState) (reader : Reader) (path text : List ℕ) → reader.owner ≡ true
+    → has_room (view_of store.site (Some reader)) (puts_taken takes store.puts) path text ≡ (takes && is_ok (fits_in store path text))
+owner_room true store reader path text owns = room_where_taken store reader path text owns
+owner_room false store reader path text owns =
+    no_room_by (nat_le (length text) text_limit)
+    (is_some (page_at (view_of store.site (Some reader)).pages path) || nat_lt (length (view_of store.site (Some reader)).pages) page_limit)
 
 -- where a put fits, its answer is this one
 pub fits_where_ok : (said : Result (Unit {0}) EditError) → is_ok said ≡ true → said ≡ Ok tt
@@ -166,6 +181,8 @@ fits_where_ok (Err e) is = absurd (no is)
     no : false ≡ true → ⊥
     no h = cc
 
-pub owner_fits : (store : StoreState) (reader : Reader) (path text : List ℕ) → reader.owner ≡ true
-    → has_room (view_of store.site (Some reader)) (puts_left store.puts) path text ≡ true → fits_in store path text ≡ Ok tt
-owner_fits store reader path text owns room = fits_where_ok (fits_in store path text) (sym (owner_room store reader path text owns) ∙ room)
+pub owner_fits : (takes : Bool) (store : StoreState) (reader : Reader) (path text : List ℕ) → reader.owner ≡ true
+    → has_room (view_of store.site (Some reader)) (puts_taken takes store.puts) path text ≡ true → fits_in store path text ≡ Ok tt
+owner_fits takes store reader path text owns room =
+    fits_where_ok (fits_in store path text)
+    (and_parts takes (is_ok (fits_in store path text)) (sym (owner_room takes store reader path text owns) ∙ room)).1

@@ -1,17 +1,15 @@
 -- Edits of an owner, by the store and by the owner's view.
 use Rattle.std.proofs.Common.{◌≡◌, ℕ, List, Bool, true, false, cond, Option, Some, None, Result, Ok, Err, refl, sym, ap, ◌∙◌}
-use Rattle.std.specs.Prelude.{is_ok, is_some}
+use Rattle.std.specs.Prelude.{◌&&◌, is_ok, is_some}
 use Rattle.std.specs.FinMap as map
-use Rattle.std.specs.Result.{is_err, result_ok}
-use Rattle.std.proofs.lemmas.Bool.{both_ways}
+use Rattle.std.specs.Result.{result_ok}
 use Rattle.std.specs.Str.{IsUtf8, is_utf8}
 use Rattle.std.proofs.lemmas.Str.{IsUtf8-from_is_utf8, is_utf8-from_IsUtf8}
 use Rattle.doc_store_readers.specs.Sites.{View, page_at, view_of}
 use Rattle.doc_store.specs.Store.{StoreState, fits_in}
 use Rattle.doc_store_readers.specs.declared.groups.GroupsError.{GroupsError}
 use Rattle.doc_store_readers.specs.declared.reader.Reader.{Reader}
-use Rattle.doc_store.specs.declared.store.EditError.{EditError}
-use Rattle.doc_hub_answers.specs.Edits.{puts_left}
+use Rattle.doc_hub_answers.specs.Edits.{puts_taken}
 use Rattle.doc_hub_answers.specs.Replies.{delete_at, edited, put_at, put_page, refused}
 use Rattle.doc_hub_answers.specs.declared.edit.Edit.TheVariants as edits
 use Rattle.doc_hub_answers.proofs.OwnerSteps.{owner_room, owner_stands}
@@ -20,20 +18,21 @@ module _ (store : StoreState) (reader : Reader) (path : List ℕ) (owns : reader
   abbrev view : View
   view = view_of store.site (Some reader)
 
-  -- a put that the store takes
-  pub put_fits : (groups : List (List ℕ)) (text : List ℕ) (code : ℕ) → code ≡ cond (map.contains_key store.site.pages path) 204 201
-      → fits_in store path text ≡ Ok tt → edited code (edits.Put path groups) ≡ put_page view (puts_left store.puts) path groups text
-  put_fits groups text code is fine =
+  -- a put that is taken
+  pub put_fits : (takes : Bool) (groups : List (List ℕ)) (text : List ℕ) (code : ℕ)
+      → code ≡ cond (map.contains_key store.site.pages path) 204 201 → (takes && is_ok (fits_in store path text)) ≡ true
+      → edited code (edits.Put path groups) ≡ put_page view (puts_taken takes store.puts) path groups text
+  put_fits takes groups text code is fine =
       ap (λ n. edited n (edits.Put path groups)) (is ∙ ap (λ b. cond b 204 201) (sym (owner_stands store.site reader path owns)))
       ∙ sym (ap (λ b. cond b (edited (cond (is_some (page_at view.pages path)) 204 201) (edits.Put path groups)) (refused 507))
-      (owner_room store reader path text owns ∙ ap is_ok fine))
+      (owner_room takes store reader path text owns ∙ fine))
 
   -- and one that it doesn't
-  pub put_is_full : (groups : List (List ℕ)) (text : List ℕ) (e : EditError) → fits_in store path text ≡ Err e
-      → refused 507 ≡ put_page view (puts_left store.puts) path groups text
-  put_is_full groups text e full =
+  pub put_is_full : (takes : Bool) (groups : List (List ℕ)) (text : List ℕ) → (takes && is_ok (fits_in store path text)) ≡ false
+      → refused 507 ≡ put_page view (puts_taken takes store.puts) path groups text
+  put_is_full takes groups text full =
       sym (ap (λ b. cond b (edited (cond (is_some (page_at view.pages path)) 204 201) (edits.Put path groups)) (refused 507))
-      (owner_room store reader path text owns ∙ ap is_ok full))
+      (owner_room takes store reader path text owns ∙ full))
 
   -- a removal, by whether a page stands
   pub deleted : (stands : Bool) → stands ≡ map.contains_key store.site.pages path
@@ -70,13 +69,3 @@ pub put_is_text : (view : View) (left : Bool) (written : Option (List ℕ)) (pat
 put_is_text view left written path named groups text at are utf8 =
     sym (ap (λ w. put_at view left w named text) at ∙ ap (λ g. put_at view left (Some path) g text) are
     ∙ ap (λ b. cond b (put_page view left path groups text) (refused 400)) (is_utf8-from_IsUtf8 text utf8))
-
--- ---- whether a put fits
-
-pub put_fits_if : (fit : Result (Unit {0}) EditError) → is_err fit ≡ false → fit ≡ Ok tt
-put_fits_if (Ok done) fine = refl
-put_fits_if (Err e) fine = absurd (both_ways true fine refl)
-
-pub put_full_if : (fit : Result (Unit {0}) EditError) → is_err fit ≡ true → (e : EditError) × (fit ≡ Err e)
-put_full_if (Ok done) full = absurd (both_ways false refl full)
-put_full_if (Err e) full = (e, refl)

@@ -1,5 +1,5 @@
 -- Edits of the site that requests ask for.
-use Rattle.std.specs.Prelude.{◌≡◌, ℕ, List, Bool, true, false, nat_lt, Option, Some, None, Ok, ⊤}
+use Rattle.std.specs.Prelude.{◌≡◌, ℕ, List, Bool, true, false, nat_lt, ◌&&◌, Option, Some, None, Ok, ⊤}
 use Rattle.std.specs.FinMap as map
 use Rattle.std.specs.Str.{is_utf8}
 use Rattle.doc_store_readers.specs.Pages.{Page}
@@ -11,6 +11,10 @@ use Rattle.doc_hub_answers.specs.declared.edit.Edit.TheVariants as edits
 -- whether a put is left: fewer than 2^64 - 1 puts and moves were accepted
 abbrev pub puts_left : ℕ → Bool
 puts_left puts = nat_lt puts put_limit
+
+-- whether an owner's put is taken, by whether the server takes puts and by how many were accepted
+abbrev pub puts_taken : Bool → ℕ → Bool
+puts_taken takes puts = takes && puts_left puts
 
 -- the store after the page of a path, if one stands there, got these groups; its text stays
 abbrev pub regrouped : StoreState → List ℕ → List (List ℕ) → Option Page → StoreState

@@ -1,6 +1,6 @@
 //! Edits of the site that requests of owners ask for.
 
-ghost use Rattle.std.specs.Prelude.{◌≡◌, IfOk, OnOk, Some, true, codes, if◌then◌else◌};
+ghost use Rattle.std.specs.Prelude.{◌≡◌, ◌&&◌, IfOk, OnOk, Some, true, codes, if◌then◌else◌, is_ok};
 ghost use Rattle.std.specs.FinMap as map;
 ghost use Rattle.std.specs.Result.{result_ok};
 ghost use Rattle.doc_http_replies.specs.ReplyForms.{code_of};
@@ -9,9 +9,10 @@ ghost use Rattle.doc_http_targets.specs.WrittenPaths.{path_written};
 ghost use Rattle.doc_store_readers.specs.Groups.{groups_of};
 ghost use Rattle.doc_store_readers.specs.Sites.{view_of};
 ghost use Rattle.doc_store_readers.specs.declared.reader.Reader.{Reader};
+ghost use Rattle.doc_store.specs.Store.{fits_in};
 ghost use Rattle.doc_hub_answers.specs.AnswerSteps.{Answered, AnsweredSo, sent_in};
 ghost use Rattle.doc_hub_answers.specs.Counts.{RendersPuts};
-ghost use Rattle.doc_hub_answers.specs.Edits.{puts_left};
+ghost use Rattle.doc_hub_answers.specs.Edits.{puts_taken};
 ghost use Rattle.doc_hub_answers.specs.Replies.{delete_at, put_by, put_page};
 
 use crate::answer::Answer;
@@ -39,7 +40,8 @@ pub fn put_page<R: Renderer + Drop>(
     rest: &str,
 ) -> Result<Answer, Memory>
     ensures answer { (reader : Reader) → reader.owner ≡ true → Answered exchange.now shelf.old.1
-        (put_by (view_of shelf.old.1.site (Some reader)) (puts_left shelf.old.1.puts) rest.now
+        (put_by (view_of shelf.old.1.site (Some reader))
+        (puts_taken exchange.now.takes_puts shelf.old.1.puts) rest.now
         exchange.now.request.now) shelf.new.1 result }
     ensures same { R.page shelf.new.0 ≡ R.page shelf.old.0 }
     ensures counted { OnOk result (RendersPuts (R.count shelf.old.0) shelf.old.1.puts
@@ -68,12 +70,13 @@ fn put_text<R: Renderer + Drop>(
 ) -> Result<Answer, Memory>
     ensures answer { (reader : Reader) → reader.owner ≡ true → AnsweredSo text.now shelf.old.1
         (sent_in exchange.now (put_page (view_of shelf.old.1.site (Some reader))
-        (puts_left shelf.old.1.puts) path groups text.now)) shelf.new.1 result }
+        (puts_taken exchange.now.takes_puts shelf.old.1.puts) path groups text.now))
+        shelf.new.1 result }
     ensures same { R.page shelf.new.0 ≡ R.page shelf.old.0 }
     ensures counted { OnOk result (RendersPuts (R.count shelf.old.0) shelf.old.1.puts
         (R.count shelf.new.0) shelf.new.1.puts 0 0) }
 {
-    if shelf.store().fits(&path, text).is_err() {
+    if !is_taken(exchange, shelf.store(), &path, text) {
         return exchange.status(Status::InsufficientStorage);
     }
     let form = ReplyForm::Status(put_status(shelf.store(), &path));
@@ -83,6 +86,14 @@ fn put_text<R: Renderer + Drop>(
     };
     let bytes = shelf.put_saying(&path, &groups, text, saying)?;
     Ok(exchange.sent(bytes).after(Edit::Put(path, groups)))
+}
+
+/// Whether a put of a text under a path is taken.
+fn is_taken(exchange: &Exchange, store: &Store, path: &Path, text: &str) -> bool
+    ensures { result
+        ≡ (exchange.now.takes_puts && is_ok (fits_in store.now path.now text.now)) }
+{
+    exchange.takes_puts && store.fits(path, text).is_ok()
 }
 
 /// What a put is answered that is accepted: 204 where a page stands under the path, and else 201.

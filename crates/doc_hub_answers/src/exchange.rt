@@ -1,4 +1,4 @@
-//! One request, and how the reply to it is written.
+//! One request, how the reply to it is written, and whether a put that it asks for is taken.
 
 ghost use Rattle.std.specs.Prelude.{◌≡◌, IfOk, None};
 ghost use Rattle.doc_http_replies.specs.ReplyForms.{code_of, content_reply, reply_of};
@@ -17,7 +17,7 @@ use doc_page_parts::failure::Memory;
 use doc_page_parts::heap::Heap;
 use doc_page_parts::text::Text;
 
-/// A request, and how the reply to it is written.
+/// A request, how the reply to it is written, and whether a put that it asks for is taken.
 #[derive(Clone, Copy)]
 pub struct Exchange<'a> {
     pub heap: Heap,
@@ -26,6 +26,8 @@ pub struct Exchange<'a> {
     pub method: Method,
     /// How the reply is written.
     pub manner: Manner<'a>,
+    /// Whether the server takes puts.
+    pub takes_puts: bool,
 }
 
 impl Exchange<'_> {

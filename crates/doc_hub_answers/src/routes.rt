@@ -4,7 +4,7 @@ ghost use Rattle.std.specs.Prelude.{◌≡◌, IfOk, OnOk, Some};
 ghost use Rattle.doc_store_readers.specs.Sites.{view_of};
 ghost use Rattle.doc_hub_answers.specs.AnswerSteps.{Answered, sent_in};
 ghost use Rattle.doc_hub_answers.specs.Counts.{RendersPuts};
-ghost use Rattle.doc_hub_answers.specs.Edits.{puts_left};
+ghost use Rattle.doc_hub_answers.specs.Edits.{puts_taken};
 ghost use Rattle.doc_hub_answers.specs.Replies.{at_route, edit_at, edit_page, only_reply, reply_at};
 ghost use Rattle.doc_http_targets.specs.Targets.{route_shown};
 
@@ -32,8 +32,9 @@ pub fn at_route<R: Renderer + Drop>(
 ) -> Result<Answer, Memory>
     ensures answer { Answered exchange.now shelf.old.1
         (at_route (R.page shelf.old.0) (view_of shelf.old.1.site (Some reader.now))
-        reader.now.owner (puts_left shelf.old.1.puts) (route_shown route.entry)
-        exchange.now.request.now exchange.now.method) shelf.new.1 result }
+        reader.now.owner (puts_taken exchange.now.takes_puts shelf.old.1.puts)
+        (route_shown route.entry) exchange.now.request.now exchange.now.method)
+        shelf.new.1 result }
     ensures same { R.page shelf.new.0 ≡ R.page shelf.old.0 }
     ensures counted { OnOk result (RendersPuts (R.count shelf.old.0) shelf.old.1.puts
         (R.count shelf.new.0) shelf.new.1.puts 0 0) }
@@ -75,8 +76,8 @@ fn edit_at<R: Renderer + Drop>(
 ) -> Result<Answer, Memory>
     ensures answer { Answered exchange.now shelf.old.1
         (edit_at (view_of shelf.old.1.site (Some reader.now)) reader.now.owner
-        (puts_left shelf.old.1.puts) (route_shown route.entry) exchange.now.request.now
-        exchange.now.method) shelf.new.1 result }
+        (puts_taken exchange.now.takes_puts shelf.old.1.puts) (route_shown route.entry)
+        exchange.now.request.now exchange.now.method) shelf.new.1 result }
     ensures same { R.page shelf.new.0 ≡ R.page shelf.old.0 }
     ensures counted { OnOk result (RendersPuts (R.count shelf.old.0) shelf.old.1.puts
         (R.count shelf.new.0) shelf.new.1.puts 0 0) }
@@ -96,8 +97,8 @@ fn edit_page<R: Renderer + Drop>(
 ) -> Result<Answer, Memory>
     ensures answer { Answered exchange.now shelf.old.1
         (edit_page (view_of shelf.old.1.site (Some reader.now)) reader.now.owner
-        (puts_left shelf.old.1.puts) rest.now exchange.now.request.now exchange.now.method)
-        shelf.new.1 result }
+        (puts_taken exchange.now.takes_puts shelf.old.1.puts) rest.now
+        exchange.now.request.now exchange.now.method) shelf.new.1 result }
     ensures same { R.page shelf.new.0 ≡ R.page shelf.old.0 }
     ensures counted { OnOk result (RendersPuts (R.count shelf.old.0) shelf.old.1.puts
         (R.count shelf.new.0) shelf.new.1.puts 0 0) }

@@ -1,12 +1,11 @@
 -- What a desk says of edits that have no room, by the store and by the owner's view.
-use Rattle.std.proofs.Common.{◌≡◌, ℕ, List, Bor, Bool, true, false, length, arith, refl, sym, ap, ◌∙◌, subst}
+use Rattle.std.proofs.Common.{◌≡◌, ℕ, List, Bor, Bool, true, false, length, refl, sym, ap, ◌∙◌, subst}
 use Rattle.std.specs.Prelude.{not, ◌&&◌, ◌||◌, nat_lt, nat_le, codes, is_some, Option, Some, None, option_copied, option_map}
 use Rattle.std.specs.Prelude.{Result, Ok, Err, IfOk, if◌then◌else◌}
 use Rattle.std.specs.FinMap as map
 use Rattle.std.specs.Result.{is_err}
 use Rattle.std.specs.Str.{IsUtf8, is_utf8}
-use Rattle.std.proofs.lemmas.Bool.{both_ways}
-use Rattle.std.proofs.lemmas.Bool.Decides.{nat_tests}
+use Rattle.std.proofs.lemmas.Bool.{and_parts, both_ways}
 use Rattle.std.proofs.lemmas.Str.{IsUtf8-from_is_utf8, is_utf8-from_IsUtf8}
 use Rattle.doc_http.specs.declared.request.Request.{Request}
 use Rattle.doc_http_conditions.specs.Verdicts.{verdict_of}
@@ -17,28 +16,24 @@ use Rattle.doc_page_parts.specs.declared.path.PathError.TheVariants as path_erro
 use Rattle.doc_store_readers.specs.Pages.{Page}
 use Rattle.doc_store_readers.specs.Sites.{IsSite, View, page_at, view_of}
 use Rattle.doc_store_readers.specs.declared.reader.Reader.{Reader}
-use Rattle.doc_store.specs.Store.{StoreState, alias_limit, aliases_after, fits_in, may_move, page_limit, put_limit, stamp_after, text_limit}
+use Rattle.doc_store.specs.Store.{StoreState, alias_limit, aliases_after, fits_in, may_move, page_limit, put_limit, text_limit}
 use Rattle.doc_store.specs.declared.moving.MoveError.TheVariants as move_errors
 use Rattle.doc_store.specs.declared.store.EditError.{EditError}
 use Rattle.doc_store.specs.declared.store.EditError.TheVariants.{TooLong, StoreFull}
-use Rattle.doc_hub_answers.specs.Edits.{puts_left}
+use Rattle.doc_hub_answers.specs.Edits.{puts_left, puts_taken}
 use Rattle.doc_hub_answers.specs.declared.answer.Answer.{Answer}
 use Rattle.doc_hub_answers.proofs.OwnerSteps.{owner_aliases, owner_pages, owner_stands}
+use Rattle.doc_hub_editing.proofs.MakingSteps.{not_out}
 use Rattle.doc_hub_editing.specs.EditAnswers.{no_alias_room, no_room, put_done, put_text}
 use Rattle.doc_hub_editing.specs.EditResponses.{EditingResponse, full_by, refused_for, reply_to_verdict, tag_at, unless, unmet_by}
 use Rattle.doc_hub_editing.specs.EditSteps.{told_at}
 use Rattle.doc_hub_editing.specs.declared.desk.Desk.{Desk}
 
--- ---- whether an edit is left
+-- ---- whether an edit is taken
 
-left_by : (puts : ℕ) (out : Bool) → nat_le put_limit puts ≡ out → puts_left puts ≡ not out
-left_by puts true is = grind (arith, nat_tests)
-left_by puts false is = grind (arith, nat_tests)
-
--- one is left where a stamp is
-left_where : (puts : ℕ) (out : Bool) → is_some (if out then None else Some puts) ≡ true → out ≡ false
-left_where puts true is = absurd (both_ways false refl is)
-left_where puts false is = refl
+-- where puts are taken one is left
+none_out : (takes : Bool) (puts : ℕ) → puts_taken takes puts ≡ true → nat_le put_limit puts ≡ false
+none_out takes puts taken = not_out puts _ refl (and_parts takes (puts_left puts) taken).1
 
 no_ok : {X E P : Type 0} (x : X) (e : E) → Err e ≡ Ok x → P
 no_ok x e is = absurd (no x e is)
@@ -48,63 +43,69 @@ no_ok x e is = absurd (no x e is)
 
 -- ---- puts
 
--- what the store says, and what an owner is told, by whether the text is too long, a page stands, pages have no room, and no edit is left
+-- what the store says, by whether the text is too long, a page stands, pages have no room, and no stamp is left; and what an owner is
+-- told, by whether puts are taken
 abbrev fits_by : (long stands full out : Bool) → Result (Unit {0}) EditError
 fits_by long stands full out = if long then Err TooLong else (if (not stands && full) || out then Err StoreFull else Ok tt)
 
-abbrev told_by : (long stands full out : Bool) → Option (List ℕ)
-told_by long stands full out =
+abbrev told_by : (long stands full taken : Bool) → Option (List ℕ)
+told_by long stands full taken =
     if long then Some (codes "the text has more than 1048576 bytes")
-    else (if not (not out) then Some (codes "no edit is left") else (if not stands && full then Some (codes "10000 pages stand") else None))
+    else (if not taken then Some (codes "no edit is left") else (if not stands && full then Some (codes "10000 pages stand") else None))
 
-fit_by : (long stands full out : Bool) → fits_by long stands full out ≡ Ok tt → None ≡ told_by long stands full out
-fit_by true stands full out is = no_ok tt TooLong is
-fit_by false true full true is = no_ok tt StoreFull is
-fit_by false true full false is = refl
-fit_by false false true out is = no_ok tt StoreFull is
-fit_by false false false true is = no_ok tt StoreFull is
-fit_by false false false false is = refl
+fit_by : (long stands full out taken : Bool) → fits_by long stands full out ≡ Ok tt
+    → (if taken then None else Some (codes "no edit is left")) ≡ told_by long stands full taken
+fit_by true stands full out taken is = no_ok tt TooLong is
+fit_by false true full true taken is = no_ok tt StoreFull is
+fit_by false true full false true is = refl
+fit_by false true full false false is = refl
+fit_by false false true out taken is = no_ok tt StoreFull is
+fit_by false false false true taken is = no_ok tt StoreFull is
+fit_by false false false false true is = refl
+fit_by false false false false false is = refl
 
 same_error : (e f : EditError) → ◌≡◌ {A = Result (Unit {0}) EditError} (Err e) (Err f) → f ≡ e
 same_error e f h = cc
 
-no_room_by : (long stands full out : Bool) (e : EditError) → fits_by long stands full out ≡ Err e → (e ≡ TooLong → ⊥)
-    → Some (if not out then codes "10000 pages stand" else codes "no edit is left") ≡ told_by long stands full out
-no_room_by true stands full out e is other = absurd (other (same_error TooLong e is))
-no_room_by false stands full true e is other = refl
-no_room_by false true full false e is other = no_ok tt e (sym is)
-no_room_by false false true false e is other = refl
-no_room_by false false false false e is other = no_ok tt e (sym is)
+no_room_by : (long stands full out taken : Bool) (e : EditError) → fits_by long stands full out ≡ Err e → (e ≡ TooLong → ⊥)
+    → (taken ≡ true → out ≡ false)
+    → Some (if taken then codes "10000 pages stand" else codes "no edit is left") ≡ told_by long stands full taken
+no_room_by true stands full out taken e is other left = absurd (other (same_error TooLong e is))
+no_room_by false stands full out false e is other left = refl
+no_room_by false stands full true true e is other left = absurd (both_ways true (left refl) refl)
+no_room_by false true full false true e is other left = no_ok tt e (sym is)
+no_room_by false false true false true e is other left = refl
+no_room_by false false false false true e is other left = no_ok tt e (sym is)
 
-module _ (store : StoreState) (reader : Reader) (path text : List ℕ) (owns : reader.owner ≡ true) where
+module _ (takes : Bool) (store : StoreState) (reader : Reader) (path text : List ℕ) (owns : reader.owner ≡ true) where
   abbrev told : Option (List ℕ)
   told =
-      no_room (view_of store.site (Some reader)) (puts_left store.puts) (page_at (view_of store.site (Some reader)).pages path) text
+      no_room (view_of store.site (Some reader)) (puts_taken takes store.puts) (page_at (view_of store.site (Some reader)).pages path) text
 
   -- by the view as by the site
   by_site : told_by (nat_lt text_limit (length text)) (map.contains_key store.site.pages path)
-      (nat_le page_limit (map.len store.site.pages)) (nat_le put_limit store.puts) ≡ told
+      (nat_le page_limit (map.len store.site.pages)) (puts_taken takes store.puts) ≡ told
   by_site = sym (λ i.
       if nat_lt text_limit (length text) then Some (codes "the text has more than 1048576 bytes")
-      else (if not (left_by store.puts _ refl i) then Some (codes "no edit is left")
+      else (if not (puts_taken takes store.puts) then Some (codes "no edit is left")
       else (if not (owner_stands store.site reader path owns i) && nat_le page_limit (owner_pages store.site reader owns i)
       then Some (codes "10000 pages stand") else None)))
 
-  pub room : fits_in store path text ≡ Ok tt → None ≡ told
+  pub room : fits_in store path text ≡ Ok tt → (if puts_taken takes store.puts then None else Some (codes "no edit is left")) ≡ told
   room is =
       fit_by (nat_lt text_limit (length text)) (map.contains_key store.site.pages path)
-      (nat_le page_limit (map.len store.site.pages)) (nat_le put_limit store.puts) is ∙ by_site
+      (nat_le page_limit (map.len store.site.pages)) (nat_le put_limit store.puts) (puts_taken takes store.puts) is ∙ by_site
 
   pub full : (e : EditError) → fits_in store path text ≡ Err e → (e ≡ TooLong → ⊥)
-      → Some (if puts_left store.puts then codes "10000 pages stand" else codes "no edit is left") ≡ told
+      → Some (if puts_taken takes store.puts then codes "10000 pages stand" else codes "no edit is left") ≡ told
   full e is other =
-      (λ i. Some (if left_by store.puts _ refl i then codes "10000 pages stand" else codes "no edit is left"))
-      ∙ no_room_by (nat_lt text_limit (length text)) (map.contains_key store.site.pages path)
-      (nat_le page_limit (map.len store.site.pages)) (nat_le put_limit store.puts) e is other ∙ by_site
+      no_room_by (nat_lt text_limit (length text)) (map.contains_key store.site.pages path)
+      (nat_le page_limit (map.len store.site.pages)) (nat_le put_limit store.puts) (puts_taken takes store.puts) e is other
+      (none_out takes store.puts) ∙ by_site
 
 -- ---- moves
 
--- of a page that stands to a path where none does, while an edit is left
+-- of a page that stands to a path where none does, while a stamp is left
 refused_by : (stands taken full out : Bool) → stands ≡ true → taken ≡ false → out ≡ false
     → is_err {T = Unit {0}} (if not stands then Err move_errors.NoPage else (if taken then Err move_errors.Taken
     else (if full || out then Err move_errors.StoreFull else Ok tt))) ≡ full
@@ -114,35 +115,30 @@ refused_by true false full true is free left = absurd (both_ways true left refl)
 refused_by true false true false is free left = refl
 refused_by true false false false is free left = refl
 
-abbrev moved_by : (full out : Bool) → Option (List ℕ)
-moved_by full out =
-    if not (not out) then Some (codes "no edit is left") else (if full then Some (codes "10000 aliases stand") else None)
+abbrev moved_by : (full : Bool) → Option (List ℕ)
+moved_by full = if full then Some (codes "10000 aliases stand") else None
 
-module _ (store : StoreState) (reader : Reader) (from to : List ℕ) (owns : reader.owner ≡ true)
+module _ (takes : Bool) (store : StoreState) (reader : Reader) (from to : List ℕ) (owns : reader.owner ≡ true)
     (stands : is_some (page_at (view_of store.site (Some reader)).pages from) ≡ true)
-    (free : page_at (view_of store.site (Some reader)).pages to ≡ None) (is : IsSite store.site) where
+    (free : page_at (view_of store.site (Some reader)).pages to ≡ None) (is : IsSite store.site)
+    (taken : puts_taken takes store.puts ≡ true) where
   abbrev move_told : Option (List ℕ)
-  move_told = no_alias_room (view_of store.site (Some reader)) (puts_left store.puts) to
+  move_told = no_alias_room (view_of store.site (Some reader)) (puts_taken takes store.puts) to
 
   stands_there : map.contains_key store.site.pages from ≡ true
   stands_there = sym (owner_stands store.site reader from owns) ∙ stands
 
-  by_aliases : (full out : Bool) → nat_lt alias_limit (map.len (aliases_after store.site.aliases from to)) ≡ full
-      → nat_le put_limit store.puts ≡ out → moved_by full out ≡ move_told
-  by_aliases full out filled none =
-      (λ i. moved_by (sym filled i) (sym none i))
-      ∙ sym (λ i. if not (left_by store.puts _ refl i) then Some (codes "no edit is left")
+  by_aliases : moved_by (nat_lt alias_limit (map.len (aliases_after store.site.aliases from to))) ≡ move_told
+  by_aliases = sym (λ i. if not (taken i) then Some (codes "no edit is left")
       else (if nat_lt alias_limit (owner_aliases store.site reader from to owns stands_there is i)
       then Some (codes "10000 aliases stand") else None))
 
-  filled : is_some (stamp_after store.puts) ≡ true
-      → is_err (may_move store from to) ≡ nat_lt alias_limit (map.len (aliases_after store.site.aliases from to))
-  filled left =
-      refused_by _ _ _ _ stands_there (sym (owner_stands store.site reader to owns) ∙ ap is_some free) (left_where store.puts _ left)
+  filled : is_err (may_move store from to) ≡ nat_lt alias_limit (map.len (aliases_after store.site.aliases from to))
+  filled =
+      refused_by _ _ _ _ stands_there (sym (owner_stands store.site reader to owns) ∙ ap is_some free) (none_out takes store.puts taken)
 
-  pub move_by : (full : Bool) → is_err (may_move store from to) ≡ full → is_some (stamp_after store.puts) ≡ true
-      → moved_by full false ≡ move_told
-  move_by full refused left = by_aliases full false (sym (filled left) ∙ refused) (left_where store.puts _ left)
+  pub move_by : (full : Bool) → is_err (may_move store from to) ≡ full → moved_by full ≡ move_told
+  move_by full refused = ap moved_by (sym refused ∙ filled) ∙ by_aliases
 
 -- ---- conditions
 

@@ -5,6 +5,7 @@ use Rattle.std.proofs.Common.{Option, Some, None, Result, Ok, Err}
 use Rattle.std.specs.Prelude.{codes, is_some, not, ◌&&◌, ◌||◌, nat_lt, nat_le, ⊤, option_map, if◌then◌else◌}
 use Rattle.std.specs.FinMap as map
 use Rattle.std.specs.Str.{is_utf8}
+use Rattle.std.proofs.lemmas.Bool.{and_parts}
 use Rattle.std.proofs.lemmas.Bool.Decides.{nat_tests}
 use Rattle.doc_http.specs.declared.request.Request.{Request}
 use Rattle.doc_http_targets.specs.Queries.{optional_parameter}
@@ -21,7 +22,7 @@ use Rattle.doc_store_readers.specs.Pages.{Page}
 use Rattle.doc_store_readers.specs.Sites.{View, goal_in, page_at, view_of}
 use Rattle.doc_store_readers.specs.declared.groups.GroupsError.{GroupsError}
 use Rattle.doc_store_readers.specs.declared.reader.Reader.{Reader}
-use Rattle.doc_hub_answers.specs.Edits.{CanBeMade, CanMove, CanRegroup, puts_left}
+use Rattle.doc_hub_answers.specs.Edits.{CanBeMade, CanMove, CanRegroup, puts_left, puts_taken}
 use Rattle.doc_hub_answers.specs.Replies.{Renders, status_reply}
 use Rattle.doc_hub_answers.specs.declared.edit.Edit.TheVariants as edits
 use Rattle.doc_hub_answers.proofs.OwnerSteps.{owner_aliases, owner_page, owner_pages, owner_stands}
@@ -56,34 +57,35 @@ some_is_not_none x is = absurd (no x is)
     no : {X : Type 0} (x : X) → Some x ≡ None → ⊥
     no x h = cc
 
--- by the four tests
-room_by : (long stands full out : Bool) (a b c : List ℕ)
-    → (if long then Some a else (if not (not out) then Some b else (if not stands && full then Some c else None))) ≡ None
+-- by the five tests
+room_by : (takes long stands full out : Bool) (a b c : List ℕ)
+    → (if long then Some a else (if not (takes && not out) then Some b else (if not stands && full then Some c else None))) ≡ None
     → ◌≡◌ {A = Result (Unit {0}) EditError}
     (if long then Err TooLong else (if (not stands && full) || out then Err StoreFull else Ok tt)) (Ok tt)
-room_by true stands full out a b c is = some_is_not_none a is
-room_by false stands full true a b c is = some_is_not_none b is
-room_by false true full false a b c is = refl
-room_by false false true false a b c is = some_is_not_none c is
-room_by false false false false a b c is = refl
+room_by takes true stands full out a b c is = some_is_not_none a is
+room_by false false stands full out a b c is = some_is_not_none b is
+room_by true false stands full true a b c is = some_is_not_none b is
+room_by true false true full false a b c is = refl
+room_by true false false true false a b c is = some_is_not_none c is
+room_by true false false false false a b c is = refl
 
-module _ (store : StoreState) (reader : Reader) (owns : reader.owner ≡ true) where
+module _ (takes : Bool) (store : StoreState) (reader : Reader) (owns : reader.owner ≡ true) where
   abbrev view : View
   view = view_of store.site (Some reader)
 
   abbrev left : Bool
-  left = puts_left store.puts
+  left = puts_taken takes store.puts
 
   abbrev Can : List ℕ → EditingResponse → Type 0
   Can body response = CanBeMade store body response.edit
 
-  left_is : left ≡ not (nat_le put_limit store.puts)
-  left_is = left_by store.puts _ refl
+  left_is : left ≡ (takes && not (nat_le put_limit store.puts))
+  left_is = ap (λ some. takes && some) (left_by store.puts _ refl)
 
   -- where nothing stands against a text, it fits
   pub text_fits : (path text : List ℕ) → no_room view left (page_at view.pages path) text ≡ None → fits_in store path text ≡ Ok tt
   text_fits path text none =
-      room_by (nat_lt text_limit (length text)) (map.contains_key store.site.pages path) (nat_le page_limit (map.len store.site.pages))
+      room_by takes (nat_lt text_limit (length text)) (map.contains_key store.site.pages path) (nat_le page_limit (map.len store.site.pages))
       (nat_le put_limit store.puts) (codes "the text has more than 1048576 bytes") (codes "no edit is left") (codes "10000 pages stand")
       (sym (λ i.
       if nat_lt text_limit (length text) then Some (codes "the text has more than 1048576 bytes")
@@ -194,7 +196,7 @@ module _ (store : StoreState) (reader : Reader) (owns : reader.owner ≡ true) w
       record {
         stands = stands;
         free = free;
-        left = both.0;
+        left = (and_parts takes (puts_left store.puts) both.0).1;
         room = λ site. ap (nat_lt alias_limit) (sym (owner_aliases store.site reader from to owns stands site)) ∙ both.1;
       }
 
@@ -290,34 +292,35 @@ module _ (render : Renders) (browse : Browse) (store : StoreState) (body : List 
   by_other_can offers seen true for_people what = unauthorized_can for_people
   by_other_can offers seen false for_people what = forbidden_can offers seen for_people what
 
-module _ (render : Renders) (browse : Browse) (store : StoreState) (for_people : Bool) (request : Request) where
+module _ (takes : Bool) (render : Renders) (browse : Browse) (store : StoreState) (for_people : Bool) (request : Request) where
   by_owner_or_other : (guest : Bool) (reader : Reader) (what : EditRequest) (owner : Bool) → reader.owner ≡ owner
       → CanBeMade store request.body (if owner
-      then by_owner render browse (offers_for browse guest reader.owner) (view_of store.site (Some reader)) (puts_left store.puts)
-      for_people request what
+      then by_owner render browse (offers_for browse guest reader.owner) (view_of store.site (Some reader))
+      (puts_taken takes store.puts) for_people request what
       else by_other render browse (offers_for browse guest reader.owner) (view_of store.site (Some reader)) guest for_people what).edit
   by_owner_or_other guest reader what true owns =
-      by_owner_can store reader owns render browse (offers_for browse guest reader.owner) for_people request what
+      by_owner_can takes store reader owns render browse (offers_for browse guest reader.owner) for_people request what
   by_owner_or_other guest reader what false owns =
       by_other_can render browse store request.body (offers_for browse guest reader.owner) (view_of store.site (Some reader)) guest
       for_people what
 
   pub by_entry_can : (guest : Bool) (reader : Reader) (what : EditRequest)
       → CanBeMade store request.body
-      (by_entry render browse (view_of store.site (Some reader)) guest reader (puts_left store.puts) for_people request what).edit
+      (by_entry render browse (view_of store.site (Some reader)) guest reader (puts_taken takes store.puts) for_people request what).edit
   by_entry_can guest reader what = by_owner_or_other guest reader what reader.owner refl
 
   response_can : (asking : Asking) (what : Option EditRequest)
       → EditingCan store request.body
-      (response_if render browse (view_of store.site (row_of asking)) asking (puts_left store.puts) for_people request what)
+      (response_if render browse (view_of store.site (row_of asking)) asking (puts_taken takes store.puts) for_people request what)
   response_can asking None = tt
   response_can asked.Nobody (Some what) = tt
   response_can (asked.Guest row) (Some what) = by_entry_can true row what
   response_can (asked.Known row) (Some what) = by_entry_can false row what
 
-pub edit_response_can : (render : Renders) (browse : Browse) (store : StoreState) (asking : Asking) (for_people : Bool) (request : Request)
+pub edit_response_can : (takes : Bool) (render : Renders) (browse : Browse) (store : StoreState) (asking : Asking) (for_people : Bool)
+    (request : Request)
     → EditingCan store request.body
-    (edit_response render browse (view_of store.site (row_of asking)) asking (puts_left store.puts) for_people request)
+    (edit_response render browse (view_of store.site (row_of asking)) asking (puts_taken takes store.puts) for_people request)
 unfolding edit_response
-edit_response_can render browse store asking for_people request =
-    response_can render browse store for_people request asking (edit_request_of browse request)
+edit_response_can takes render browse store asking for_people request =
+    response_can takes render browse store for_people request asking (edit_request_of browse request)

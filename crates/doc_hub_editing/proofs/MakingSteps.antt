@@ -7,7 +7,7 @@ use Rattle.doc_store.specs.Store.{StoreState, may_move, put_limit}
 use Rattle.doc_store.specs.declared.moving.MoveError.TheVariants as move_errors
 use Rattle.doc_hub_answers.specs.Edits.{CanMove, puts_left}
 
-not_out : (puts : ℕ) (out : Bool) → nat_le put_limit puts ≡ out → puts_left puts ≡ true → out ≡ false
+pub not_out : (puts : ℕ) (out : Bool) → nat_le put_limit puts ≡ out → puts_left puts ≡ true → out ≡ false
 not_out puts true is left = grind (arith, nat_tests)
 not_out puts false is left = refl
 

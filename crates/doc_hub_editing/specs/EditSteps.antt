@@ -6,7 +6,7 @@ use Rattle.doc_http_replies.specs.ReplyForms.{reply_of}
 use Rattle.doc_http_targets.specs.Queries.{optional_parameter, parameter}
 use Rattle.doc_people.specs.declared.settings.Browse.{Browse}
 use Rattle.doc_store_readers.specs.Sites.{View, view_of}
-use Rattle.doc_hub_answers.specs.Edits.{puts_left}
+use Rattle.doc_hub_answers.specs.Edits.{puts_taken}
 use Rattle.doc_hub_answers.specs.declared.answer.Answer.{Answer}
 use Rattle.doc_hub_answers.specs.declared.exchange.Exchange.{Exchange}
 use Rattle.doc_hub_people.specs.PeopleAnswers.{page_reply, unauthorized_reply}
@@ -40,12 +40,12 @@ refusal_reply browse (refusals.Plain form) = Plain (reply_of form)
 refusal_reply browse refusals.SignIn = Shown (unauthorized_reply browse)
 refusal_reply browse (refusals.Page body) = Shown (page_reply 403 body)
 
--- what the owner sees who sits at a desk, whether a put is left, and what they ask
+-- what the owner sees who sits at a desk, whether a put is taken, and what they ask
 abbrev pub view_at : Desk → View
 view_at desk = view_of desk.store.now.site (Some desk.reader.now)
 
 abbrev pub left_at : Desk → Bool
-left_at desk = puts_left desk.store.now.puts
+left_at desk = puts_taken desk.exchange.now.takes_puts desk.store.now.puts
 
 abbrev pub request_at : Desk → Request
 request_at desk = desk.exchange.now.request.now

@@ -3,9 +3,10 @@
 ghost use Rattle.std.specs.Prelude.{◌≡◌, [], IfOk, Some, None, option_map};
 ghost use Rattle.doc_http_replies.specs.Manners.{edit_with};
 ghost use Rattle.doc_http_replies.specs.ReplyForms.{code_of};
+ghost use Rattle.doc_store.specs.Store.{IsStore};
 ghost use Rattle.doc_store_readers.specs.Sites.{page_at};
 ghost use Rattle.doc_hub_editing.specs.EditResponses.{Told, only_reply, page_reply, refused, refused_for};
-ghost use Rattle.doc_hub_editing.specs.EditSteps.{told_at, view_at};
+ghost use Rattle.doc_hub_editing.specs.EditSteps.{left_at, told_at, view_at};
 
 use crate::names::names_text;
 use doc_http::status::Status;
@@ -37,6 +38,14 @@ impl<'a> Desk<'a> {
             ≡ page_at (view_at self.now).pages path.now }
     {
         visible_page(self.store, self.reader, path)
+    }
+
+    /// Whether a put is taken, of which the groups of a page and a move of it are two: the server takes puts, and a stamp is left.
+    pub(crate) fn takes_puts(&self) -> bool
+        ensures taken { result ≡ left_at self.now }
+        ensures store { IsStore self.now.store.now }
+    {
+        self.store.next_stamp().is_some() && self.exchange.takes_puts
     }
 
     /// The answer that says no more than a status.

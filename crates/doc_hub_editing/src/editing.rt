@@ -4,7 +4,7 @@ ghost use Rattle.std.specs.Prelude.{◌≡◌, IfOk, Some, false, true};
 ghost use Rattle.doc_shelf_pages.specs.ViewLaws.{seen_in};
 ghost use Rattle.doc_hub_answers.specs.AnswerSteps.{AnsweredSo};
 ghost use Rattle.doc_hub_answers.specs.Counts.{RendersPuts, moves_of, previews_of};
-ghost use Rattle.doc_hub_answers.specs.Edits.{puts_left};
+ghost use Rattle.doc_hub_answers.specs.Edits.{puts_taken};
 ghost use Rattle.doc_hub_people.specs.PeopleAnswers.{offers_for};
 ghost use Rattle.doc_hub_editing_refusals.specs.AskedSteps.{edit_request_shown};
 ghost use Rattle.doc_hub_editing.specs.EditAnswers.{by_entry, by_other, by_owner, shows_preview};
@@ -51,9 +51,9 @@ impl Editing<'_> {
         ensures answer { AnsweredSo self.now.exchange.now.request.now.body shelf.old.1
             (editing_sent self.now.exchange.now (by_entry (R.page shelf.old.0)
             self.now.browse.now (seen_in shelf.old.1 self.now.reader.now) self.now.guest
-            self.now.reader.now (puts_left shelf.old.1.puts) self.now.for_people
-            self.now.exchange.now.request.now (edit_request_shown asked.entry)))
-            shelf.new.1 result }
+            self.now.reader.now (puts_taken self.now.exchange.now.takes_puts shelf.old.1.puts)
+            self.now.for_people self.now.exchange.now.request.now
+            (edit_request_shown asked.entry))) shelf.new.1 result }
         ensures same { R.page shelf.new.0 ≡ R.page shelf.old.0 }
         ensures counted { IfOk result (λ a. RendersPuts (R.count shelf.old.0) shelf.old.1.puts
             (R.count shelf.new.0) shelf.new.1.puts (moves_of a.edit)
@@ -83,9 +83,9 @@ impl Editing<'_> {
         ensures { IfOk result (λ a. a ≡ editing_sent self.now.exchange.now (by_owner
             (R.page shelf.now.0) self.now.browse.now
             (offers_for self.now.browse.now self.now.guest self.now.reader.now.owner)
-            (seen_in shelf.now.1 self.now.reader.now) (puts_left shelf.now.1.puts)
-            self.now.for_people self.now.exchange.now.request.now
-            (edit_request_shown asked.entry))) }
+            (seen_in shelf.now.1 self.now.reader.now)
+            (puts_taken self.now.exchange.now.takes_puts shelf.now.1.puts) self.now.for_people
+            self.now.exchange.now.request.now (edit_request_shown asked.entry))) }
     {
         let desk = Desk {
             exchange: self.exchange,

@@ -88,7 +88,7 @@ impl Desk<'_> {
         ensures { self.now.reader.now.owner ≡ true → option_copied result
             ≡ no_alias_room (view_at self.now) (left_at self.now) to.now }
     {
-        if self.store.next_stamp().is_none() {
+        if !self.takes_puts() {
             return Some("no edit is left");
         }
         if self.store.may_move(from, to).is_err() {

@@ -1,6 +1,6 @@
 //! Puts of pages: at their source, or at the page itself.
 
-ghost use Rattle.std.specs.Prelude.{◌≡◌, true, IfOk, Ok, codes, option_copied, option_map, if◌then◌else◌};
+ghost use Rattle.std.specs.Prelude.{◌≡◌, true, IfOk, None, Ok, Some, codes, option_copied, option_map, if◌then◌else◌};
 ghost use Rattle.doc_http_targets.specs.WrittenPaths.{path_written};
 ghost use Rattle.doc_store_readers.specs.Groups.{groups_of};
 ghost use Rattle.doc_store_readers.specs.Sites.{page_at};
@@ -163,11 +163,23 @@ impl Desk<'_> {
             (page_at (view_at self.now).pages path.now) text.now }
     {
         let Err(e) = self.store.fits(path, text) else {
-            return None;
+            return self.no_edit();
         };
         match e {
             EditError::TooLong => Some("the text has more than 1048576 bytes"),
             _ => Some(self.why_full()),
+        }
+    }
+
+    /// Why a text that the store takes is not taken, where it isn't.
+    fn no_edit(&self) -> Option<&'static str>
+        ensures { option_copied result ≡ (if left_at self.now then None
+            else Some (codes "no edit is left")) }
+    {
+        if self.takes_puts() {
+            None
+        } else {
+            Some("no edit is left")
         }
     }
 
@@ -176,10 +188,10 @@ impl Desk<'_> {
         ensures { result.now ≡ (if left_at self.now then codes "10000 pages stand"
             else codes "no edit is left") }
     {
-        if self.store.next_stamp().is_none() {
-            "no edit is left"
-        } else {
+        if self.takes_puts() {
             "10000 pages stand"
+        } else {
+            "no edit is left"
         }
     }
 }

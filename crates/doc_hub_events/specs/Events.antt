@@ -60,6 +60,7 @@ Said events.Connect = Result ConnId ConnectError
 Said (events.On id call) = SaidOn call
 Said (events.Site edit) = SaidSite edit
 Said (events.Reader edit) = SaidReader edit
+Said (events.TakePuts takes) = Unit {0}
 
 -- ---- the refusals of the calls, under their own names
 
@@ -138,3 +139,4 @@ outcome_of events.Connect said = connecting said
 outcome_of (events.On id call) said = outcome_on call said
 outcome_of (events.Site edit) said = outcome_of_site edit said
 outcome_of (events.Reader edit) said = outcome_of_reader edit said
+outcome_of (events.TakePuts takes) said = outcomes.PutsSet

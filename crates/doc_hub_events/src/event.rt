@@ -23,7 +23,7 @@ pub enum Step {
 }
 
 /// A call of a hub, with all that it takes: by its flat name one of Connect, Push, Step, Disconnect, Put,
-/// Remove, MovePage, SetReader and RemoveReader.
+/// Remove, MovePage, SetReader, RemoveReader and TakePuts.
 #[derive(Debug, Drop)]
 pub enum Event {
     Connect,
@@ -33,6 +33,8 @@ pub enum Event {
     Site(SiteEdit),
     /// SetReader or RemoveReader.
     Reader(ReaderEdit),
+    /// From here on owners' puts are taken, or none is. It is the server's own: no script writes it.
+    TakePuts(bool),
 }
 
 /// What happens on a connection.

@@ -24,6 +24,8 @@ pub enum Outcome {
     ReaderSet(Set),
     /// Whether the token had a reader.
     ReaderRemoved(bool),
+    /// Puts are taken from here on, or none is.
+    PutsSet,
     /// The event did nothing.
     Refused(Refusal),
 }

@@ -4,7 +4,6 @@ use Rattle.std.specs.Prelude.{◌&&◌, ◌==◌, Option, Some, None, if◌then�
 use Rattle.doc_http.specs.declared.request.Request.{Request}
 use Rattle.doc_http_targets.specs.Targets.{Route, route_of}
 use Rattle.doc_http_targets.specs.Targets as routes
-use Rattle.doc_store_readers.specs.Pages.{Page}
 use Rattle.doc_store_readers.specs.Sites.{View}
 use Rattle.doc_store_readers.specs.declared.reader.Reader.{Reader}
 use Rattle.doc_hub_answers.specs.Replies.{Renders, Response, at_route}

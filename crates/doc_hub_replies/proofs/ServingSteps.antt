@@ -1,6 +1,6 @@
 -- Answers as they are put together.
 use Rattle.std.proofs.Common.{◌≡◌, Bool, true, false, List, ℕ, arith, refl, ap, sym, ◌∙◌, subst}
-use Rattle.std.specs.Prelude.{IfOk, OnOk, Option, Some, None, Result, Ok, Err}
+use Rattle.std.specs.Prelude.{IfOk, Option, Some, None, Result, Ok, Err}
 use Rattle.doc_http.specs.Requests.{is_bare}
 use Rattle.doc_http.specs.declared.request.Request.{Request}
 use Rattle.doc_http_replies.specs.Heads.{Dress, undressed}

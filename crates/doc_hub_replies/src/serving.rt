@@ -8,7 +8,7 @@ ghost use Rattle.doc_http_targets.specs.Targets.{route_of, route_shown};
 ghost use Rattle.doc_store_readers.specs.Sites.{view_of};
 ghost use Rattle.doc_hub_answers.specs.AnswerSteps.{Answered, AnsweredSo, entry_of};
 ghost use Rattle.doc_hub_answers.specs.Counts.{RendersPuts, moves_of, previews_of};
-ghost use Rattle.doc_hub_answers.specs.Edits.{puts_left};
+ghost use Rattle.doc_hub_answers.specs.Edits.{puts_taken};
 ghost use Rattle.doc_hub_answers.specs.Replies.{method_of, plain_answer, response_to};
 ghost use Rattle.doc_hub_asking.specs.Asking.{is_guest, reader_asking, row_of};
 ghost use Rattle.doc_hub_asking.specs.AskingSteps.{asking_shown};
@@ -56,6 +56,8 @@ pub struct Serving<'a> {
     pub routes: &'a Routes,
     pub readers: &'a Readers,
     pub settings: &'a Settings,
+    /// Whether puts are taken.
+    pub takes_puts: bool,
 }
 
 impl Serving<'_> {
@@ -72,8 +74,8 @@ impl Serving<'_> {
             self.now.readers.now request.now in
             AnsweredSo request.now.body shelf.old.1
             (answer_of self.now.settings.now (R.page shelf.old.0)
-            (view_of shelf.old.1.site (row_of asking)) asking (puts_left shelf.old.1.puts)
-            request.now) shelf.new.1 result }
+            (view_of shelf.old.1.site (row_of asking)) asking
+            (puts_taken self.now.takes_puts shelf.old.1.puts) request.now) shelf.new.1 result }
         ensures same { R.page shelf.new.0 ≡ R.page shelf.old.0 }
         ensures counted { IfOk result (λ a. RendersPuts (R.count shelf.old.0) shelf.old.1.puts
             (R.count shelf.new.0) shelf.new.1.puts (moves_of a.edit)
@@ -96,7 +98,8 @@ impl Serving<'_> {
         ensures answer { let entry = entry_of self.now.readers.now request.now in
             AnsweredSo request.now.body shelf.old.1
             (plain_answer undressed (response_to (R.page shelf.old.0)
-            (view_of shelf.old.1.site entry) entry (puts_left shelf.old.1.puts) request.now)
+            (view_of shelf.old.1.site entry) entry
+            (puts_taken self.now.takes_puts shelf.old.1.puts) request.now)
             (closes_after self.now.settings.now request.now) request.now) shelf.new.1 result }
         ensures same { R.page shelf.new.0 ≡ R.page shelf.old.0 }
         ensures counted { IfOk result (λ a. RendersPuts (R.count shelf.old.0) shelf.old.1.puts
@@ -120,8 +123,8 @@ impl Serving<'_> {
         ensures answer { let asking = reader_asking (Some browse.now) self.now.readers.now
             request.now in AnsweredSo request.now.body shelf.old.1
             (browsed browse.now (R.page shelf.old.0) (view_of shelf.old.1.site (row_of asking))
-            asking (puts_left shelf.old.1.puts) (closes_after self.now.settings.now request.now)
-            request.now) shelf.new.1 result }
+            asking (puts_taken self.now.takes_puts shelf.old.1.puts)
+            (closes_after self.now.settings.now request.now) request.now) shelf.new.1 result }
         ensures same { R.page shelf.new.0 ≡ R.page shelf.old.0 }
         ensures counted { IfOk result (λ a. RendersPuts (R.count shelf.old.0) shelf.old.1.puts
             (R.count shelf.new.0) shelf.new.1.puts (moves_of a.edit)
@@ -154,7 +157,8 @@ impl Serving<'_> {
         ensures answer { AnsweredSo request.now.body shelf.old.1
             (editing_answer (dress_for browse.now (asking_shown asking.now))
             (by_entry (R.page shelf.old.0) browse.now (view_of shelf.old.1.site (Some row.now))
-            (is_guest (asking_shown asking.now)) row.now (puts_left shelf.old.1.puts)
+            (is_guest (asking_shown asking.now)) row.now
+            (puts_taken self.now.takes_puts shelf.old.1.puts)
             (is_for_people request.now) request.now (edit_request_shown asked.entry))
             (closes_after self.now.settings.now request.now) request.now) shelf.new.1 result }
         ensures same { R.page shelf.new.0 ≡ R.page shelf.old.0 }
@@ -186,7 +190,8 @@ impl Serving<'_> {
             ≡ reader_asking (Some browse.now) self.now.readers.now request.now }
         ensures answer { let asking = asking_shown asking.now in
             AnsweredSo request.now.body shelf.old.1 (unedited browse.now (R.page shelf.old.0)
-            (view_of shelf.old.1.site (row_of asking)) asking (puts_left shelf.old.1.puts)
+            (view_of shelf.old.1.site (row_of asking)) asking
+            (puts_taken self.now.takes_puts shelf.old.1.puts)
             (closes_after self.now.settings.now request.now) request.now) shelf.new.1 result }
         ensures same { R.page shelf.new.0 ≡ R.page shelf.old.0 }
         ensures counted { IfOk result (λ a. RendersPuts (R.count shelf.old.0) shelf.old.1.puts
@@ -283,7 +288,7 @@ impl Serving<'_> {
             AnsweredSo request.now.body shelf.old.1 (plain_answer (dress_for browse.now asking)
             (kept_from_guests (is_guest asking) (response_to (R.page shelf.old.0)
             (view_of shelf.old.1.site (row_of asking)) (row_of asking)
-            (puts_left shelf.old.1.puts) request.now))
+            (puts_taken self.now.takes_puts shelf.old.1.puts) request.now))
             (closes_after self.now.settings.now request.now) request.now) shelf.new.1 result }
         ensures same { R.page shelf.new.0 ≡ R.page shelf.old.0 }
         ensures counted { IfOk result (λ a. RendersPuts (R.count shelf.old.0) shelf.old.1.puts
@@ -315,7 +320,8 @@ impl Serving<'_> {
         requires { exchange.now.method ≡ method_of exchange.now.request.now.method }
         ensures answer { let entry = option_copied reader.entry in Answered exchange.now shelf.old.1
             (response_to (R.page shelf.old.0) (view_of shelf.old.1.site entry) entry
-            (puts_left shelf.old.1.puts) exchange.now.request.now) shelf.new.1 result }
+            (puts_taken exchange.now.takes_puts shelf.old.1.puts) exchange.now.request.now)
+            shelf.new.1 result }
         ensures same { R.page shelf.new.0 ≡ R.page shelf.old.0 }
         ensures counted { IfOk result (λ a. RendersPuts (R.count shelf.old.0) shelf.old.1.puts
             (R.count shelf.new.0) shelf.new.1.puts (moves_of a.edit) 0) }
@@ -345,12 +351,14 @@ impl Serving<'_> {
         ensures request { result.request.now ≡ request.now }
         ensures method { result.method ≡ method_of request.now.method }
         ensures manner { result.manner ≡ manner.entry }
+        ensures takes_puts { result.takes_puts ≡ self.now.takes_puts }
     {
         Exchange {
             heap: self.heap,
             request,
             method: Method::of(request.method.get()),
             manner,
+            takes_puts: self.takes_puts,
         }
     }
 

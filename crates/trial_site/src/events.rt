@@ -1,5 +1,6 @@
 //! Events, as a line writes them: `connect`, `push ID BYTES`, `step ID`, `disconnect ID`, `put PATH | GROUPS | TEXT`, `remove PATH`,
-//! `move FROM | TO`, `reader TOKEN | READER`, where the reader is `owner` or has these groups, and `unreader TOKEN`.
+//! `move FROM | TO`, `reader TOKEN | READER`, where the reader is `owner` or has these groups, `unreader TOKEN`, and `puts taken` or
+//! `puts refused`.
 
 use crate::given::{both, connection, groups_of, id_and_bytes, path_of, reader_of, text_of, two};
 use crate::stop::Stop;
@@ -38,6 +39,7 @@ pub fn event_of(heap: Heap, name: &str, given: &str) -> Result<Event, Stop> {
         "push" => push(heap, given),
         "step" => Ok(Event::On(connection(given)?, ConnectionEvent::Step)),
         "disconnect" => Ok(Event::On(connection(given)?, ConnectionEvent::Disconnect)),
+        "puts" => puts(given),
         _ => edit_of(heap, name, given),
     }
 }
@@ -50,6 +52,14 @@ fn edit_of(heap: Heap, name: &str, given: &str) -> Result<Event, Stop> {
         "move" => move_page(heap, given),
         "reader" => set_reader(heap, given),
         "unreader" => Ok(Event::Reader(ReaderEdit::Remove(text_of(heap, given)?))),
+        _ => Err(Stop::NoCall),
+    }
+}
+
+fn puts(given: &str) -> Result<Event, Stop> {
+    match given {
+        "taken" => Ok(Event::TakePuts(true)),
+        "refused" => Ok(Event::TakePuts(false)),
         _ => Err(Stop::NoCall),
     }
 }

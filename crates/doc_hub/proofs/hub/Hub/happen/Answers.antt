@@ -46,3 +46,15 @@ returns-in-Reader-clause-counted g c =
     counted_same (g.R.Renderer.page c.args.self.now.0) (g.R.Renderer.count c.args.self.now.0)
     (g.R.Renderer.count c.edit_reader.new.self.0) c.args.self.now.1 c.edit_reader.new.self.1
     c.args.event.now (events.Reader c.in-Reader.edit) _ c.in-Reader.is c.edit_reader.ensures.counted
+
+pub returns-in-TakePuts-clause-world : goal.returns-in-TakePuts-clause-world
+returns-in-TakePuts-clause-world g c =
+    leaves_so (g.R.Renderer.page c.args.self.now.0) c.args.self.now.1 c.args.event.now (events.TakePuts c.in-TakePuts.takes)
+    c.take_puts.new.self.1 _ c.take_puts.result c.in-TakePuts.is c.take_puts.ensures.world refl
+
+pub returns-in-TakePuts-clause-counted : goal.returns-in-TakePuts-clause-counted
+returns-in-TakePuts-clause-counted g c =
+    counted_so (g.R.Renderer.page c.args.self.now.0) (g.R.Renderer.count c.args.self.now.0)
+    (g.R.Renderer.count c.take_puts.new.self.0) c.args.self.now.1 c.take_puts.new.self.1
+    c.args.event.now (events.TakePuts c.in-TakePuts.takes) _ c.take_puts.result c.in-TakePuts.is c.take_puts.ensures.world
+    c.take_puts.ensures.counted refl

@@ -13,5 +13,5 @@ make-requires g c =
     let request = self.exchange.now.request.now in
     subst (λ body. CanBeMade old body c.in_ok-answer.answer.edit) (sym c.get.ensures)
     (subst (CanBeMade old request.body) (sym (ap (λ (a : Answer). a.edit) c.in_ok-answer.ensures))
-    (by_owner_can old self.reader.now c.if-not-self.false (g.R.Renderer.page c.args.shelf.now.0) self.browse.now
+    (by_owner_can self.exchange.now.takes_puts old self.reader.now c.if-not-self.false (g.R.Renderer.page c.args.shelf.now.0) self.browse.now
     (offers_for self.browse.now self.guest self.reader.now.owner) self.for_people request (edit_request_shown c.args.asked)))

@@ -1,6 +1,6 @@
 use Rattle.std.proofs.Common.{false, ap, refl, sym, ◌∙◌}
 use Rattle.doc_store_readers.specs.Sites.{view_of}
-use Rattle.doc_hub_answers.specs.Edits.{puts_left}
+use Rattle.doc_hub_answers.specs.Edits.{puts_taken}
 use Rattle.doc_hub_asking.specs.Asking.{row_of}
 use Rattle.doc_hub_asking.specs.AskingSteps.{asking_shown}
 use Rattle.doc_hub_people.specs.PeopleAnswers.{people_reply}
@@ -13,7 +13,7 @@ pub returns-then-is_for_people-clause-answer : goal.returns-then-is_for_people-c
 returns-then-is_for_people-clause-answer g c =
     let request = c.args.request.now in
     let store = c.args.shelf.now.1 in
-    people_so c.args.browse.now (g.R.Renderer.page c.args.shelf.now.0) store (puts_left store.puts)
+    people_so c.args.browse.now (g.R.Renderer.page c.args.shelf.now.0) store (puts_taken c.args.self.now.takes_puts store.puts)
     (closes_after c.args.self.now.settings.now request) request (asking_shown c.args.asking.now) c.people.new.shelf.1 c.people.result
     (ap (λ s. s.1) c.people.ensures.same) (sym c.is_for_people.ensures ∙ c.if-is_for_people.true) c.people.ensures.answer
 
@@ -33,6 +33,6 @@ pub returns-clause-answer : goal.returns-clause-answer
 returns-clause-answer g c =
     let request = c.args.request.now in
     let store = c.args.shelf.now.1 in
-    plain_so c.args.browse.now (g.R.Renderer.page c.args.shelf.now.0) store (puts_left store.puts)
+    plain_so c.args.browse.now (g.R.Renderer.page c.args.shelf.now.0) store (puts_taken c.args.self.now.takes_puts store.puts)
     (closes_after c.args.self.now.settings.now request) request (asking_shown c.args.asking.now) c.guarded.new.shelf.1 c.guarded.result
     (sym c.is_for_people.ensures ∙ c.if-is_for_people.false) c.guarded.ensures.answer
