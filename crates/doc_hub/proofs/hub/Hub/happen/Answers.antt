@@ -1,3 +1,4 @@
+use Rattle.std.specs.Prelude.{refl}
 use Rattle.doc_hub_events.specs.declared.event.Event.TheVariants as events
 use Rattle.doc_hub.proofs.CountSteps.{counted_same, counted_so}
 use Rattle.doc_hub.proofs.RunSteps.{leaves_same, leaves_so}
