@@ -129,7 +129,7 @@ impl<S: Channel + Drop> Client<S> {
         !self.replies.is_empty()
     }
 
-    /// Whether memory was lacking for a step when it was last taken in: then its request waits, and another try may find memory.
+    /// Whether memory was lacking for its last step: then its request waits, and another try may find memory.
     pub fn is_starved(&self) -> bool {
         self.is_starved
     }
@@ -167,7 +167,6 @@ impl<S: Channel + Drop> Client<S> {
         if self.has_pending() {
             return;
         }
-        self.is_starved = false;
         self.read(hub, piece);
         if !self.is_open() {
             return;
@@ -309,6 +308,7 @@ impl<S: Channel + Drop> Client<S> {
         }
         match step_and_keep(hub, self.id, edits) {
             Ok(Step::Sent(reply)) => {
+                self.is_starved = false;
                 let count = reply.get().len();
                 self.replies.push_back_reserved(reply);
                 Some(count)
@@ -319,6 +319,7 @@ impl<S: Channel + Drop> Client<S> {
                 None
             }
             Ok(Step::More) => {
+                self.is_starved = false;
                 self.stage = Stage::Reads;
                 None
             }
