@@ -1,6 +1,7 @@
 """Kills `listen --journal` with SIGKILL at random moments, while clients send it edits, and starts it again over the same journal. After
 each start every page is asked for, and is to be as it was after some number of its client's edits, in their order: at least those that
 were answered, at most those that were sent. So no answered edit is lost, and a text is whole: the old one or the new one.
+What was torn is kept in `journal.torn`, and is never of an answered edit.
 
 Four clients send PUTs, with texts of 1 byte to 200 kB, and DELETEs, up to eight at once on one connection, each to pages of its own.
 Now and then the program is killed while it starts, and the first start has no journal yet.
@@ -12,7 +13,7 @@ of TMPDIR: a kill leaves what was written, whether it was synced or not, so what
 """
 import os, random, subprocess, sys, threading, time
 sys.path.insert(1, os.path.dirname(__file__) + "/../lib")
-from scene import HOST, OWNER, Client, Refused, Scene, free_port, page_of, put, start
+from scene import HOST, OWNER, Client, Refused, Scene, free_port, got, page_of, put, start
 
 scene = Scene(seconds=60, seconds_each=6, numbers=(100, 1))
 WRITERS, PAGES = 4, 6
@@ -27,6 +28,8 @@ class Writer:
         # the states that its pages may have: first that of the last start, then one more behind each edit that was sent
         self.states, self.answered = [{}], 0
         self.fault = None
+        # what stands in front of the texts that were answered, where they are long enough
+        self.told = set()
 
     def next_edit(self):
         """Another edit, as its method, path, text and the code of its reply."""
@@ -54,12 +57,14 @@ class Writer:
                 edits = [self.next_edit() for _ in range(self.chance.randint(1, 8))]
                 for method, path, text, _ in edits:
                     client.send("/page/" + path, method, text.encode())
-                for method, path, _, wanted in edits:
+                for method, path, text, wanted in edits:
                     code = client.reply(method)[0]
                     if code != wanted:
                         self.fault = f"{method} {path}: {code} and not {wanted}"
                         return
                     self.answered += 1
+                    if text.startswith("edit "):
+                        self.told.add(text[:text.index(",") + 1])
         except OSError:
             pass
 
@@ -88,7 +93,7 @@ class Run:
     def __init__(self, seed):
         self.chance = random.Random(seed)
         self.writers = [Writer(number) for number in range(WRITERS)]
-        self.answered, self.sent, self.beyond, self.early, self.took = 0, 0, 0, 0, []
+        self.answered, self.sent, self.beyond, self.early, self.took, self.torn = 0, 0, 0, 0, [], 0
 
     def ask_all(self, port, name):
         """Each client's pages are those of one of its states."""
@@ -143,6 +148,11 @@ class Run:
             self.killed(server)
         if server := self.begun("the last start"):
             scene.ends(server, "the last start")
+        torn = got("journal.torn") if os.path.exists("journal.torn") else b""
+        for writer in self.writers:
+            kept = [told for told in writer.told if told.encode() in torn]
+            scene.check(f"what was torn is of no answered edit of client {writer.number}", not kept, kept[:3])
+        self.torn = len(torn)
 
 
 def main():
@@ -152,7 +162,7 @@ def main():
     run.kills(count)
     print(f"seed {seed}: {len(run.took)} starts, each but the last ended by a kill under edits, and {run.early} kills during a start; "
           f"{run.answered} edits were answered, and of {run.sent - run.answered} others {run.beyond} were made; "
-          f"journal {os.path.getsize('journal') / 1e6:.1f} MB, slowest start {max(run.took, default=0):.2f} s")
+          f"journal {os.path.getsize('journal') / 1e6:.1f} MB, {run.torn:,} bytes torn, slowest start {max(run.took, default=0):.2f} s")
 
 
 scene.run(main)

@@ -1,22 +1,24 @@
 """Damages a journal of three records in every way of one kind at a time, and starts `listen` over it: each byte with its lowest bit turned
-and with all turned, each truncation, and the same of a last record whose gate is still closed, as a crash leaves it. Whatever is damage
-is refused as `journal record N`, status 2, and the file stays as it was; what a crash may have left is cut off, and all records before
-it are served. Which is which, scripts/oracles/journals.py says.
+and with all turned, and as each of the two gates and as 0; each truncation; zeros over a piece from each place; pieces of another journal
+in it; the same of a last record whose gate is still closed, as a crash leaves it; and files that are no journals. Whatever is damage is
+refused as `journal record N`, status 2, and the file stays as it was; what a crash may have left is told, kept in `journal.torn` and
+zeroed, and all records before it are served. Which is which, scripts/oracles/journals.py says.
 
-Then: of two servers on one journal the second is refused, until the first is gone. And on a device that is full an edit isn't answered
-as done: the program ends as `cannot write`, and the next start serves the edits that were answered.
+Then: of two servers on one journal the second is refused, until the first is gone; a journal of version 1 is refused, and compacted. And
+on a device that is full an edit isn't answered as done: the program ends as `cannot write`, and the next start serves the edits that were
+answered.
 
     python3 scripts/listen/damage.py PROGRAM
 
 Builds nothing. Needs python3, and for the full device the right to mount one in memory (root, or unshare with names of users of its
-own). A minute.
+own). Some minutes.
 """
 import os, subprocess, sys
 sys.path.insert(1, os.path.dirname(__file__) + "/../lib")
 from scene import OWNER, Client, Refused, Scene, free_port, got, page_of, put
-from journals import Damaged, read, written
+from journals import CLOSED, OPEN, Refused as Unread, read, read_first, records, written, written_first
 
-scene = Scene(seconds=600)
+scene = Scene(seconds=3000)
 PORT = free_port()
 EDITS = [("a.md", "First."), ("b.md", "Second, \u00f6."), ("c.md", "Third.")]
 
@@ -59,7 +61,7 @@ def tried(journal, name):
     put("journal", journal)
     try:
         texts, kept = read(journal)
-    except Damaged as fault:
+    except Unread as fault:
         refused(fault, name)
         scene.check(f"{name}: the file is as it was", got("journal") == journal)
         return "refused"
@@ -69,9 +71,22 @@ def tried(journal, name):
         scene.check(name, False, found)
         return "refused"
     serves(EDITS[:len(texts)], name)
-    scene.ends(server, name)
-    scene.check(f"{name}: the file is cut", got("journal") == kept, f"{len(got('journal'))} bytes and not {len(kept)}")
+    torn = journal[len(kept.rstrip(b"\0")):].rstrip(b"\0")
+    told = torn and f"docs_server: record {len(texts) + 1} was torn; {len(torn)} bytes kept in journal.torn\n"
+    status = server.end()
+    scene.check(f"{name}: the end", status == 0 and server.said() == (told or ""), f"{status} {server.said()}")
+    scene.check(f"{name}: what was torn is zeroed", got("journal") == kept, f"{len(got('journal'))} bytes and not {len(kept)}")
+    scene.check(f"{name}: it is kept", is_kept(torn, len(texts) + 1), torn[:40])
     return f"{len(texts)} records" if len(texts) < len(EDITS) else "all records"
+
+
+def is_kept(torn, number):
+    """Whether the file beside the journal has these bytes behind a line of theirs, and nothing else; it is removed."""
+    if not torn:
+        return not os.path.exists("journal.torn")
+    line, _, kept = got("journal.torn").partition(b"\n")
+    os.remove("journal.torn")
+    return kept == torn + b"\n" and line.endswith(b" record %d, %d bytes" % (number, len(torn)))
 
 
 def all_tried(kind, journals):
@@ -87,6 +102,16 @@ def flipped(journal, first, mask):
     return [(str(at), journal[:at] + bytes([journal[at] ^ mask]) + journal[at + 1:]) for at in range(first, len(journal))]
 
 
+def replaced(journal, byte):
+    """Each byte as another."""
+    return [(str(at), journal[:at] + byte + journal[at + 1:]) for at in range(len(journal)) if journal[at:at + 1] != byte]
+
+
+def zeroed(journal, count):
+    """Zeros over so many bytes from each place."""
+    return [(str(at), (journal[:at] + bytes(count))[:len(journal)] + journal[at + count:]) for at in range(0, len(journal), 7)]
+
+
 def cut(journal, first):
     return [(str(at), journal[:at]) for at in range(first, len(journal))]
 
@@ -95,11 +120,12 @@ def whole():
     """A journal of three records, and its texts."""
     put("site.toml", OWNER)
     server = started()
+    scene.check("a journal is begun", read(got("journal")) == ([], got("journal")) and not os.path.exists("journal.new"))
     for path, text in EDITS:
         scene.check(f"a PUT of {path}", ask(path, "PUT", text)[0] == 201)
     journal = got("journal")
     texts, kept = read(journal)
-    scene.check("three records", len(texts) == 3 and kept == journal == written(texts), texts)
+    scene.check("three records", len(texts) == 3 and kept == journal, texts)
     refused("journal in use", "a second server")
     scene.check("the first one goes on", ask("a.md")[0] == 200)
     server.kill()
@@ -109,19 +135,40 @@ def whole():
 
 
 def damaged(journal, texts):
-    last = len(written(texts[:2])) - 1
-    torn = journal[:last] + b"\x00" + journal[last + 1:]
+    _, last, end = records(journal)
+    torn = journal[:last] + CLOSED + journal[last + 1:]
     all_tried("lowest bit turned at", flipped(journal, 0, 1))
     all_tried("all bits turned at", flipped(journal, 0, 255))
+    for byte in (b"\0", CLOSED, OPEN):
+        all_tried(f"{byte.hex()} at", replaced(journal, byte))
     all_tried("truncated to", cut(journal, 0))
+    for count in (1, 40, 512):
+        all_tried(f"{count} zeros from", zeroed(journal, count))
+    all_tried("zeros behind it", [(str(count), journal + bytes(count)) for count in (1, 100, 5000)])
     all_tried("last gate closed, truncated to", cut(torn, last + 1) + [("all", torn)])
     all_tried("last gate closed, lowest bit turned at", flipped(torn, last + 1, 1))
-    all_tried("last gate closed, behind it also", [(str(count), torn + bytes(count)) for count in (1, 2, 100)])
-    all_tried("records in another order", [("", b"".join(written([text])[:-1] for text in reversed(texts)) + b"\x00")])
+    all_tried("last gate closed, an open one behind it", [("", torn + OPEN)])
+    other = written(texts, b"1" * 32)
+    all_tried("records of another journal", [("", journal[:55] + other[55:]), ("behind two", journal[:last] + other[last:])])
+    all_tried("no journal", [("", bytes_of) for bytes_of in (b"", b"\0", b"\x01", b"# A text\n", b"\0\0\x01\0" * 50, b"\x7fELF", journal[1:])])
     put("journal", written([b"put a.md - First.\n", b"no edit\n"]))
     refused("bad journal record 2", "a record that is no edit")
     put("journal", written([b"put a.md - First.\n", b"remove b.md\n"]))
     refused("journal record 2 refused", "an edit that the store refuses")
+
+
+def converted(texts):
+    """A journal of version 1 is refused by `listen`, and becomes one of now by `compact`."""
+    old = written_first(texts)
+    put("journal", old)
+    refused("journal of version 1", "version 1")
+    scene.check("version 1 is as it was", got("journal") == old)
+    done = subprocess.run([scene.program, "compact", "site.toml", "--journal", "journal"], capture_output=True)
+    scene.check("version 1 is compacted", done.returncode == 0, done)
+    scene.check("its edits are there", b"".join(read(got("journal"))[0]) == b"".join(read_first(old)))
+    server = started()
+    serves(EDITS, "version 1, compacted")
+    scene.ends(server, "version 1, compacted")
 
 
 def filled():
@@ -136,7 +183,7 @@ def filled():
     scene.check("a PUT isn't answered", code is None and 0 < len(answered) < 100, code)
     scene.check("the program ends", server.ends(10))
     server.close()
-    scene.check("cannot write", (server.process.poll(), server.said()) == (2, "docs_server: cannot write\n"), server.said())
+    scene.check("cannot write", (server.process.poll(), server.said()) == (2, f"docs_server: new journal small/journal\ndocs_server: cannot write\n"), server.said())
     server = started("small/journal")
     serves(answered, "after a full device")
     scene.check("nor is the page of the unanswered PUT there", ask(f"{number}.md")[0] == 404)
@@ -158,7 +205,9 @@ def mount():
 def main():
     mount()
     try:
-        damaged(*whole())
+        journal, texts = whole()
+        damaged(journal, texts)
+        converted(texts)
         filled()
     finally:
         subprocess.run(["umount", "-l", "small"])

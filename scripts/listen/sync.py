@@ -38,10 +38,10 @@ class Calls:
         self.edits, self.journal, self.steps, self.records, self.replies = edits, None, [], 0, 0
 
     def made(self, name, words):
-        if name == "openat" and '"journal"' in words and "O_RDWR" in words:
+        if name == "openat" and '"journal.new"' in words and "O_RDWR" in words:
             self.journal = re.search(r"= (\d+)$", words)[1]
         elif name in ("pwrite64", "write", "writev") and words.startswith(f"{self.journal},"):
-            self.steps.append("gate" if words.startswith(f'{self.journal}, "\\x01", 1,') else "record")
+            self.steps.append("gate" if words.startswith(f'{self.journal}, "\\xff", 1,') else "record")
         elif name in ("fsync", "fdatasync") and words.startswith(f"{self.journal})"):
             self.steps.append("sync")
         elif re.search(r'"\\x48\\x54\\x54\\x50\\x2f\\x31\\x2e\\x31\\x20\\x32\\x30[14]|"HTTP/1.1 20[14]', words):

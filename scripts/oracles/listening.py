@@ -54,7 +54,7 @@ class Server:
 
     def __init__(self, what, connections, idle=1_000, calls=FULL, edits=None):
         begun = f"server {connections} {idle} {calls}{'' if edits is None else ' again'}"
-        self.lines = [f"# {what}", (begun, "()" if calls >= 4 else "no server")]
+        self.lines = [f"# {what}", (begun, "()" if calls >= 3 else "no server")]
         self.hub, self.peers, self.owed, self.edits = Hub(), 0, {}, []
         self.hub.readers = dict(READERS)
         for edit in edits or []:
@@ -128,6 +128,8 @@ def reading(file):
         return f"Ok({len(journals.read(file)[0])})"
     except journals.Damaged as damaged:
         return f"Err(Damaged({damaged.number}))"
+    except journals.Refused:
+        return "Err(NoJournal)"
 
 
 def in_a_row(outcomes):
@@ -141,7 +143,7 @@ def in_a_row(outcomes):
 
 def journal_told(call, file):
     if call == "file":
-        return told(file)
+        return str(len(file))
     if call == "records":
         return told(b"".join(journals.read(file)[0]))
     if call == "cuts":
@@ -294,15 +296,15 @@ def silent():
 
 
 def failing(calls):
-    """A server whose journal's file fails in some call: opening makes four of them, and so does each record: it is written behind the gate
-    and synced, and the gate is opened and synced. A write that fails has written half."""
+    """A server whose journal's file fails in some call: a new one takes three of them, since it is read, written and synced, and each record
+    four: it is written behind the gate and synced, and the gate is opened and synced. A write that fails has written half."""
     s = Server(f"The journal's file fails behind {calls} calls.", 2, calls=calls)
-    if calls < 4:
+    if calls < 3:
         return s.lines
-    peer, texts, file = s.open(), [], b"\0"
+    peer, texts, file = s.open(), [], journals.written([])
     for path in ("a", "b", "c"):
         request = (OWNER, "PUT", f"/page/{path}?groups=ops", path)
-        well = calls - 4 * len(texts) - 4
+        well = calls - 4 * len(texts) - 3
         if well < 4:
             s.call(f"send {peer} " + given(bytes_of(*request)))
             s.call(f"hear {peer} 1", told(b""))
@@ -326,13 +328,11 @@ def failing(calls):
 
 def left(texts, text, well):
     """What a journal's file holds where so many calls of a further record went well."""
-    digest = journals.SEED
-    for before in texts:
-        digest = journals.record(digest, before)[1]
-    behind = journals.record(digest, text)[0] + b"\0"
+    file = journals.written(texts)
+    behind = journals.written([*texts, text])[len(file):]
     if well == 3:
         return journals.written([*texts, text])
-    return journals.written(texts) + (behind[: len(behind) // 2] if well == 0 else behind)
+    return file + (behind[: len(behind) // 2] if well == 0 else behind)
 
 
 if __name__ == "__main__":

@@ -1,8 +1,9 @@
 mod AppendLemmas
-mod CrashLemmas
-mod Deciding
+pub mod HoldLemmas
 mod MemoryLemmas
-mod Moments
+mod Mixtures
+pub mod Moments
 mod OpeningLemmas
 mod RepairLemmas
 mod Tearing
+mod WriteLemmas

@@ -14,7 +14,7 @@ torn_same at bytes file = record {
   behind = refl;
   no_shorter = omega arith;
   no_longer = omega arith;
-  each = λ i le lt inside. inl refl;
+  each = λ i le lt. inl refl;
 }
 
 pub shortened_same : (len : ℕ) (file : List ℕ) → Shortened len file file

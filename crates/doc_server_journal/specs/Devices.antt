@@ -13,14 +13,14 @@ Writes old at bytes new = new ≡ option_map (λ file. take at file ++ bytes ++ 
 abbrev pub CutsTo : Option (List ℕ) → ℕ → Option (List ℕ) → Type 0
 CutsTo old len new = new ≡ option_map (λ file. take len file) old
 
--- After a write that a crash cuts short. A byte is never torn: in the old file each is the one that was there or the one
--- that was written. Behind its end any bytes may stand.
+-- After a write that a crash cuts short. A byte is never torn: each is the one that was there or the one that was written, and behind
+-- the old end 0 stands for the one that was there.
 pub record Torn (at : ℕ) (bytes old new : List ℕ) : Type 0 where
   pub before : take (length old) (take at new) ≡ take at old
   pub behind : drop (at + length bytes) new ≡ drop (at + length bytes) old
   pub no_shorter : length old ≤ length new
   pub no_longer : length new ≤ max (length old) (at + length bytes)
-  pub each : (i : ℕ) → at ≤ i → i < at + length bytes → i < length old
+  pub each : (i : ℕ) → at ≤ i → i < at + length bytes
       → (get_or new i 0 ≡ get_or old i 0) ⊎ (get_or new i 0 ≡ get_or bytes (i - at) 0)
 
 -- After a cut that a crash may stop: some length between. What a crash left shorter than that isn't cut.

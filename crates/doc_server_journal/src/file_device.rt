@@ -14,6 +14,7 @@ use crate::names::sync_folder;
 use doc_page_parts::bytes::Bytes;
 use doc_page_parts::heap::{Heap, Vec};
 use std::fs::{File, OpenOptions, metadata, remove_file};
+use std::io::ErrorKind;
 use std::os::fd::AsFd;
 use std::os::unix::fs::{FileExt, MetadataExt, OpenOptionsExt, fchown};
 use std::rt::Files;
@@ -32,20 +33,38 @@ pub struct FileDevice {
 }
 
 impl FileDevice {
-    /// Opens the file of this name, made for its owner alone where there is none, and takes its lock. Its folder is synced, so that
-    /// a crash leaves the name. The lock of a file that lost its name to another, as by a compaction, isn't kept: then that other
-    /// file is opened.
+    /// Opens the file of this name, and takes its lock. Its folder is synced, so that a crash leaves the name. The lock of a file that
+    /// lost its name to another, as by a compaction, isn't kept: then that other file is opened.
     pub fn open<R: Files<File = File>>(rt: &R, name: &str) -> Result<FileDevice, FileFault>
         ensures { IfOk result (λ device. has_failed device ≡ false) }
     {
         for _ in 0..TRIES {
-            let device = open_and_lock(rt, name)?;
+            let device = lock(open_file(rt, name)?)?;
             if device.has_name(rt, name)? {
                 sync_folder(rt, name)?;
                 return Ok(device);
             }
         }
         Err(FileFault::InUse)
+    }
+
+    /// Makes an empty file of this name for its owner alone, and takes its lock. It is one that a crash left while it was made, if there
+    /// is such a file.
+    pub fn make<R: Files<File = File>>(rt: &R, name: &str) -> Result<FileDevice, FileFault>
+        ensures { IfOk result (λ device. has_failed device ≡ false) }
+    {
+        let file = OpenOptions::new()
+            .read(true)
+            .write(true)
+            .create(true)
+            .mode(OWNER_ALONE)
+            .open(rt, name)?;
+        let device = lock(file)?;
+        if !device.has_name(rt, name)? {
+            return Err(FileFault::InUse);
+        }
+        device.file.set_len(0)?;
+        Ok(device)
     }
 
     /// Makes a file of this name with the owner and the rights of this one, and takes its lock. A file that has the name goes.
@@ -83,16 +102,19 @@ impl FileDevice {
     }
 }
 
-/// Opens the file of a name, made where there is none, and takes its lock.
-fn open_and_lock<R: Files<File = File>>(rt: &R, name: &str) -> Result<FileDevice, FileFault>
+/// Opens the file of a name.
+fn open_file<R: Files<File = File>>(rt: &R, name: &str) -> Result<File, FileFault> {
+    match OpenOptions::new().read(true).write(true).open(rt, name) {
+        Ok(file) => Ok(file),
+        Err(e) if e.kind() == ErrorKind::NotFound => Err(FileFault::Missing),
+        Err(_) => Err(FileFault::NotOpened),
+    }
+}
+
+/// Takes the lock of a regular file.
+fn lock(file: File) -> Result<FileDevice, FileFault>
     ensures { IfOk result (λ device. has_failed device ≡ false) }
 {
-    let file = OpenOptions::new()
-        .read(true)
-        .write(true)
-        .create(true)
-        .mode(OWNER_ALONE)
-        .open(rt, name)?;
     if !file.metadata()?.is_file() {
         return Err(FileFault::NotOpened);
     }

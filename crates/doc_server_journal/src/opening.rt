@@ -1,16 +1,16 @@
 //! A journal opened.
 
 ghost use Rattle.std.specs.Prelude.{◌≡◌, ◌≢◌, List as Seq, ℕ, false, OnOk, IfOk, IfErr, IfSome};
-ghost use Rattle.doc_server_journal.specs.Journals.{IsOpen};
+ghost use Rattle.doc_server_journal.specs.Journals.{Holds, IsOpen};
 ghost use Rattle.doc_server_journal_records.specs.Readings.{ReadsAs, IsFound};
-ghost use Rattle.doc_server_journal_records.specs.Records.{journal_bytes};
 ghost use Rattle.doc_server_journal.specs.Devices.{LeavesFile, LeavesOnly};
 ghost use Rattle.doc_server_journal.specs.Openings.{WasLeftOrReads, IsRefused};
 
 use crate::device::Device;
 use crate::fault::OpenFault;
 use crate::journal::Journal;
-use crate::repair::repair;
+use crate::repair::{end_again, repair};
+use crate::torn::{KeepTorn, torn_bytes};
 use crate::writing::load;
 use doc_page_parts::bytes::Bytes;
 use doc_page_parts::heap::Heap;
@@ -33,8 +33,13 @@ pub struct Refused<D: Device> {
 }
 
 impl<D: Device> Journal<D> {
-    /// Opens the journal of a file, of at most `most` bytes. A torn last record is cut off; an empty file becomes an empty journal.
-    pub fn open(heap: Heap, device: D, most: usize) -> Result<Opened<D>, Refused<D>>
+    /// Opens the journal of a file, of at most `most` bytes. What was torn behind its closed gate is kept elsewhere, and zeroed.
+    pub fn open<K: KeepTorn>(
+        heap: Heap,
+        device: D,
+        most: usize,
+        keeper: &mut K,
+    ) -> Result<Opened<D>, Refused<D>>
         requires usable { D.failed device ≡ false }
         ensures opened { IfOk result (λ o. IsOpen D.seen D.may_leave D.failed o.journal o.texts) }
         ensures texts { IfOk result (λ o. IfSome (D.seen device) (λ file. ReadsAs file o.texts)) }
@@ -50,7 +55,7 @@ impl<D: Device> Journal<D> {
             → LeavesOnly D.moment D.left_since device r.device (D.may_leave device)) }
     {
         let mut device = device;
-        match recover(heap, &mut device, most) {
+        match recover(heap, &mut device, most, keeper) {
             Ok(found) => {
                 let end = found.end;
                 let digest = found.digest;
@@ -68,13 +73,17 @@ impl<D: Device> Journal<D> {
     }
 }
 
-/// Reads a journal and puts its end right.
-fn recover<D: Device>(heap: Heap, device: &mut D, most: usize) -> Result<Found, OpenFault>
+/// Reads a journal, and writes its end again.
+fn recover<D: Device, K: KeepTorn>(
+    heap: Heap,
+    device: &mut D,
+    most: usize,
+    keeper: &mut K,
+) -> Result<Found, OpenFault>
     requires usable { D.failed device.old ≡ false }
-    ensures found { IfOk result (λ found. (bytes : Seq ℕ) × IsFound bytes found
-        × IfSome (D.seen device.old) (λ file. file ≡ bytes)) }
-    ensures file { IfOk result (λ found.
-        IfSome (D.seen device.new) (λ file. file ≡ journal_bytes found.texts)) }
+    ensures found { IfOk result (λ found. (bytes : Seq ℕ) × (is : IsFound bytes found)
+        × IfSome (D.seen device.old) (λ file. file ≡ bytes)
+        × IfSome (D.seen device.new) (λ file. Holds is.identity is.entries file)) }
     ensures durable { OnOk result (LeavesFile (D.seen device.new) (D.may_leave device.new)) }
     ensures usable { OnOk result (D.failed device.new ≡ false) }
     ensures refused { IfErr result (λ e. IsRefused most (D.seen device.old) (D.seen device.new)
@@ -85,8 +94,19 @@ fn recover<D: Device>(heap: Heap, device: &mut D, most: usize) -> Result<Found, 
     ensures untouched { IfErr result (λ e. e ≢ OpenFault.Failed
         → LeavesOnly D.moment D.left_since device.old device.new (D.may_leave device.old)) }
 {
-    let bytes = load(device, heap, most)?;
-    let found = read(heap, bytes.get())?;
-    repair(device, bytes.get(), &found)?;
+    let loaded = load(device, heap, most)?;
+    let bytes = loaded.get();
+    let found = read(heap, bytes)?;
+    let torn = torn_bytes(bytes, &found);
+    let again = end_again(heap, bytes, &found, torn.len())?;
+    keep_torn(keeper, &found, torn);
+    repair(device, bytes, &found, torn.len(), again.get())?;
     Ok(found)
+}
+
+/// Keeps what was torn, where something was.
+fn keep_torn<K: KeepTorn>(keeper: &mut K, found: &Found, torn: &[u8]) {
+    if !torn.is_empty() {
+        keeper.keep(found.texts.get().len(), torn);
+    }
 }

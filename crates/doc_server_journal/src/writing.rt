@@ -1,7 +1,7 @@
 //! A reading of a file, a sync, and a change with its sync.
 
 ghost use Rattle.std.specs.Prelude.{◌≡◌, ◌≤◌, ◌<◌, List, ℕ, false, length, is_err, OnOk, IfOk, IsErrOf, IfSome};
-ghost use Rattle.doc_server_journal.specs.Devices.{Writes, CutsTo, Torn, Shortened, LeavesFile, LeavesOnly, Stepped, is_failed};
+ghost use Rattle.doc_server_journal.specs.Devices.{Writes, Torn, LeavesFile, LeavesOnly, Stepped, is_failed};
 
 use crate::device::Device;
 use crate::fault::{DeviceFault, LoadError};
@@ -47,19 +47,5 @@ pub fn write_and_sync<D: Device>(device: &mut D, at: usize, bytes: &[u8]) -> Res
     ensures cause { D.failed device.new ≡ is_err result }
 {
     device.write_at(at, bytes)?;
-    device.sync()
-}
-
-/// Cuts the file and syncs.
-pub fn cut_and_sync<D: Device>(device: &mut D, len: usize) -> Result<(), DeviceFault>
-    requires usable { D.failed device.old ≡ false }
-    requires place { IfSome (D.seen device.old) (λ file. len ≤ length file) }
-    ensures cut { OnOk result (CutsTo (D.seen device.old) len (D.seen device.new)) }
-    ensures durable { OnOk result (LeavesFile (D.seen device.new) (D.may_leave device.new)) }
-    ensures any_moment { LeavesOnly D.moment D.left_since device.old device.new
-        (Stepped (Shortened len) (D.may_leave device.old)) }
-    ensures cause { D.failed device.new ≡ is_err result }
-{
-    device.cut(len)?;
     device.sync()
 }

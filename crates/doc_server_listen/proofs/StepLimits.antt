@@ -25,9 +25,11 @@ use Rattle.doc_hub_events.specs.declared.event.Step.{Step}
 use Rattle.doc_hub.proofs.ResponsePaths.{AtPaths}
 use Rattle.doc_hub.proofs.StepEdits.{steps_change}
 use Rattle.doc_hub.proofs.ToldPaths.{told_at_paths}
-use Rattle.doc_server_journal_records.specs.Records.{text_limit}
+use Rattle.doc_server_journal_records.specs.Records.{IsPlain, text_limit}
 use Rattle.doc_server_script.specs.LineLengths.{IsWithin, longest_line}
 use Rattle.doc_server_script.specs.PageLines.{line_of, lines_of}
+use Rattle.doc_server_script.specs.PlainLines.{HasBytes}
+use Rattle.doc_server_script.proofs.PlainLines.{both, line_is}
 use Rattle.doc_server_script.proofs.LineLengths.{at_most, line_within}
 use Rattle.doc_server_listen.specs.Edits.{NamesGroups, edit_at, room_beside}
 
@@ -86,3 +88,15 @@ one_more_fits whole before after edit (Ok done) room within fine is =
       at_most (length before + longest_line) text_limit (and_second _ _ room),
     )
 one_more_fits whole before after edit (Err e) room within fine is = absurd (cc)
+
+-- and they are plain
+edit_plain : (edit : Option SiteEdit) → IfSome edit HasBytes → IsPlain (lines_of (option_to_list edit))
+edit_plain None has = refl
+edit_plain (Some edit) has = both (line_of edit) [] (line_is edit has) refl
+
+pub one_more_plain : {E : Type 0} (before after : List ℕ) (edit : Option SiteEdit) (said : Result (Unit {0}) E)
+    → IsPlain before → IfSome edit HasBytes → is_err said ≡ false
+    → OnOk said (after ≡ before ++ lines_of (option_to_list edit)) → IsPlain after
+one_more_plain before after edit (Ok done) plain has fine is =
+    subst IsPlain (sym is) (both before (lines_of (option_to_list edit)) plain (edit_plain edit has))
+one_more_plain before after edit (Err e) plain has fine is = absurd (cc)

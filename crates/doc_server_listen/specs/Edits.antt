@@ -18,7 +18,7 @@ use Rattle.doc_hub_events.specs.declared.event.ConnectionEvent.TheVariants as ca
 use Rattle.doc_hub_events.specs.declared.event.Event.TheVariants as events
 use Rattle.doc_hub_events.specs.declared.outcome.Outcome.{Outcome}
 use Rattle.doc_hub_events.specs.declared.outcome.Outcome.TheVariants as outcomes
-use Rattle.doc_server_journal_records.specs.Records.{text_limit}
+use Rattle.doc_server_journal_records.specs.Records.{IsPlain, text_limit}
 use Rattle.doc_server_script.specs.LineLengths.{longest_line}
 use Rattle.doc_server_script.specs.PageLines.{lines_of}
 
@@ -29,7 +29,7 @@ pub record Kept : Type 0 where
 
 -- where none is missing, a record takes the lines
 abbrev pub FitsRecord : Kept → Type 0
-FitsRecord kept = kept.is_whole ≡ true → IfSome kept.lines (λ lines. length lines ≤ text_limit)
+FitsRecord kept = kept.is_whole ≡ true → IfSome kept.lines (λ lines. (length lines ≤ text_limit) × IsPlain lines)
 
 abbrev pub room_beside : Bool → Option (List ℕ) → Bool
 room_beside is_whole None = true

@@ -4,9 +4,10 @@ ghost use Rattle.std.specs.Prelude.{◌≡◌, ◌≤◌, ◌++◌, [], None, So
 ghost use Rattle.std.specs.FinMap as map;
 ghost use Rattle.doc_hub_events.specs.Events.{step_on, stepping};
 ghost use Rattle.doc_hub.specs.Runs.{Happens};
-ghost use Rattle.doc_server_journal_records.specs.Records.{text_limit};
+ghost use Rattle.doc_server_journal_records.specs.Records.{IsPlain, text_limit};
 ghost use Rattle.doc_server_script.specs.LineLengths.{IsWithin};
 ghost use Rattle.doc_server_script.specs.PageLines.{lines_of};
+ghost use Rattle.doc_server_script.specs.PlainLines.{HasBytes};
 ghost use Rattle.doc_server_listen.specs.Edits.{Adds, MakesIn, NamesGroups, edit_at, has_room};
 ghost use Rattle.doc_store.specs.Store.{set_page};
 
@@ -19,6 +20,7 @@ use doc_page_parts::failure::Memory;
 use doc_page_parts::heap::{Heap, String};
 use doc_page_parts::path::Path;
 use doc_server_journal_records::record::TEXT_LIMIT;
+use doc_server_script::bytes::{page_bytes, path_bytes};
 use doc_server_script::page_lines::{push_move_line, push_put_line, push_remove_line};
 use std::marker::Model;
 
@@ -88,7 +90,7 @@ impl EditLines {
     pub fn whole_lines(&self) -> Option<&str>
         ensures { IfSome result (λ lines.
             (self.now.is_whole ≡ true) × (self.now.lines ≡ Some lines.now)
-            × (length lines.now ≤ text_limit)) }
+            × (length lines.now ≤ text_limit) × IsPlain lines.now) }
     {
         if !self.whole {
             return None;
@@ -114,6 +116,7 @@ impl EditLines {
     fn push<R: Renderer + Drop>(&mut self, hub: &Hub<R>, edit: &Option<Edit>)
         requires room { has_room self.old ≡ true }
         requires within { IfSome (edit_at hub.now.1 edit.now) IsWithin }
+        requires bytes { IfSome (edit_at hub.now.1 edit.now) HasBytes }
         ensures { Adds self.old self.new (option_to_list (edit_at hub.now.1 edit.now)) }
     {
         let Some(lines) = &mut self.lines else {
@@ -140,6 +143,7 @@ pub(crate) fn step_and_keep<R: Renderer + Drop>(
 {
     let (step, edit) = hub.step_edited(id)?;
     names_groups(&edit);
+    has_bytes(hub, &edit);
     edits.push(hub, &edit);
     Ok(step)
 }
@@ -156,6 +160,33 @@ fn names_groups(edit: &Option<Edit>)
             let _ = groups.names();
         }
         _ => {}
+    }
+}
+
+/// The paths and the texts of an edit are bytes, and this says it, too.
+fn has_bytes<R: Renderer + Drop>(hub: &Hub<R>, edit: &Option<Edit>)
+    ensures { IfSome (edit_at hub.now.1 edit.now) HasBytes }
+{
+    match edit {
+        None => {}
+        Some(Edit::Put(path, _)) => stored_bytes(hub, path),
+        Some(Edit::Regroup(path, _)) => stored_bytes(hub, path),
+        Some(Edit::Move(from, to)) => {
+            path_bytes(from);
+            path_bytes(to);
+        }
+        Some(Edit::Remove(path)) => path_bytes(path),
+    }
+}
+
+/// The same of the put of the page that stands under a path.
+fn stored_bytes<R: Renderer + Drop>(hub: &Hub<R>, path: &Path)
+    ensures { IfSome (option_map (set_page path.now)
+        (map.get hub.now.1.site.pages path.now)) HasBytes }
+{
+    match hub.page(path) {
+        Some(page) => page_bytes(path, page),
+        None => {}
     }
 }
 

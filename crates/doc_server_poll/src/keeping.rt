@@ -59,8 +59,8 @@ impl<D: Device + Found> Keeping<D> {
 }
 
 impl<D: Device> Keeping<D> {
-    /// A turn of the clients at these places. After an `Err` the server ends: the edits of the turn aren't kept, and none of its
-    /// replies was handed over.
+    /// A turn of the clients at these places, so many seconds behind the beginning of 1970. After an `Err` the server ends: the edits
+    /// of the turn aren't kept, and none of its replies was handed over.
     pub fn turn<R: Renderer + Drop, S: Channel + Drop>(
         &mut self,
         heap: Heap,
@@ -69,6 +69,7 @@ impl<D: Device> Keeping<D> {
         ready: &[usize],
         piece: &mut [u8],
         share: &mut Share,
+        seconds: u64,
     ) -> Result<(), TurnFault>
         requires ready { IsReady D.seen D.may_leave D.failed self.old }
         ensures serves { (s : ServesAll (R.page hub.old.0) hub.old.1 clients.old
@@ -85,7 +86,7 @@ impl<D: Device> Keeping<D> {
                 Ok(())
             }
             Keeping::Keeps(journal) => {
-                settled_turn(heap, journal, hub, clients, ready, piece, share)
+                settled_turn(heap, journal, hub, clients, ready, piece, share, seconds)
             }
         }
     }

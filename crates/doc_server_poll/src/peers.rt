@@ -168,6 +168,7 @@ impl Peers {
         hub: &mut Hub<R>,
         piece: &mut [u8],
         now: Instant,
+        seconds: u64,
         watch: &mut W,
     ) -> Result<(), TurnFault>
         requires ready { IsReady D.seen D.may_leave D.failed keeping.old }
@@ -177,7 +178,7 @@ impl Peers {
         ensures none { length self.new ≤ length self.old }
     {
         let mut share = Share::new();
-        self.settle(heap, keeping, hub, piece, &mut share)?;
+        self.settle(heap, keeping, hub, piece, &mut share, seconds)?;
         self.leave_all(share.behind(), piece, now, watch);
         self.let_go(hub, watch);
         watch.end_turn();
@@ -192,6 +193,7 @@ impl Peers {
         hub: &mut Hub<R>,
         piece: &mut [u8],
         share: &mut Share,
+        seconds: u64,
     ) -> Result<(), TurnFault>
         requires ready { IsReady D.seen D.may_leave D.failed keeping.old }
         ensures leads { Leads (R.page hub.old.0) hub.old.1 hub.new.1 }
@@ -206,6 +208,7 @@ impl Peers {
             &self.ready,
             piece,
             share,
+            seconds,
         )
     }
 

@@ -12,6 +12,7 @@ use crate::watch::Watch;
 use doc_hub::hub::Hub;
 use doc_page::renderer::Renderer;
 use doc_page_parts::heap::{Heap, Vec};
+use doc_server_journal::clock::seconds_of;
 use doc_server_journal::device::Device;
 use mio::net::TcpListener;
 use mio::unix::SourceFd;
@@ -194,8 +195,15 @@ impl Server {
         let now = self.wait_for_events(rt)?;
         self.look(keeping, now)?;
         let ends = self.take_in();
-        self.peers
-            .turn(self.heap, keeping, hub, &mut self.piece, now, watch)?;
+        self.peers.turn(
+            self.heap,
+            keeping,
+            hub,
+            &mut self.piece,
+            now,
+            seconds_of(rt),
+            watch,
+        )?;
         if ends {
             return Ok(true);
         }

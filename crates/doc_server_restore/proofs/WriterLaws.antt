@@ -19,10 +19,11 @@ use Rattle.doc_store.specs.Store.{set_page, remove_page, move_page}
 use Rattle.doc_store.specs.declared.site_edit.SiteEdit.{SiteEdit}
 use Rattle.doc_store.specs.declared.site_edit.SiteEdit.TheVariants as site_edits
 use Rattle.doc_server_journal.specs.Journals.{IsOpen}
-use Rattle.doc_server_journal_records.specs.Records.{text_limit}
+use Rattle.doc_server_journal_records.specs.Records.{IsPlain, text_limit}
 use Rattle.doc_server_script.specs.Compactions.{made, made_along, moves, same_at}
 use Rattle.doc_server_script.specs.PageLines.{line_of, lines_of}
 use Rattle.doc_server_restore.specs.Written.{AreLines, IsWritten}
+use Rattle.doc_server_script.proofs.PlainLines.{both}
 use Rattle.doc_server_script.proofs.MadeSteps.{first_is_in, is_in, later_is_in}
 use Rattle.doc_server_script.proofs.Without.{Entries, paths}
 use Rattle.doc_server_script.specs.Edits.{put_line, remove_line, move_line}
@@ -38,6 +39,9 @@ more_lines records first others text are is = record {
   all = flat_map-append (λ part. part) are.parts (others ∷ [])
       ∙ (ap (λ edits. edits ++ (others ++ [])) are.all ∙ ap (λ edits. first ++ edits) (append-nil others));
 }
+
+none_plain : (text : List ℕ) → text ≡ [] → IsPlain text
+none_plain text none = subst IsPlain (sym none) refl
 
 none_within : (text : List ℕ) → text ≡ [] → length text ≤ text_limit
 unfolding text_limit
@@ -58,14 +62,15 @@ module _ {D : Type 0} (seen : D → Option (List ℕ)) (may_leave : D → List �
     lines = record { parts = []; are = refl; all = refl };
     text = none;
     within = none_within (string_bytes writer.text) none;
+    plain = none_plain (string_bytes writer.text) none;
     all = refl;
   }
 
   pub added : (old new : EditWriter D) (line : List ℕ) (edit : SiteEdit) → new.journal ≡ old.journal
       → string_bytes new.text ≡ string_bytes old.text ++ line → length (string_bytes old.text) + length line ≤ text_limit
-      → line ≡ line_of edit
+      → IsPlain line → line ≡ line_of edit
       → Wrote seen may_leave failed old new (edit ∷ [])
-  added old new line edit journal text room is = λ edits h. record {
+  added old new line edit journal text room plain is = λ edits h. record {
     records = h.records;
     first = h.first;
     others = h.others ++ edit ∷ [];
@@ -77,6 +82,7 @@ module _ {D : Type 0} (seen : D → Option (List ℕ)) (may_leave : D → List �
         ∙ sym (flat_map-append line_of h.others (edit ∷ []))));
     within = subst (λ t. length t ≤ text_limit) (sym text)
         (subst (λ n. n ≤ text_limit) (sym (length-append (string_bytes old.text) line)) room);
+    plain = subst IsPlain (sym text) (both (string_bytes old.text) line h.plain plain);
     all = sym (append_assoc h.first h.others (edit ∷ [])) ∙ ap (λ e. e ++ edit ∷ []) h.all;
   }
 
@@ -92,6 +98,7 @@ module _ {D : Type 0} (seen : D → Option (List ℕ)) (may_leave : D → List �
     lines = more_lines h.records h.first h.others (string_bytes old.text) h.lines h.text;
     text = none;
     within = none_within (string_bytes new.text) none;
+    plain = none_plain (string_bytes new.text) none;
     all = append-nil (h.first ++ h.others) ∙ (h.all ∙ sym (append-nil edits));
   }
 

@@ -5,7 +5,7 @@ use Rattle.doc_store_readers.specs.Sites.{Site}
 use Rattle.doc_store.specs.Store.{remove_page}
 use Rattle.doc_store.specs.declared.site_edit.SiteEdit.{SiteEdit}
 use Rattle.doc_server_journal.specs.Journals.{IsOpen}
-use Rattle.doc_server_journal_records.specs.Records.{text_limit}
+use Rattle.doc_server_journal_records.specs.Records.{IsPlain, text_limit}
 use Rattle.doc_server_script.specs.Compactions.{same_at}
 use Rattle.doc_server_restore.specs.declared.writer.EditWriter.{EditWriter}
 use Rattle.doc_server_script.specs.PageLines.{lines_of}
@@ -29,6 +29,7 @@ pub record HasWritten {D : Type 0} (seen : D → Option (List ℕ)) (may_leave :
   pub lines : AreLines records first
   pub text : string_bytes writer.text ≡ lines_of others
   pub within : length (string_bytes writer.text) ≤ text_limit
+  pub plain : IsPlain (string_bytes writer.text)
   pub all : first ++ others ≡ edits
 
 -- a writer that has written some edits

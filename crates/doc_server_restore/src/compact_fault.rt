@@ -50,7 +50,8 @@ impl From<AppendError> for CompactFault {
 impl From<OpenFault> for CompactFault {
     fn from(e: OpenFault) -> CompactFault {
         match e {
-            OpenFault::Damaged(_) | OpenFault::Long => CompactFault::NotEmpty,
+            OpenFault::NoJournal | OpenFault::First | OpenFault::Damaged(_) | OpenFault::Long =>
+                CompactFault::NotEmpty,
             OpenFault::Memory => CompactFault::Memory,
             OpenFault::Failed => CompactFault::Failed,
         }

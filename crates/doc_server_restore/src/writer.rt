@@ -1,7 +1,7 @@
 //! Edits written to a journal, a line each, many lines in a record.
 
 ghost use Rattle.std.specs.Prelude.{◌≡◌, ◌≤◌, ◌+◌, [], ◌∷◌, length, string_bytes, OnOk};
-ghost use Rattle.doc_server_journal_records.specs.Records.{text_limit};
+ghost use Rattle.doc_server_journal_records.specs.Records.{IsPlain, text_limit};
 ghost use Rattle.doc_store_readers.specs.Groups.{texts_of};
 ghost use Rattle.doc_store.specs.Store.{set_page, remove_page, move_page};
 ghost use Rattle.doc_store.specs.declared.site_edit.SiteEdit.{SiteEdit};
@@ -15,6 +15,7 @@ use doc_page_parts::path::Path;
 use doc_server_journal::device::Device;
 use doc_server_journal::journal::Journal;
 use doc_server_journal_records::record::TEXT_LIMIT;
+use doc_server_script::bytes::{page_bytes, path_bytes};
 use doc_server_script::page_lines::{push_move_line, push_put_line, push_remove_line};
 use doc_store::page::Page;
 
@@ -23,6 +24,8 @@ use doc_store::page::Page;
 pub(crate) struct EditWriter<D: Device> {
     pub(crate) journal: Journal<D>,
     pub(crate) text: String,
+    /// What its records say of their time.
+    pub(crate) seconds: u64,
 }
 
 impl<D: Device> EditWriter<D> {
@@ -34,6 +37,7 @@ impl<D: Device> EditWriter<D> {
     {
         let mut line = String::new(heap);
         push_put_line(&mut line, path, page)?;
+        page_bytes(path, page);
         self.add(heap, line.as_str())
     }
 
@@ -45,6 +49,7 @@ impl<D: Device> EditWriter<D> {
     {
         let mut line = String::new(heap);
         push_remove_line(&mut line, path)?;
+        path_bytes(path);
         self.add(heap, line.as_str())
     }
 
@@ -56,6 +61,8 @@ impl<D: Device> EditWriter<D> {
     {
         let mut line = String::new(heap);
         push_move_line(&mut line, from, to)?;
+        path_bytes(from);
+        path_bytes(to);
         self.add(heap, line.as_str())
     }
 
@@ -96,7 +103,8 @@ impl<D: Device> EditWriter<D> {
     /// Writes the line of an edit. Where no room is left for it in the record of those before it, it begins another.
     #[tactic(auto, unfolding(doc_server_journal_records::specs::Records::text_limit))]
     fn add(&mut self, heap: Heap, line: &str) -> Result<(), CompactFault>
-        requires { IsWriter D.seen D.may_leave D.failed self.old }
+        requires writer { IsWriter D.seen D.may_leave D.failed self.old }
+        requires plain { IsPlain line.now }
         ensures { (edit : SiteEdit) → line.now ≡ line_of edit
             → OnOk result (Wrote D.seen D.may_leave D.failed self.old self.new (edit ∷ [])) }
     {
@@ -128,7 +136,8 @@ impl<D: Device> EditWriter<D> {
         ensures wrote { OnOk result (Wrote D.seen D.may_leave D.failed self.old self.new []) }
         ensures none { OnOk result (string_bytes self.new.text ≡ []) }
     {
-        self.journal.append(heap, self.text.as_bytes())?;
+        self.journal
+            .append(heap, self.seconds, self.text.as_bytes())?;
         self.text.clear();
         Ok(())
     }

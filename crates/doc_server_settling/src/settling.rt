@@ -20,7 +20,8 @@ use doc_server_listen::turn::{send_all, take_in_all};
 
 /// A turn of a server with a journal, of the clients at these places: what is pending is handed over, then they are read and stepped,
 /// then the edits of these steps are added to the journal as one record, and at last the replies are handed over. After an `Err` the
-/// server ends: nothing of this turn's replies was handed over. The share says what the steps may cost, and is left what they did.
+/// server ends: nothing of this turn's replies was handed over. The share says what the steps may cost, and is left what they did. The
+/// record says how many seconds there were behind the beginning of 1970.
 pub fn settled_turn<D: Device, R: Renderer + Drop, S: Channel + Drop>(
     heap: Heap,
     journal: &mut Journal<D>,
@@ -29,6 +30,7 @@ pub fn settled_turn<D: Device, R: Renderer + Drop, S: Channel + Drop>(
     ready: &[usize],
     piece: &mut [u8],
     share: &mut Share,
+    seconds: u64,
 ) -> Result<(), TurnFault>
     requires open { (texts : List (List ℕ))
         × IsOpen D.seen D.may_leave D.failed journal.old texts }
@@ -45,7 +47,7 @@ pub fn settled_turn<D: Device, R: Renderer + Drop, S: Channel + Drop>(
     send_all(hub, clients, ready);
     let mut edits = EditLines::kept(heap);
     take_in_all(hub, clients, ready, piece, &mut edits, share);
-    write_down(heap, journal, &edits)?;
+    write_down(heap, journal, &edits, seconds)?;
     send_all(hub, clients, ready);
     Ok(())
 }
@@ -55,6 +57,7 @@ fn write_down<D: Device>(
     heap: Heap,
     journal: &mut Journal<D>,
     edits: &EditLines,
+    seconds: u64,
 ) -> Result<(), TurnFault>
     requires open { (texts : List (List ℕ))
         × IsOpen D.seen D.may_leave D.failed journal.old texts }
@@ -72,6 +75,6 @@ fn write_down<D: Device>(
     if lines.is_empty() {
         return Ok(());
     }
-    journal.append(heap, lines.as_bytes())?;
+    journal.append(heap, seconds, lines.as_bytes())?;
     Ok(())
 }

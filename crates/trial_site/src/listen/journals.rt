@@ -1,6 +1,6 @@
 //! What a journal's file has, read anew: as it is, and damaged or torn in each way.
 //!
-//! - `file`: its bytes. `records`: the texts of its records, one behind another.
+//! - `file`: how many bytes it has. `records`: the texts of its records, one behind another.
 //! - `flips`: what comes where the last bit of one byte is turned, for each byte. `cuts`: what comes where the file ends behind so many
 //!   bytes, for each number from none to all of them. That is how many records are read, or why they aren't, with the number of times
 //!   that it comes in a row.
@@ -13,12 +13,13 @@ use doc_server_journal::fault::OpenFault;
 use doc_server_journal::journal::Journal;
 use doc_server_journal::memory::MemoryDevice;
 use doc_server_journal::opening::{Opened, Refused};
-use trial::answer::no_call;
+use doc_server_journal::torn::Unkept;
+use trial::answer::{no_call, shown};
 
 /// What a call of the journal answers.
 pub fn journal_called(heap: Heap, bytes: &[u8], name: &str) -> Result<String, Memory> {
     match name {
-        "file" => told(heap, bytes),
+        "file" => shown(heap, bytes.len()),
         "records" => records_told(heap, bytes),
         "flips" => flips_told(heap, bytes),
         "cuts" => cuts_told(heap, bytes),
@@ -48,7 +49,7 @@ fn read_into(
     all: &mut Vec<u8>,
 ) -> Result<Result<usize, OpenFault>, Memory> {
     let device = MemoryDevice::new(heap, Bytes::copy_of(heap, bytes)?, u64::MAX)?;
-    match Journal::open(heap, device, bytes.len()) {
+    match Journal::open(heap, device, bytes.len(), &mut Unkept) {
         Ok(opened) => read_texts(opened, all),
         Err(refused) => Ok(Err(fault_of(refused))),
     }

@@ -1,6 +1,6 @@
 //! A server with a hub and a journal in memory.
 
-ghost use Rattle.std.specs.Prelude.{◌≡◌, List, ℕ, false, IfSome};
+ghost use Rattle.std.specs.Prelude.{◌≡◌, List, ℕ, [], false, IfSome};
 ghost use Rattle.doc_server_journal.specs.Journals.{IsOpen};
 ghost use Rattle.doc_server_journal.specs.Memories.{has_failed, memory_leaves, memory_seen};
 ghost use Rattle.doc_server_poll.specs.Keepings.{IsReady};
@@ -13,6 +13,8 @@ use doc_server_journal::device::Device;
 use doc_server_journal::journal::Journal;
 use doc_server_journal::memory::MemoryDevice;
 use doc_server_journal::opening::Opened;
+use doc_server_journal::torn::Unkept;
+use doc_server_journal_records::header::Identity;
 use doc_server_poll::fault::PollFault;
 use doc_server_poll::keeping::Keeping;
 use doc_server_poll::server::Server;
@@ -143,9 +145,22 @@ fn keeping_of<R: Renderer + Drop>(
     ensures { IfSome result (IsReady memory_seen memory_leaves has_failed) }
 {
     let device = device_of(heap, calls, file)?;
-    match open_journal(heap, device, file.len(), hub) {
-        Some(journal) => Some(Keeping::Keeps(journal)),
-        None => None,
+    let journal = if file.is_empty() {
+        make_journal(heap, device)?
+    } else {
+        open_journal(heap, device, file.len(), hub)?
+    };
+    Some(Keeping::Keeps(journal))
+}
+
+/// A new journal on an empty device.
+fn make_journal<D: Device + Drop>(heap: Heap, device: D) -> Option<Journal<D>>
+    requires usable { D.failed device ≡ false }
+    ensures { IfSome result (λ journal. IsOpen D.seen D.may_leave D.failed journal []) }
+{
+    match Journal::make(heap, device, &Identity::of(&[0; 16])) {
+        Ok(journal) => Some(journal),
+        Err(_) => None,
     }
 }
 
@@ -160,7 +175,7 @@ fn open_journal<D: Device + Drop, E: Edits>(
     ensures { IfSome result (λ journal. (texts : List (List ℕ))
         × IsOpen D.seen D.may_leave D.failed journal texts) }
 {
-    match Journal::open(heap, device, most) {
+    match Journal::open(heap, device, most, &mut Unkept) {
         Ok(Opened { journal, texts }) => {
             let restored = restore(heap, site, texts.get());
             drop(texts);

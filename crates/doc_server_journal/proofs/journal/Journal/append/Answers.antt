@@ -21,12 +21,14 @@ full_not_failed same = cc
 pub returns-then-self-ge-MOST_BYTES-clause-any_moment : goal.returns-then-self-ge-MOST_BYTES-clause-any_moment
 returns-then-self-ge-MOST_BYTES-clause-any_moment g c = λ texts is.
     nothing g.D.Device.seen g.D.Device.may_leave g.D.Device.failed g.D.Device.moment g.D.Device.left_since g.met.D.Device.only_now
-    c.args.self.now.device c.args.self.now.end c.args.self.now.digest texts c.args.text.now [] c.requires.within is
+    c.args.self.now.device c.args.self.now.end c.args.self.now.digest texts c.args.seconds c.args.text.now [] c.requires.within
+    c.requires.plain is
 
 pub returns-in_err-record-clause-any_moment : goal.returns-in_err-record-clause-any_moment
 returns-in_err-record-clause-any_moment g c = λ texts is.
     nothing g.D.Device.seen g.D.Device.may_leave g.D.Device.failed g.D.Device.moment g.D.Device.left_since g.met.D.Device.only_now
-    c.args.self.now.device c.args.self.now.end c.args.self.now.digest texts c.args.text.now [] c.requires.within is
+    c.args.self.now.device c.args.self.now.end c.args.self.now.digest texts c.args.seconds c.args.text.now [] c.requires.within
+    c.requires.plain is
 
 pub returns-in_err-record-clause-acknowledged : goal.returns-in_err-record-clause-acknowledged
 returns-in_err-record-clause-acknowledged g c = λ texts is. is_err_on_ok c.from_residual.result _ c.from_residual.ensures.0
@@ -42,13 +44,15 @@ returns-in_err-record-clause-failed g c =
 pub write_and_sync-requires-clause-place : goal.write_and_sync-requires-clause-place
 write_and_sync-requires-clause-place g c =
     first_place g.D.Device.seen g.D.Device.may_leave g.D.Device.failed g.D.Device.moment g.D.Device.left_since g.met.D.Device.only_now
-    c.args.self.now.device c.args.self.now.end c.args.self.now.digest c.requires.open.0 c.args.text.now [] c.requires.within
+    c.args.self.now.device c.args.self.now.end c.args.self.now.digest c.requires.open.0 c.args.seconds c.args.text.now []
+    c.requires.within c.requires.plain
     c.requires.open.1
 
 pub returns-in_err-write_and_sync-clause-any_moment : goal.returns-in_err-write_and_sync-clause-any_moment
 returns-in_err-write_and_sync-clause-any_moment g c = λ texts is.
     after_first g.D.Device.seen g.D.Device.may_leave g.D.Device.failed g.D.Device.moment g.D.Device.left_since g.met.D.Device.only_now
-    c.args.self.now.device c.args.self.now.end c.args.self.now.digest texts c.args.text.now c.get-bytes.result.now c.requires.within is
+    c.args.self.now.device c.args.self.now.end c.args.self.now.digest texts c.args.seconds c.args.text.now c.get-bytes.result.now
+    c.requires.within c.requires.plain is
     (c.get-bytes.ensures ∙ c.in_ok-record.ensures.bytes) c.write_and_sync.new.device c.write_and_sync.ensures.any_moment
 
 pub returns-in_err-write_and_sync-clause-acknowledged : goal.returns-in_err-write_and_sync-clause-acknowledged
@@ -66,15 +70,17 @@ returns-in_err-write_and_sync-clause-full g c =
 pub write_and_sync-requires-2-clause-place : goal.write_and_sync-requires-2-clause-place
 write_and_sync-requires-2-clause-place g c =
     place g.D.Device.seen g.D.Device.may_leave g.D.Device.failed g.D.Device.moment g.D.Device.left_since g.met.D.Device.only_now
-    c.args.self.now.device c.args.self.now.end c.args.self.now.digest c.requires.open.0 c.args.text.now c.get-bytes.result.now
-    c.requires.within c.requires.open.1
+    c.args.self.now.device c.args.self.now.end c.args.self.now.digest c.requires.open.0 c.args.seconds c.args.text.now
+    c.get-bytes.result.now
+    c.requires.within c.requires.plain c.requires.open.1
     (c.get-bytes.ensures ∙ c.in_ok-record.ensures.bytes) c.write_and_sync.new.device c.write_and_sync.ensures.any_moment
     c.in_ok-write_and_sync.ensures.written
 
 pub returns-in_err-write_and_sync-2-clause-any_moment : goal.returns-in_err-write_and_sync-2-clause-any_moment
 returns-in_err-write_and_sync-2-clause-any_moment g c = λ texts is.
     after_second g.D.Device.seen g.D.Device.may_leave g.D.Device.failed g.D.Device.moment g.D.Device.left_since g.met.D.Device.only_now
-    c.args.self.now.device c.args.self.now.end c.args.self.now.digest texts c.args.text.now c.get-bytes.result.now c.requires.within is
+    c.args.self.now.device c.args.self.now.end c.args.self.now.digest texts c.args.seconds c.args.text.now c.get-bytes.result.now
+    c.requires.within c.requires.plain is
     (c.get-bytes.ensures ∙ c.in_ok-record.ensures.bytes) c.write_and_sync.new.device c.write_and_sync.ensures.any_moment
     c.in_ok-write_and_sync.ensures.written
     c.in_ok-write_and_sync.ensures.durable c.write_and_sync-2.new.device c.write_and_sync-2.ensures.any_moment
@@ -95,7 +101,8 @@ returns-in_err-write_and_sync-2-clause-full g c =
 pub returns-clause-any_moment : goal.returns-clause-any_moment
 returns-clause-any_moment g c = λ texts is.
     after_second g.D.Device.seen g.D.Device.may_leave g.D.Device.failed g.D.Device.moment g.D.Device.left_since g.met.D.Device.only_now
-    c.args.self.now.device c.args.self.now.end c.args.self.now.digest texts c.args.text.now c.get-bytes.result.now c.requires.within is
+    c.args.self.now.device c.args.self.now.end c.args.self.now.digest texts c.args.seconds c.args.text.now c.get-bytes.result.now
+    c.requires.within c.requires.plain is
     (c.get-bytes.ensures ∙ c.in_ok-record.ensures.bytes) c.write_and_sync.new.device c.write_and_sync.ensures.any_moment
     c.in_ok-write_and_sync.ensures.written
     c.in_ok-write_and_sync.ensures.durable c.write_and_sync-2.new.device c.write_and_sync-2.ensures.any_moment
@@ -103,7 +110,8 @@ returns-clause-any_moment g c = λ texts is.
 pub returns-clause-acknowledged : goal.returns-clause-acknowledged
 returns-clause-acknowledged g c = λ texts is.
     acknowledged g.D.Device.seen g.D.Device.may_leave g.D.Device.failed g.D.Device.moment g.D.Device.left_since g.met.D.Device.only_now
-    c.args.self.now.device c.args.self.now.end c.args.self.now.digest texts c.args.text.now c.get-bytes.result.now c.requires.within is
+    c.args.self.now.device c.args.self.now.end c.args.self.now.digest texts c.args.seconds c.args.text.now c.get-bytes.result.now
+    c.requires.within c.requires.plain is
     (c.get-bytes.ensures ∙ c.in_ok-record.ensures.bytes) c.write_and_sync.new.device c.write_and_sync.ensures.any_moment
     c.in_ok-write_and_sync.ensures.written
     c.in_ok-write_and_sync.ensures.durable c.write_and_sync-2.new.device c.write_and_sync-2.ensures.any_moment

@@ -5,7 +5,7 @@ pub returns-in-Ok-clause-opened : goal.returns-in-Ok-clause-opened
 returns-in-Ok-clause-opened g c =
     is_open g.D.Device.seen g.D.Device.may_leave g.D.Device.failed c.recover.new.device c.in-Ok.ensures.found.0 c.in-Ok.found
     c.in-Ok.ensures.found.1
-    c.in-Ok.ensures.file c.in-Ok.ensures.durable c.in-Ok.ensures.usable
+    c.in-Ok.ensures.found.3 c.in-Ok.ensures.durable c.in-Ok.ensures.usable
 
 pub returns-in-Ok-clause-texts : goal.returns-in-Ok-clause-texts
 returns-in-Ok-clause-texts g c =
