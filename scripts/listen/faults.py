@@ -9,7 +9,7 @@ Builds nothing. Needs python3. Half a minute.
 import fcntl, os, resource, socket, subprocess, sys
 sys.path.insert(1, os.path.dirname(__file__) + "/../lib")
 from scene import HOST, OWNER, Client, Scene, got, put
-from journals import written
+from journals import is_opened, written
 
 scene = Scene(seconds=200)
 PAGE = '[[page]]\npath = "a.md"\n'
@@ -25,6 +25,7 @@ USAGES = (["listen"], ["listen", "good.toml"], ["listen", "good.toml", f"{HOST}:
           ["listen", "good.toml", f"{HOST}:0", "--Journal", "good"], ["compact", "good.toml", "good"],
           ["listen", "good.toml", f"{HOST}:0", "--journal", "good", "x"], ["compact", "good.toml", "--journal"],
           ["compact", "good.toml", "--journal", "good", "x"], ["compact", "good.toml", "--log", "good"])
+NEW = "docs_server: new journal kept\n"
 MOVED = "docs_server: journal moved\n"
 NO_ADDRESSES = ("", HOST, "localhost:80", ":80", f"{HOST}:", f"{HOST}:65536", "256.0.0.1:80", "::1:80")
 
@@ -40,6 +41,10 @@ def stops(words, line, stdout=subprocess.DEVNULL, limit=None):
     return scene.check(" ".join(words), found == (2, f"docs_server: {line}\n"), f"{found}, wanted {line}")
 
 
+def damaged():
+    return written([b"put a.md - First.\n"])[:-1]
+
+
 def files():
     """Configurations and journals, good ones and bad ones."""
     for name, text in SITES.items():
@@ -49,7 +54,8 @@ def files():
     put("long.md", "a" * 1_048_577)
     for name, texts in DIFFER.items():
         put(name, written(texts))
-    put("damaged", "no journal at all")
+    put("damaged", damaged())
+    put("foreign", "no journal at all")
     os.mkdir("place")
 
 
@@ -88,10 +94,12 @@ class Later:
     def journals(self):
         for name in ("place", "/dev/null", "/dev/full", "nowhere/journal"):
             self.both("good.toml", name, "cannot open journal")
-        self.both("good.toml", "damaged", "journal record 1")
-        for name in ("no_edit", "long_path", "empty_line", "no_text", "latin"):
+        self.both("good.toml", "damaged", "journal record 2")
+        self.both("good.toml", "latin", "journal record 1")
+        self.both("good.toml", "foreign", "no journal")
+        for name in ("no_edit", "long_path", "empty_line", "no_text"):
             self.both("good.toml", name, f"bad journal record {len(DIFFER[name])}")
-        self.both("good.toml", "refused", "journal record 2 refused")
+        self.both("good.toml", "refused", "journal record 2 refused, line 1")
         with open("damaged", "rb+") as file:
             fcntl.flock(file, fcntl.LOCK_EX)
             self.both("good.toml", "damaged", "journal in use")
@@ -120,14 +128,14 @@ def moved():
         except OSError:
             found = None
         scene.check(f"{name}: an edit isn't answered", found is None, found)
-        scene.check(f"{name}: it ends", server.ends(5) and (server.process.returncode, server.said()) == (2, MOVED), server.said())
+        scene.check(f"{name}: it ends", server.ends(5) and (server.process.returncode, server.said()) == (2, NEW + MOVED), server.said())
         for file in ("kept", "elsewhere"):
             if os.path.exists(file):
                 os.remove(file)
     put("good", written(DIFFER["good"]))
     server = scene.listen("good.toml", journal="kept")
     os.remove("kept")
-    scene.check("removed at rest: it ends", server.ends(14) and (server.process.returncode, server.said()) == (2, MOVED), server.said())
+    scene.check("removed at rest: it ends", server.ends(14) and (server.process.returncode, server.said()) == (2, NEW + MOVED), server.said())
 
 
 def main():
@@ -140,10 +148,12 @@ def main():
         later.journals()
         later.addresses()
     for name, texts in DIFFER.items():
-        scene.check(f"the journal {name} is as it was", got(name) == written(texts))
+        found, wanted = got(name), written(texts)
+        scene.check(f"the journal {name} is as it was", is_opened(found, wanted) if name == "good" else found == wanted, len(found))
     moved()
-    scene.check("the damaged one is too", got("damaged") == b"no journal at all")
-    scene.check("no file is left", not [name for name in os.listdir(".") if name.endswith(".compacting")], os.listdir("."))
+    scene.check("the damaged one is too", got("damaged") == damaged())
+    scene.check("the foreign one is too", got("foreign") == b"no journal at all")
+    scene.check("no file is left", not [name for name in os.listdir(".") if name.endswith((".compacting", ".new"))], os.listdir("."))
 
 
 scene.run(main)

@@ -98,7 +98,7 @@ class Logged:
         wanted = sum(len(it.seen) for it in self.peers)
         until(lambda: self.server.said().count("\n") >= wanted, 5)
         time.sleep(0.05)
-        status, text = self.server.end(), self.server.said()
+        status, text = self.server.end(), self.server.said().removeprefix("docs_server: new journal journal\n")
         scene.check(f"{name}: it ends", status == 0, status)
         lines = text.splitlines(keepends=True)
         fields = [LINE.fullmatch(it) for it in lines]
@@ -272,7 +272,8 @@ def options():
         done = subprocess.run([scene.program, "listen", "site.toml", f"{HOST}:{free_port()}", *words], stdout=subprocess.DEVNULL,
                               stderr=subprocess.PIPE, timeout=20, **given)
         wanted = (0, b"") if good else (2, b"docs_server: usage\n")
-        scene.check(" ".join(["listen", *words]), (done.returncode, done.stderr) == wanted, (done.returncode, done.stderr))
+        said = re.sub(rb"docs_server: new journal .*\n", b"", done.stderr)
+        scene.check(" ".join(["listen", *words]), (done.returncode, said) == wanted, (done.returncode, done.stderr))
 
 
 def main():

@@ -1,17 +1,17 @@
 """Stops `listen --journal` at each call that it makes for its journal, one after another (strace): by SIGKILL before the call is made, and
-by a failure of it, EIO and ENOSPC. A client sends edits one at a time over a journal that has some, with a last record that was torn.
-After each stop the program is started again without hindrance, and the site is to be that of the answered edits, or of these and the
-one that was under way. A failure at the start is told, with status 2; one behind it ends the program as `cannot write`, and nothing
-is answered after it.
+by a failure of it and of all like it that follow, EIO and ENOSPC. A client sends edits one at a time over a journal that has some, with
+a last record that was torn, and its reserve. After each stop the program is started again without hindrance, and the site is to be that
+of the answered edits, or of these and the one that was under way. A failure at the start is told, with status 2; one behind it ends the
+program as `cannot write`, and nothing is answered after it. That the reserve isn't grown for want of room, ENOSPC, ends nothing.
 
     python3 scripts/listen/points.py PROGRAM
 
 Builds nothing. Needs python3, and strace, which it has installed where it lacks, with the right to trace a program. A minute.
 """
-import os, sys
+import os, re, sys
 sys.path.insert(1, os.path.dirname(__file__) + "/../lib")
 from scene import OWNER, Client, Refused, Scene, got, page_of, put
-from journals import SEED, read, record, written
+from journals import RESERVE, SPARE, is_opened, read, written
 
 scene = Scene(seconds=500, needs=["strace"])
 CALLS = ("openat", "flock", "pread64", "pwrite64", "write", "fsync", "fdatasync", "ftruncate")
@@ -40,12 +40,10 @@ def states():
 
 
 def begin():
-    """A journal of two records, and a third one behind a closed gate, of which a part is there."""
+    """A journal of two records, and a third one behind a closed gate, of which a part is there, over its reserve."""
     texts = [b"put old.md - Old.\n", b"put c.md - Kept.\n"]
-    digest = SEED
-    for text in texts:
-        _, digest = record(digest, text)
-    put(JOURNAL, written(texts) + record(digest, b"put torn.md - Torn.\n")[0][:30])
+    whole = written(texts)
+    put(JOURNAL, whole + written([*texts, b"put torn.md - Torn.\n"])[len(whole):][:50] + bytes(RESERVE + SPARE - 50))
 
 
 def found():
@@ -70,6 +68,11 @@ def sent(server):
     return len(EDITS)
 
 
+def untold(said):
+    """What was printed, but for that a record was torn."""
+    return re.sub(r"(?m)^docs_server: record 3 was torn; .*\n", "", said)
+
+
 def is_right(way, status, said, is_told):
     """Whether a program that was stopped ended as it should: with status 2, where that was told, or killed."""
     return is_told if status == 2 else way == "killed" and status == -9 and not said
@@ -81,14 +84,15 @@ def run(way, call, number, name):
     try:
         server = scene.listen("site.toml", journal=place(), before=before)
     except Refused as fault:
-        scene.check(f"{name}: how the start ends", is_right(way, fault.status, fault.said, fault.said.startswith("docs_server: ")), fault)
+        said = untold(fault.said)
+        scene.check(f"{name}: how the start ends", is_right(way, fault.status, said, said.startswith("docs_server: ")), fault)
         return 0, False
     answered = sent(server)
-    over = answered == len(EDITS) and server.process.poll() is None
+    over = answered == len(EDITS) and not server.ends(0.3)
     status = server.end() if over else server.ends(10) and server.process.returncode
     if not over:
         server.close()
-        said = server.said()
+        said = untold(server.said())
         right = is_right(way, status, said, said == "docs_server: cannot write\n")
         scene.check(f"{name}: how it ends", right, f"{status} {said!r}")
     return answered, over
@@ -100,12 +104,13 @@ def stopped(way, call, number):
     name = f"{way} at {call} {number}"
     answered, over = run(way, call, number, name)
     hit = b"(INJECTED)" in (text := got("calls")) or b"killed by SIGKILL" in text
-    scene.check(f"{name}: only a call that is stopped stops it", over != hit or way == "killed", hit)
+    is_room = way == "ENOSPC" and answered == len(EDITS)
+    scene.check(f"{name}: only a call that is stopped stops it", over != hit or way == "killed" or is_room, hit)
     try:
         pages = found()
         at = [number for number, state in enumerate(states()) if pages == {path: page_of(path, text) for path, text in state.items()}]
         scene.check(f"{name}: the site behind it", at and at[0] in (answered, answered + 1), f"{at}, {answered} answered: {sorted(pages)}")
-        scene.check(f"{name}: its journal is whole", read(left := got(JOURNAL))[1] == left)
+        scene.check(f"{name}: its journal is whole", is_opened(left := got(JOURNAL), read(left)[1]))
     except Refused as fault:
         scene.check(f"{name}: the start behind it", False, fault)
     return hit

@@ -13,6 +13,7 @@ Builds nothing. Needs python3, and haproxy, which it has installed where it lack
 import collections, os, random, shutil, sys, tomllib
 sys.path.insert(1, os.path.dirname(__file__) + "/../lib")
 from scene import HOST, TOP, Client, Scene, free_port, got, listens, put, start, stop, until
+from journals import is_opened, read
 
 scene = Scene(seconds=400, numbers=(10_000,), needs=["haproxy"], at_top=True)
 chance = random.Random(1)
@@ -111,7 +112,7 @@ def main():
         stop(haproxy)
     for name, server in servers.items():
         scene.ends(server, name)
-        scene.check(f"the journal of {name} is as it was", got(f"{scene.scratch}/{name}") == got(first))
+        scene.check(f"the journal of {name} is as it was", is_opened(got(f"{scene.scratch}/{name}"), read(got(first))[1]))
 
 
 scene.run(main)

@@ -1,6 +1,6 @@
 """Watches the calls that `listen --journal` makes of the system (strace) while two clients edit, and checks their order: behind each edit a
-record is written and synced, then its gate is opened and synced, and only then is a reply to an edit sent. A kill can't show this: what
-was written stays, synced or not.
+record is written and synced, then its gate is opened and synced, and only then is a reply to an edit sent. Zeros that the journal grows by
+are written and synced between turns. A kill can't show this: what was written stays, synced or not.
 
     python3 scripts/listen/sync.py PROGRAM
 
@@ -38,10 +38,11 @@ class Calls:
         self.edits, self.journal, self.steps, self.records, self.replies = edits, None, [], 0, 0
 
     def made(self, name, words):
-        if name == "openat" and '"journal"' in words and "O_RDWR" in words:
+        if name == "openat" and '"journal.new"' in words and "O_RDWR" in words:
             self.journal = re.search(r"= (\d+)$", words)[1]
         elif name in ("pwrite64", "write", "writev") and words.startswith(f"{self.journal},"):
-            self.steps.append("gate" if words.startswith(f'{self.journal}, "\\x01", 1,') else "record")
+            text = words.removeprefix(f"{self.journal}, ")
+            self.steps.append("gate" if text.startswith('"\\xff", 1,') else "zeros" if text.startswith('"\\x00') else "record")
         elif name in ("fsync", "fdatasync") and words.startswith(f"{self.journal})"):
             self.steps.append("sync")
         elif re.search(r'"\\x48\\x54\\x54\\x50\\x2f\\x31\\x2e\\x31\\x20\\x32\\x30[14]|"HTTP/1.1 20[14]', words):
@@ -50,7 +51,11 @@ class Calls:
             self.steps = []
 
     def replied(self):
-        """A reply to an edit: what was done before it is whole records, each synced."""
+        """A reply to an edit: what was done before it is whole records, each synced. Zeros were written and synced before them."""
+        while self.steps[:1] == ["zeros"]:
+            last = self.steps.index("sync") if "sync" in self.steps else 0
+            scene.check("zeros are synced", last > 0 and set(self.steps[:last]) == {"zeros"}, self.steps)
+            self.steps = self.steps[last + 1:]
         count = len(self.steps) // 4
         scene.check("before a reply", self.steps == ["record", "sync", "gate", "sync"] * count, self.steps)
         self.records, self.replies, self.steps = self.records + count, self.replies + 1, []

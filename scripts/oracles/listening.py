@@ -3,7 +3,8 @@
 Replies are those of replies.py, over pages of plain paragraphs; the journal is written and read by journals.py. What the server does with
 streams is by docs/RUNNING.md: a peer is read where it is owed nothing, one that was sent its last reply is told the end, one too many
 waits, one that is silent for too long is let go, and where the journal can't be written nobody hears of the edit. A server that begins
-with the journal that another left has the pages of its edits.
+with the journal that another left has the pages of its edits. One whose journal has no reserve refuses puts. What a journal in memory
+makes of its room is by journals.py.
 
     python3 scripts/oracles/listening.py
 
@@ -19,6 +20,7 @@ from trial_lines import debug, fnv, write
 READERS = {"tok-owner": None, "tok-ann": {"staff"}, "tok-bob": {"ops"}}
 OWNER, ANN, BOB = READERS
 FULL = 10**6  # more calls than a journal of these lines makes
+AMPLE = 10**9  # more bytes than one has
 LONG = 2_000  # longer ones are told by their number of bytes and FNV-1a
 
 
@@ -47,18 +49,46 @@ def fault(code):
 
 
 REASONS[413] = "Content Too Large"
+REASONS[507] = "Insufficient Storage"
+
+
+class NoRoom(Exception):
+    pass
+
+
+class BoundedHub(Hub):
+    """A hub that may be told to take no puts: the pages stay as they are."""
+
+    takes_puts = True
+
+    def put(self, path, groups, text):
+        if not self.takes_puts:
+            raise NoRoom
+        return super().put(path, groups, text)
+
+    def answer(self, token, method, target, body):
+        try:
+            return super().answer(token, method, target, body)
+        except NoRoom:
+            return 507, False, "", ""
 
 
 class Server:
-    """A server, and what each of its peers has still to hear."""
+    """A server, and what each of its peers has still to hear. `edits` are those of the journal that it begins with, which is the one that
+    the server before has left, `bare` without the zeros behind it. Its file isn't grown past `most` bytes."""
 
-    def __init__(self, what, connections, idle=1_000, calls=FULL, edits=None):
-        begun = f"server {connections} {idle} {calls}{'' if edits is None else ' again'}"
-        self.lines = [f"# {what}", (begun, "()" if calls >= 4 else "no server")]
-        self.hub, self.peers, self.owed, self.edits = Hub(), 0, {}, []
+    def __init__(self, what, connections, idle=1_000, calls=FULL, edits=None, most=AMPLE, bare=False):
+        begun = f"server {connections} {idle} {calls} {most}{'' if edits is None else ' bare' if bare else ' again'}"
+        self.lines = [f"# {what}", (begun, "()" if calls >= journals.BEGIN_CALLS else "no server")]
+        self.hub, self.peers, self.owed, self.edits = BoundedHub(), 0, {}, []
         self.hub.readers = dict(READERS)
         for edit in edits or []:
             self.make(edit)
+        self.hub.takes_puts = most - self.front() >= journals.RESERVE
+
+    def front(self):
+        """How many bytes its journal has up to the closed gate, with it."""
+        return len(journals.written([edit.encode() for edit in self.edits]))
 
     def make(self, edit):
         """Makes an edit of the journal that the server begins with."""
@@ -116,11 +146,11 @@ class Server:
         self.call(f"send {peer} {given(text)}")
         self.call(f"end {peer}", told(reply.encode()) + " end")
 
-    def journal(self, calls=("records",), texts=None):
-        texts = [edit.encode() for edit in self.edits] if texts is None else texts
-        file = journals.written(texts)
+    def journal(self, calls=("records",), zeros=0):
+        """What is told of the journal's file, with so many zeros behind it."""
+        file = journals.written([edit.encode() for edit in self.edits])
         for call in calls:
-            self.call(call, journal_told(call, file))
+            self.call(call, journal_told(call, file, zeros))
 
 
 def reading(file):
@@ -128,6 +158,18 @@ def reading(file):
         return f"Ok({len(journals.read(file)[0])})"
     except journals.Damaged as damaged:
         return f"Err(Damaged({damaged.number}))"
+    except journals.Refused:
+        return "Err(NoJournal)"
+
+
+def rooms():
+    """What journals in memory make of their room, by journals.py."""
+    return ["# Room for a record of `remove a`, and the record, twice: in a new file that isn't grown past so many bytes.",
+            ("bounds", in_a_row(journals.rooms(most=most) for most in range(56 + 2 * 95 + 4))),
+            "# In a file that isn't grown, with so many zeros behind the closed gate.",
+            ("zeros", in_a_row(journals.rooms(zeros=zeros, most=0) for zeros in range(2 * 95 + 4))),
+            "# In a new file of which so many calls go well.",
+            ("faults", in_a_row(journals.rooms(calls=calls, most=1_000) for calls in range(16)))]
 
 
 def in_a_row(outcomes):
@@ -139,9 +181,10 @@ def in_a_row(outcomes):
     return out
 
 
-def journal_told(call, file):
+def journal_told(call, file, zeros=0):
+    """What is told of a file of these bytes, with so many zeros behind them."""
     if call == "file":
-        return told(file)
+        return f"({len(file)}, {zeros})"
     if call == "records":
         return told(b"".join(journals.read(file)[0]))
     if call == "cuts":
@@ -294,29 +337,36 @@ def silent():
 
 
 def failing(calls):
-    """A server whose journal's file fails in some call: opening makes four of them, and so does each record: it is written behind the gate
-    and synced, and the gate is opened and synced. A write that fails has written half."""
+    """A server whose journal's file fails in some call: a new one takes five of them, since it is read, written and synced, and gets its
+    room and is synced, and each record six: it is written behind the gate and synced, the gate is opened and synced; and behind the
+    replies the room that it took is added again and synced. A call that fails has done half: it is the last one."""
     s = Server(f"The journal's file fails behind {calls} calls.", 2, calls=calls)
-    if calls < 4:
+    if calls < journals.BEGIN_CALLS:
         return s.lines
-    peer, texts, file = s.open(), [], b"\0"
+    peer, texts, room = s.open(), [], journals.RESERVE + journals.SPARE
+    file, behind = journals.written([]), room
     for path in ("a", "b", "c"):
         request = (OWNER, "PUT", f"/page/{path}?groups=ops", path)
-        well = calls - 4 * len(texts) - 4
+        well = calls - 6 * len(texts) - journals.BEGIN_CALLS
         if well < 4:
             s.call(f"send {peer} " + given(bytes_of(*request)))
             s.call(f"hear {peer} 1", told(b""))
             s.call("fault", "Some(CannotWrite)")
             s.answer(*request)
             file = left(texts, s.edits[-1].encode(), well)
+            behind = room - (len(file) - len(journals.written(texts)))
             break
         s.ask(peer, request)
         texts.append(s.edits[-1].encode())
-        file = journals.written(texts)
+        took, file = len(journals.written(texts)) - len(file), journals.written(texts)
+        behind = room - took + (took if well > 4 else took // 2)
+        if well < 6:
+            s.call("fault", "Some(CannotWrite)")
+            break
     else:
         s.call("fault", "None")
-    for call in ("records",) if calls not in (9, 16) else ("file", "records", "flips", "cuts"):
-        s.call(call, journal_told(call, file))
+    for call in ("records", "file") if calls not in (13, 23) else ("file", "records", "flips", "cuts"):
+        s.call(call, journal_told(call, file, behind))
     t = Server("What was answered is there, and nothing in part.", 2, edits=[text.decode() for text in journals.read(file)[0]])
     peer = t.open()
     for path in ("a", "b", "c"):
@@ -324,17 +374,59 @@ def failing(calls):
     return [*s.lines, *t.lines]
 
 
+def full():
+    """Servers whose journal can't be grown to its reserve."""
+    s = Server("A journal that can't be grown to its reserve: puts are refused, and nothing is written.", 2, most=56 + 5_000)
+    owner = s.open()
+    s.ask(owner, (OWNER, "PUT", "/page/a.md?groups=ops", "Hello\n"))
+    s.ask(owner, (OWNER, "GET", "/page/a.md"), (OWNER, "DELETE", "/page/a.md"), (OWNER, "GET", "/contents"))
+    s.journal(("file", "records"), 5_000)
+    t = Server("The same without room: the file isn't grown by a byte less than it takes.", 2, most=56 + journals.RESERVE - 1)
+    owner = t.open()
+    t.ask(owner, (OWNER, "PUT", "/page/a.md?groups=ops", "Hello\n"))
+    t.journal(("file",), journals.RESERVE - 1)
+    u = Server("With just its reserve puts are taken, until one was made.", 2, most=56 + journals.RESERVE)
+    owner = u.open()
+    u.ask(owner, (OWNER, "PUT", "/page/a.md?groups=ops", "Hello\n"))
+    u.hub.takes_puts = False
+    u.ask(owner, (OWNER, "PUT", "/page/b.md?groups=ops", "Hello\n"), (BOB, "GET", "/page/a.md"), (BOB, "GET", "/page/b.md"))
+    u.journal(("file", "records"), 56 + journals.RESERVE - u.front())
+    return [*s.lines, "", *t.lines, "", *u.lines, "", *removed(u)]
+
+
+def removed(before):
+    """Servers over a journal whose zeros are lost, and which can't be grown by many; then by as many as it takes."""
+    s = Server("An ample journal.", 2, edits=before.edits)
+    owner = s.open()
+    for path in ("b", "c", "d"):
+        s.ask(owner, (OWNER, "PUT", f"/page/{path}.md?groups=ops", path))
+    s.journal(("records",))
+    t = Server("Without its zeros and with few instead: pages are read and removed, and not put.", 2, edits=s.edits, bare=True,
+               most=s.front() + 3_000)
+    owner, bob, most = t.open(), t.open(), s.front() + 3_000
+    t.ask(bob, (BOB, "GET", "/page/a.md"), (BOB, "GET", "/page/d.md"))
+    for path in ("a", "c"):
+        t.ask(owner, (OWNER, "PUT", f"/page/{path}.md?groups=ops", "Anew"))
+        t.ask(owner, (OWNER, "DELETE", f"/page/{path}.md"))
+        t.ask(bob, (BOB, "GET", f"/page/{path}.md"), (BOB, "GET", "/page/b.md"))
+    t.journal(("file", "records"), most - t.front())
+    u = Server("The next one has room, and takes puts.", 2, edits=t.edits)
+    owner, bob = u.open(), u.open()
+    u.ask(owner, (OWNER, "PUT", "/page/e.md?groups=ops", "Room"))
+    u.ask(bob, *((BOB, "GET", f"/page/{path}.md") for path in "abcde"))
+    u.journal(("file", "records"), journals.RESERVE + journals.SPARE)
+    return [*s.lines, "", *t.lines, "", *u.lines]
+
+
 def left(texts, text, well):
     """What a journal's file holds where so many calls of a further record went well."""
-    digest = journals.SEED
-    for before in texts:
-        digest = journals.record(digest, before)[1]
-    behind = journals.record(digest, text)[0] + b"\0"
+    file = journals.written(texts)
+    behind = journals.written([*texts, text])[len(file):]
     if well == 3:
         return journals.written([*texts, text])
-    return journals.written(texts) + (behind[: len(behind) // 2] if well == 0 else behind)
+    return file + (behind[: len(behind) // 2] if well == 0 else behind)
 
 
 if __name__ == "__main__":
-    parts = [readers(), bound(), slow(), silent(), *map(failing, range(17))]
+    parts = [rooms(), readers(), bound(), slow(), silent(), full(), *map(failing, (0, 3, *range(4, 12), 13, 16, 22, 23))]
     write("listening", [line for part in parts for line in [*part, ""]], "trial_site")

@@ -267,6 +267,13 @@ impl<R: Renderer + Drop> Hub<R> {
         Some(connection.unread.get())
     }
 
+    /// Whether owners' puts are taken, so that a server can tell what the next edit may be.
+    pub fn takes_puts(&self) -> bool
+        ensures { result ≡ self.now.1.takes_puts }
+    {
+        self.takes_puts
+    }
+
     /// The page of a path with its groups and its text, where one stands there.
     pub fn page(&self, path: &Path) -> Option<&Page>
         ensures { option_map (λ page. page.now.page) result

@@ -1,8 +1,11 @@
 mod AppendLemmas
-mod CrashLemmas
-mod Deciding
+pub mod HoldLemmas
 mod MemoryLemmas
-mod Moments
+mod Mixtures
+pub mod Moments
 mod OpeningLemmas
+mod Places
 mod RepairLemmas
+mod RoomLemmas
 mod Tearing
+mod WriteLemmas

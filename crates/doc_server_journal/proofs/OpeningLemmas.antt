@@ -1,10 +1,12 @@
 -- A journal that is opened, and one that is refused.
-use Rattle.std.proofs.Common.{◌≡◌, inl, inr, ℕ, ◌<◌, Bool, false, List, length, Option, Some, IfSome, Result, Ok, Err, IfErr, IsErrAnd, ◌≢◌, refl, sym, subst, ◌∙◌}
-use Rattle.doc_server_journal.specs.Devices.{LeavesFile, LeavesOnly, is_failed}
-use Rattle.doc_server_journal_records.specs.Records.{journal_bytes, AreWithin}
-use Rattle.doc_server_journal_records.specs.Readings.{ReadsAs, IsDamaged, IsWhy, IsFound}
-use Rattle.doc_server_journal.specs.Journals.{IsOpen}
-use Rattle.doc_server_journal.specs.Openings.{of_load, of_reading, WasLeftOrReads, IsRefused}
+use Rattle.std.proofs.Common.{Bool, Err, IfErr, IfSome, IsErrAnd, List, Ok, Option, Result, Some, [], ap, arith, false, inl, inr, length, length-append, refl, subst, sym, ℕ, ◌+◌, ◌++◌, ◌-◌, ◌<◌, ◌^◌, ◌∙◌, ◌∷◌, ◌≡◌, ◌≢◌}
+use Rattle.doc_server_journal.specs.Devices.{AreBehind, IsFresh, LeavesFile, LeavesOnly, is_failed}
+use Rattle.std.proofs.lemmas.List.{append-nil}
+use Rattle.doc_server_journal_records.specs.Records.{IsIdentity, closed_gate, header, seed}
+use Rattle.doc_server_journal_records.proofs.HeaderLemmas.{length_header}
+use Rattle.doc_server_journal_records.specs.Readings.{ReadsAs, IsDamaged, IsWhy, IsFound, last_size}
+use Rattle.doc_server_journal.specs.Journals.{Holds, IsOpen}
+use Rattle.doc_server_journal.specs.Openings.{of_load, of_reading, IsForeign, IsOfFirst, WasLeftOrReads, IsRefused}
 use Rattle.doc_server_journal.specs.declared.fault.LoadError.{LoadError}
 use Rattle.doc_server_journal.specs.declared.fault.OpenFault.{OpenFault}
 use Rattle.doc_server_journal.specs.declared.fault.OpenFault.TheVariants.{Failed}
@@ -13,11 +15,8 @@ use Rattle.doc_server_journal_records.specs.declared.read_error.ReadError.{ReadE
 use Rattle.doc_server_journal_records.specs.declared.read_error.ReadError.TheVariants as readings
 use Rattle.doc_server_journal_records.specs.declared.found.Found.{Found}
 use Rattle.doc_server_journal_records.proofs.LawLemmas.{reads_one_way}
+use Rattle.doc_server_journal.proofs.RepairLemmas.{reads as its_reading}
 use Rattle.doc_server_journal.proofs.Moments.{if_known, known, weaker, goes_on}
-
-within_of : (bytes : List ℕ) (texts : List (List ℕ)) → ReadsAs bytes texts → AreWithin texts
-within_of bytes texts (inl (rest, are, end)) = are.within
-within_of bytes texts (inr (short, none)) = subst (λ ts. AreWithin ts) (sym none) tt
 
 pub not_loaded : (most : ℕ) (old new : Option (List ℕ)) (failed : Bool) (e : LoadError)
     → (e ≡ loads.Long → IfSome old (λ file. most < length file))
@@ -29,6 +28,14 @@ not_loaded most old new failed loads.Failed long same cause = cause
 pub not_read : (most : ℕ) (old new : Option (List ℕ)) (failed : Bool) (bytes : List ℕ) (e : ReadError) → IfSome old (λ file. file ≡ bytes)
     → new ≡ old
     → failed ≡ false → IsWhy bytes e → IsRefused most old new failed (of_reading e)
+not_read most old new failed bytes readings.NoJournal known_is same usable why = (
+  if_known old IsForeign (λ file is. subst IsForeign (sym (known old file (λ f. f ≡ bytes) is known_is)) why),
+  (same, usable),
+)
+not_read most old new failed bytes readings.First known_is same usable why = (
+  if_known old IsOfFirst (λ file is. subst IsOfFirst (sym (known old file (λ f. f ≡ bytes) is known_is)) why),
+  (same, usable),
+)
 not_read most old new failed bytes (readings.Damaged n) known_is same usable why = (
   if_known old (λ file. IsDamaged file n) (λ file is. subst (λ f. IsDamaged f n) (sym (known old file (λ f. f ≡ bytes) is known_is)) why),
   (same, usable),
@@ -82,7 +89,7 @@ module _ {D : Type 0} (seen : D → Option (List ℕ)) (may_leave : D → List �
       texts_of : (file : List ℕ) → seen old ≡ Some file → ReadsAs file texts → texts ≡ found.texts
       texts_of file is reads =
           reads_one_way bytes texts found.texts (subst (λ f. ReadsAs f texts) (known (seen old) file (λ f. f ≡ bytes) is known_is) reads)
-          found_is.reads
+          (its_reading bytes found found_is)
 
       pub repaired : IfSome (seen mid) (λ file. LeavesOnly moment left_since mid new (WasLeftOrReads (may_leave mid) found.texts))
           → IfSome (seen old) (λ file. ReadsAs file texts → LeavesOnly moment left_since old new After)
@@ -97,18 +104,68 @@ pub its_texts : (old : Option (List ℕ)) (bytes : List ℕ) (found : Found) →
     → IfSome old (λ file. ReadsAs file found.texts)
 its_texts old bytes found is known_is =
     if_known old (λ file. ReadsAs file found.texts) (λ file there. subst (λ f. ReadsAs f found.texts)
-    (sym (known old file (λ f. f ≡ bytes) there known_is)) is.reads)
+    (sym (known old file (λ f. f ≡ bytes) there known_is)) (its_reading bytes found is))
 
-pub is_open : {D : Type 0} (seen : D → Option (List ℕ)) (may_leave : D → List ℕ → Type 0) (failed : D → Bool) (device : D)
-    (bytes : List ℕ) (found : Found)
-    → IsFound bytes found → IfSome (seen device) (λ file. file ≡ journal_bytes found.texts) → LeavesFile (seen device) (may_leave device)
-    → failed device ≡ false
-    → IsOpen seen may_leave failed (record { device = device; end = found.end; digest = found.digest }) found.texts
-is_open seen may_leave failed device bytes found is file durable usable = record {
+-- the last record's gate
+pub gate_is : (stale : ℕ → Type 0) (bytes : List ℕ) (found : Found) → IsFound bytes found
+    → AreBehind stale (found.end - last_size found.texts) → AreBehind stale (found.end - found.last)
+gate_is stale bytes found is behind = subst (λ n. AreBehind stale (found.end - n)) (sym is.last) behind
+
+pub is_open : {D : Type 0} (seen : D → Option (List ℕ)) (may_leave : D → List ℕ → Type 0) (failed : D → Bool) (stale : D → ℕ
+    → Type 0) (device : D) (bytes : List ℕ) (found : Found) (room : ℕ) (is : IsFound bytes found)
+    → IfSome (seen device) (λ file. Holds is.identity is.entries file) → LeavesFile (seen device) (may_leave device)
+    → IsFresh (stale device) → failed device ≡ false
+    → IfSome (seen device) (λ file. length file ≡ found.end + 1 + room) → found.end + 1 + room < 2 ^ 63
+    → IsOpen seen may_leave failed stale (record { device = device; end = found.end; room = room; digest = found.digest }) found.texts
+is_open seen may_leave failed stale device bytes found room is file durable fresh usable room_is fits = record {
+  identity = is.identity;
+  entries = is.entries;
+  is_identity = is.records.is_identity;
+  are_entries = is.records.are_entries;
+  texts_are = is.texts;
   file = file;
   durable = durable;
+  fresh = fresh;
   digest = is.digest;
   end = is.end;
-  within = within_of bytes found.texts is.reads;
+  room = room_is;
+  fits = fits;
   usable = usable;
 }
+
+-- a file that was begun
+pub is_made : {D : Type 0} (seen : D → Option (List ℕ)) (may_leave : D → List ℕ → Type 0) (failed : D → Bool) (stale : D → ℕ
+    → Type 0) (device : D) (identity header_bytes digest : List ℕ)
+    → IsIdentity identity → header_bytes ≡ header identity → digest ≡ seed identity
+    → IfSome (seen device) (λ file. file ≡ header_bytes ++ closed_gate ∷ []) → LeavesFile (seen device) (may_leave device)
+    → IsFresh (stale device) → failed device ≡ false
+    → IsOpen seen may_leave failed stale (record { device = device; end = 55; room = 0; digest = digest }) []
+is_made seen may_leave failed stale device identity header_bytes digest identity_is headed seeded file durable fresh usable =
+    let none = append-nil (header identity) in
+    record {
+      identity = identity;
+      entries = [];
+      is_identity = identity_is;
+      are_entries = tt;
+      texts_are = refl;
+      file = if_known (seen device) (λ f. Holds identity [] f) (λ f known_is. (
+        [],
+        refl,
+        known (seen device) f (λ l. l ≡ header_bytes ++ closed_gate ∷ []) known_is file
+            ∙ ap (λ h. h ++ closed_gate ∷ []) (headed ∙ sym none),
+      ));
+      durable = durable;
+      fresh = fresh;
+      digest = seeded;
+      end = omega (arith, ap length none, length_header identity identity_is);
+      room = if_known (seen device) (λ f. length f ≡ 55 + 1 + 0) (λ f known_is.
+          omega (
+            arith,
+            ap length (known (seen device) f (λ l. l ≡ header_bytes ++ closed_gate ∷ []) known_is file),
+            length-append header_bytes (closed_gate ∷ []),
+            ap length headed,
+            length_header identity identity_is,
+          ));
+      fits = omega arith;
+      usable = usable;
+    }

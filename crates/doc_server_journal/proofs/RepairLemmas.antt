@@ -1,103 +1,79 @@
--- The end of a journal, and what a crash leaves while it is put right.
-use Rattle.std.proofs.Common.{◌≡◌, inl, inr, ℕ, ◌+◌, ◌-◌, ◌<◌, ◌≤◌, List, [], ◌∷◌, ◌++◌, length, take, drop, Option, Some, IfSome, Result, Ok, Err, OnOk, refl, sym, ap, subst, ◌∙◌, arith, length-append, length-take, append_assoc}
+-- The end of a journal, and what a crash leaves while it is written again.
+use Rattle.std.proofs.Common.{◌≡◌, inl, inr, ℕ, ◌+◌, ◌-◌, ◌≤◌, List, [], ◌∷◌, ◌++◌, length, take, drop, replicate, Option, Some, IfSome, Result, Ok, Err, OnOk, sym, ap, subst, ◌∙◌, arith, length-append}
 use Rattle.std.specs.Option.{option_map}
-use Rattle.std.proofs.lemmas.List.{take_at, drop_all, take-append-drop}
-use Rattle.std.proofs.Math.Seq.{take-append-add}
-use Rattle.doc_server_journal.specs.Devices.{Torn, Shortened, LeavesFile, LeavesOnly, Stepped}
-use Rattle.doc_server_journal_records.specs.Records.{seed, record_bytes, chain, last_digest, journal_bytes, AreWithin}
-use Rattle.doc_server_journal_records.specs.Readings.{IsRecord, IsTail, tail_limit, ReadsAs}
-use Rattle.doc_server_journal.specs.Openings.{WasLeftOrReads}
-use Rattle.doc_server_journal.proofs.Deciding.{Begins, begins}
-use Rattle.doc_server_journal_records.proofs.FrontLemmas.{long_enough}
-use Rattle.doc_server_journal_records.proofs.LawLemmas.{none_of}
+use Rattle.doc_server_journal.specs.Devices.{Torn, LeavesFile, LeavesOnly, Stepped}
+use Rattle.doc_server_journal.specs.Journals.{Holds}
+use Rattle.doc_server_journal.specs.Openings.{IsEndAgain, WasLeftOrReads}
+use Rattle.doc_server_journal_records.specs.Records.{closed_gate, front_of}
+use Rattle.doc_server_journal_records.specs.Readings.{IsFound, ReadsAs, last_size}
+use Rattle.doc_server_journal_records.specs.declared.found.Found.{Found}
+use Rattle.doc_server_journal_records.proofs.ChainLemmas.{last_within}
+use Rattle.doc_server_journal.proofs.HoldLemmas.{reads_so}
+use Rattle.doc_server_journal.proofs.Mixtures.{rest_shut, zeros_shut}
 use Rattle.doc_server_journal.proofs.Moments.{if_known, known, if_mapped, weaker, goes_on}
-use Rattle.doc_server_journal_records.proofs.RecordLemmas.{record_unique}
+use Rattle.doc_server_journal.proofs.WriteLemmas.{again_done, again_torn, length_again, part_read}
+use Rattle.doc_server_journal_records.proofs.Digits.{all_append}
 
 pub on_ok : {X E P Q : Type 0} (r : Result X E) → OnOk r P → (P → Q) → OnOk r Q
 on_ok (Ok x) p f = f p
 on_ok (Err e) p f = tt
 
--- a front of what may stand behind a closed gate may stand there
-pub front_of_tail : (before tail : List ℕ) (n : ℕ) → IsTail before tail → IsTail before (take n tail)
-unfolding tail_limit
-front_of_tail before tail n whole = by_front (begins before (take n tail)) whole
-  where
-    onto : (text rest : List ℕ) → IsRecord before text (take n tail) rest → IsRecord before text tail (rest ++ drop n tail)
-    onto text rest found = record {
-      within = found.within;
-      split = sym (take-append-drop n tail) ∙ ap (λ l. l ++ drop n tail) found.split
-          ∙ append_assoc (record_bytes before text) rest (drop n tail);
-    }
+-- what was found in bytes
+module _ (bytes : List ℕ) (found : Found) (is : IsFound bytes found) where
+  abbrev front : List ℕ
+  front = front_of is.identity is.entries
 
-    by_front : Begins before (take n tail) → IsTail before tail → IsTail before (take n tail)
-    by_front (inl (text, rest, found)) (inl (t, r, is, short)) =
-        let same : r ≡ rest ++ drop n tail = (record_unique before tail t text r (rest ++ drop n tail) is (onto text rest found)).1 in
-        inl (text, rest, found, omega (arith, short, ap length same, length-append rest (drop n tail)))
-    by_front (inl (text, rest, found)) (inr (fits, none)) = absurd (none text (rest ++ drop n tail) (onto text rest found))
-    by_front (inr none) (inl (t, r, is, short)) =
-        inr (omega (arith, short, is.within, long_enough before tail t r is, length-take n tail), none)
-    by_front (inr none) (inr (fits, nothing)) = inr (omega (arith, fits, length-take n tail), none)
+  pub size : length bytes ≡ found.end + 1 + length is.tail
+  size = omega (arith, is.end, ap length is.records.split, length-append front (closed_gate ∷ is.tail))
 
-pub no_texts : (bytes : List ℕ) (texts : List (List ℕ)) → ReadsAs bytes texts → length bytes ≤ 1 → texts ≡ []
-no_texts bytes texts (inl (rest, are, end)) short = none_of bytes texts rest are short
-no_texts bytes texts (inr (brief, none)) short = none
+  -- the last record stands in front of the closed gate
+  pub last_inside : found.last ≤ found.end
+  last_inside = omega (arith, is.end, is.last, ap last_size is.texts, last_within is.identity is.entries is.records.are_entries)
 
--- a file that was only begun
-module _ (bytes : List ℕ) (texts : List (List ℕ)) (reads : ReadsAs bytes texts) (short : length bytes ≤ 1) where
-  pub begun_done : take 0 bytes ++ (0 ∷ []) ++ drop 1 bytes ≡ journal_bytes texts
-  begun_done = ap (λ (l : List ℕ). 0 ∷ l) (drop_all 1 bytes short) ∙ ap (λ ts. journal_bytes ts) (sym (no_texts bytes texts reads short))
+  pub reads : ReadsAs bytes found.texts
+  reads = record {
+    identity = is.identity;
+    entries = is.entries;
+    tail = is.tail;
+    records = is.records;
+    is_tail = is.is_tail;
+    texts_are = is.texts;
+  }
 
-  pub begun_torn : (c : List ℕ) → Torn 0 (0 ∷ []) bytes c → ReadsAs c texts
-  begun_torn c torn = inr (omega (arith, short, torn.no_longer), no_texts bytes texts reads short)
+  pub holds_reads : (c : List ℕ) → Holds is.identity is.entries c → ReadsAs c found.texts
+  holds_reads c holds = reads_so is.identity is.entries found.texts c is.records.is_identity is.records.are_entries is.texts holds
 
-record Ends (bytes : List ℕ) (texts : List (List ℕ)) : Type 0 where
-  tail : List ℕ
-  within : AreWithin texts
-  split : bytes ≡ chain seed texts ++ (0 ∷ tail)
-  is_tail : IsTail (last_digest seed texts) tail
+  module _ (torn : ℕ) (again : List ℕ) (again_is : IsEndAgain bytes found torn again) where
+    abbrev from : ℕ
+    from = found.end - found.last
 
-ends : (bytes : List ℕ) (texts : List (List ℕ)) → ReadsAs bytes texts → 1 < length bytes → Ends bytes texts
-ends bytes texts (inl (rest, are, end)) long = record {
-  tail = end.0;
-  within = are.within;
-  split = are.split ∙ ap (λ l. chain seed texts ++ l) end.1;
-  is_tail = end.2;
-}
-ends bytes texts (inr (short, none)) long = absurd (omega (arith, short, long))
+    again_parts : again ≡ drop from (front ++ closed_gate ∷ []) ++ replicate torn 0
+    again_parts =
+        again_is ∙ ap (λ l. l ++ replicate torn 0)
+        (part_read front found.end is.end bytes is.tail from (omega arith) is.records.split)
 
--- a file with a closed gate, and what stands behind it
-module _ (bytes : List ℕ) (texts : List (List ℕ)) (reads : ReadsAs bytes texts) (long : 1 < length bytes) (end : ℕ)
-    (end_is : end ≡ length (chain seed texts)) where
-  it : Ends bytes texts
-  it = ends bytes texts reads long
+    pub written : take from bytes ++ again ++ drop (from + length again) bytes
+        ≡ front ++ closed_gate ∷ (replicate torn 0 ++ drop torn is.tail)
+    written =
+        ap (λ f. take from f ++ again ++ drop (from + length again) f) is.records.split
+        ∙ again_done front found.end is.end is.tail again from torn (omega arith) again_parts
 
-  at_rest : length (journal_bytes texts) ≡ end + 1
-  at_rest = omega (arith, end_is, length-append (chain seed texts) (0 ∷ []))
+    pub written_holds : Holds is.identity is.entries (take from bytes ++ again ++ drop (from + length again) bytes)
+    written_holds = (
+      replicate torn 0 ++ drop torn is.tail,
+      all_append _ (replicate torn 0) (drop torn is.tail) (zeros_shut torn) (rest_shut torn is.tail is.is_tail),
+      written,
+    )
 
-  parts : bytes ≡ journal_bytes texts ++ it.tail
-  parts = it.split ∙ sym (append_assoc (chain seed texts) (0 ∷ []) it.tail)
+    -- it is written up to the end of the file
+    pub all_again : length bytes ≡ found.end + 1 + torn → length bytes ≤ from + length again
+    all_again all =
+        omega (arith, all, length_again front found.end is.end is.tail again from torn (omega arith) again_parts)
 
-  pub room : end + 1 ≤ length bytes
-  room = omega (arith, at_rest, ap length parts, length-append (journal_bytes texts) it.tail)
-
-  pub cut_done : take (end + 1) bytes ≡ journal_bytes texts
-  cut_done = ap (λ l. take (end + 1) l) parts ∙ take_at (journal_bytes texts) it.tail (end + 1) at_rest
-
-  pub cut_reads : (c : List ℕ) → Shortened (end + 1) bytes c → ReadsAs c texts
-  cut_reads c cut =
-      let n = length c - (end + 1) in
-      let size : length c ≡ length (journal_bytes texts) + n = omega (arith, cut.no_shorter, room, at_rest) in
-      let whole : c ≡ chain seed texts ++ (0 ∷ take n it.tail) =
-      cut.front
-      ∙ ap (λ l. take (length c) l) parts
-      ∙ ap (λ k. take k (journal_bytes texts ++ it.tail)) size
-      ∙ take-append-add (journal_bytes texts) it.tail n
-      ∙ append_assoc (chain seed texts) (0 ∷ []) (take n it.tail) in
-      inl (
-        0 ∷ take n it.tail,
-        record { within = it.within; split = whole },
-        (take n it.tail, refl, front_of_tail (last_digest seed texts) it.tail n it.is_tail),
-      )
+    pub torn_reads : (c : List ℕ) → Torn from again bytes c → ReadsAs c found.texts
+    torn_reads c cut =
+        holds_reads c (again_torn front found.end is.end is.tail again from torn (omega arith) again_parts is.is_tail c
+        (subst (λ f. Torn from again f c) is.records.split cut))
 
 -- nothing but a sync
 pub only_synced : {D : Type 0} (seen : D → Option (List ℕ)) (may_leave : D → List ℕ → Type 0) (moment : D → ℕ)
@@ -120,11 +96,11 @@ module _ {D : Type 0} (seen : D → Option (List ℕ)) (may_leave : D → List �
       subst (λ o. IfSome o (λ file. n ≤ length file)) (sym same)
       (if_known (seen old) (λ file. n ≤ length file) (λ file is. omega (arith, fits, ap length (file_is file is))))
 
-  pub filled : (f : List ℕ → List ℕ) → seen new ≡ option_map f (seen mid) → f bytes ≡ journal_bytes texts
-      → IfSome (seen new) (λ file. file ≡ journal_bytes texts)
-  filled f writes done =
-      subst (λ o. IfSome o (λ file. file ≡ journal_bytes texts)) (sym (writes ∙ ap (λ o. option_map f o) same))
-      (if_mapped f (seen old) (λ file. file ≡ journal_bytes texts) (λ file is. ap f (file_is file is) ∙ done))
+  pub filled : (P : List ℕ → Type 0) (f : List ℕ → List ℕ) → seen new ≡ option_map f (seen mid) → P (f bytes)
+      → IfSome (seen new) P
+  filled P f writes done =
+      subst (λ o. IfSome o P) (sym (writes ∙ ap (λ o. option_map f o) same))
+      (if_mapped f (seen old) P (λ file is. subst P (sym (ap f (file_is file is))) done))
 
   abbrev After : List ℕ → Type 0
   After c = WasLeftOrReads (may_leave old) texts c

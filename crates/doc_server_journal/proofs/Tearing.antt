@@ -1,7 +1,7 @@
 -- What a crash leaves in a change of a file.
 use Rattle.std.proofs.Common.{◌≡◌, inl, ℕ, ◌≤◌, List, length, take, refl, sym, ◌∙◌, arith, length-take}
-use Rattle.std.proofs.lemmas.List.{take_all}
-use Rattle.doc_server_journal.specs.Devices.{Torn, Shortened}
+use Rattle.std.proofs.lemmas.List.{append-nil, take_all}
+use Rattle.doc_server_journal.specs.Devices.{Torn, Grown}
 
 pub before_all : (at : ℕ) (bytes old new : List ℕ) → at ≤ length old → Torn at bytes old new → take at new ≡ take at old
 before_all at bytes old new fits torn =
@@ -14,8 +14,8 @@ torn_same at bytes file = record {
   behind = refl;
   no_shorter = omega arith;
   no_longer = omega arith;
-  each = λ i le lt inside. inl refl;
+  each = λ i le lt. inl refl;
 }
 
-pub shortened_same : (len : ℕ) (file : List ℕ) → Shortened len file file
-shortened_same len file = record { no_shorter = omega arith; front = sym (take_all (length file) file (omega arith)) }
+pub grown_same : (count : ℕ) (file : List ℕ) → Grown count file file
+grown_same count file = (0, omega arith, sym (append-nil file))

@@ -36,8 +36,6 @@ impl From<Memory> for LoadError {
 pub enum AppendError {
     /// No memory was left. Nothing was written.
     Memory,
-    /// The journal has 2^60 bytes. Nothing was written.
-    Full,
     /// The device failed. The journal has to be read again.
     Failed,
 }
@@ -67,6 +65,10 @@ impl From<DeviceFault> for AppendError {
 /// Why a journal isn't opened.
 #[derive(Clone, Copy, Debug, PartialEq, Eq)]
 pub enum OpenFault {
+    /// The file doesn't begin with a journal's header. It is as it was.
+    NoJournal,
+    /// The file is a journal of the first form. It is as it was.
+    First,
     /// The record of this number, counted from 1, is damaged. The file is as it was.
     Damaged(usize),
     /// No memory was left. The file is as it was.
@@ -80,6 +82,8 @@ pub enum OpenFault {
 impl fmt::Display for OpenFault {
     fn fmt<W: fmt::Write>(&self, f: &mut fmt::Formatter<W>) -> fmt::Result {
         match self {
+            OpenFault::NoJournal => fmt::Display::fmt(&ReadError::NoJournal, f),
+            OpenFault::First => fmt::Display::fmt(&ReadError::First, f),
             OpenFault::Damaged(n) => fmt::Display::fmt(&ReadError::Damaged(*n), f),
             OpenFault::Memory => fmt::Display::fmt(&Memory, f),
             OpenFault::Long => f.write_str("journal too long"),
@@ -89,6 +93,17 @@ impl fmt::Display for OpenFault {
 }
 
 impl Error for OpenFault {}
+
+impl From<Memory> for OpenFault {
+    ghost use Rattle.std.specs.Prelude.{◌≡◌};
+    ghost use Rattle.doc_server_journal.specs.declared.fault.OpenFault.TheVariants as refusals;
+
+    ghost from_gives = { λ _ fault. fault ≡ refusals.Memory };
+
+    fn from(_e: Memory) -> OpenFault {
+        OpenFault::Memory
+    }
+}
 
 impl From<LoadError> for OpenFault {
     ghost use Rattle.std.specs.Prelude.{◌≡◌};
@@ -113,6 +128,8 @@ impl From<ReadError> for OpenFault {
 
     fn from(e: ReadError) -> OpenFault {
         match e {
+            ReadError::NoJournal => OpenFault::NoJournal,
+            ReadError::First => OpenFault::First,
             ReadError::Damaged(n) => OpenFault::Damaged(n),
             ReadError::Memory => OpenFault::Memory,
         }

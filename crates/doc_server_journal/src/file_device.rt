@@ -2,7 +2,8 @@
 //!
 //! What is trusted for a journal's promises to hold of such a file: that each call here asks the system for what the trait says; that
 //! a sync that went well has put the file on the disk; that a write changes no byte outside its range, and leaves each byte as it was
-//! or as it was to be; that nobody else writes the file, which its lock asks of those who ask for the lock too.
+//! or as it was to be; that zeros which were added and synced keep their room, so that a write over them needs none; that nobody else
+//! writes the file, which its lock asks of those who ask for the lock too.
 
 ghost use Rattle.std.specs.Prelude.{◌≡◌, ◌≤◌, false, true, length, IfOk};
 ghost use Rattle.doc_server_journal.specs.FileDevices.{has_failed};
@@ -14,6 +15,7 @@ use crate::names::sync_folder;
 use doc_page_parts::bytes::Bytes;
 use doc_page_parts::heap::{Heap, Vec};
 use std::fs::{File, OpenOptions, metadata, remove_file};
+use std::io::{self, ErrorKind};
 use std::os::fd::AsFd;
 use std::os::unix::fs::{FileExt, MetadataExt, OpenOptionsExt, fchown};
 use std::rt::Files;
@@ -24,6 +26,9 @@ const TRIES: u32 = 8;
 /// The rights of a file that is made: its pages are for those who may read its owner's files.
 const OWNER_ALONE: u32 = 0o600;
 
+/// How many zeros are written at a time.
+const ZEROS_LEN: usize = 65_536;
+
 /// An open file, locked while the device is there.
 #[derive(Drop)]
 pub struct FileDevice {
@@ -32,20 +37,38 @@ pub struct FileDevice {
 }
 
 impl FileDevice {
-    /// Opens the file of this name, made for its owner alone where there is none, and takes its lock. Its folder is synced, so that
-    /// a crash leaves the name. The lock of a file that lost its name to another, as by a compaction, isn't kept: then that other
-    /// file is opened.
+    /// Opens the file of this name, and takes its lock. Its folder is synced, so that a crash leaves the name. The lock of a file that
+    /// lost its name to another, as by a compaction, isn't kept: then that other file is opened.
     pub fn open<R: Files<File = File>>(rt: &R, name: &str) -> Result<FileDevice, FileFault>
         ensures { IfOk result (λ device. has_failed device ≡ false) }
     {
         for _ in 0..TRIES {
-            let device = open_and_lock(rt, name)?;
+            let device = lock(open_file(rt, name)?)?;
             if device.has_name(rt, name)? {
                 sync_folder(rt, name)?;
                 return Ok(device);
             }
         }
         Err(FileFault::InUse)
+    }
+
+    /// Makes an empty file of this name for its owner alone, and takes its lock. It is one that a crash left while it was made, if there
+    /// is such a file.
+    pub fn make<R: Files<File = File>>(rt: &R, name: &str) -> Result<FileDevice, FileFault>
+        ensures { IfOk result (λ device. has_failed device ≡ false) }
+    {
+        let file = OpenOptions::new()
+            .read(true)
+            .write(true)
+            .create(true)
+            .mode(OWNER_ALONE)
+            .open(rt, name)?;
+        let device = lock(file)?;
+        if !device.has_name(rt, name)? {
+            return Err(FileFault::InUse);
+        }
+        device.file.set_len(0)?;
+        Ok(device)
     }
 
     /// Makes a file of this name with the owner and the rights of this one, and takes its lock. A file that has the name goes.
@@ -83,16 +106,19 @@ impl FileDevice {
     }
 }
 
-/// Opens the file of a name, made where there is none, and takes its lock.
-fn open_and_lock<R: Files<File = File>>(rt: &R, name: &str) -> Result<FileDevice, FileFault>
+/// Opens the file of a name.
+fn open_file<R: Files<File = File>>(rt: &R, name: &str) -> Result<File, FileFault> {
+    match OpenOptions::new().read(true).write(true).open(rt, name) {
+        Ok(file) => Ok(file),
+        Err(e) if e.kind() == ErrorKind::NotFound => Err(FileFault::Missing),
+        Err(_) => Err(FileFault::NotOpened),
+    }
+}
+
+/// Takes the lock of a regular file.
+fn lock(file: File) -> Result<FileDevice, FileFault>
     ensures { IfOk result (λ device. has_failed device ≡ false) }
 {
-    let file = OpenOptions::new()
-        .read(true)
-        .write(true)
-        .create(true)
-        .mode(OWNER_ALONE)
-        .open(rt, name)?;
     if !file.metadata()?.is_file() {
         return Err(FileFault::NotOpened);
     }
@@ -126,6 +152,43 @@ fn whole(heap: Heap, file: &File, most: usize) -> Result<Bytes, LoadError>
     Ok(Bytes::new(bytes))
 }
 
+/// Adds so many zeros behind the end of a file, or fewer where the system has no room for more, and answers how many.
+fn add_zeros(file: &File, count: usize) -> io::Result<usize>
+    ensures { IfOk result (λ added. added ≤ count) }
+{
+    let len = file.metadata()?.len();
+    match write_zeros(file, len, count) {
+        Ok(()) => Ok(count),
+        Err(e) if is_want_of_room(&e) => {
+            let added = file.metadata()?.len().saturating_sub(len);
+            Ok(count.min(usize::try_from(added).unwrap_or(count)))
+        }
+        Err(e) => Err(e),
+    }
+}
+
+/// Writes so many zeros from there on.
+fn write_zeros(file: &File, at: u64, count: usize) -> io::Result<()> {
+    let zeros = [0; ZEROS_LEN];
+    let mut at = at;
+    let mut left = count;
+    'left: while left > 0 {
+        let part = left.min(ZEROS_LEN);
+        file.write_all_at(&zeros[..part], at)?;
+        at = at.saturating_add(part as u64);
+        left -= part;
+    }
+    Ok(())
+}
+
+/// Whether the system has no room for what was written.
+fn is_want_of_room(e: &io::Error) -> bool {
+    matches!(
+        e.kind(),
+        ErrorKind::StorageFull | ErrorKind::QuotaExceeded | ErrorKind::FileTooLarge
+    )
+}
+
 impl Device for FileDevice {
     ghost use Rattle.std.specs.Prelude.{None};
     ghost use Rattle.doc_server_journal.specs.FileDevices.{has_failed};
@@ -138,9 +201,13 @@ impl Device for FileDevice {
 
     ghost left_since = { λ _ _ _. ⊥ };
 
+    ghost stale = { λ _ _. ⊥ };
+
     ghost failed = { has_failed };
 
     ghost counts_now = { λ _ _ _ _ never. never };
+
+    ghost stale_within = { λ _ _ never. never };
 
     ghost only_now = { λ _ _ never. never };
 
@@ -157,9 +224,9 @@ impl Device for FileDevice {
         }
     }
 
-    fn cut(&mut self, len: usize) -> Result<(), DeviceFault> {
-        match self.file.set_len(len as u64) {
-            Ok(()) => Ok(()),
+    fn grow(&mut self, count: usize) -> Result<usize, DeviceFault> {
+        match add_zeros(&self.file, count) {
+            Ok(added) => Ok(added),
             Err(_) => Err(self.fault()),
         }
     }

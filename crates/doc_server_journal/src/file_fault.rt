@@ -12,6 +12,9 @@ pub enum FileFault {
     /// Another process has it open as a device.
     #[error("journal in use")]
     InUse,
+    /// There is none.
+    #[error("cannot open journal")]
+    Missing,
     /// It can't be opened or made, is no regular file, or can't be locked.
     #[error("cannot open journal")]
     NotOpened,

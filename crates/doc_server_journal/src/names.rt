@@ -3,11 +3,14 @@
 use crate::file_fault::FileFault;
 use doc_page_parts::heap::{Heap, String};
 use std::alloc::AllocGlobal;
-use std::fs::{File, canonicalize, rename};
+use std::fs::{File, canonicalize, metadata, rename};
 use std::rt::Files;
 
 /// What is put behind the name of a file for that of the new one beside it.
-const NEW: &str = ".compacting";
+const COMPACTING: &str = ".compacting";
+
+/// The same for that of a first one.
+const NEW: &str = ".new";
 
 /// The name of a file, and of a new one beside it that is to take its name. What becomes of names no clause says.
 #[derive(Drop)]
@@ -26,13 +29,29 @@ impl Replacement {
         let path = canonicalize(rt, name)?;
         let name = String::from_str(heap, path.as_str())?;
         let mut new_name = String::from_str(heap, path.as_str())?;
+        new_name.push_str(COMPACTING)?;
+        Ok(Replacement { name, new_name })
+    }
+
+    /// For a file of this name that isn't there.
+    pub fn first_of(heap: Heap, name: &str) -> Result<Replacement, FileFault> {
+        let mut new_name = String::from_str(heap, name)?;
         new_name.push_str(NEW)?;
+        let name = String::from_str(heap, name)?;
         Ok(Replacement { name, new_name })
     }
 
     /// The name of the new file.
     pub fn new_name(&self) -> &str {
         self.new_name.as_str()
+    }
+
+    /// Gives a first file its name, where no other file got it meanwhile.
+    pub fn take_first_name<R: Files<File = File>>(&self, rt: &R) -> Result<(), FileFault> {
+        if metadata(rt, self.name.as_str()).is_ok() {
+            return Err(FileFault::InUse);
+        }
+        self.take_name(rt)
     }
 
     /// Gives the new file the name of the old one, and syncs their folder.

@@ -1,7 +1,7 @@
 //! A reading of a file, a sync, and a change with its sync.
 
-ghost use Rattle.std.specs.Prelude.{◌≡◌, ◌≤◌, ◌<◌, List, ℕ, false, length, is_err, OnOk, IfOk, IsErrOf, IfSome};
-ghost use Rattle.doc_server_journal.specs.Devices.{Writes, CutsTo, Torn, Shortened, LeavesFile, LeavesOnly, Stepped, is_failed};
+ghost use Rattle.std.specs.Prelude.{◌≡◌, ◌⊎◌, ◌≤◌, ◌<◌, ◌+◌, List, ℕ, false, length, is_err, OnOk, IfOk, IsErrOf, IfSome};
+ghost use Rattle.doc_server_journal.specs.Devices.{Writes, Grows, Torn, Grown, LeavesFile, LeavesOnly, Stepped, IsFresh, IsOutside, IsPastEnd, is_failed};
 
 use crate::device::Device;
 use crate::fault::{DeviceFault, LoadError};
@@ -17,6 +17,7 @@ pub fn load<D: Device>(device: &mut D, heap: Heap, most: usize) -> Result<Bytes,
         → IfSome (D.seen device.old) (λ file. most < length file) }
     ensures seen { D.seen device.new ≡ D.seen device.old }
     ensures crash { (c : List ℕ) → D.may_leave device.new c → D.may_leave device.old c }
+    ensures stale { (i : ℕ) → D.stale device.new i → D.stale device.old i }
     ensures any_moment { LeavesOnly D.moment D.left_since device.old device.new
         (D.may_leave device.old) }
     ensures cause { D.failed device.new ≡ is_failed result }
@@ -28,7 +29,9 @@ pub fn load<D: Device>(device: &mut D, heap: Heap, most: usize) -> Result<Bytes,
 pub fn sync<D: Device>(device: &mut D) -> Result<(), DeviceFault>
     requires usable { D.failed device.old ≡ false }
     ensures seen { D.seen device.new ≡ D.seen device.old }
-    ensures durable { OnOk result (LeavesFile (D.seen device.new) (D.may_leave device.new)) }
+    ensures durable { OnOk result (IsFresh (D.stale device.old)
+        → LeavesFile (D.seen device.new) (D.may_leave device.new)) }
+    ensures stale { OnOk result ((i : ℕ) → D.stale device.new i → D.stale device.old i) }
     ensures any_moment { LeavesOnly D.moment D.left_since device.old device.new
         (D.may_leave device.old) }
     ensures cause { D.failed device.new ≡ is_err result }
@@ -41,7 +44,13 @@ pub fn write_and_sync<D: Device>(device: &mut D, at: usize, bytes: &[u8]) -> Res
     requires usable { D.failed device.old ≡ false }
     requires place { IfSome (D.seen device.old) (λ file. at ≤ length file) }
     ensures written { OnOk result (Writes (D.seen device.old) at bytes.now (D.seen device.new)) }
-    ensures durable { OnOk result (LeavesFile (D.seen device.new) (D.may_leave device.new)) }
+    ensures durable { OnOk result (((i : ℕ) → D.stale device.old i
+        → IsOutside at (length bytes.now) i → ⊥)
+        → LeavesFile (D.seen device.new) (D.may_leave device.new)) }
+    ensures stale { OnOk result ((i : ℕ) → D.stale device.new i
+        → D.stale device.old i × IsOutside at (length bytes.now) i) }
+    ensures lost { LeavesFile (D.seen device.old) (D.may_leave device.old) → (i : ℕ)
+        → D.stale device.new i → D.stale device.old i ⊎ (at ≤ i) }
     ensures any_moment { LeavesOnly D.moment D.left_since device.old device.new
         (Stepped (Torn at bytes.now) (D.may_leave device.old)) }
     ensures cause { D.failed device.new ≡ is_err result }
@@ -50,16 +59,21 @@ pub fn write_and_sync<D: Device>(device: &mut D, at: usize, bytes: &[u8]) -> Res
     device.sync()
 }
 
-/// Cuts the file and syncs.
-pub fn cut_and_sync<D: Device>(device: &mut D, len: usize) -> Result<(), DeviceFault>
+/// Adds zeros behind the end, as many as there is room for, and syncs.
+pub fn grow_and_sync<D: Device>(device: &mut D, count: usize) -> Result<usize, DeviceFault>
     requires usable { D.failed device.old ≡ false }
-    requires place { IfSome (D.seen device.old) (λ file. len ≤ length file) }
-    ensures cut { OnOk result (CutsTo (D.seen device.old) len (D.seen device.new)) }
-    ensures durable { OnOk result (LeavesFile (D.seen device.new) (D.may_leave device.new)) }
+    ensures most { IfOk result (λ n. n ≤ count) }
+    ensures grown { IfOk result (λ n. Grows (D.seen device.old) n (D.seen device.new)) }
+    ensures durable { OnOk result (IsFresh (D.stale device.old)
+        → LeavesFile (D.seen device.new) (D.may_leave device.new)) }
+    ensures stale { OnOk result ((i : ℕ) → D.stale device.new i → D.stale device.old i) }
+    ensures lost { LeavesFile (D.seen device.old) (D.may_leave device.old) → (i : ℕ)
+        → D.stale device.new i → D.stale device.old i ⊎ IsPastEnd (D.seen device.old) i }
     ensures any_moment { LeavesOnly D.moment D.left_since device.old device.new
-        (Stepped (Shortened len) (D.may_leave device.old)) }
+        (Stepped (Grown count) (D.may_leave device.old)) }
     ensures cause { D.failed device.new ≡ is_err result }
 {
-    device.cut(len)?;
-    device.sync()
+    let added = device.grow(count)?;
+    device.sync()?;
+    Ok(added)
 }

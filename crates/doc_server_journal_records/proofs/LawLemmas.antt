@@ -1,41 +1,67 @@
 -- Laws of journals.
-use Rattle.std.proofs.Common.{◌≡◌, inl, inr, ℕ, ◌≤◌, List, [], ◌∷◌, length, refl, sym, ap, subst, ◌∙◌, arith}
-use Rattle.doc_server_journal_records.specs.Records.{seed, last_digest}
-use Rattle.doc_server_journal_records.specs.Readings.{HasNoRecord, IsEnd, AreRecords, tail_limit}
+use Rattle.std.proofs.Common.{◌≡◌, ℕ, List, [], ◌∷◌, ◌++◌, length, refl, sym, ap, subst, ◌∙◌, arith, append_assoc}
+use Rattle.doc_server_journal_records.specs.Records.{Entry, header, seed, chain, closed_gate, texts_of, last_digest}
+use Rattle.doc_server_journal_records.specs.Readings.{HasNoOpenRecord, AreRecords, ReadsAs}
+use Rattle.sha2.specs.Sha256.{sha256}
 use Rattle.doc_server_journal_records.specs.Laws.{WrittenIsRead, ReadsOneWay, ReadIsNotDamaged, IsDamagedOnce}
-use Rattle.doc_server_journal_records.proofs.ChainLemmas.{chain_unique, end_not_open, short_chain}
-use Rattle.doc_server_journal_records.proofs.FrontLemmas.{long_enough}
-
-pub none_in_none : (before : List ℕ) → HasNoRecord before []
-none_in_none before t r is = omega (arith, long_enough before [] t r is)
-
-pub at_rest : (before : List ℕ) → IsEnd before (0 ∷ [])
-unfolding tail_limit
-at_rest before = ([], refl, inr (omega arith, none_in_none before))
+use Rattle.doc_server_journal_records.proofs.ChainLemmas.{SameChain, chain_unique, end_not_open}
+use Rattle.doc_server_journal_records.proofs.HeaderLemmas.{length_header}
+use Rattle.doc_server_journal_records.proofs.RecordLemmas.{parts}
 
 pub written_is_read : WrittenIsRead
-written_is_read texts all = inl (0 ∷ [], record { within = all; split = refl }, at_rest (last_digest seed texts))
+written_is_read identity entries tail identity_is all tail_is = record {
+  identity = identity;
+  entries = entries;
+  tail = tail;
+  records = record { is_identity = identity_is; are_entries = all; split = refl };
+  is_tail = tail_is;
+  texts_are = refl;
+}
 
-pub none_of : (bytes : List ℕ) (texts : List (List ℕ)) (rest : List ℕ) → AreRecords bytes texts rest → length bytes ≤ 1 → texts ≡ []
-none_of bytes texts rest are short = short_chain seed texts rest (omega (arith, short, ap length are.split))
+seed_same : (i j : List ℕ) → header i ≡ header j → seed i ≡ seed j
+unfolding seed
+seed_same i j same = ap sha256 same
+
+-- bytes have one header, and one chain of records
+pub one_reading : (bytes i j : List ℕ) (es fs : List Entry) (x y : List ℕ) → AreRecords bytes i es x → AreRecords bytes j fs y
+    → HasNoOpenRecord (last_digest (seed i) es) x → HasNoOpenRecord (last_digest (seed j) fs) y → SameChain (seed i) es fs x y
+one_reading bytes i j es fs x y one two no_x no_y =
+    let same = sym (append_assoc (header i) (chain (seed i) es) x) ∙ sym one.split ∙ two.split
+    ∙ append_assoc (header j) (chain (seed j) fs) y in
+    let heads = parts (header i) (header j) _ _ (length_header i one.is_identity ∙ sym (length_header j two.is_identity)) same in
+    let seeds : seed j ≡ seed i = sym (seed_same i j heads.0) in
+    chain_unique (seed i) es fs x y one.are_entries two.are_entries (heads.1 ∙ ap (λ s. chain s fs ++ y) seeds) no_x
+    (subst (λ s. HasNoOpenRecord (last_digest s fs) y) seeds no_y)
+
+its_end : (bytes : List ℕ) (texts : List (List ℕ)) (reads : ReadsAs bytes texts)
+    → HasNoOpenRecord (last_digest (seed reads.identity) reads.entries) (closed_gate ∷ reads.tail)
+its_end bytes texts reads = end_not_open _ (closed_gate ∷ reads.tail) (reads.tail, refl, reads.is_tail)
 
 pub reads_one_way : ReadsOneWay
-reads_one_way bytes texts others (inl (x, are, end)) (inl (y, these, ends)) =
-    (chain_unique seed texts others x y are.within these.within (sym are.split ∙ these.split) (end_not_open _ x end)
-    (end_not_open _ y ends)).0
-reads_one_way bytes texts others (inl (x, are, end)) (inr (short, none)) = none_of bytes texts x are short ∙ sym none
-reads_one_way bytes texts others (inr (short, none)) (inl (y, these, ends)) = none ∙ sym (none_of bytes others y these short)
-reads_one_way bytes texts others (inr (short, none)) (inr (brief, nothing)) = none ∙ sym nothing
+reads_one_way bytes texts others x y =
+    x.texts_are
+    ∙ (one_reading bytes x.identity y.identity x.entries y.entries _ _ x.records y.records (its_end bytes texts x)
+    (its_end bytes others y)).texts
+    ∙ sym y.texts_are
 
 pub read_is_not_damaged : ReadIsNotDamaged
-read_is_not_damaged bytes texts n (inl (x, are, end)) damage =
-    let both = chain_unique seed texts damage.texts x damage.rest are.within damage.records.within (sym are.split ∙ damage.records.split)
-    (end_not_open _ x end) damage.not_open in
-    damage.no_end (subst (λ l. IsEnd (last_digest seed damage.texts) l) both.1 (subst (λ ts. IsEnd (last_digest seed ts) x) both.0 end))
-read_is_not_damaged bytes texts n (inr (short, none)) damage = omega (arith, short, damage.long)
+read_is_not_damaged bytes texts reads = (
+  λ n damage.
+      let both = one_reading bytes reads.identity damage.identity reads.entries damage.entries _ _ reads.records damage.records
+      (its_end bytes texts reads) damage.not_open in
+      damage.no_end (reads.tail, sym both.rest, reads.is_tail),
+  λ none. none reads.identity (chain (seed reads.identity) reads.entries ++ closed_gate ∷ reads.tail) reads.records.is_identity
+      (reads.records.split ∙ append_assoc (header reads.identity) (chain (seed reads.identity) reads.entries) (closed_gate ∷ reads.tail)),
+)
+
+count_same : (es fs : List Entry) → texts_of es ≡ texts_of fs → length es ≡ length fs
+count_same es fs same = sym (counted es) ∙ ap length same ∙ counted fs
+  where
+    counted : (entries : List Entry) → length (texts_of entries) ≡ length entries
+    counted [] = refl
+    counted (e ∷ entries) = omega (arith, counted entries)
 
 pub is_damaged_once : IsDamagedOnce
 is_damaged_once bytes m n x y =
-    let both = chain_unique seed x.texts y.texts x.rest y.rest x.records.within y.records.within (sym x.records.split ∙ y.records.split)
-    x.not_open y.not_open in
-    omega (arith, x.number, y.number, ap length both.0)
+    let both = one_reading bytes x.identity y.identity x.entries y.entries _ _ x.records y.records x.not_open y.not_open in
+    omega (arith, x.number, y.number, count_same x.entries y.entries both.texts)

@@ -1,3 +1,5 @@
+pub mod FirstReadings
+pub mod FirstRecords
 pub mod Laws
 pub mod Readings
 pub mod Records

@@ -8,8 +8,10 @@ use doc_page_parts::list::List;
 pub struct Found {
     /// The texts of its records, in their order.
     pub texts: List<Bytes>,
-    /// Where the closed gate stands, or has to be written. What stands behind it was torn, and is to be cut off.
+    /// Where the closed gate stands. What stands behind it was torn, or was never written.
     pub end: usize,
-    /// The digest of the last record.
+    /// How many bytes the last record takes with its gate, none where there is no record.
+    pub last: usize,
+    /// The digest of the last record, or what stands in for it.
     pub digest: [u8; 32],
 }

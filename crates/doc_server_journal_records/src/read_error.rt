@@ -6,6 +6,12 @@ use thiserror::Error;
 /// Why the bytes of a journal aren't read.
 #[derive(Clone, Copy, Debug, Error)]
 pub enum ReadError {
+    /// They don't begin with a journal's header.
+    #[error("no journal")]
+    NoJournal,
+    /// They are a journal of the first form.
+    #[error("journal of version 1")]
+    First,
     /// The record of this number, counted from 1, is damaged.
     #[error("journal record {0}")]
     Damaged(usize),

@@ -34,20 +34,23 @@ lines_after None xs ys = refl
 lines_after (Some l) xs ys = ap Some (append_assoc l xs ys)
 
 pub adds_none : (a : Kept) → Adds a a []
-adds_none a whole = (whole, lines_same a.lines)
+adds_none a = (refl, λ whole. (whole, lines_same a.lines))
 
 adds_join : (a b c : Kept) (xs ys : List SiteEdit) → Adds a b xs → Adds b c ys → Adds a c (xs ++ ys)
-adds_join a b c xs ys one two whole =
-    let t = two whole in
-    let o = one t.0 in (
-      o.0,
-      t.1 ∙ ap (option_map (λ l. l ++ lines_of ys)) o.1 ∙ lines_after a.lines (lines_of xs) (lines_of ys)
-          ∙ ap (λ k. option_map (λ l. l ++ k) a.lines) (sym (flat_map-append line_of xs ys)),
-    )
+adds_join a b c xs ys one two = (
+  two.0 ∙ one.0,
+  λ whole.
+      let t = two.1 whole in
+      let o = one.1 t.0 in (
+        o.0,
+        t.1 ∙ ap (option_map (λ l. l ++ lines_of ys)) o.1 ∙ lines_after a.lines (lines_of xs) (lines_of ys)
+            ∙ ap (λ k. option_map (λ l. l ++ k) a.lines) (sym (flat_map-append line_of xs ys)),
+      ),
+)
 
 -- ---- two runs
 
-starts : (render : Renders) (v u : World) (ys : List Happened) → Runs render v ys u → left_by ys u ≡ v
+pub starts : (render : Renders) (v u : World) (ys : List Happened) → Runs render v ys u → left_by ys u ≡ v
 starts render v u ys (nothing x) = refl
 starts render v u ys (first x y z event outcome rest happens runs) = refl
 

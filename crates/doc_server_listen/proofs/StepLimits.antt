@@ -1,4 +1,4 @@
--- The edit that a step tells is at paths of pages, of groups, and of a text that fits; so a record takes its line where there is room.
+-- The edit that a step tells is at paths of pages, of groups, and of a text that fits; so the record takes its line where there is room.
 use Rattle.std.proofs.Common.{◌≡◌, ◌≤◌, ℕ, ◌+◌, List, [], ◌++◌, length, Bool, true, false, refl, ap, sym, subst, arith, length-append}
 use Rattle.std.specs.Prelude.{Option, Some, None, IfSome, Result, Ok, Err, OnOk, is_err, nat_lt, option_map, option_to_list}
 use Rattle.std.specs.Prelude.{if◌then◌else◌}
@@ -25,11 +25,14 @@ use Rattle.doc_hub_events.specs.declared.event.Step.{Step}
 use Rattle.doc_hub.proofs.ResponsePaths.{AtPaths}
 use Rattle.doc_hub.proofs.StepEdits.{steps_change}
 use Rattle.doc_hub.proofs.ToldPaths.{told_at_paths}
-use Rattle.doc_server_journal_records.specs.Records.{text_limit}
+use Rattle.doc_server_journal_records.specs.Records.{IsPlain}
 use Rattle.doc_server_script.specs.LineLengths.{IsWithin, longest_line}
 use Rattle.doc_server_script.specs.PageLines.{line_of, lines_of}
+use Rattle.doc_server_script.specs.PlainLines.{HasBytes}
+use Rattle.doc_server_script.proofs.PlainLines.{both, line_is}
 use Rattle.doc_server_script.proofs.LineLengths.{at_most, line_within}
-use Rattle.doc_server_listen.specs.Edits.{NamesGroups, edit_at, room_beside}
+use Rattle.doc_server_listen.specs.Edits.{IsRemoval, Kept, NamesGroups, TakesMore, edit_at, has_room, longest, room_beside}
+use Rattle.doc_server_listen.proofs.Removals.{removal_within, tells_removals_alone}
 
 -- ---- the edit that a step tells
 
@@ -60,7 +63,7 @@ changed_within w v (Some (edits.Regroup path names)) changes at groups =
 changed_within w v (Some (edits.Move from to)) changes at groups = at
 changed_within w v (Some (edits.Remove path)) changes at groups = at
 
-pub told_within : (render : Renders) (w v : World) (id : ConnId) (said : Step) (told : Option Edit)
+told_within : (render : Renders) (w v : World) (id : ConnId) (said : Step) (told : Option Edit)
     → Happens render w (step_on id) v (Ok said) → StepTells render w id.0 told → IfSome told NamesGroups
     → IfSome (edit_at v told) IsWithin
 told_within render w v id said told h tells groups =
@@ -73,16 +76,39 @@ more_within : (edit : Option SiteEdit) → IfSome edit IsWithin → length (line
 more_within None within = omega arith
 more_within (Some edit) within = omega (arith, length-append (line_of edit) [], line_within edit within)
 
--- the lines with this one behind them, where there was room
-pub one_more_fits : {E : Type 0} (whole : Bool) (before after : List ℕ) (edit : Option SiteEdit) (said : Result (Unit {0}) E)
-    → room_beside whole (Some before) ≡ true → IfSome edit IsWithin → is_err said ≡ false
-    → OnOk said (after ≡ before ++ lines_of (option_to_list edit)) → length after ≤ text_limit
-one_more_fits whole before after edit (Ok done) room within fine is =
-    omega (
-      arith,
-      ap length is,
-      length-append before (lines_of (option_to_list edit)),
-      more_within edit within,
-      at_most (length before + longest_line) text_limit (and_second _ _ room),
-    )
-one_more_fits whole before after edit (Err e) room within fine is = absurd (cc)
+few_more : (takes : Bool) (v : World) (told : Option Edit) → (takes ≡ false → IsRemoval told) → IfSome (edit_at v told) IsWithin
+    → length (lines_of (option_to_list (edit_at v told))) ≤ longest takes
+few_more true v told removal within = more_within (edit_at v told) within
+few_more false v told removal within = removal_within v told (removal refl) within
+
+beside : (whole : Bool) (lines : Option (List ℕ)) (most few : ℕ) (more : List ℕ) → room_beside whole lines most few ≡ true
+    → length more ≤ few → IfSome lines (λ l. length l + length more ≤ most)
+beside whole None most few more room le = tt
+beside whole (Some lines) most few more room le = omega (arith, le, at_most (length lines + few) most (and_second _ _ room))
+
+-- the record takes the line of the edit that a step tells, where there was room
+pub told_fits : (render : Renders) (w v : World) (id : ConnId) (said : Step) (told : Option Edit) (kept : Kept)
+    → Happens render w (step_on id) v (Ok said) → StepTells render w id.0 told → IfSome told NamesGroups
+    → has_room kept w.takes_puts ≡ true → TakesMore kept (lines_of (option_to_list (edit_at v told)))
+told_fits render w v id said told kept h tells groups room whole =
+    beside kept.is_whole kept.lines kept.most (longest w.takes_puts) (lines_of (option_to_list (edit_at v told))) room
+    (few_more w.takes_puts v told (λ off. tells_removals_alone render w id.0 told off tells)
+    (told_within render w v id said told h tells groups))
+
+-- the lines with these behind them
+pub one_more_fits : {E : Type 0} (most : ℕ) (before after more : List ℕ) (said : Result (Unit {0}) E)
+    → length before + length more ≤ most → is_err said ≡ false → OnOk said (after ≡ before ++ more) → length after ≤ most
+one_more_fits most before after more (Ok done) room fine is = omega (arith, room, ap length is, length-append before more)
+one_more_fits most before after more (Err e) room fine is = absurd (cc)
+
+-- and they are plain
+edit_plain : (edit : Option SiteEdit) → IfSome edit HasBytes → IsPlain (lines_of (option_to_list edit))
+edit_plain None has = refl
+edit_plain (Some edit) has = both (line_of edit) [] (line_is edit has) refl
+
+pub one_more_plain : {E : Type 0} (before after : List ℕ) (edit : Option SiteEdit) (said : Result (Unit {0}) E)
+    → IsPlain before → IfSome edit HasBytes → is_err said ≡ false
+    → OnOk said (after ≡ before ++ lines_of (option_to_list edit)) → IsPlain after
+one_more_plain before after edit (Ok done) plain has fine is =
+    subst IsPlain (sym is) (both before (lines_of (option_to_list edit)) plain (edit_plain edit has))
+one_more_plain before after edit (Err e) plain has fine is = absurd (cc)

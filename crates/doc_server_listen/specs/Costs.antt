@@ -1,5 +1,5 @@
 -- What steps cost of a turn, and how a turn is shared by its connections.
-use Rattle.std.specs.Prelude.{◌≡◌, ◌≤◌, ℕ, ◌+◌, ◌*◌, ◌==◌, List, [], ◌∷◌, Bool, true, false, ◌||◌, not, nat_eq, nat_le, codes, Option, Some, None, count_by}
+use Rattle.std.specs.Prelude.{◌≡◌, ◌≤◌, ℕ, ◌+◌, ◌*◌, ◌==◌, List, [], ◌∷◌, Bool, false, ◌||◌, not, nat_eq, nat_le, codes, Option, Some, None, count_by}
 use Rattle.std.specs.Prelude.{if◌then◌else◌, slice_get, sum_by}
 use Rattle.std.specs.List.{list_any, starts_with}
 use Rattle.doc_hub.specs.Runs.{Happened, events_on}

@@ -1,6 +1,6 @@
 -- The edits of a run, and their lines.
-use Rattle.std.specs.Prelude.{◌≡◌, ◌≤◌, ⊤, ℕ, ◌+◌, List, [], ◌∷◌, ◌++◌, length, Bool, true, ◌&&◌, nat_le, Option, Some, None, IfSome}
-use Rattle.std.specs.Prelude.{option_map, option_to_list}
+use Rattle.std.specs.Prelude.{◌≡◌, ◌≤◌, ⊤, ℕ, ◌+◌, ◌*◌, List, [], ◌∷◌, ◌++◌, length, Bool, true, false, ◌&&◌, nat_le, Option, Some, None}
+use Rattle.std.specs.Prelude.{IfSome, option_map, option_to_list}
 use Rattle.std.specs.FinMap as map
 use Rattle.std.specs.List.{flat_map}
 use Rattle.doc_store_readers.specs.Groups.{IsGroups}
@@ -18,26 +18,42 @@ use Rattle.doc_hub_events.specs.declared.event.ConnectionEvent.TheVariants as ca
 use Rattle.doc_hub_events.specs.declared.event.Event.TheVariants as events
 use Rattle.doc_hub_events.specs.declared.outcome.Outcome.{Outcome}
 use Rattle.doc_hub_events.specs.declared.outcome.Outcome.TheVariants as outcomes
-use Rattle.doc_server_journal_records.specs.Records.{text_limit}
-use Rattle.doc_server_script.specs.LineLengths.{longest_line}
+use Rattle.doc_server_journal_records.specs.Records.{IsPlain, text_limit}
+use Rattle.doc_server_script.specs.LineLengths.{longest_line, path_limit}
 use Rattle.doc_server_script.specs.PageLines.{lines_of}
 
--- the lines of edits, where they are kept, and whether none is missing
+-- the lines of edits, where they are kept, whether none is missing, and how many bytes of lines the record of the turn takes
 pub record Kept : Type 0 where
   pub lines : Option (List ℕ)
   pub is_whole : Bool
+  pub most : ℕ
 
--- where none is missing, a record takes the lines
+-- where none is missing, the record takes the lines
 abbrev pub FitsRecord : Kept → Type 0
-FitsRecord kept = kept.is_whole ≡ true → IfSome kept.lines (λ lines. length lines ≤ text_limit)
+FitsRecord kept =
+    (kept.most ≤ text_limit) × (kept.is_whole ≡ true → IfSome kept.lines (λ lines. (length lines ≤ kept.most) × IsPlain lines))
 
-abbrev pub room_beside : Bool → Option (List ℕ) → Bool
-room_beside is_whole None = true
-room_beside is_whole (Some lines) = is_whole && nat_le (length lines + longest_line) text_limit
+-- The longest line of a removal: `remove `, a path, each byte of which is written with four at most, and the line feed.
+unfoldable pub longest_removal : ℕ
+longest_removal = 7 + (4 * path_limit + 1)
 
--- Whether one more edit may be made: where lines are kept none is missing, and a record takes the longest line beside them.
-abbrev pub has_room : Kept → Bool
-has_room kept = room_beside kept.is_whole kept.lines
+-- the longest line of one more edit: where no puts are taken only removals come
+abbrev pub longest : Bool → ℕ
+longest true = longest_line
+longest false = longest_removal
+
+abbrev pub room_beside : Bool → Option (List ℕ) → ℕ → ℕ → Bool
+room_beside is_whole None most more = true
+room_beside is_whole (Some lines) most more = is_whole && nat_le (length lines + more) most
+
+-- Whether one more edit may be made, by whether puts are taken: where lines are kept none is missing, and the record takes the longest line
+-- beside them.
+abbrev pub has_room : Kept → Bool → Bool
+has_room kept takes_puts = room_beside kept.is_whole kept.lines kept.most (longest takes_puts)
+
+-- the record takes these lines, too
+abbrev pub TakesMore : Kept → List ℕ → Type 0
+TakesMore kept more = kept.is_whole ≡ true → IfSome kept.lines (λ lines. length lines + length more ≤ kept.most)
 
 -- the edit that a step tells, with the page that stands under the path in the world behind it
 abbrev pub edit_at : World → Option Edit → Option SiteEdit
@@ -74,10 +90,12 @@ AreMade render run v edits = ⊥
 abbrev pub accepted : List (Option SiteEdit) → List SiteEdit
 accepted edits = flat_map option_to_list edits
 
--- Where none is missing now, none was missing before, and the lines of these edits stand behind those before.
+-- The record takes as much as before. Where none is missing now, none was missing before, and the lines of these edits stand behind those
+-- before.
 abbrev pub Adds : Kept → Kept → List SiteEdit → Type 0
 Adds old new edits =
-    new.is_whole ≡ true → (old.is_whole ≡ true) × (new.lines ≡ option_map (λ lines. lines ++ lines_of edits) old.lines)
+    (new.most ≡ old.most)
+    × (new.is_whole ≡ true → (old.is_whole ≡ true) × (new.lines ≡ option_map (λ lines. lines ++ lines_of edits) old.lines))
 
 -- a run's edits, and what they add
 pub record Records (render : Renders) (run : List Happened) (v : World) (old new : Kept) : Type 0 where
@@ -94,3 +112,16 @@ IsQuiet event = ⊥
 abbrev pub AreQuiet : List Happened → Type 0
 AreQuiet [] = ⊤
 AreQuiet (h ∷ run) = IsQuiet h.event × AreQuiet run
+
+-- ---- where no puts are taken
+
+-- no edit, or a removal
+abbrev pub IsRemoval : Option Edit → Type 0
+IsRemoval None = ⊤
+IsRemoval (Some (edits.Remove path)) = ⊤
+IsRemoval (Some edit) = ⊥
+
+-- a step tells removals alone
+abbrev pub TellsRemovalsAlone : Type 0
+TellsRemovalsAlone = (render : Renders) (w : World) (id : ℕ) (told : Option Edit) → w.takes_puts ≡ false → StepTells render w id told
+    → IsRemoval told

@@ -1,6 +1,7 @@
 pub mod Channels
 pub mod Closing
 pub mod Costs
+pub mod Counting
 pub mod Edits
 pub mod MemoryChannels
 pub mod Peers

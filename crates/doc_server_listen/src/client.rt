@@ -265,7 +265,10 @@ impl<S: Channel + Drop> Client<S> {
     {
         let mut held = 0;
         'steps: for _ in 0..MOST_STEPS {
-            if held >= MOST_PENDING || self.stage == Stage::Reads || !edits.has_room() {
+            if held >= MOST_PENDING || self.stage == Stage::Reads {
+                return;
+            }
+            if !edits.has_room(hub.takes_puts()) {
                 return;
             }
             if !share.take(self.next_cost(hub)) {
@@ -292,7 +295,7 @@ impl<S: Channel + Drop> Client<S> {
     fn step<R: Renderer + Drop>(&mut self, hub: &mut Hub<R>, edits: &mut EditLines) -> Option<usize>
         requires open { self.old.is_open ≡ true }
         requires room { length self.old.pending < most_pending }
-        requires further { has_room edits.old ≡ true }
+        requires further { has_room edits.old hub.old.1.takes_puts ≡ true }
         ensures serves { (s : Serves (R.page hub.old.0) hub.old.1 self.old hub.new.1 self.new)
             × Records (R.page hub.old.0) s.run hub.new.1 edits.old edits.new
             × CostsAtMost s.run (next_cost hub.old.1 self.old.id) }

@@ -6,6 +6,7 @@ pub mod channel;
 pub mod client;
 pub mod cost;
 pub mod edit_lines;
+pub mod laws;
 pub mod memory_channel;
 mod sending;
 pub mod share;

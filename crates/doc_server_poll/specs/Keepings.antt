@@ -18,11 +18,11 @@ abbrev pub poll_fault_of : TurnFault → PollFault
 poll_fault_of turns.Memory = polls.Memory
 poll_fault_of turns.CannotWrite = polls.CannotWrite
 
-module _ {D : Type 0} (seen : D → Option (List ℕ)) (may_leave : D → List ℕ → Type 0) (failed : D → Bool) where
+module _ {D : Type 0} (seen : D → Option (List ℕ)) (may_leave : D → List ℕ → Type 0) (failed : D → Bool) (stale : D → ℕ → Type 0) where
   -- where there is a journal, it is open
   abbrev pub IsReady : Keeping D → Type 0
   IsReady keepings.Forgets = ⊤
-  IsReady (keepings.Keeps journal) = (texts : List (List ℕ)) × IsOpen seen may_leave failed journal texts
+  IsReady (keepings.Keeps journal) = (texts : List (List ℕ)) × IsOpen seen may_leave failed stale journal texts
 
   -- Where there is a journal, the edits of a turn's run are in it when the turn went well; else nothing of the turn's replies was handed
   -- over, and each crash leaves all of its edits or none.
@@ -30,5 +30,5 @@ module _ {D : Type 0} (seen : D → Option (List ℕ)) (may_leave : D → List �
       → List Peer → Result (Unit {0}) TurnFault → Type 0
   KeepsEdits moment left_since keepings.Forgets keepings.Forgets render run v ps qs result = ⊤
   KeepsEdits moment left_since (keepings.Keeps old) (keepings.Keeps new) render run v ps qs result =
-      Settles seen may_leave failed moment left_since old new render run v result × OnErr result (GiveFronts ps qs)
+      Settles seen may_leave failed stale moment left_since old new render run v result × OnErr result (GiveFronts ps qs)
   KeepsEdits moment left_since old new render run v ps qs result = ⊥

@@ -12,10 +12,11 @@ pub record Serving : Type 0 where
   pub most : ℕ
   pub clients : List Peer
 
--- a connect, a push, a step or a disconnect
+-- a connect, a push, a step or a disconnect, or whether puts are taken
 abbrev pub IsOfPeers : Event → Type 0
 IsOfPeers events.Connect = ⊤
 IsOfPeers (events.On id call) = ⊤
+IsOfPeers (events.TakePuts takes) = ⊤
 IsOfPeers event = ⊥
 
 -- a run of such events leads from one world to the other

@@ -168,16 +168,17 @@ impl Peers {
         hub: &mut Hub<R>,
         piece: &mut [u8],
         now: Instant,
+        seconds: u64,
         watch: &mut W,
     ) -> Result<(), TurnFault>
-        requires ready { IsReady D.seen D.may_leave D.failed keeping.old }
+        requires ready { IsReady D.seen D.may_leave D.failed D.stale keeping.old }
         ensures leads { Leads (R.page hub.old.0) hub.old.1 hub.new.1 }
         ensures same { R.page hub.new.0 ≡ R.page hub.old.0 }
-        ensures ready { OnOk result (IsReady D.seen D.may_leave D.failed keeping.new) }
+        ensures ready { OnOk result (IsReady D.seen D.may_leave D.failed D.stale keeping.new) }
         ensures none { length self.new ≤ length self.old }
     {
         let mut share = Share::new();
-        self.settle(heap, keeping, hub, piece, &mut share)?;
+        self.settle(heap, keeping, hub, piece, &mut share, seconds)?;
         self.leave_all(share.behind(), piece, now, watch);
         self.let_go(hub, watch);
         watch.end_turn();
@@ -192,11 +193,12 @@ impl Peers {
         hub: &mut Hub<R>,
         piece: &mut [u8],
         share: &mut Share,
+        seconds: u64,
     ) -> Result<(), TurnFault>
-        requires ready { IsReady D.seen D.may_leave D.failed keeping.old }
+        requires ready { IsReady D.seen D.may_leave D.failed D.stale keeping.old }
         ensures leads { Leads (R.page hub.old.0) hub.old.1 hub.new.1 }
         ensures same { R.page hub.new.0 ≡ R.page hub.old.0 }
-        ensures ready { OnOk result (IsReady D.seen D.may_leave D.failed keeping.new) }
+        ensures ready { OnOk result (IsReady D.seen D.may_leave D.failed D.stale keeping.new) }
         ensures many { length self.new ≡ length self.old }
     {
         keeping.turn(
@@ -206,6 +208,7 @@ impl Peers {
             &self.ready,
             piece,
             share,
+            seconds,
         )
     }
 

@@ -6,13 +6,15 @@ ghost use Rattle.doc_server_poll.specs.Servers.{Leads};
 
 use crate::door::Door;
 use crate::fault::PollFault;
-use crate::keeping::{Found, Keeping};
+use crate::keeping::{Keeping, NamedFile};
 use crate::peers::Peers;
 use crate::watch::Watch;
 use doc_hub::hub::Hub;
 use doc_page::renderer::Renderer;
 use doc_page_parts::heap::{Heap, Vec};
+use doc_server_journal::clock::seconds_of;
 use doc_server_journal::device::Device;
+use doc_server_settling::reserve::{RESERVE, SPARE};
 use mio::net::TcpListener;
 use mio::unix::SourceFd;
 use mio::{Events, Interest, Poll, Token};
@@ -43,7 +45,7 @@ const WAIT: u64 = 260;
 /// How long it is at least from one sweep to the next, in milliseconds.
 const SWEEP: u64 = 250;
 
-/// How long it is from one look for the journal to the next, in seconds.
+/// How long it is from one look for the journal and its room to the next, in seconds.
 const LOOK: u64 = 10;
 
 /// A server that accepts while it serves.
@@ -57,7 +59,7 @@ pub struct Server {
     idle_seconds: u64,
     piece: Vec<u8>,
     swept: Instant,
-    /// When it was looked whether the journal can be found.
+    /// When it was looked whether the journal can be found, and for its room.
     looked: Instant,
 }
 
@@ -155,19 +157,20 @@ impl Server {
     }
 
     /// Serves until standard input ends, where that is a pipe; any other one doesn't end it. Each of its turns keeps the bound, whoever
-    /// watches.
-    pub fn serve<D: Device + Found, T: Renderer + Drop, R: Clock, W: Watch>(
+    /// watches. The journal gets its room first.
+    pub fn serve<D: Device + NamedFile, T: Renderer + Drop, R: Clock, W: Watch>(
         &mut self,
         rt: &R,
         keeping: &mut Keeping<D>,
         hub: &mut Hub<T>,
         watch: &mut W,
     ) -> Result<(), PollFault>
-        requires ready { IsReady D.seen D.may_leave D.failed keeping.old }
+        requires ready { IsReady D.seen D.may_leave D.failed D.stale keeping.old }
         ensures leads { Leads (T.page hub.old.0) hub.old.1 hub.new.1 }
         ensures same { T.page hub.new.0 ≡ T.page hub.old.0 }
         ensures most { self.new.most ≡ self.old.most }
     {
+        keeping.keep_reserve(hub, RESERVE + SPARE)?;
         'turns: for _ in 0..u64::MAX {
             if self.turn(rt, keeping, hub, watch)? {
                 return Ok(());
@@ -177,25 +180,24 @@ impl Server {
     }
 
     /// One turn. True: standard input has ended, and nobody is accepted any more.
-    pub fn turn<D: Device + Found, T: Renderer + Drop, R: Clock, W: Watch>(
+    pub fn turn<D: Device + NamedFile, T: Renderer + Drop, R: Clock, W: Watch>(
         &mut self,
         rt: &R,
         keeping: &mut Keeping<D>,
         hub: &mut Hub<T>,
         watch: &mut W,
     ) -> Result<bool, PollFault>
-        requires ready { IsReady D.seen D.may_leave D.failed keeping.old }
-        ensures ready { OnOk result (IsReady D.seen D.may_leave D.failed keeping.new) }
+        requires ready { IsReady D.seen D.may_leave D.failed D.stale keeping.old }
+        ensures ready { OnOk result (IsReady D.seen D.may_leave D.failed D.stale keeping.new) }
         ensures leads { Leads (T.page hub.old.0) hub.old.1 hub.new.1 }
         ensures same { T.page hub.new.0 ≡ T.page hub.old.0 }
         ensures most { self.new.most ≡ self.old.most }
         ensures bound { length self.new.clients ≤ self.new.most }
     {
         let now = self.wait_for_events(rt)?;
-        self.look(keeping, now)?;
+        self.look(keeping, hub, now)?;
         let ends = self.take_in();
-        self.peers
-            .turn(self.heap, keeping, hub, &mut self.piece, now, watch)?;
+        self.settle(rt, keeping, hub, now, watch)?;
         if ends {
             return Ok(true);
         }
@@ -218,12 +220,51 @@ impl Server {
         }
     }
 
-    /// Looks from time to time whether the journal can be found again. Where it can't, what is answered from now on would be lost.
-    fn look<D: Device + Found>(
+    /// The turn of those that were taken in, and behind its edits the room of the journal.
+    fn settle<D: Device + NamedFile, T: Renderer + Drop, R: Clock, W: Watch>(
         &mut self,
-        keeping: &Keeping<D>,
+        rt: &R,
+        keeping: &mut Keeping<D>,
+        hub: &mut Hub<T>,
+        now: Instant,
+        watch: &mut W,
+    ) -> Result<(), PollFault>
+        requires ready { IsReady D.seen D.may_leave D.failed D.stale keeping.old }
+        ensures ready { OnOk result (IsReady D.seen D.may_leave D.failed D.stale keeping.new) }
+        ensures leads { Leads (T.page hub.old.0) hub.old.1 hub.new.1 }
+        ensures same { T.page hub.new.0 ≡ T.page hub.old.0 }
+        ensures most { self.new.most ≡ self.old.most }
+        ensures bound { length self.new.clients ≤ self.new.most }
+    {
+        let room = keeping.room();
+        self.peers.turn(
+            self.heap,
+            keeping,
+            hub,
+            &mut self.piece,
+            now,
+            seconds_of(rt),
+            watch,
+        )?;
+        if keeping.room() == room {
+            return Ok(());
+        }
+        keeping.keep_reserve(hub, keeping.growth())?;
+        Ok(())
+    }
+
+    /// Looks from time to time whether the journal can be found again, and for its room. Where it can't be found, what is answered from
+    /// now on would be lost.
+    fn look<D: Device + NamedFile, T: Renderer + Drop>(
+        &mut self,
+        keeping: &mut Keeping<D>,
+        hub: &mut Hub<T>,
         now: Instant,
     ) -> Result<(), PollFault>
+        requires ready { IsReady D.seen D.may_leave D.failed D.stale keeping.old }
+        ensures ready { OnOk result (IsReady D.seen D.may_leave D.failed D.stale keeping.new) }
+        ensures leads { Leads (T.page hub.old.0) hub.old.1 hub.new.1 }
+        ensures render { T.page hub.new.0 ≡ T.page hub.old.0 }
         ensures same { self.new ≡ self.old }
         ensures bound { length self.new.clients ≤ self.new.most }
     {
@@ -234,6 +275,7 @@ impl Server {
         if !keeping.is_found() {
             return Err(PollFault::CannotWrite);
         }
+        keeping.keep_reserve(hub, keeping.growth())?;
         Ok(())
     }
 

@@ -2,7 +2,6 @@
 use Rattle.std.proofs.Common.{◌≡◌, ℕ, ◌+◌, List, [], ◌∷◌, ◌++◌, Bool, true, false, refl, ap, sym, subst, ◌∙◌}
 use Rattle.std.specs.Prelude.{map as mapped, Option, Some, None, option_map, Ok, if◌then◌else◌}
 use Rattle.std.specs.FinMap as map
-use Rattle.std.specs.Option.{ok_or}
 use Rattle.doc_store.specs.Store.{remove_page, StoreState, effect_of, without_page}
 use Rattle.doc_store.specs.declared.site_edit.SiteEdit.{SiteEdit}
 use Rattle.doc_store.specs.declared.site_edit.SiteEdit.TheVariants as site_edits
@@ -11,13 +10,12 @@ use Rattle.doc_server_script.specs.Compactions.{compacted}
 use Rattle.doc_server_script.specs.PageLines.{lines_of}
 use Rattle.doc_server_script.specs.Replays.{edited, replayed}
 use Rattle.doc_server_restore.specs.Written.{joined}
-use Rattle.doc_server_restore.specs.declared.fault.RestoreFault.TheVariants as faults
 use Rattle.doc_server_restore.specs.Laws.{AreEdits, CompactionIsRestored}
-use Rattle.doc_server_restore.specs.Restores.{after_record, all_made, made, restored, restored_from, unstamped}
+use Rattle.doc_server_restore.specs.Restores.{all_made, made, restored, restored_from, unstamped}
 use Rattle.doc_server_restore.proofs.Effects.{no_some, same_some}
 use Rattle.doc_server_restore.proofs.LineLaws.{lines_are_read}
 use Rattle.doc_server_restore.proofs.MadeSteps.{store_put, store_moved, store_removed}
-use Rattle.doc_server_restore.proofs.RecordSteps.{as_onto}
+use Rattle.doc_server_restore.proofs.RecordSteps.{as_onto, record_restored}
 
 -- ---- stamps decide nothing
 
@@ -105,8 +103,7 @@ parts_restored (part ∷ parts) n store last are is =
     by None each first rest = absurd (no_some last rest)
     by (Some next) each first rest =
         as_onto n store (lines_of part) (mapped lines_of parts) (Ok next)
-        (ap (after_record store n) (lines_are_read part (edits_apart part (joined parts) are).0) ∙ ap
-        (λ o. ok_or o (faults.Refused n)) first)
+        (record_restored store next n (lines_of part) part (lines_are_read part (edits_apart part (joined parts) are).0) first)
         ∙ each next rest
 
 pub compaction_is_restored : CompactionIsRestored

@@ -15,8 +15,8 @@ use Rattle.doc_server_script.specs.Replays.{unless_refused}
 use Rattle.doc_server_restore.specs.declared.fault.RestoreFault.{RestoreFault}
 use Rattle.doc_server_restore.specs.declared.fault.RestoreFault.TheVariants as faults
 use Rattle.doc_server_restore.specs.Restores.{HaveEffect, after_record, all_in_front, all_made, edit_in, edits_in, edits_of, edits_of_all}
-use Rattle.doc_server_restore.specs.Restores.{effect_made, effects_made, in_front, made, restored_from, unstamped}
-use Rattle.doc_server_restore.specs.RestoreSteps.{made_by, made_of}
+use Rattle.doc_server_restore.specs.Restores.{effect_made, effects_made, in_front, made, refused_from, restored_from, unstamped}
+use Rattle.doc_server_restore.specs.RestoreSteps.{line_refused, made_by, made_of}
 
 pub no_some : {X : Type 0} (x : X) → None ≡ Some x → ⊥
 no_some x is = subst T (sym (ap is_some is)) tt
@@ -114,6 +114,28 @@ events_made [] edits is s = ap (all_made s) (same_some [] edits is)
 events_made (event ∷ events) edits is s =
     step_of (edit_in event) (edits_in events) edits (λ next. made_of next events) is (events_made events) s
 
+-- and the number of the first that is refused
+line_of_step : (found : Option SiteEdit) (rest : Option (List SiteEdit)) (edits : List SiteEdit) (n : ℕ) (onto : StoreState → ℕ)
+    → in_front found rest ≡ Some edits
+    → ((these : List SiteEdit) → rest ≡ Some these → (s : StoreState) → onto s ≡ refused_from (n + 1) s these) → (s : StoreState)
+    → ◌≡◌ {A = ℕ} (elim (made_by s found) [ None ↦ n | Some next ↦ onto next ]) (refused_from n s edits)
+line_of_step None rest edits n onto is behind s = absurd (no_some edits is)
+line_of_step (Some edit) None edits n onto is behind s = absurd (no_some edits is)
+line_of_step (Some edit) (Some these) edits n onto is behind s =
+    each (made s edit) ∙ ap (refused_from n s) (same_some (edit ∷ these) edits is)
+  where
+    each : (mid : Option StoreState)
+        → ◌≡◌ {A = ℕ} (elim mid [ None ↦ n | Some next ↦ onto next ]) (elim mid [ None ↦ n | Some next ↦ refused_from (n + 1) next these ])
+    each None = refl
+    each (Some next) = behind these refl next
+
+pub lines_refused : (events : List Event) (edits : List SiteEdit) (n : ℕ) → edits_in events ≡ Some edits → (s : StoreState)
+    → line_refused n s events ≡ refused_from n s edits
+lines_refused [] edits n is s = ap (refused_from n s) (same_some [] edits is)
+lines_refused (event ∷ events) edits n is s =
+    line_of_step (edit_in event) (edits_in events) edits n (λ next. line_refused (n + 1) next events) is
+    (λ these said. lines_refused events these (n + 1) said) s
+
 -- ---- records
 
 -- what is shown of the records behind the first
@@ -122,11 +144,12 @@ Behind texts n next = (after : StoreState) → restored_from n after texts ≡ O
 
 second : (text : List ℕ) (texts : List (List ℕ)) (n : ℕ) (store next : StoreState) (edits : List SiteEdit) → Behind texts (n + 1) next
     → edits_of text ≡ Some edits → (mid : Option StoreState) → all_made store edits ≡ mid
-    → ◌≡◌ {A = Result StoreState RestoreFault} (elim (ok_or mid (faults.Refused n)) [
+    → ◌≡◌ {A = Result StoreState RestoreFault} (elim (ok_or mid (faults.Refused n (refused_from 1 store edits))) [
       | Err fault ↦ Err fault
       | Ok after ↦ restored_from (n + 1) after texts
     ]) (Ok next) → HaveEffect (text ∷ texts) store next
-second text texts n store next edits behind said None made_is more = absurd (no_error next (faults.Refused n) more)
+second text texts n store next edits behind said None made_is more =
+    absurd (no_error next (faults.Refused n (refused_from 1 store edits)) more)
 second text texts n store next edits behind said (Some after) made_is more =
     let rest = behind after more in
     record {

@@ -1,7 +1,7 @@
 mod CompactionLaw
 mod Effects
-mod LineLaws
+pub mod LineLaws
 mod MadeSteps
-mod RecordSteps
+pub mod RecordSteps
 mod SameSteps
 mod WriterLaws

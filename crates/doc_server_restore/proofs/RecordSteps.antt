@@ -1,5 +1,5 @@
 -- Records, one after the other.
-use Rattle.std.proofs.Common.{◌≡◌, ℕ, ◌+◌, List, [], ◌∷◌, Bool, true, false, ◌&&◌, cond, is_some, refl, ap, sym, ◌∙◌}
+use Rattle.std.proofs.Common.{◌≡◌, ℕ, ◌+◌, List, [], ◌∷◌, Bool, true, false, ◌&&◌, cond, is_some, refl, ap, sym, subst, ◌∙◌}
 use Rattle.std.specs.Prelude.{Option, Some, None, option_and_then, Result, Ok, Err}
 use Rattle.std.specs.Option.{ok_or}
 use Rattle.std.specs.List.{list_all}
@@ -16,9 +16,9 @@ use Rattle.doc_store.specs.declared.site_edit.SiteEdit.{SiteEdit}
 use Rattle.doc_hub_events.specs.declared.event.Event.{Event}
 use Rattle.doc_server_restore.specs.declared.fault.RestoreFault.{RestoreFault}
 use Rattle.doc_server_restore.specs.declared.fault.RestoreFault.TheVariants as faults
-use Rattle.doc_server_restore.specs.Restores.{after_record, edit_in, edits_in, edits_of, in_front, restored_from}
-use Rattle.doc_server_restore.specs.RestoreSteps.{Reads, Tells, is_edit, made_by, made_of}
-use Rattle.doc_server_restore.proofs.Effects.{events_made}
+use Rattle.doc_server_restore.specs.Restores.{after_record, all_made, edit_in, edits_in, edits_of, in_front, refused_from, restored_from}
+use Rattle.doc_server_restore.specs.RestoreSteps.{Reads, TellsLine, is_edit, line_refused, made_by, made_of}
+use Rattle.doc_server_restore.proofs.Effects.{events_made, lines_refused}
 
 abbrev pub onto : ℕ → List (List ℕ) → Result StoreState RestoreFault → Result StoreState RestoreFault
 onto n texts (Err fault) = Err fault
@@ -52,19 +52,28 @@ last_record all n store left texts text fault so first is =
 
 -- ---- one record
 
+-- its edits are made
+pub record_restored : (store next : StoreState) (n : ℕ) (text : List ℕ) (edits : List SiteEdit) → edits_of text ≡ Some edits
+    → all_made store edits ≡ Some next → after_record store n (edits_of text) ≡ Ok next
+record_restored store next n text edits said is =
+    ap (after_record store n) said ∙ ap (λ o. ok_or o (faults.Refused n (refused_from 1 store edits))) is
+
 pub record_made : (store next : StoreState) (n : ℕ) (given : Option (List SiteEdit)) (found events : List Event) → Reads given (Some found)
     → events ≡ found → made_of store events ≡ Some next → after_record store n given ≡ Ok next
 record_made store next n given found events (edits, are, said) same is =
     ap (after_record store n) said
-    ∙ ap (λ o. ok_or o (faults.Refused n))
+    ∙ ap (λ o. ok_or o (faults.Refused n (refused_from 1 store edits)))
     (sym (events_made found edits are store) ∙ ap (made_of store) (sym same) ∙ is)
 
-pub record_refused : (store : StoreState) (n : ℕ) (given : Option (List SiteEdit)) (found events : List Event) → Reads given (Some found)
-    → events ≡ found → made_of store events ≡ None → after_record store n given ≡ Err (faults.Refused n)
-record_refused store n given found events (edits, are, said) same is =
+pub record_refused : (store : StoreState) (n line : ℕ) (given : Option (List SiteEdit)) (found events : List Event)
+    → Reads given (Some found) → events ≡ found → made_of store events ≡ None → line ≡ line_refused 1 store events
+    → after_record store n given ≡ Err (faults.Refused n line)
+record_refused store n line given found events (edits, are, said) same is first =
     ap (after_record store n) said
-    ∙ ap (λ o. ok_or o (faults.Refused n))
+    ∙ ap (λ o. ok_or o (faults.Refused n (refused_from 1 store edits)))
     (sym (events_made found edits are store) ∙ ap (made_of store) (sym same) ∙ is)
+    ∙ ap (λ l. Err (faults.Refused n l))
+    (sym (first ∙ ap (line_refused 1 store) same ∙ lines_refused found edits 1 are store))
 
 -- ---- events
 
@@ -151,10 +160,10 @@ text_bad text other = ap (λ t. cond t (option_and_then edits_in (result_ok (eve
 
 -- ---- what calls tell
 
-pub told_none : (b : Bool) (given : Option StoreState) (new : StoreState) → Tells b given new → b ≡ false → given ≡ None
-told_none true given new tells is = absurd (true≢false is)
-told_none false given new tells is = tells
+pub told_none : (line : Option ℕ) (n : ℕ) (given : Option StoreState) (first : ℕ) (new : StoreState) → TellsLine line given first new
+    → line ≡ Some n → (given ≡ None) × (n ≡ first)
+told_none line n given first new tells is = subst (λ l. TellsLine l given first new) is tells
 
-pub told_some : (b : Bool) (given : Option StoreState) (new : StoreState) → Tells b given new → b ≡ true → given ≡ Some new
-told_some true given new tells is = tells
-told_some false given new tells is = absurd (true≢false (sym is))
+pub told_some : (line : Option ℕ) (given : Option StoreState) (first : ℕ) (new : StoreState) → TellsLine line given first new
+    → line ≡ None → given ≡ Some new
+told_some line given first new tells is = subst (λ l. TellsLine l given first new) is tells

@@ -19,10 +19,11 @@ use Rattle.doc_store.specs.Store.{set_page, remove_page, move_page}
 use Rattle.doc_store.specs.declared.site_edit.SiteEdit.{SiteEdit}
 use Rattle.doc_store.specs.declared.site_edit.SiteEdit.TheVariants as site_edits
 use Rattle.doc_server_journal.specs.Journals.{IsOpen}
-use Rattle.doc_server_journal_records.specs.Records.{text_limit}
+use Rattle.doc_server_journal_records.specs.Records.{IsPlain, text_limit}
 use Rattle.doc_server_script.specs.Compactions.{made, made_along, moves, same_at}
 use Rattle.doc_server_script.specs.PageLines.{line_of, lines_of}
 use Rattle.doc_server_restore.specs.Written.{AreLines, IsWritten}
+use Rattle.doc_server_script.proofs.PlainLines.{both}
 use Rattle.doc_server_script.proofs.MadeSteps.{first_is_in, is_in, later_is_in}
 use Rattle.doc_server_script.proofs.Without.{Entries, paths}
 use Rattle.doc_server_script.specs.Edits.{put_line, remove_line, move_line}
@@ -39,6 +40,9 @@ more_lines records first others text are is = record {
       ∙ (ap (λ edits. edits ++ (others ++ [])) are.all ∙ ap (λ edits. first ++ edits) (append-nil others));
 }
 
+none_plain : (text : List ℕ) → text ≡ [] → IsPlain text
+none_plain text none = subst IsPlain (sym none) refl
+
 none_within : (text : List ℕ) → text ≡ [] → length text ≤ text_limit
 unfolding text_limit
 none_within text none = subst (λ t. length t ≤ text_limit) (sym none) (omega arith)
@@ -47,9 +51,9 @@ none_within text none = subst (λ t. length t ≤ text_limit) (sym none) (omega 
 abbrev pub Stand : TextMap Page → Entries → Type 0
 Stand pages entries = (q : List ℕ) → is_in q (paths entries) ≡ true → map.contains_key pages q ≡ true
 
-module _ {D : Type 0} (seen : D → Option (List ℕ)) (may_leave : D → List ℕ → Type 0) (failed : D → Bool) where
-  pub begun : (writer : EditWriter D) → IsOpen seen may_leave failed writer.journal [] → string_bytes writer.text ≡ []
-      → HasWritten seen may_leave failed writer []
+module _ {D : Type 0} (seen : D → Option (List ℕ)) (may_leave : D → List ℕ → Type 0) (failed : D → Bool) (stale : D → ℕ → Type 0) where
+  pub begun : (writer : EditWriter D) → IsOpen seen may_leave failed stale writer.journal [] → string_bytes writer.text ≡ []
+      → HasWritten seen may_leave failed stale writer []
   begun writer is none = record {
     records = [];
     first = [];
@@ -58,18 +62,19 @@ module _ {D : Type 0} (seen : D → Option (List ℕ)) (may_leave : D → List �
     lines = record { parts = []; are = refl; all = refl };
     text = none;
     within = none_within (string_bytes writer.text) none;
+    plain = none_plain (string_bytes writer.text) none;
     all = refl;
   }
 
   pub added : (old new : EditWriter D) (line : List ℕ) (edit : SiteEdit) → new.journal ≡ old.journal
       → string_bytes new.text ≡ string_bytes old.text ++ line → length (string_bytes old.text) + length line ≤ text_limit
-      → line ≡ line_of edit
-      → Wrote seen may_leave failed old new (edit ∷ [])
-  added old new line edit journal text room is = λ edits h. record {
+      → IsPlain line → line ≡ line_of edit
+      → Wrote seen may_leave failed stale old new (edit ∷ [])
+  added old new line edit journal text room plain is = λ edits h. record {
     records = h.records;
     first = h.first;
     others = h.others ++ edit ∷ [];
-    is_open = subst (λ j. IsOpen seen may_leave failed j h.records) (sym journal) h.is_open;
+    is_open = subst (λ j. IsOpen seen may_leave failed stale j h.records) (sym journal) h.is_open;
     lines = h.lines;
     text = text
         ∙ (ap (λ t. t ++ line) h.text
@@ -77,13 +82,14 @@ module _ {D : Type 0} (seen : D → Option (List ℕ)) (may_leave : D → List �
         ∙ sym (flat_map-append line_of h.others (edit ∷ []))));
     within = subst (λ t. length t ≤ text_limit) (sym text)
         (subst (λ n. n ≤ text_limit) (sym (length-append (string_bytes old.text) line)) room);
+    plain = subst IsPlain (sym text) (both (string_bytes old.text) line h.plain plain);
     all = sym (append_assoc h.first h.others (edit ∷ [])) ∙ ap (λ e. e ++ edit ∷ []) h.all;
   }
 
   pub ended : (old new : EditWriter D)
-      → ((texts : List (List ℕ)) → IsOpen seen may_leave failed old.journal texts
-      → IsOpen seen may_leave failed new.journal (texts ++ string_bytes old.text ∷ []))
-      → string_bytes new.text ≡ [] → Wrote seen may_leave failed old new []
+      → ((texts : List (List ℕ)) → IsOpen seen may_leave failed stale old.journal texts
+      → IsOpen seen may_leave failed stale new.journal (texts ++ string_bytes old.text ∷ []))
+      → string_bytes new.text ≡ [] → Wrote seen may_leave failed stale old new []
   ended old new appended none = λ edits h. record {
     records = h.records ++ string_bytes old.text ∷ [];
     first = h.first ++ h.others;
@@ -92,47 +98,51 @@ module _ {D : Type 0} (seen : D → Option (List ℕ)) (may_leave : D → List �
     lines = more_lines h.records h.first h.others (string_bytes old.text) h.lines h.text;
     text = none;
     within = none_within (string_bytes new.text) none;
+    plain = none_plain (string_bytes new.text) none;
     all = append-nil (h.first ++ h.others) ∙ (h.all ∙ sym (append-nil edits));
   }
 
-  pub none_wrote : (writer : EditWriter D) → Wrote seen may_leave failed writer writer []
-  none_wrote writer = λ edits h. subst (HasWritten seen may_leave failed writer) (sym (append-nil edits)) h
+  pub none_wrote : (writer : EditWriter D) → Wrote seen may_leave failed stale writer writer []
+  none_wrote writer = λ edits h. subst (HasWritten seen may_leave failed stale writer) (sym (append-nil edits)) h
 
   -- along no names, a page is made by no edits
   pub none_made : (writer : EditWriter D) (page : Page) (names : List (Bor (List ℕ))) → length names < 1
-      → Wrote seen may_leave failed writer writer (made_along page (texts_of names))
+      → Wrote seen may_leave failed stale writer writer (made_along page (texts_of names))
   none_made writer page [] none = none_wrote writer
   none_made writer page (name ∷ names) none = absurd (omega (arith, none))
 
-  pub both_wrote : (a b c : EditWriter D) (x y : List SiteEdit) → Wrote seen may_leave failed a b x → Wrote seen may_leave failed b c y
-      → Wrote seen may_leave failed a c (x ++ y)
+  pub both_wrote : (a b c : EditWriter D) (x y : List SiteEdit) → Wrote seen may_leave failed stale a b x
+      → Wrote seen may_leave failed stale b c y
+      → Wrote seen may_leave failed stale a c (x ++ y)
   both_wrote a b c x y first second = λ edits h.
-      subst (HasWritten seen may_leave failed c) (append_assoc edits x y) (second (edits ++ x) (first edits h))
+      subst (HasWritten seen may_leave failed stale c) (append_assoc edits x y) (second (edits ++ x) (first edits h))
 
-  pub still_writer : (a b : EditWriter D) (x : List SiteEdit) → IsWriter seen may_leave failed a → Wrote seen may_leave failed a b x
-      → IsWriter seen may_leave failed b
+  pub still_writer : (a b : EditWriter D) (x : List SiteEdit) → IsWriter seen may_leave failed stale a
+      → Wrote seen may_leave failed stale a b x
+      → IsWriter seen may_leave failed stale b
   still_writer a b x (edits, h) wrote = (edits ++ x, wrote edits h)
 
   pub then_wrote : {X E : Type 0} (result : Result X E) (a b c : EditWriter D) (x y all : List SiteEdit)
-      → Wrote seen may_leave failed a b x → OnOk result (Wrote seen may_leave failed b c y) → x ++ y ≡ all
-      → OnOk result (Wrote seen may_leave failed a c all)
-  then_wrote (Ok done) a b c x y all first second is = subst (Wrote seen may_leave failed a c) is (both_wrote a b c x y first second)
+      → Wrote seen may_leave failed stale a b x → OnOk result (Wrote seen may_leave failed stale b c y) → x ++ y ≡ all
+      → OnOk result (Wrote seen may_leave failed stale a c all)
+  then_wrote (Ok done) a b c x y all first second is = subst (Wrote seen may_leave failed stale a c) is (both_wrote a b c x y first second)
   then_wrote (Err e) a b c x y all first second is = tt
 
   -- ---- edits one after the other
 
-  pub begins : (writer : EditWriter D) (all left : List SiteEdit) → all ≡ left → WroteUpTo seen may_leave failed writer writer all left
+  pub begins : (writer : EditWriter D) (all left : List SiteEdit) → all ≡ left
+      → WroteUpTo seen may_leave failed stale writer writer all left
   begins writer all left is = ([], none_wrote writer, is)
 
-  pub goes_on : (a b c : EditWriter D) (all more left rest : List SiteEdit) → WroteUpTo seen may_leave failed a b all left
-      → Wrote seen may_leave failed b c more → left ≡ more ++ rest → WroteUpTo seen may_leave failed a c all rest
+  pub goes_on : (a b c : EditWriter D) (all more left rest : List SiteEdit) → WroteUpTo seen may_leave failed stale a b all left
+      → Wrote seen may_leave failed stale b c more → left ≡ more ++ rest → WroteUpTo seen may_leave failed stale a c all rest
   goes_on a b c all more left rest (done, wrote, is) next split =
       (done ++ more, both_wrote a b c done more wrote next, is ∙ (ap (λ l. done ++ l) split ∙ sym (append_assoc done more rest)))
 
-  pub has_all : (a b : EditWriter D) (all left : List SiteEdit) → WroteUpTo seen may_leave failed a b all left → left ≡ []
-      → Wrote seen may_leave failed a b all
+  pub has_all : (a b : EditWriter D) (all left : List SiteEdit) → WroteUpTo seen may_leave failed stale a b all left → left ≡ []
+      → Wrote seen may_leave failed stale a b all
   has_all a b all left (done, wrote, is) none =
-      subst (Wrote seen may_leave failed a b) (sym (is ∙ (ap (λ l. done ++ l) none ∙ append-nil done))) wrote
+      subst (Wrote seen may_leave failed stale a b) (sym (is ∙ (ap (λ l. done ++ l) none ∙ append-nil done))) wrote
 
 -- ---- the end
 
@@ -153,9 +163,9 @@ no_lines (site_edits.Put path groups text ∷ edits) e = absurd (ends (put_line 
 no_lines (site_edits.Remove path ∷ edits) e = absurd (ends (remove_line path) (lines_of edits) e)
 no_lines (site_edits.Move from to ∷ edits) e = absurd (ends (move_line from to) (lines_of edits) e)
 
-module _ {D : Type 0} (seen : D → Option (List ℕ)) (may_leave : D → List ℕ → Type 0) (failed : D → Bool) where
-  pub finished : (writer : EditWriter D) (edits : List SiteEdit) → HasWritten seen may_leave failed writer edits
-      → string_bytes writer.text ≡ [] → IsWritten seen may_leave failed writer.journal edits
+module _ {D : Type 0} (seen : D → Option (List ℕ)) (may_leave : D → List ℕ → Type 0) (failed : D → Bool) (stale : D → ℕ → Type 0) where
+  pub finished : (writer : EditWriter D) (edits : List SiteEdit) → HasWritten seen may_leave failed stale writer edits
+      → string_bytes writer.text ≡ [] → IsWritten seen may_leave failed stale writer.journal edits
   finished writer edits h none = record {
     records = h.records;
     is_open = h.is_open;
@@ -164,10 +174,10 @@ module _ {D : Type 0} (seen : D → Option (List ℕ)) (may_leave : D → List �
         h.lines;
   }
 
-  pub finished_now : (old new : EditWriter D) → Wrote seen may_leave failed old new [] → string_bytes new.text ≡ []
-      → (edits : List SiteEdit) → HasWritten seen may_leave failed old edits → IsWritten seen may_leave failed new.journal edits
+  pub finished_now : (old new : EditWriter D) → Wrote seen may_leave failed stale old new [] → string_bytes new.text ≡ []
+      → (edits : List SiteEdit) → HasWritten seen may_leave failed stale old edits → IsWritten seen may_leave failed stale new.journal edits
   finished_now old new wrote none = λ edits h.
-      finished new edits (subst (HasWritten seen may_leave failed new) (append-nil edits) (wrote edits h)) none
+      finished new edits (subst (HasWritten seen may_leave failed stale new) (append-nil edits) (wrote edits h)) none
 
 -- ---- names one after the other
 

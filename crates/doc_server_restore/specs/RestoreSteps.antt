@@ -1,5 +1,5 @@
 -- Words in which the steps of a restoration are stated.
-use Rattle.std.specs.Prelude.{◌≡◌, List, [], ◌∷◌, Bool, true, false, Option, Some, None, is_some}
+use Rattle.std.specs.Prelude.{◌≡◌, ℕ, ◌+◌, List, [], ◌∷◌, Bool, true, false, Option, Some, None, is_some}
 use Rattle.doc_store.specs.Store.{StoreState}
 use Rattle.doc_store.specs.declared.site_edit.SiteEdit.{SiteEdit}
 use Rattle.doc_hub_events.specs.declared.event.Event.{Event}
@@ -21,6 +21,17 @@ made_by store (Some edit) = made store edit
 abbrev pub made_of : StoreState → List Event → Option StoreState
 made_of store [] = Some store
 made_of store (event ∷ events) = elim (made_by store (edit_in event)) [ None ↦ None | Some next ↦ made_of next events ]
+
+-- the number of the first of some events that isn't an edit that is accepted, where the first of them has the number n
+abbrev pub line_refused : ℕ → StoreState → List Event → ℕ
+line_refused n store [] = n
+line_refused n store (event ∷ events) =
+    elim (made_by store (edit_in event)) [ None ↦ n | Some next ↦ line_refused (n + 1) next events ]
+
+-- which of some calls was refused, if one was, by the store that should be there after all of them
+abbrev pub TellsLine : Option ℕ → Option StoreState → ℕ → StoreState → Type 0
+TellsLine None given line new = given ≡ Some new
+TellsLine (Some n) given line new = (given ≡ None) × (n ≡ line)
 
 -- whether an event is an edit
 abbrev pub is_edit : Event → Bool

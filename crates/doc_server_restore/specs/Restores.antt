@@ -66,10 +66,15 @@ abbrev pub all_made : StoreState → List SiteEdit → Option StoreState
 all_made store [] = Some store
 all_made store (edit ∷ edits) = elim (made store edit) [ None ↦ None | Some next ↦ all_made next edits ]
 
--- the store after the record of number n, or why it isn't restored
+-- the number of the first of some edits that isn't made, where the first of them has the number n; where each is made, that behind the last
+abbrev pub refused_from : ℕ → StoreState → List SiteEdit → ℕ
+refused_from n store [] = n
+refused_from n store (edit ∷ edits) = elim (made store edit) [ None ↦ n | Some next ↦ refused_from (n + 1) next edits ]
+
+-- the store after the record of number n, or why it isn't restored: its lines, each of which is an edit, are counted from 1
 abbrev pub after_record : StoreState → ℕ → Option (List SiteEdit) → Result StoreState RestoreFault
 after_record store n None = Err (faults.BadRecord n)
-after_record store n (Some edits) = ok_or (all_made store edits) (faults.Refused n)
+after_record store n (Some edits) = ok_or (all_made store edits) (faults.Refused n (refused_from 1 store edits))
 
 -- the same of more records, the first of which has the number n
 abbrev pub restored_from : ℕ → StoreState → List (List ℕ) → Result StoreState RestoreFault

@@ -17,8 +17,8 @@ pub record AreLines (records : List (List ℕ)) (edits : List SiteEdit) : Type 0
   pub all : joined parts ≡ edits
 
 -- The journal is open, and has records of these edits.
-pub record IsWritten {D : Type 0} (seen : D → Option (List ℕ)) (may_leave : D → List ℕ → Type 0) (failed : D → Bool) (journal : Journal D)
-    (edits : List SiteEdit) : Type 0 where
+pub record IsWritten {D : Type 0} (seen : D → Option (List ℕ)) (may_leave : D → List ℕ → Type 0) (failed : D → Bool)
+    (stale : D → ℕ → Type 0) (journal : Journal D) (edits : List SiteEdit) : Type 0 where
   pub records : List (List ℕ)
-  pub is_open : IsOpen seen may_leave failed journal records
+  pub is_open : IsOpen seen may_leave failed stale journal records
   pub lines : AreLines records edits

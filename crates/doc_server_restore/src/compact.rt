@@ -3,7 +3,6 @@
 ghost use Rattle.std.specs.Prelude.{◌≡◌, ◌++◌, ◌∷◌, [], ◌||◌, List, Some, false, true, OnOk, IfOk};
 ghost use Rattle.std.specs.FinMap as map;
 ghost use Rattle.std.specs.List.{flat_map};
-ghost use Rattle.doc_server_journal.specs.Journals.{IsOpen};
 ghost use Rattle.doc_store_readers.specs.Groups.{texts_of};
 ghost use Rattle.doc_store.specs.Names.{aliases_of};
 ghost use Rattle.doc_store.specs.Store.{remove_page};
@@ -19,53 +18,50 @@ use doc_page_parts::heap::{Heap, String, Vec};
 use doc_page_parts::path::Path;
 use doc_server_journal::device::Device;
 use doc_server_journal::journal::Journal;
-use doc_server_journal::opening::Opened;
+use doc_server_journal_records::header::Identity;
 use doc_store::page::Page;
 use doc_store::store::Store;
 
-/// Writes a journal to an empty device: records of whole lines, one line for each edit that leads from a configuration's site to
-/// another. At `Ok` all of it is on the device. Why it was refused no clause says.
+/// Writes a journal of this identity to an empty device: records of whole lines, one line for each edit that leads from a
+/// configuration's site to another. They are of so many seconds behind the beginning of 1970. At `Ok` all of it is on the device. Why it
+/// was refused no clause says.
 pub fn compact<D: Device + Drop>(
     heap: Heap,
     config: &Store,
     site: &Store,
     device: D,
+    identity: &Identity,
+    seconds: u64,
 ) -> Result<Journal<D>, CompactFault>
     requires usable { D.failed device ≡ false }
     ensures { IfOk result (λ journal.
-        IsWritten D.seen D.may_leave D.failed journal
+        IsWritten D.seen D.may_leave D.failed D.stale journal
         (compacted config.now.site site.now.site)) }
 {
-    let mut writer = begin(heap, device)?;
+    let mut writer = begin(heap, device, identity, seconds)?;
     write_removals(heap, config, site, &mut writer)?;
     write_pages(heap, config, site, &mut writer)?;
     finish(heap, writer)
 }
 
-/// An empty journal on an empty device.
-fn begin<D: Device + Drop>(heap: Heap, device: D) -> Result<EditWriter<D>, CompactFault>
+/// A journal without records on an empty device.
+fn begin<D: Device + Drop>(
+    heap: Heap,
+    device: D,
+    identity: &Identity,
+    seconds: u64,
+) -> Result<EditWriter<D>, CompactFault>
     requires usable { D.failed device ≡ false }
-    ensures { IfOk result (λ writer. HasWritten D.seen D.may_leave D.failed writer []) }
+    ensures { IfOk result (λ writer. HasWritten D.seen D.may_leave D.failed D.stale writer []) }
 {
-    match Journal::open(heap, device, 1) {
-        Ok(opened) => begin_at(heap, opened),
+    match Journal::make(heap, device, identity) {
+        Ok(journal) => Ok(EditWriter {
+            journal,
+            text: String::new(heap),
+            seconds,
+        }),
         Err(refused) => Err(CompactFault::from(refused.fault)),
     }
-}
-
-/// The writer of a journal that was opened, where it has no records.
-fn begin_at<D: Device + Drop>(heap: Heap, opened: Opened<D>) -> Result<EditWriter<D>, CompactFault>
-    requires open { IsOpen D.seen D.may_leave D.failed opened.journal opened.texts }
-    ensures { IfOk result (λ writer. HasWritten D.seen D.may_leave D.failed writer []) }
-{
-    let Opened { journal, texts } = opened;
-    if !texts.get().is_empty() {
-        return Err(CompactFault::NotEmpty);
-    }
-    Ok(EditWriter {
-        journal,
-        text: String::new(heap),
-    })
 }
 
 /// Writes the removals of the pages that the configuration gives otherwise than the site has them.
@@ -75,8 +71,8 @@ fn write_removals<D: Device + Drop>(
     site: &Store,
     writer: &mut EditWriter<D>,
 ) -> Result<(), CompactFault>
-    requires { IsWriter D.seen D.may_leave D.failed writer.old }
-    ensures { OnOk result (Wrote D.seen D.may_leave D.failed writer.old writer.new
+    requires { IsWriter D.seen D.may_leave D.failed D.stale writer.old }
+    ensures { OnOk result (Wrote D.seen D.may_leave D.failed D.stale writer.old writer.new
         (removals (other_pages config.now.site site.now.site config.now.site.pages))) }
 {
     'entries: for (path, _page) in config.pages() {
@@ -93,9 +89,9 @@ fn write_removal<D: Device + Drop>(
     path: &Path,
     writer: &mut EditWriter<D>,
 ) -> Result<(), CompactFault>
-    requires writer { IsWriter D.seen D.may_leave D.failed writer.old }
+    requires writer { IsWriter D.seen D.may_leave D.failed D.stale writer.old }
     requires stands { map.contains_key config.now.site.pages path.now ≡ true }
-    ensures { OnOk result (Wrote D.seen D.may_leave D.failed writer.old writer.new
+    ensures { OnOk result (Wrote D.seen D.may_leave D.failed D.stale writer.old writer.new
         (unless_same config.now.site site.now.site path.now (remove_page path.now ∷ []))) }
 {
     if same_at(config, site, path)? {
@@ -111,8 +107,8 @@ fn write_pages<D: Device + Drop>(
     site: &Store,
     writer: &mut EditWriter<D>,
 ) -> Result<(), CompactFault>
-    requires { IsWriter D.seen D.may_leave D.failed writer.old }
-    ensures { OnOk result (Wrote D.seen D.may_leave D.failed writer.old writer.new
+    requires { IsWriter D.seen D.may_leave D.failed D.stale writer.old }
+    ensures { OnOk result (Wrote D.seen D.may_leave D.failed D.stale writer.old writer.new
         (flat_map (made site.now.site)
         (other_pages config.now.site site.now.site site.now.site.pages))) }
 {
@@ -131,9 +127,9 @@ fn write_page<D: Device + Drop>(
     page: &Page,
     writer: &mut EditWriter<D>,
 ) -> Result<(), CompactFault>
-    requires writer { IsWriter D.seen D.may_leave D.failed writer.old }
+    requires writer { IsWriter D.seen D.may_leave D.failed D.stale writer.old }
     requires stands { map.contains_key site.now.site.pages path.now ≡ true }
-    ensures { OnOk result (Wrote D.seen D.may_leave D.failed writer.old writer.new
+    ensures { OnOk result (Wrote D.seen D.may_leave D.failed D.stale writer.old writer.new
         (unless_same config.now.site site.now.site path.now
         (made site.now.site (path.now, page.now.page)))) }
 {
@@ -189,9 +185,9 @@ fn names_of<'a>(site: &'a Store, path: &Path) -> Result<Vec<&'a Path>, Memory>
 
 /// The journal, with a record of the lines that are in none yet, where there are any.
 fn finish<D: Device + Drop>(heap: Heap, writer: EditWriter<D>) -> Result<Journal<D>, CompactFault>
-    requires { IsWriter D.seen D.may_leave D.failed writer }
-    ensures { (edits : List SiteEdit) → HasWritten D.seen D.may_leave D.failed writer edits
-        → IfOk result (λ journal. IsWritten D.seen D.may_leave D.failed journal edits) }
+    requires { IsWriter D.seen D.may_leave D.failed D.stale writer }
+    ensures { (edits : List SiteEdit) → HasWritten D.seen D.may_leave D.failed D.stale writer edits
+        → IfOk result (λ journal. IsWritten D.seen D.may_leave D.failed D.stale journal edits) }
 {
     let mut writer = writer;
     if writer.text.is_empty() {

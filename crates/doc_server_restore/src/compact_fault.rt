@@ -1,7 +1,7 @@
 //! Why a compaction isn't written.
 
 use doc_page_parts::failure::Memory;
-use doc_server_journal::fault::{AppendError, OpenFault};
+use doc_server_journal::fault::{AppendError, DeviceFault, OpenFault};
 use std::alloc::AllocError;
 use thiserror::Error;
 
@@ -14,8 +14,8 @@ pub enum CompactFault {
     /// An edit is too long for a record: its page is larger than a page may be.
     #[error("edit too long")]
     TooLong,
-    /// The journal would be too long.
-    #[error("journal too long")]
+    /// The device has no room for the journal.
+    #[error("no room for the journal")]
     Full,
     /// The device failed.
     #[error("cannot use journal")]
@@ -41,16 +41,22 @@ impl From<AppendError> for CompactFault {
     fn from(e: AppendError) -> CompactFault {
         match e {
             AppendError::Memory => CompactFault::Memory,
-            AppendError::Full => CompactFault::Full,
             AppendError::Failed => CompactFault::Failed,
         }
+    }
+}
+
+impl From<DeviceFault> for CompactFault {
+    fn from(_e: DeviceFault) -> CompactFault {
+        CompactFault::Failed
     }
 }
 
 impl From<OpenFault> for CompactFault {
     fn from(e: OpenFault) -> CompactFault {
         match e {
-            OpenFault::Damaged(_) | OpenFault::Long => CompactFault::NotEmpty,
+            OpenFault::NoJournal | OpenFault::First | OpenFault::Damaged(_) | OpenFault::Long =>
+                CompactFault::NotEmpty,
             OpenFault::Memory => CompactFault::Memory,
             OpenFault::Failed => CompactFault::Failed,
         }

@@ -9,9 +9,9 @@ pub enum RestoreFault {
     /// This record is no text of edits.
     #[error("bad journal record {0}")]
     BadRecord(usize),
-    /// An edit of this record is refused.
-    #[error("journal record {0} refused")]
-    Refused(usize),
+    /// Of this record the edit of this line is refused, the first that is. Lines are counted from 1.
+    #[error("journal record {0} refused, line {1}")]
+    Refused(usize, usize),
     /// No memory was left.
     #[error("{}", Memory)]
     Memory,

@@ -2,7 +2,7 @@
 
 ghost use Rattle.std.specs.Prelude.{◌≡◌, ◌≢◌, Ok, Err, IfOk, IfErr, OnOk};
 ghost use Rattle.doc_server_restore.specs.Restores.{HaveEffect, after_record, edit_in, edits_of, made, restored};
-ghost use Rattle.doc_server_restore.specs.RestoreSteps.{Tells, made_by, made_of};
+ghost use Rattle.doc_server_restore.specs.RestoreSteps.{Tells, TellsLine, line_refused, made_by, made_of};
 
 use crate::edits::Edits;
 use crate::fault::RestoreFault;
@@ -60,24 +60,27 @@ fn restore_record<E: Edits>(
     let Some(events) = edits_of(heap, text)? else {
         return Err(RestoreFault::BadRecord(number));
     };
-    if !make_all(site, events.get())? {
-        return Err(RestoreFault::Refused(number));
+    if let Some(line) = make_all(site, events.get())? {
+        return Err(RestoreFault::Refused(number, line));
     }
     Ok(())
 }
 
-/// Makes the edits that these events are, up to the first that is refused, and answers whether none is.
-fn make_all<E: Edits>(site: &mut E, events: &[Event]) -> Result<bool, Memory>
-    ensures made { IfOk result (λ accepted. Tells accepted
-        (made_of (E.store site.old) events.now) (E.store site.new)) }
+/// Makes the edits that these events are, up to the first that is refused, and answers which that is, counted from 1.
+fn make_all<E: Edits>(site: &mut E, events: &[Event]) -> Result<Option<usize>, Memory>
+    ensures made { IfOk result (λ line. TellsLine line
+        (made_of (E.store site.old) events.now)
+        (line_refused 1 (E.store site.old) events.now) (E.store site.new)) }
     ensures alike { E.alike site.old site.new }
 {
+    let mut number = 0;
     for event in events {
+        number += 1;
         if !make(site, event)? {
-            return Ok(false);
+            return Ok(Some(number));
         }
     }
-    Ok(true)
+    Ok(None)
 }
 
 /// Makes the edit that an event is, and answers whether it is accepted.

@@ -6,6 +6,7 @@ mod FieldSteps
 mod GroupLaws
 pub mod LineLengths
 mod LoopSteps
+pub mod PlainLines
 pub mod ReadLaws
 mod CompactionExamples
 pub mod CompactionLaw

@@ -8,5 +8,6 @@ pub mod Outcomes
 pub mod Compactions
 pub mod CompactionLaws
 pub mod PageLines
+pub mod PlainLines
 pub mod Replays
 pub mod Reads

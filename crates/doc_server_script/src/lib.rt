@@ -14,6 +14,7 @@
 //! Compaction stands on these lines: the edits that lead from one site to another.
 #![tactic(auto)]
 
+pub mod bytes;
 mod command;
 pub mod compaction_laws;
 pub mod edit;

@@ -1,1 +1,2 @@
+mod Reserving
 mod Settlements

@@ -5,9 +5,8 @@ use Rattle.doc_store.specs.declared.site_edit.SiteEdit.{SiteEdit}
 use Rattle.doc_server_script.specs.PageLines.{lines_of}
 use Rattle.doc_server_journal.specs.Devices.{LeavesFile, LeavesOnly}
 use Rattle.doc_server_journal.specs.Journals.{IsOpen, IsBeforeOrAfter}
-use Rattle.doc_server_journal_records.specs.Records.{journal_bytes, AreWithin}
 use Rattle.doc_server_journal_records.specs.Readings.{ReadsAs}
-use Rattle.doc_server_journal_records.proofs.LawLemmas.{written_is_read}
+use Rattle.doc_server_journal.proofs.HoldLemmas.{open_reads}
 use Rattle.doc_server_journal.specs.declared.journal.Journal.{Journal}
 use Rattle.doc_server_listen.specs.Edits.{Kept, Adds}
 use Rattle.doc_server_listen.specs.Peers.{Peer}
@@ -50,33 +49,36 @@ at_err (Err e) P p = p
 pub same_some : {X : Type 0} (x y : X) → Some x ≡ Some y → x ≡ y
 same_some x y e = cc
 
-module _ {D : Type 0} (seen : D → Option (List ℕ)) (may_leave : D → List ℕ → Type 0) (failed : D → Bool) (moment : D → ℕ)
+module _ {D : Type 0} (seen : D → Option (List ℕ)) (may_leave : D → List ℕ → Type 0) (failed : D → Bool) (stale : D → ℕ → Type 0)
+    (moment : D → ℕ)
     (left_since : D → ℕ → List ℕ → Type 0) where
-  by_file : (device : D) (texts : List (List ℕ)) (text : List ℕ) (file : Option (List ℕ))
-      → ((c : List ℕ) → left_since device (moment device) c → may_leave device c) → AreWithin texts
-      → IfSome file (λ f. f ≡ journal_bytes texts) → LeavesFile file (may_leave device)
-      → IfSome file (λ f. LeavesOnly moment left_since device device (IsBeforeOrAfter texts text))
-  by_file device texts text None only all is leaves = tt
-  by_file device texts text (Some f) only all is leaves = record {
+  by_file : (j : Journal D) (texts : List (List ℕ)) (text : List ℕ) (file : Option (List ℕ))
+      → ((c : List ℕ) → left_since j.device (moment j.device) c → may_leave j.device c)
+      → IfSome file (λ f. ReadsAs f texts) → LeavesFile file (may_leave j.device)
+      → IfSome file (λ f. LeavesOnly moment left_since j.device j.device (IsBeforeOrAfter texts text))
+  by_file j texts text None only reads leaves = tt
+  by_file j texts text (Some f) only reads leaves = record {
     later = omega arith;
-    each = λ c left. inl (subst (λ b. ReadsAs b texts) (sym (leaves c (only c left) ∙ is)) (written_is_read texts all));
+    each = λ c left. inl (subst (λ b. ReadsAs b texts) (sym (leaves c (only c left))) reads);
     before = λ t c le left. inl left;
   }
 
   -- nothing was written
   pub safe_at_rest : (j : Journal D) (text : List ℕ)
       → ((c : List ℕ) → left_since j.device (moment j.device) c → may_leave j.device c)
-      → IsSafe seen may_leave failed moment left_since j j text
+      → IsSafe seen may_leave failed stale moment left_since j j text
   safe_at_rest j text only texts ready =
-      by_file j.device texts text (seen j.device) only ready.within ready.file ready.durable
+      by_file j texts text (seen j.device) only (open_reads seen may_leave failed stale j texts ready) ready.durable
 
-  pub still_open : (old new : Journal D) (text : List ℕ) → IsKept seen may_leave failed old new text
-      → (texts : List (List ℕ)) × IsOpen seen may_leave failed old texts → (texts : List (List ℕ)) × IsOpen seen may_leave failed new texts
-  still_open old new text (inl (none, same)) (texts, ready) = (texts, subst (λ j. IsOpen seen may_leave failed j texts) (sym same) ready)
+  pub still_open : (old new : Journal D) (text : List ℕ) → IsKept seen may_leave failed stale old new text
+      → (texts : List (List ℕ)) × IsOpen seen may_leave failed stale old texts
+      → (texts : List (List ℕ)) × IsOpen seen may_leave failed stale new texts
+  still_open old new text (inl (none, same)) (texts, ready) =
+      (texts, subst (λ j. IsOpen seen may_leave failed stale j texts) (sym same) ready)
   still_open old new text (inr more) (texts, ready) = (texts ++ text ∷ [], more texts ready)
 
 -- ---- the lines of a turn
 
-pub lines_told : (a b : Kept) (edits : List SiteEdit) → a ≡ record { lines = Some []; is_whole = true } → Adds a b edits
-    → b.is_whole ≡ true → b.lines ≡ Some (lines_of edits)
-lines_told a b edits new adds whole = (adds whole).1 ∙ ap (λ (k : Kept). option_map (λ l. l ++ lines_of edits) k.lines) new
+pub lines_told : (most : ℕ) (a b : Kept) (edits : List SiteEdit) → a ≡ record { lines = Some []; is_whole = true; most = most }
+    → Adds a b edits → b.is_whole ≡ true → b.lines ≡ Some (lines_of edits)
+lines_told most a b edits new adds whole = (adds.1 whole).1 ∙ ap (λ (k : Kept). option_map (λ l. l ++ lines_of edits) k.lines) new

@@ -30,17 +30,19 @@ GiveFronts ps qs = ⊥
 
 -- ---- the journal
 
-module _ {D : Type 0} (seen : D → Option (List ℕ)) (may_leave : D → List ℕ → Type 0) (failed : D → Bool) where
+module _ {D : Type 0} (seen : D → Option (List ℕ)) (may_leave : D → List ℕ → Type 0) (failed : D → Bool)
+    (stale : D → ℕ → Type 0) where
   -- there was no text, and the journal is as it was; or it is open with one record more, which is that text
   abbrev pub IsKept : Journal D → Journal D → List ℕ → Type 0
   IsKept old new text =
       ((text ≡ []) × (new ≡ old))
-      ⊎ ((texts : List (List ℕ)) → IsOpen seen may_leave failed old texts → IsOpen seen may_leave failed new (texts ++ text ∷ []))
+      ⊎ ((texts : List (List ℕ)) → IsOpen seen may_leave failed stale old texts
+      → IsOpen seen may_leave failed stale new (texts ++ text ∷ []))
 
   -- a crash at any moment leaves the records of before, or these and that text
   abbrev pub IsSafe : (D → ℕ) → (D → ℕ → List ℕ → Type 0) → Journal D → Journal D → List ℕ → Type 0
   IsSafe moment left_since old new text =
-      (texts : List (List ℕ)) → IsOpen seen may_leave failed old texts
+      (texts : List (List ℕ)) → IsOpen seen may_leave failed stale old texts
       → IfSome (seen old.device) (λ file. LeavesOnly moment left_since old.device new.device (IsBeforeOrAfter texts text))
 
   -- A run's edits are on the device where the turn went well; and each crash leaves all of them or none.

@@ -1,7 +1,7 @@
 //! Why a turn ends a server.
 
 use doc_page_parts::failure::Memory;
-use doc_server_journal::fault::AppendError;
+use doc_server_journal::fault::{AppendError, DeviceFault};
 use thiserror::Error;
 
 /// Why a turn ends a server.
@@ -35,7 +35,18 @@ impl From<AppendError> for TurnFault {
     fn from(e: AppendError) -> TurnFault {
         match e {
             AppendError::Memory => TurnFault::Memory,
-            AppendError::Full | AppendError::Failed => TurnFault::CannotWrite,
+            AppendError::Failed => TurnFault::CannotWrite,
         }
+    }
+}
+
+impl From<DeviceFault> for TurnFault {
+    ghost use Rattle.std.specs.Prelude.{◌≡◌};
+    ghost use Rattle.doc_server_settling.specs.declared.fault.TurnFault.TheVariants as faults;
+
+    ghost from_gives = { λ _ e. e ≡ faults.CannotWrite };
+
+    fn from(_e: DeviceFault) -> TurnFault {
+        TurnFault::CannotWrite
     }
 }

@@ -12,7 +12,7 @@ use doc_page_parts::failure::Memory;
 use doc_page_parts::heap::{BTreeMap, Heap, String};
 use doc_server_journal::device::Device;
 use doc_server_poll::fault::PollFault;
-use doc_server_poll::keeping::{Found, Keeping};
+use doc_server_poll::keeping::{Keeping, NamedFile};
 use doc_server_poll::server::Server;
 use doc_server_poll::watch::{Handed, Unwatched, Watch};
 use std::fmt::Write;
@@ -23,7 +23,7 @@ use std::time::Instant;
 const MOST_BYTES: usize = 16_384;
 
 /// Serves, and logs what is asked where that is wanted.
-pub fn serve_logging<D: Device + Found, T: Renderer + Drop, P: Clock + Eprint>(
+pub fn serve_logging<D: Device + NamedFile, T: Renderer + Drop, P: Clock + Eprint>(
     rt: &P,
     heap: Heap,
     is_logged: bool,
@@ -31,7 +31,7 @@ pub fn serve_logging<D: Device + Found, T: Renderer + Drop, P: Clock + Eprint>(
     keeping: &mut Keeping<D>,
     hub: &mut Hub<T>,
 ) -> Result<(), PollFault>
-    requires ready { IsReady D.seen D.may_leave D.failed keeping.old }
+    requires ready { IsReady D.seen D.may_leave D.failed D.stale keeping.old }
     ensures leads { Leads (T.page hub.old.0) hub.old.1 hub.new.1 }
     ensures same { T.page hub.new.0 ≡ T.page hub.old.0 }
 {

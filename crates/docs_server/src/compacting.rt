@@ -4,20 +4,25 @@ use crate::arguments::Compact;
 use crate::bounded::{Bounded, read_bounded};
 use crate::files::{Pages, Site};
 use crate::held::hold;
-use crate::journal::open_journal;
+use crate::journal::restore_journal;
 use crate::listen_fault::ListenFault;
 use crate::site_store::site_store;
 use crate::status::status_of;
+use crate::torn::TornFile;
 use doc_page_parts::heap::Heap;
+use doc_server_journal::clock::seconds_of;
 use doc_server_journal::file_device::FileDevice;
 use doc_server_journal::names::Replacement;
+use doc_server_journal::random::new_identity;
 use doc_server_restore::compact::compact;
+use doc_server_restore::compact_fault::CompactFault;
+use doc_server_settling::reserve::{RESERVE, SPARE};
 use doc_store::store::Store;
 use std::fs::{File, remove_file};
-use std::rt::Files;
+use std::rt::{Clock, Files};
 
 /// Runs `compact`, and answers the status to end with.
-pub fn run_compact<P: AllocGlobal + Clone + Drop + Eprint + Files<File = File>>(
+pub fn run_compact<P: AllocGlobal + Clock + Clone + Drop + Eprint + Files<File = File>>(
     rt: &P,
     command: &Compact<'_>,
 ) -> u8 {
@@ -28,7 +33,7 @@ pub fn run_compact<P: AllocGlobal + Clone + Drop + Eprint + Files<File = File>>(
 }
 
 /// The same, as a result.
-fn compact_with<P: AllocGlobal + Clone + Drop + Files<File = File>>(
+fn compact_with<P: AllocGlobal + Clock + Clone + Drop + Eprint + Files<File = File>>(
     rt: &P,
     command: &Compact<'_>,
 ) -> Result<(), ListenFault> {
@@ -47,7 +52,7 @@ fn pages_of<P: AllocGlobal + Clone + Drop + Files>(
 }
 
 /// The same over these pages, which stand in a store.
-fn compact_over<P: AllocGlobal + Files<File = File>>(
+fn compact_over<P: AllocGlobal + Clock + Eprint + Files<File = File>>(
     rt: &P,
     pages: &Pages,
     command: &Compact<'_>,
@@ -58,7 +63,7 @@ fn compact_over<P: AllocGlobal + Files<File = File>>(
 }
 
 /// The same, where they stand in a second store too: the journal's edits are made on it.
-fn compact_beside<P: AllocGlobal + Files<File = File>>(
+fn compact_beside<P: AllocGlobal + Clock + Eprint + Files<File = File>>(
     rt: &P,
     heap: Heap,
     pages: &Pages,
@@ -70,7 +75,7 @@ fn compact_beside<P: AllocGlobal + Files<File = File>>(
 }
 
 /// The same, with no descriptor of a standard stream left to the journal's files.
-fn compact_held<P: AllocGlobal + Files<File = File>>(
+fn compact_held<P: AllocGlobal + Clock + Eprint + Files<File = File>>(
     rt: &P,
     heap: Heap,
     config: &Store,
@@ -82,7 +87,7 @@ fn compact_held<P: AllocGlobal + Files<File = File>>(
 }
 
 /// The same of the journal of this name, whose edits are made on a site that is the configuration's.
-fn compact_file<P: AllocGlobal + Files<File = File>>(
+fn compact_file<P: AllocGlobal + Clock + Eprint + Files<File = File>>(
     rt: &P,
     heap: Heap,
     name: &str,
@@ -90,13 +95,14 @@ fn compact_file<P: AllocGlobal + Files<File = File>>(
     site: &mut Store,
 ) -> Result<(), ListenFault> {
     let device = FileDevice::open(rt, name)?;
-    let journal = open_journal(heap, device, site)?;
-    replace(rt, heap, name, &journal.device, config, site)
+    let mut torn = TornFile { rt, heap, name };
+    let device = restore_journal(heap, device, &mut torn, site)?;
+    replace(rt, heap, name, &device, config, site)
 }
 
 /// A journal of the edits that lead from the configuration's site to another takes the place of an open one. Where that fails the file
 /// beside it goes.
-fn replace<P: AllocGlobal + Files<File = File>>(
+fn replace<P: AllocGlobal + Clock + Files<File = File>>(
     rt: &P,
     heap: Heap,
     name: &str,
@@ -114,9 +120,9 @@ fn replace<P: AllocGlobal + Files<File = File>>(
     }
 }
 
-/// Writes the new journal into a file beside the old one, which then takes its name. All of it is on the disk before that, and both
-/// files are locked until it has the name.
-fn write_beside<P: AllocGlobal + Files<File = File>>(
+/// Writes the new journal into a file beside the old one, which then takes its name. All of it is on the disk before that, with its reserve
+/// as far as there is room, and both files are locked until it has the name.
+fn write_beside<P: AllocGlobal + Clock + Files<File = File>>(
     rt: &P,
     heap: Heap,
     place: &Replacement,
@@ -125,7 +131,11 @@ fn write_beside<P: AllocGlobal + Files<File = File>>(
     site: &Store,
 ) -> Result<(), ListenFault> {
     let device = old.make_like(rt, place.new_name())?;
-    let _written = compact(heap, config, site, device)?;
+    let identity = new_identity(rt)?;
+    let mut written = compact(heap, config, site, device, &identity, seconds_of(rt))?;
+    if written.make_room(RESERVE + SPARE).is_err() {
+        return Err(ListenFault::from(CompactFault::Failed));
+    }
     place.take_name(rt)?;
     Ok(())
 }

@@ -1,7 +1,8 @@
 //! The command `listen`: a configured site over TCP, until the program is told to stop.
 
-ghost use Rattle.std.specs.Prelude.{◌≡◌, ◌<◌};
+ghost use Rattle.std.specs.Prelude.{◌≡◌, ◌<◌, false, IfOk};
 ghost use Rattle.doc_server_poll.specs.Keepings.{IsReady};
+ghost use Rattle.docs_server.specs.NamedDevices.{has_failed};
 
 use crate::access_log::serve_logging;
 use crate::arguments::Listen;
@@ -13,6 +14,7 @@ use crate::listen_fault::ListenFault;
 use crate::named_device::NamedDevice;
 use crate::serving::tell_address;
 use crate::status::status_of;
+use crate::torn::TornFile;
 use doc_html::CommonMark;
 use doc_hub::hub::Hub;
 use doc_page::renderer::Renderer;
@@ -20,9 +22,16 @@ use doc_page_parts::heap::Heap;
 use doc_server::site::site_hub;
 use doc_server_config::bounds::Bounds;
 use doc_server_journal::device::Device;
+use doc_server_journal::fault::OpenFault;
+use doc_server_journal::file_device::FileDevice;
+use doc_server_journal::file_fault::FileFault;
+use doc_server_journal::journal::Journal;
 use doc_server_journal::memory::MemoryDevice;
-use doc_server_poll::keeping::{Found, Keeping};
+use doc_server_journal::names::Replacement;
+use doc_server_journal::random::new_identity;
+use doc_server_poll::keeping::{Keeping, NamedFile};
 use doc_server_poll::server::Server;
+use doc_server_settling::reserve::{RESERVE, SPARE};
 use doc_server_streams::fault::Fault;
 use doc_server_streams::write_to::WriteTo;
 use std::fs::{File, metadata};
@@ -98,8 +107,9 @@ fn serve_journal<R: Renderer + Drop, P: Clock + Eprint + Files<File = File> + Ne
     command: &Listen<'_>,
     name: &str,
 ) -> Result<u8, ListenFault> {
-    let device = NamedDevice::open(rt, name)?;
-    let mut keeps = Keeping::Keeps(open_journal(heap, device, hub)?);
+    let device = device_of(rt, heap, name)?;
+    let mut torn = TornFile { rt, heap, name };
+    let mut keeps = Keeping::Keeps(open_journal(heap, device, &mut torn, hub)?);
     match serve_keeping(rt, heap, hub, bounds, command, &mut keeps) {
         Err(ListenFault::Command(Fault::CannotWrite)) if !keeps.is_found() => {
             Err(ListenFault::Moved)
@@ -108,9 +118,49 @@ fn serve_journal<R: Renderer + Drop, P: Clock + Eprint + Files<File = File> + Ne
     }
 }
 
+/// The file of the journal of this name; that of a new one where there is none.
+fn device_of<'a, P: Eprint + Files<File = File>>(
+    rt: &'a P,
+    heap: Heap,
+    name: &'a str,
+) -> Result<NamedDevice<'a, P>, ListenFault>
+    ensures { IfOk result (λ device. has_failed device ≡ false) }
+{
+    match NamedDevice::open(rt, name) {
+        Ok(device) => Ok(device),
+        Err(FileFault::Missing) => {
+            begin_journal(rt, heap, name)?;
+            Ok(NamedDevice::open(rt, name)?)
+        }
+        Err(fault) => Err(ListenFault::from(fault)),
+    }
+}
+
+/// Makes a journal of this name, and tells it. It gets the name once it has its header, so that no crash leaves one without. Its reserve
+/// is made with it, as far as there is room.
+fn begin_journal<P: Eprint + Files<File = File>>(
+    rt: &P,
+    heap: Heap,
+    name: &str,
+) -> Result<(), ListenFault> {
+    let place = Replacement::first_of(heap, name)?;
+    let device = FileDevice::make(rt, place.new_name())?;
+    let identity = new_identity(rt)?;
+    let mut journal = match Journal::make(heap, device, &identity) {
+        Ok(journal) => journal,
+        Err(refused) => return Err(ListenFault::from(refused.fault)),
+    };
+    if journal.make_room(RESERVE + SPARE).is_err() {
+        return Err(ListenFault::from(OpenFault::Failed));
+    }
+    place.take_first_name(rt)?;
+    let _ = eprintln!(rt; "docs_server: new journal {name}");
+    Ok(())
+}
+
 /// Binds the address, tells it, and serves until the program is told to stop.
 fn serve_keeping<
-    D: Device + Found + Drop,
+    D: Device + NamedFile + Drop,
     R: Renderer + Drop,
     P: Clock + Eprint + Files<File = File> + Net + Print,
 >(
@@ -121,7 +171,7 @@ fn serve_keeping<
     command: &Listen<'_>,
     keeping: &mut Keeping<D>,
 ) -> Result<u8, ListenFault>
-    requires ready { IsReady D.seen D.may_leave D.failed keeping.old }
+    requires ready { IsReady D.seen D.may_leave D.failed D.stale keeping.old }
 {
     let mut server = Server::bind(
         rt,

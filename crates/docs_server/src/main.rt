@@ -18,6 +18,7 @@ mod serving;
 mod site_store;
 mod sites;
 mod status;
+mod torn;
 mod unanswered;
 
 use crate::arguments::{Command, command_of, words_of};

@@ -9,7 +9,7 @@ use doc_server_journal::device::Device;
 use doc_server_journal::fault::{DeviceFault, LoadError};
 use doc_server_journal::file_device::FileDevice;
 use doc_server_journal::file_fault::FileFault;
-use doc_server_poll::keeping::Found;
+use doc_server_poll::keeping::NamedFile;
 use std::fs::{File, Metadata, metadata};
 use std::os::unix::fs::MetadataExt;
 use std::rt::Files;
@@ -43,12 +43,20 @@ impl<'a, P: Files<File = File>> NamedDevice<'a, P> {
     }
 }
 
-impl<P: Files<File = File>> Found for NamedDevice<'_, P> {
+impl<P: Eprint + Files<File = File>> NamedFile for NamedDevice<'_, P> {
     fn is_found(&self) -> bool {
         match metadata(self.rt, self.name) {
             Ok(found) => place_of(&found) == self.place,
             Err(_) => false,
         }
+    }
+
+    fn tell_room(&self, has_room: bool) {
+        let _ = if has_room {
+            eprintln!(self.rt; "docs_server: journal has room again")
+        } else {
+            eprintln!(self.rt; "docs_server: journal is full: puts are refused")
+        };
     }
 }
 
@@ -57,7 +65,7 @@ fn place_of(found: &Metadata) -> (u64, u64) {
     (found.dev(), found.ino())
 }
 
-impl<P: Files<File = File>> Device for NamedDevice<'_, P> {
+impl<P: Eprint + Files<File = File>> Device for NamedDevice<'_, P> {
     ghost use Rattle.std.specs.Prelude.{None};
     ghost use Rattle.docs_server.specs.NamedDevices.{has_failed};
 
@@ -70,6 +78,10 @@ impl<P: Files<File = File>> Device for NamedDevice<'_, P> {
     ghost left_since = { λ _ _ _. ⊥ };
 
     ghost failed = { has_failed };
+
+    ghost stale = { λ _ _. ⊥ };
+
+    ghost stale_within = { λ _ _ never. never };
 
     ghost counts_now = { λ _ _ _ _ never. never };
 
@@ -87,8 +99,12 @@ impl<P: Files<File = File>> Device for NamedDevice<'_, P> {
         self.device.write_at(at, bytes)
     }
 
-    fn cut(&mut self, len: usize) -> Result<(), DeviceFault> {
-        self.device.cut(len)
+    fn grow(&mut self, count: usize) -> Result<usize, DeviceFault> {
+        if !self.is_found() {
+            self.is_moved = true;
+            return Err(DeviceFault);
+        }
+        self.device.grow(count)
     }
 
     fn sync(&mut self) -> Result<(), DeviceFault> {

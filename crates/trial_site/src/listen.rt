@@ -2,13 +2,15 @@
 //! alternates between turns of the server and what the peers write and read, until what it waits for has come, so that its answer is
 //! the same whatever the timing.
 //!
-//! - `server CONNECTIONS IDLE CALLS` begins a server at a port that the system chooses, with at most so many connections, each of which
-//!   ends after so many seconds of silence. Its journal is an empty file in memory, of which so many calls go well and the next one fails.
+//! - `server CONNECTIONS IDLE CALLS MOST` begins a server at a port that the system chooses, with at most so many connections, each of
+//!   which ends after so many seconds of silence. Its journal is an empty file in memory, of which so many calls go well and the next one
+//!   fails, and which isn't grown past so many bytes.
 //!   Its site has no pages, and three readers: an owner (`tok-owner`), one of the group `staff` (`tok-ann`), one of `ops` (`tok-bob`). The
 //!   calls below it are of this server. The lines of one that can't be made are printed as they stand.
-//! - `server CONNECTIONS IDLE CALLS again` begins one with the file that the server before has left, and with the pages of its edits.
+//! - `server CONNECTIONS IDLE CALLS MOST again` begins one with the file that the server before has left, and with the pages of its edits;
+//!   with `bare` in place of `again` the zeros at the end of that file are gone.
 //! - The calls of a server: `calls`.
-//! - The calls in front of the first server are of files: `files`. Other lines there are printed as they stand.
+//! - The calls in front of the first server are of files: `files`, `rooms`. Other lines there are printed as they stand.
 
 ghost use Rattle.std.specs.Prelude.{◌≡◌, ◌<◌};
 
@@ -16,6 +18,7 @@ mod calls;
 mod files;
 mod journals;
 mod peer;
+mod rooms;
 mod scene;
 mod served;
 mod told;

@@ -1,9 +1,10 @@
 //! What a journal's file has, read anew: as it is, and damaged or torn in each way.
 //!
-//! - `file`: its bytes. `records`: the texts of its records, one behind another.
-//! - `flips`: what comes where the last bit of one byte is turned, for each byte. `cuts`: what comes where the file ends behind so many
-//!   bytes, for each number from none to all of them. That is how many records are read, or why they aren't, with the number of times
-//!   that it comes in a row.
+//! - `file`: how many bytes it has up to the last that isn't 0, and how many zeros stand behind. `records`: the texts of its records, one
+//!   behind another.
+//! - `flips`: what comes where the last bit of one byte is turned, for each byte up to the last that isn't 0. `cuts`: what comes where the
+//!   file ends behind so many bytes, for each number from none to all of these. That is how many records are read, or why they aren't, with
+//!   the number of times that it comes in a row.
 
 use crate::listen::told::push_told;
 use doc_page_parts::bytes::Bytes;
@@ -13,17 +14,38 @@ use doc_server_journal::fault::OpenFault;
 use doc_server_journal::journal::Journal;
 use doc_server_journal::memory::MemoryDevice;
 use doc_server_journal::opening::{Opened, Refused};
-use trial::answer::no_call;
+use doc_server_journal::torn::Unkept;
+use trial::answer::{no_call, shown};
 
 /// What a call of the journal answers.
 pub fn journal_called(heap: Heap, bytes: &[u8], name: &str) -> Result<String, Memory> {
     match name {
-        "file" => told(heap, bytes),
+        "file" => shown(heap, (without_zeros(bytes).len(), zeros_behind(bytes))),
         "records" => records_told(heap, bytes),
-        "flips" => flips_told(heap, bytes),
-        "cuts" => cuts_told(heap, bytes),
+        "flips" => flips_told(heap, without_zeros(bytes)),
+        "cuts" => cuts_told(heap, without_zeros(bytes)),
         _ => no_call(heap),
     }
+}
+
+/// The bytes up to the last that isn't 0.
+pub fn without_zeros(bytes: &[u8]) -> &[u8] {
+    match bytes.iter().rposition(|byte| *byte != 0) {
+        Some(last) => bytes.get(..=last).unwrap_or(bytes),
+        None => &[],
+    }
+}
+
+fn zeros_behind(bytes: &[u8]) -> usize {
+    bytes.len().saturating_sub(without_zeros(bytes).len())
+}
+
+/// How many records are read of a file with these bytes, or why they can't be read.
+pub fn records_in(heap: Heap, bytes: &[u8]) -> Result<Result<usize, OpenFault>, Memory> {
+    let mut all = Vec::new(heap);
+    let read = read_into(heap, bytes, &mut all);
+    drop(all);
+    read
 }
 
 fn told(heap: Heap, bytes: &[u8]) -> Result<String, Memory> {
@@ -47,8 +69,8 @@ fn read_into(
     bytes: &[u8],
     all: &mut Vec<u8>,
 ) -> Result<Result<usize, OpenFault>, Memory> {
-    let device = MemoryDevice::new(heap, Bytes::copy_of(heap, bytes)?, u64::MAX)?;
-    match Journal::open(heap, device, bytes.len()) {
+    let device = MemoryDevice::new(heap, Bytes::copy_of(heap, bytes)?, u64::MAX, 0)?;
+    match Journal::open(heap, device, bytes.len(), &mut Unkept) {
         Ok(opened) => read_texts(opened, all),
         Err(refused) => Ok(Err(fault_of(refused))),
     }

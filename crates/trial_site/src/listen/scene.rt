@@ -1,5 +1,6 @@
 //! A server and its peers.
 
+use crate::listen::journals::without_zeros;
 use crate::listen::peer::{Ending, Peer};
 use crate::listen::served::{Bounds, Served};
 use doc_hub::hub::Hub;
@@ -47,7 +48,8 @@ pub enum Awaited {
     End,
 }
 
-/// The server of a line `CONNECTIONS IDLE CALLS`, or `CONNECTIONS IDLE CALLS again`, which has this file.
+/// The server of a line `CONNECTIONS IDLE CALLS MOST`, or the same with ` again` behind it, which has this file, or with ` bare`, which has
+/// it without the zeros at its end.
 pub fn new_scene<R: Renderer + Drop, P: Clock + Net>(
     rt: &P,
     heap: Heap,
@@ -55,10 +57,7 @@ pub fn new_scene<R: Renderer + Drop, P: Clock + Net>(
     line: &str,
     file: &[u8],
 ) -> Option<Scene<R>> {
-    let (line, file) = match line.strip_suffix(" again") {
-        Some(line) => (line, file),
-        None => (line, b"".as_slice()),
-    };
+    let (line, file) = begun_with(line, file);
     let bounds = bounds_of(line)?;
     let hub = new_hub(heap, renderer)?;
     let served = Served::new(rt, heap, hub, bounds, file)?;
@@ -69,13 +68,26 @@ pub fn new_scene<R: Renderer + Drop, P: Clock + Net>(
     })
 }
 
+/// What a line says beside the file that its server has, and what of a file that is.
+fn begun_with<'a>(line: &'a str, file: &'a [u8]) -> (&'a str, &'a [u8]) {
+    if let Some(line) = line.strip_suffix(" again") {
+        return (line, file);
+    }
+    match line.strip_suffix(" bare") {
+        Some(line) => (line, without_zeros(file)),
+        None => (line, b"".as_slice()),
+    }
+}
+
 fn bounds_of(line: &str) -> Option<Bounds> {
     let (connections, rest) = line.split_once(' ')?;
-    let (idle, calls) = rest.split_once(' ')?;
+    let (idle, rest) = rest.split_once(' ')?;
+    let (calls, most) = rest.split_once(' ')?;
     Some(Bounds {
         connections: connections.parse::<usize>().ok()?,
         idle_seconds: idle.parse::<u64>().ok()?,
         calls: calls.parse::<u64>().ok()?,
+        most: most.parse::<usize>().ok()?,
     })
 }
 
@@ -129,10 +141,14 @@ impl<R: Renderer + Drop> Scene<R> {
         }
     }
 
-    /// Makes turns until what is waited for of a peer has come.
+    /// Makes turns until what is waited for of a peer has come. Behind the last turn of a server it reads once more.
     pub fn wait<P: Clock>(&mut self, rt: &P, place: usize, awaited: Awaited) {
         for _ in 0..TURNS {
-            if self.has_come(place, awaited) || !self.served.turn(rt) {
+            if self.has_come(place, awaited) {
+                return;
+            }
+            if !self.served.turn(rt) {
+                self.has_come(place, awaited);
                 return;
             }
         }

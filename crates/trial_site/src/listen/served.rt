@@ -1,8 +1,9 @@
 //! A server with a hub and a journal in memory.
 
-ghost use Rattle.std.specs.Prelude.{◌≡◌, List, ℕ, false, IfSome};
+ghost use Rattle.std.specs.Prelude.{◌≡◌, List, ℕ, [], false, IfSome};
+ghost use Rattle.doc_server_journal.specs.Devices.{IsFresh};
 ghost use Rattle.doc_server_journal.specs.Journals.{IsOpen};
-ghost use Rattle.doc_server_journal.specs.Memories.{has_failed, memory_leaves, memory_seen};
+ghost use Rattle.doc_server_journal.specs.Memories.{has_failed, memory_leaves, memory_seen, memory_stale};
 ghost use Rattle.doc_server_poll.specs.Keepings.{IsReady};
 
 use doc_hub::hub::Hub;
@@ -13,23 +14,27 @@ use doc_server_journal::device::Device;
 use doc_server_journal::journal::Journal;
 use doc_server_journal::memory::MemoryDevice;
 use doc_server_journal::opening::Opened;
+use doc_server_journal::torn::Unkept;
+use doc_server_journal_records::header::Identity;
 use doc_server_poll::fault::PollFault;
 use doc_server_poll::keeping::Keeping;
 use doc_server_poll::server::Server;
 use doc_server_poll::watch::Unwatched;
 use doc_server_restore::edits::Edits;
 use doc_server_restore::restore::restore;
+use doc_server_settling::reserve::{RESERVE, SPARE};
 use std::marker::Model;
 use std::net::{Ipv4Addr, Net, SocketAddr};
 use std::rt::Clock;
 
-/// How many connections a server has at most, after how many seconds of silence each of them ends, and how many calls of its journal's
-/// device go well.
+/// How many connections a server has at most, after how many seconds of silence each of them ends, how many calls of its journal's device
+/// go well, and up to how many bytes that is grown.
 #[derive(Clone, Copy)]
 pub struct Bounds {
     pub connections: usize,
     pub idle_seconds: u64,
     pub calls: u64,
+    pub most: usize,
 }
 
 /// A server, and what it serves. Behind a turn that was refused it makes no further one.
@@ -43,14 +48,14 @@ pub struct Served<R: Renderer + Drop> {
 
 impl<R: Renderer + Drop> Model for Served<R> {
     ghost use Rattle.std.specs.Prelude.{◌≡◌, ⊤, None};
-    ghost use Rattle.doc_server_journal.specs.Memories.{has_failed, memory_leaves, memory_seen};
+    ghost use Rattle.doc_server_journal.specs.Memories.{has_failed, memory_leaves, memory_seen, memory_stale};
     ghost use Rattle.doc_server_poll.specs.Keepings.{IsReady};
 
     ghost Value = { ⊤ };
 
     ghost view = { λ _. tt };
 
-    ghost invariant = { λ s. s.fault ≡ None → IsReady memory_seen memory_leaves has_failed s.keeping };
+    ghost invariant = { λ s. s.fault ≡ None → IsReady memory_seen memory_leaves has_failed memory_stale s.keeping };
 }
 
 impl<R: Renderer + Drop> Served<R> {
@@ -116,9 +121,9 @@ fn parts_of<P: Clock + Net, R: Renderer + Drop>(
     bounds: Bounds,
     file: &[u8],
 ) -> Option<(Server, Keeping<MemoryDevice>)>
-    ensures { IfSome result (λ parts. IsReady memory_seen memory_leaves has_failed parts.1) }
+    ensures { IfSome result (λ parts. IsReady memory_seen memory_leaves has_failed memory_stale parts.1) }
 {
-    let keeping = keeping_of(heap, hub, bounds.calls, file)?;
+    let keeping = keeping_of(heap, hub, bounds, file)?;
     let address = SocketAddr::from((Ipv4Addr::LOCALHOST, 0));
     match Server::bind(
         rt,
@@ -133,19 +138,48 @@ fn parts_of<P: Clock + Net, R: Renderer + Drop>(
     }
 }
 
-/// The journal of a file in memory of which so many calls go well. Its edits are made on the hub.
+/// The journal of a file in memory. Its edits are made on the hub, and it gets its room.
 fn keeping_of<R: Renderer + Drop>(
     heap: Heap,
     hub: &mut Hub<R>,
-    calls: u64,
+    bounds: Bounds,
     file: &[u8],
 ) -> Option<Keeping<MemoryDevice>>
-    ensures { IfSome result (IsReady memory_seen memory_leaves has_failed) }
+    ensures { IfSome result (IsReady memory_seen memory_leaves has_failed memory_stale) }
 {
-    let device = device_of(heap, calls, file)?;
-    match open_journal(heap, device, file.len(), hub) {
-        Some(journal) => Some(Keeping::Keeps(journal)),
-        None => None,
+    let mut keeping = kept_journal(heap, hub, bounds, file)?;
+    match keeping.keep_reserve(hub, RESERVE + SPARE) {
+        Ok(()) => Some(keeping),
+        Err(_) => None,
+    }
+}
+
+/// The same, with the room that it has.
+fn kept_journal<R: Renderer + Drop>(
+    heap: Heap,
+    hub: &mut Hub<R>,
+    bounds: Bounds,
+    file: &[u8],
+) -> Option<Keeping<MemoryDevice>>
+    ensures { IfSome result (IsReady memory_seen memory_leaves has_failed memory_stale) }
+{
+    let device = device_of(heap, bounds, file)?;
+    let journal = if file.is_empty() {
+        make_journal(heap, device)?
+    } else {
+        open_journal(heap, device, file.len(), hub)?
+    };
+    Some(Keeping::Keeps(journal))
+}
+
+/// A new journal on an empty device.
+fn make_journal<D: Device + Drop>(heap: Heap, device: D) -> Option<Journal<D>>
+    requires usable { D.failed device ≡ false }
+    ensures { IfSome result (λ journal. IsOpen D.seen D.may_leave D.failed D.stale journal []) }
+{
+    match Journal::make(heap, device, &Identity::of(&[0; 16])) {
+        Ok(journal) => Some(journal),
+        Err(_) => None,
     }
 }
 
@@ -157,10 +191,11 @@ fn open_journal<D: Device + Drop, E: Edits>(
     site: &mut E,
 ) -> Option<Journal<D>>
     requires usable { D.failed device ≡ false }
+    requires fresh { IsFresh (D.stale device) }
     ensures { IfSome result (λ journal. (texts : List (List ℕ))
-        × IsOpen D.seen D.may_leave D.failed journal texts) }
+        × IsOpen D.seen D.may_leave D.failed D.stale journal texts) }
 {
-    match Journal::open(heap, device, most) {
+    match Journal::open(heap, device, most, &mut Unkept) {
         Ok(Opened { journal, texts }) => {
             let restored = restore(heap, site, texts.get());
             drop(texts);
@@ -173,14 +208,15 @@ fn open_journal<D: Device + Drop, E: Edits>(
     }
 }
 
-/// A file in memory of which so many calls go well.
-fn device_of(heap: Heap, calls: u64, file: &[u8]) -> Option<MemoryDevice>
-    ensures { IfSome result (λ device. has_failed device ≡ false) }
+/// A file in memory, with these bounds.
+fn device_of(heap: Heap, bounds: Bounds, file: &[u8]) -> Option<MemoryDevice>
+    ensures usable { IfSome result (λ device. has_failed device ≡ false) }
+    ensures fresh { IfSome result (λ device. IsFresh (memory_stale device)) }
 {
     let Ok(bytes) = Bytes::copy_of(heap, file) else {
         return None;
     };
-    match MemoryDevice::new(heap, bytes, calls) {
+    match MemoryDevice::new(heap, bytes, bounds.calls, bounds.most) {
         Ok(device) => Some(device),
         Err(_) => None,
     }

@@ -1,13 +1,12 @@
 use Rattle.std.proofs.Common.{◌≡◌, ◌≤◌, ◌+◌, length}
-use Rattle.doc_server_journal_records.specs.Records.{seed, last_digest}
-use Rattle.doc_server_journal_records.specs.Readings.{AreRecords}
+use Rattle.doc_server_journal_records.specs.Readings.{AreRead, last_size}
 use Rattle.doc_server_journal_records.proofs.reading.records_of.Given as goal
 
 abbrev pub invariant-records : goal.invariant-records
 invariant-records l = record {
-  records : AreRecords l.bytes l.texts.items l.rest;
-  digest : l.digest ≡ last_digest seed l.texts.items;
+  read : AreRead l.fn.seed l.bytes l.texts.items l.digest l.rest;
   count : length l.texts.items + length l.rest ≤ length l.bytes;
+  last : l.last ≡ last_size l.texts.items;
 }
 
 abbrev pub decreases-records : goal.decreases-records

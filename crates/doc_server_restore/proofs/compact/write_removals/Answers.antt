@@ -11,7 +11,7 @@ entries-init g c =
     let start = ap without_stamps c.into_iter-path-iterator.ensures.into_iter_gives ∙ c.pages-path-items.ensures in
     record {
       writer = c.requires;
-      written = begins g.D.Device.seen g.D.Device.may_leave g.D.Device.failed c.args.writer.now _ _
+      written = begins g.D.Device.seen g.D.Device.may_leave g.D.Device.failed g.D.Device.stale c.args.writer.now _ _
           (ap (removals_left config site) (sym start));
       left = subst (Stand config.pages) (sym start) (all_stand config.pages);
     }
@@ -29,9 +29,9 @@ entries-preserved g c =
     let rest = without_stamps c.next.new.self in
     let steps = ap without_stamps c.in-Some.ensures.steps in
     record {
-      writer = still_writer g.D.Device.seen g.D.Device.may_leave g.D.Device.failed c.entries.writer c.write_removal.new.writer _
-          c.entries.invariant.writer c.in_ok-write_removal.ensures;
-      written = goes_on g.D.Device.seen g.D.Device.may_leave g.D.Device.failed c.args.writer.now c.entries.writer
+      writer = still_writer g.D.Device.seen g.D.Device.may_leave g.D.Device.failed g.D.Device.stale c.entries.writer
+          c.write_removal.new.writer _ c.entries.invariant.writer c.in_ok-write_removal.ensures;
+      written = goes_on g.D.Device.seen g.D.Device.may_leave g.D.Device.failed g.D.Device.stale c.args.writer.now c.entries.writer
           c.write_removal.new.writer _ _ _ _ c.entries.invariant.written c.in_ok-write_removal.ensures
           (ap (removals_left config site) steps ∙ removals_more config site (c.in-Some.path.now, c.in-Some._page.now.page) rest);
       left = others_stand config.pages (c.in-Some.path.now, c.in-Some._page.now.page) rest

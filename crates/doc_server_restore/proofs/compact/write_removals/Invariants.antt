@@ -7,8 +7,8 @@ use Rattle.doc_server_restore.proofs.compact.write_removals.Given as goal
 -- the removals so far are written, and those of the pages that are left are still to be
 abbrev pub invariant-entries : goal.invariant-entries
 invariant-entries g l = record {
-  writer : IsWriter g.D.Device.seen g.D.Device.may_leave g.D.Device.failed l.writer;
-  written : WroteUpTo g.D.Device.seen g.D.Device.may_leave g.D.Device.failed l.fn.writer l.writer
+  writer : IsWriter g.D.Device.seen g.D.Device.may_leave g.D.Device.failed g.D.Device.stale l.writer;
+  written : WroteUpTo g.D.Device.seen g.D.Device.may_leave g.D.Device.failed g.D.Device.stale l.fn.writer l.writer
       (removals (other_pages l.config.site l.site.site l.config.site.pages))
       (removals_left l.config.site l.site.site (without_stamps l.path-iterator));
   left : Stand l.config.site.pages (without_stamps l.path-iterator);

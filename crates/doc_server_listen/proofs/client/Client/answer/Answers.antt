@@ -1,4 +1,4 @@
-use Rattle.std.proofs.Common.{[], refl, ◌∙◌, length, subst, sym}
+use Rattle.std.proofs.Common.{refl, ◌∙◌, length, subst, sym}
 use Rattle.doc_server_listen.specs.Costs.{Left, Takes, next_cost}
 use Rattle.doc_server_listen.proofs.CostSteps.{ServesSharing, quiet_shares, sharing_join, step_shares}
 use Rattle.doc_server_listen.proofs.Pieces.{nothing_done, none_held, still_room, held_more}

@@ -8,7 +8,8 @@ pub returns-in-Forgets-clause-serves : goal.returns-in-Forgets-clause-serves
 returns-in-Forgets-clause-serves g c =
     let s = c.turn.ensures.serves in (
       s.0,
-      subst (λ k. KeepsEdits g.D.Device.seen g.D.Device.may_leave g.D.Device.failed g.D.Device.moment g.D.Device.left_since k k
+      subst (λ k. KeepsEdits g.D.Device.seen g.D.Device.may_leave g.D.Device.failed g.D.Device.stale g.D.Device.moment
+          g.D.Device.left_since k k
           (g.R.Renderer.page c.args.hub.now.0) s.0.run c.turn.new.hub.1 c.args.clients.now c.turn.new.clients (Ok tt))
           (sym c.in-Forgets.is) tt,
       s.1,
@@ -18,7 +19,8 @@ pub returns-in-Keeps-clause-serves : goal.returns-in-Keeps-clause-serves
 returns-in-Keeps-clause-serves g c =
     let s = c.settled_turn.ensures.serves in (
       s.0,
-      subst (λ k. KeepsEdits g.D.Device.seen g.D.Device.may_leave g.D.Device.failed g.D.Device.moment g.D.Device.left_since k
+      subst (λ k. KeepsEdits g.D.Device.seen g.D.Device.may_leave g.D.Device.failed g.D.Device.stale g.D.Device.moment
+          g.D.Device.left_since k
           (keepings.Keeps c.settled_turn.new.journal) (g.R.Renderer.page c.args.hub.now.0) s.0.run c.settled_turn.new.hub.1
           c.args.clients.now
           c.settled_turn.new.clients c.settled_turn.result) (sym c.in-Keeps.is) (s.1, c.settled_turn.ensures.waits),

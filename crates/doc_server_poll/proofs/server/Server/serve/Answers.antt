@@ -1,12 +1,12 @@
 use Rattle.std.proofs.Common.{refl, ◌∙◌}
-use Rattle.doc_server_poll.proofs.Leading.{leads_on, leads_nowhere}
+use Rattle.doc_server_poll.proofs.Leading.{leads_on}
 use Rattle.doc_server_poll.proofs.server.Server.serve.Goals as goal
 
 pub turns-init : goal.turns-init
 turns-init g c = record {
-  ready = c.requires.ready;
-  leads = leads_nowhere (g.T.Renderer.page c.args.hub.now.0) c.args.hub.now.1;
-  same = refl;
+  ready = c.in_ok-keep_reserve.ensures.ready;
+  leads = c.keep_reserve.ensures.leads;
+  same = c.keep_reserve.ensures.same;
   most = refl;
 }
 

@@ -1,0 +1,11 @@
+mod EditsMade
+mod EditsRequested
+mod Events
+mod FewerPuts
+mod PagesRequested
+mod PathsWritten
+mod RecordSteps
+mod SitesOfCalls
+mod TextSteps
+mod ToldOfCalls
+mod TurnLaw

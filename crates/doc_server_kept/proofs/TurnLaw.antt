@@ -1,0 +1,161 @@
+-- The laws of a turn, event after event.
+use Rattle.std.proofs.Common.{◌≡◌, ◌≤◌, All, List, [], ◌∷◌, ◌++◌, refl, ap, sym, ◌∙◌, subst}
+use Rattle.std.specs.Prelude.{Option, Some, None, IfSome, option_to_list}
+use Rattle.std.proofs.lemmas.List.Elements.{All-head, All-tail}
+use Rattle.doc_store.specs.Store.{StoreState}
+use Rattle.doc_store.specs.declared.site_edit.SiteEdit.{SiteEdit}
+use Rattle.doc_hub_answers.specs.Replies.{Renders}
+use Rattle.doc_hub_events.specs.declared.event.Event.{Event}
+use Rattle.doc_hub_events.specs.declared.outcome.Outcome.{Outcome}
+use Rattle.doc_hub.specs.Runs.{Happened, Leaves, Runs, nothing, first}
+use Rattle.doc_hub.specs.Worlds.{World, store_of}
+use Rattle.doc_server_script.specs.PageLines.{lines_of}
+use Rattle.doc_server_listen.specs.Edits.{AreMade, MakesIn, accepted, left_by}
+use Rattle.doc_server_restore.proofs.LineLaws.{lines_are_read}
+use Rattle.doc_server_restore.specs.Laws.{AreEdits, IsEdit}
+use Rattle.doc_server_restore.specs.Restores.{all_made, made, unstamped}
+use Rattle.doc_server_kept.specs.KeptTurns.{IsOfCalls, IsOfServer, QuietTurnIsRestored, TurnIsRestored, TurnStaysOfCalls}
+use Rattle.doc_server_kept.proofs.EditsMade.{Follows, made_again}
+use Rattle.doc_server_kept.proofs.Events.{EventMade, event_made, some_made}
+use Rattle.doc_server_kept.proofs.FewerPuts.{made_with_fewer}
+use Rattle.doc_server_kept.proofs.RecordSteps.{one_record_more}
+use Rattle.doc_server_kept.proofs.SitesOfCalls.{left_of_calls}
+use Rattle.doc_server_kept.proofs.ToldOfCalls.{told_is}
+
+abbrev AreOfServer : List Happened → Type 0
+AreOfServer run = All (λ h. IsOfServer h.event) run
+
+starts : (render : Renders) (v u : World) (run : List Happened) → Runs render v run u → left_by run u ≡ v
+starts render v u run (nothing x) = refl
+starts render v u run (first x y z event outcome rest leaves runs) = refl
+
+-- ---- one event
+
+module _ (render : Renders) (w v : World) (edit : Option SiteEdit) (event : EventMade render w v edit) where
+  follows : Follows w v edit
+  follows = subst (Follows w v) (sym event.edit_is) (made_again w v event.told event.made)
+
+  of_calls : IsOfCalls w.site → IsOfCalls v.site × IfSome edit IsEdit
+  of_calls is =
+      let both = left_of_calls w v is event.told (told_is render w is event.told event.connection event.tells) event.made in
+      (both.0, subst (λ e. IfSome e IsEdit) (sym event.edit_is) both.1)
+
+-- a store that has the site of a world, and no more puts
+record Stands (s : StoreState) (w : World) : Type 0 where
+  site : s.site ≡ w.site
+  puts : s.puts ≤ w.puts
+
+stands_too : (s : StoreState) (w v : World) → store_of v ≡ store_of w → Stands s w → Stands s v
+stands_too s w v same stands = record {
+  site = stands.site ∙ ap (λ (x : StoreState). x.site) (sym same);
+  puts = subst (λ n. s.puts ≤ n) (ap (λ (x : StoreState). x.puts) (sym same)) stands.puts;
+}
+
+-- the edits lead from the store to one that has the site of the world
+abbrev Lead : List SiteEdit → StoreState → World → Type 0
+Lead edits s v = (t : StoreState) × (all_made s edits ≡ Some t) × Stands t v
+
+abbrev behind : List SiteEdit → Option StoreState → Option StoreState
+behind edits None = None
+behind edits (Some next) = all_made next edits
+
+as_behind : (edits : List SiteEdit) (mid : Option StoreState)
+    → ◌≡◌ {A = Option StoreState} (elim mid [ None ↦ None | Some next ↦ all_made next edits ]) (behind edits mid)
+as_behind edits None = refl
+as_behind edits (Some next) = refl
+
+-- an edit in front of others, or none
+lead_more : (w v u : World) (edit : Option SiteEdit) (edits : List SiteEdit) (s : StoreState) → IsOfCalls w.site → Follows w v edit
+    → Stands s w → ((next : StoreState) → Stands next v → Lead edits next u) → Lead (option_to_list edit ++ edits) s u
+lead_more w v u None edits s is follows stands rest = rest s (stands_too s w v follows stands)
+lead_more w v u (Some edit) edits s is follows stands rest =
+    let (next, one, site, puts) = made_with_fewer (store_of w) s (store_of v) edit stands.site stands.puts (follows is.is_site) in
+    let (last, all, there) = rest next (record { site = site; puts = puts }) in
+    (last, as_behind edits (made s edit) ∙ ap (behind edits) one ∙ all, there)
+
+edits_more : (edit : Option SiteEdit) (edits : List SiteEdit) → IfSome edit IsEdit → AreEdits edits
+    → AreEdits (option_to_list edit ++ edits)
+edits_more None edits is are = are
+edits_more (Some edit) edits is are = (is, are)
+
+-- ---- the events of a turn
+
+module _ (render : Renders) where
+  one_event : (w v u : World) (run : List Happened) (event : Event) (outcome : Outcome) (edit : Option SiteEdit) → Runs render v run u
+      → IsOfServer event → Leaves render w event v outcome → MakesIn render w event outcome (left_by run u) edit → EventMade render w v edit
+  one_event w v u run event outcome edit runs of_server leaves makes =
+      event_made render w v event outcome edit of_server leaves
+      (subst (λ x. MakesIn render w event outcome x edit) (starts render v u run runs) makes)
+
+  abbrev here : World → Event → Outcome → Happened
+  here w event outcome = record { world = w; event = event; outcome = outcome }
+
+  first_of : (w : World) (event : Event) (outcome : Outcome) (run : List Happened) → AreOfServer (here w event outcome ∷ run)
+      → IsOfServer event
+  first_of w event outcome run servers = All-head (λ h. IsOfServer h.event) (here w event outcome) run servers
+
+  others_of : (w : World) (event : Event) (outcome : Outcome) (run : List Happened) → AreOfServer (here w event outcome ∷ run)
+      → AreOfServer run
+  others_of w event outcome run servers = All-tail (λ h. IsOfServer h.event) (here w event outcome) run servers
+
+  -- what is written is as calls take it
+  turn_edits : (w v : World) (run : List Happened) (edits : List (Option SiteEdit)) → IsOfCalls w.site → Runs render w run v
+      → AreOfServer run → AreMade render run v edits → AreEdits (accepted edits)
+  turn_edits w v run [] is (nothing x) servers made = tt
+  turn_edits w v run (edit ∷ edits) is (nothing x) servers made = absurd made
+  turn_edits w v run [] is (first x y z event outcome rest leaves runs) servers made = absurd made
+  turn_edits w v run (edit ∷ edits) is (first x y z event outcome rest leaves runs) servers made =
+      let one = one_event x y z rest event outcome edit runs (first_of x event outcome rest servers) leaves made.0 in
+      let after = of_calls render x y edit one is in
+      edits_more edit (accepted edits) after.1
+      (turn_edits y z rest edits after.0 runs (others_of x event outcome rest servers) made.1)
+
+  -- and leads to the site that is left
+  turn_leads : (w v : World) (run : List Happened) (edits : List (Option SiteEdit)) (s : StoreState) → IsOfCalls w.site
+      → Runs render w run v → AreOfServer run → AreMade render run v edits → Stands s w → Lead (accepted edits) s v
+  turn_leads w v run [] s is (nothing x) servers made stands = (s, refl, stands)
+  turn_leads w v run (edit ∷ edits) s is (nothing x) servers made stands = absurd made
+  turn_leads w v run [] s is (first x y z event outcome rest leaves runs) servers made stands = absurd made
+  turn_leads w v run (edit ∷ edits) s is (first x y z event outcome rest leaves runs) servers made stands =
+      let one = one_event x y z rest event outcome edit runs (first_of x event outcome rest servers) leaves made.0 in
+      let after = of_calls render x y edit one is in
+      lead_more x y z edit (accepted edits) s is (follows render x y edit one) stands
+      (λ next there. turn_leads y z rest edits next after.0 runs (others_of x event outcome rest servers) made.1 there)
+
+  -- a turn without edits leaves the store
+  quiet_leaves : (w v : World) (run : List Happened) (edits : List (Option SiteEdit)) → Runs render w run v → AreOfServer run
+      → AreMade render run v edits → accepted edits ≡ [] → store_of v ≡ store_of w
+  quiet_leaves w v run [] (nothing x) servers made none = refl
+  quiet_leaves w v run (edit ∷ edits) (nothing x) servers made none = absurd made
+  quiet_leaves w v run [] (first x y z event outcome rest leaves runs) servers made none = absurd made
+  quiet_leaves w v run (Some edit ∷ edits) (first x y z event outcome rest leaves runs) servers made none = cc
+  quiet_leaves w v run (None ∷ edits) (first x y z event outcome rest leaves runs) servers made none =
+      let one = one_event x y z rest event outcome None runs (first_of x event outcome rest servers) leaves made.0 in
+      quiet_leaves y z rest edits runs (others_of x event outcome rest servers) made.1 none ∙ follows render x y None one
+
+pub turn_stays_of_calls : TurnStaysOfCalls
+turn_stays_of_calls render w v run is (nothing x) servers = is
+turn_stays_of_calls render w v run is (first x y z event outcome rest leaves runs) servers =
+    let (edit, one) = some_made render x y event outcome (first_of render x event outcome rest servers) leaves in
+    turn_stays_of_calls render y z rest (of_calls render x y edit one is).0 runs (others_of render x event outcome rest servers)
+
+-- ---- the laws
+
+pub turn_is_restored : TurnIsRestored
+turn_is_restored render config w v run edits texts is runs servers made before =
+    let (store, all, stands) = turn_leads render w v run edits before.store is runs servers made
+    (record { site = before.site; puts = before.puts }) in
+    record {
+      store = store;
+      gives = one_record_more (lines_of (accepted edits)) (accepted edits)
+          (lines_are_read (accepted edits) (turn_edits render w v run edits is runs servers made))
+          texts 1 (unstamped config) before.store store before.gives all;
+      site = stands.site;
+      puts = stands.puts;
+    }
+
+pub quiet_turn_is_restored : QuietTurnIsRestored
+quiet_turn_is_restored render config w v run edits texts runs servers made none before =
+    let stands = stands_too before.store w v (quiet_leaves render w v run edits runs servers made none)
+    (record { site = before.site; puts = before.puts }) in
+    record { store = before.store; gives = before.gives; site = stands.site; puts = stands.puts }

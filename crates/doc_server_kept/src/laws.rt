@@ -1,0 +1,20 @@
+//! The restart law. Each function does nothing: its contract is the law.
+
+ghost use Rattle.doc_server_kept.specs.KeptTurns.{QuietTurnIsRestored, TurnIsRestored, TurnStaysOfCalls};
+
+/// The record of a turn restores what the turn made: where the records before it give the site of the world that the turn met, from the same
+/// configuration, these and one of the lines of its edits give the site of the world that it left. Of its puts no more are counted than the
+/// hub has counted. The events of the turn are those of connections, and whether puts are taken; its site is as calls make one.
+pub fn a_turn_is_restored()
+    ensures { TurnIsRestored }
+{}
+
+/// A turn without edits needs no record: what was restored before it is restored behind it.
+pub fn a_turn_without_edits_is_restored()
+    ensures { QuietTurnIsRestored }
+{}
+
+/// A site as calls make one stays so over a turn: so these laws hold of turn after turn.
+pub fn a_turn_leaves_a_site_of_calls()
+    ensures { TurnStaysOfCalls }
+{}
