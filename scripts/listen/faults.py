@@ -116,8 +116,10 @@ class Later:
 
 
 def moved():
-    """A journal whose name is lost while the server runs: nothing of the turn's replies is sent, or it ends within some seconds."""
-    for name, lose in (("renamed", lambda: os.rename("kept", "elsewhere")), ("removed", lambda: os.remove("kept")),
+    """A journal whose name is lost while the server runs, or that is cut: nothing of the turn's replies is sent, or it ends within some
+    seconds."""
+    for name, lose in (("cut to nothing", lambda: os.truncate("kept", 0)), ("cut", lambda: os.truncate("kept", 1_000_000)),
+                       ("renamed", lambda: os.rename("kept", "elsewhere")), ("removed", lambda: os.remove("kept")),
                        ("replaced", lambda: os.rename("good", "kept"))):
         server = scene.listen("good.toml", journal="kept")
         client = Client(server.port, "tok")

@@ -209,7 +209,7 @@ def first_at(before, rest):
 
 
 def read_first(journal):
-    """The texts of its records, or None where it is no whole journal of version 1."""
+    """The texts of its records, or None where it is no whole journal of version 1: without records that is a gate alone."""
     texts, digest, at = [], FIRST_SEED, 0
     if journal[:1] not in (b"\x00", b"\x01"):
         return None
@@ -223,7 +223,7 @@ def read_first(journal):
     tail = view[at + 1:]
     torn = first_at(digest, tail)
     is_end = journal[at:at + 1] == b"\x00" and (len(tail) <= FIRST_LIMIT + 37 if torn is None else len(tail) <= 36 + len(torn) + 1)
-    return texts if is_end else None
+    return texts if is_end and texts else None
 
 
 def is_first(journal):

@@ -274,6 +274,13 @@ impl<R: Renderer + Drop> Hub<R> {
         self.takes_puts
     }
 
+    /// How many pages stand.
+    pub fn len(&self) -> usize
+        ensures { result ≡ map.len self.now.1.site.pages }
+    {
+        self.shelf.store().pages().len()
+    }
+
     /// The page of a path with its groups and its text, where one stands there.
     pub fn page(&self, path: &Path) -> Option<&Page>
         ensures { option_map (λ page. page.now.page) result

@@ -1,5 +1,7 @@
 -- How a reading of the first form goes on, and how it ends.
-use Rattle.std.proofs.Common.{◌≡◌, inl, inr, ℕ, ◌+◌, ◌<◌, ◌≤◌, List, [], ◌∷◌, ◌++◌, length, sym, ap, subst, ◌∙◌, arith, length-append}
+use Rattle.std.proofs.Common.{◌≡◌, inl, inr, Bool, true, false, ◌==◌, ℕ, ◌+◌, ◌<◌, ◌≤◌, List, [], ◌∷◌, ◌++◌, length}
+use Rattle.std.proofs.Common.{refl, sym, ap, subst, ◌∙◌, arith, eqb-true, length-append}
+use Rattle.std.proofs.lemmas.Bool.{eqb-false}
 use Rattle.doc_server_journal_records.specs.FirstRecords.{seed, digest_behind, record_bytes, chain, last_digest}
 use Rattle.doc_server_journal_records.specs.FirstReadings.{IsRecord, IsOpenRecord, HasNoOpenRecord, IsTail, IsEnd, IsBegun, AreRecords, IsFirst}
 use Rattle.doc_server_journal_records.proofs.FirstChainLemmas.{chain_push, last_push, within_push, chain_unique, end_not_open}
@@ -46,23 +48,53 @@ going_on bytes texts news digest next text rest behind are digest_is count found
     subst (λ ts. AreRecords bytes ts behind × (next ≡ last_digest seed ts) × (length ts + length behind ≤ length bytes)) (sym news_is)
     (more, last, counted)
 
--- a reading that comes to an end
-pub whole : (bytes : List ℕ) (texts : List (List ℕ)) (rest digest : List ℕ) → IsBegun bytes → AreRecords bytes texts rest
-    → digest ≡ last_digest seed texts → IsEnd digest rest → IsFirst bytes texts
-whole bytes texts rest digest begun are digest_is ends = (begun, inl (rest, are, subst (λ d. IsEnd d rest) digest_is ends))
+-- whether a reading found a record
+no_length : (texts : List (List ℕ)) → length texts ≡ 0 → texts ≡ []
+no_length [] none = refl
+no_length (t ∷ texts) none = absurd (omega (arith, none))
+
+pub none_there : (found texts : List (List ℕ)) (test : Bool) → found ≡ texts → test ≡ (length found == 0) → test ≡ true → texts ≡ []
+none_there found texts test same is holds = no_length texts (ap length (sym same) ∙ eqb-true (length found) 0 (sym is ∙ holds))
+
+pub not_none : (found texts : List (List ℕ)) (test : Bool) → found ≡ texts → test ≡ (length found == 0) → test ≡ false → texts ≡ [] → ⊥
+not_none found texts test same is holds none = eqb-false (length found) 0 (sym is ∙ holds) (ap length (same ∙ none))
+
+-- a reading that comes to an end behind a record
+pub whole : (bytes : List ℕ) (texts : List (List ℕ)) (rest digest : List ℕ) → IsBegun bytes → (texts ≡ [] → ⊥)
+    → AreRecords bytes texts rest → digest ≡ last_digest seed texts → IsEnd digest rest → IsFirst bytes texts
+whole bytes texts rest digest begun some are digest_is ends =
+    (begun, inl (some, rest, are, subst (λ d. IsEnd d rest) digest_is ends))
 
 pub begun_alone : (bytes : List ℕ) (texts : List (List ℕ)) → IsBegun bytes → length bytes ≡ 1 → texts ≡ [] → IsFirst bytes texts
 begun_alone bytes texts begun one none = (begun, inr (omega (arith, one), none))
 
--- a reading that comes to none
+-- bytes that begin with a gate and aren't a gate alone are more than one
+more_bytes : (bytes : List ℕ) → (IsBegun bytes → (length bytes ≡ 1) → ⊥) → IsBegun bytes → length bytes ≤ 1 → ⊥
+more_bytes [] long begun short = begun
+more_bytes (b ∷ bytes) long begun short = long begun (omega (arith, short))
+
+-- what ends is what a reading found
+found_ends : (bytes : List ℕ) (texts others : List (List ℕ)) (rest x digest : List ℕ) → AreRecords bytes texts rest
+    → digest ≡ last_digest seed texts → HasNoOpenRecord digest rest → AreRecords bytes others x → IsEnd (last_digest seed others) x
+    → (others ≡ texts) × (x ≡ rest)
+found_ends bytes texts others rest x digest are digest_is not_open these end =
+    chain_unique seed others texts x rest these.within are.within (sym these.split ∙ are.split) (end_not_open _ x end)
+    (subst (λ d. HasNoOpenRecord d rest) digest_is not_open)
+
+-- a reading that comes to no record
+pub no_record : (bytes : List ℕ) (texts : List (List ℕ)) (rest digest : List ℕ) → (IsBegun bytes → (length bytes ≡ 1) → ⊥)
+    → AreRecords bytes texts rest → digest ≡ last_digest seed texts → HasNoOpenRecord digest rest → texts ≡ []
+    → (others : List (List ℕ)) → IsFirst bytes others → ⊥
+no_record bytes texts rest digest long are digest_is not_open empty others (begun, inl (some, x, these, end)) =
+    some ((found_ends bytes texts others rest x digest are digest_is not_open these end).0 ∙ empty)
+no_record bytes texts rest digest long are digest_is not_open empty others (begun, inr (short, none)) = more_bytes bytes long begun short
+
+-- a reading that comes to no end
 pub no_journal : (bytes : List ℕ) (texts : List (List ℕ)) (rest digest : List ℕ) → (IsBegun bytes → (length bytes ≡ 1) → ⊥)
     → AreRecords bytes texts rest → digest ≡ last_digest seed texts → HasNoOpenRecord digest rest → (IsEnd digest rest → ⊥)
     → (others : List (List ℕ)) → IsFirst bytes others → ⊥
-no_journal bytes texts rest digest long are digest_is not_open no_end others (begun, inl (x, these, end)) =
-    let both = chain_unique seed others texts x rest these.within are.within (sym these.split ∙ are.split) (end_not_open _ x end)
-    (subst (λ d. HasNoOpenRecord d rest) digest_is not_open) in
+no_journal bytes texts rest digest long are digest_is not_open no_end others (begun, inl (some, x, these, end)) =
+    let both = found_ends bytes texts others rest x digest are digest_is not_open these end in
     let there = subst (λ l. IsEnd (last_digest seed others) l) both.1 end in
     no_end (subst (λ d. IsEnd d rest) (ap (λ ts. last_digest seed ts) both.0 ∙ sym digest_is) there)
-no_journal [] texts rest digest long are digest_is not_open no_end others (begun, inr (short, none)) = begun
-no_journal (b ∷ bytes) texts rest digest long are digest_is not_open no_end others (begun, inr (short, none)) =
-    long begun (omega (arith, short))
+no_journal bytes texts rest digest long are digest_is not_open no_end others (begun, inr (short, none)) = more_bytes bytes long begun short

@@ -43,8 +43,9 @@ abbrev pub IsBegun : List ℕ → Type 0
 IsBegun [] = ⊥
 IsBegun (b ∷ rest) = (b ≡ 0) ⊎ (b ≡ 1)
 
--- the bytes read as the records of these texts; a journal that was only begun is a byte
+-- the bytes read as the records of these texts; a journal without records is a gate alone
 abbrev pub IsFirst : List ℕ → List (List ℕ) → Type 0
 IsFirst bytes texts =
     IsBegun bytes
-    × (((rest : List ℕ) × AreRecords bytes texts rest × IsEnd (last_digest seed texts) rest) ⊎ ((length bytes ≤ 1) × (texts ≡ [])))
+    × (((texts ≡ [] → ⊥) × (rest : List ℕ) × AreRecords bytes texts rest × IsEnd (last_digest seed texts) rest)
+    ⊎ ((length bytes ≤ 1) × (texts ≡ [])))

@@ -17,7 +17,7 @@ use doc_server_listen::client::Client;
 use doc_server_listen::share::Share;
 use doc_server_listen::turn::turn;
 use doc_server_settling::fault::TurnFault;
-use doc_server_settling::reserve::{RESERVE, keep_reserve};
+use doc_server_settling::reserve::{RESERVE, has_room_to_remove, keep_reserve};
 use doc_server_settling::settling::settled_turn;
 
 /// How many bytes a journal grows by at once, and by how many where it lacks its reserve.
@@ -95,6 +95,14 @@ impl<D: Device + NamedFile> Keeping<D> {
 }
 
 impl<D: Device> Keeping<D> {
+    /// Whether the journal has room for the removal of each page, so that turns have room whatever comes, where there is one.
+    pub fn has_room<R: Renderer + Drop>(&self, hub: &Hub<R>) -> bool {
+        match self {
+            Keeping::Forgets => true,
+            Keeping::Keeps(journal) => has_room_to_remove(journal, hub),
+        }
+    }
+
     /// How much room the journal has, where there is one.
     pub(crate) fn room(&self) -> usize {
         match self {

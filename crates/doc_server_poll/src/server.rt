@@ -275,7 +275,7 @@ impl Server {
         if !keeping.is_found() {
             return Err(PollFault::CannotWrite);
         }
-        keeping.keep_reserve(hub, keeping.growth())?;
+        keeping.keep_reserve(hub, RESERVE + SPARE)?;
         Ok(())
     }
 

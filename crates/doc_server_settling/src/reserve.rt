@@ -1,6 +1,6 @@
 //! The room that a journal keeps for records to come.
 
-ghost use Rattle.std.specs.Prelude.{◌≡◌, ◌≤◌, List, ℕ, nat_le, IfSome, OnErr, OnOk};
+ghost use Rattle.std.specs.Prelude.{◌≡◌, ◌≤◌, List, ℕ, true, nat_le, IfSome, OnErr, OnOk};
 ghost use Rattle.doc_hub.specs.Runs.{Happens};
 ghost use Rattle.doc_hub_events.specs.declared.event.Event.TheVariants as events;
 ghost use Rattle.doc_server_journal.specs.Devices.{AreBehind, LeavesOnly};
@@ -12,13 +12,29 @@ use crate::fault::TurnFault;
 use doc_hub::hub::Hub;
 use doc_page::renderer::Renderer;
 use doc_server_journal::device::Device;
-use doc_server_journal::journal::Journal;
+use doc_server_journal::journal::{Journal, RECORD_BESIDE};
 
 /// How much room a journal keeps while puts are taken: for the largest record of a turn, and for a record with the removal of each page.
 pub const RESERVE: usize = 8 * 1_048_576 + 128 + 10_000 * 1_024;
 
 /// How much it keeps beyond that, so that a turn seldom waits for more.
 pub const SPARE: usize = 4 * 1_048_576;
+
+/// How many pages may stand.
+const PAGE_LIMIT: usize = 10_000;
+
+/// How many bytes a record with one removal takes at most.
+const REMOVAL_MOST: usize = 808 + RECORD_BESIDE;
+
+/// Whether a journal has room for all that may come while no puts are taken: for the removal of each page, and for one record more. A
+/// journal that has lost the zeros behind its records lacks it where the disk is full, and isn't served: its turns would have no room.
+#[tactic(auto, unfolding(doc_store::specs::Store::page_limit, doc_server_listen::specs::Edits::longest_removal, doc_server_script::specs::LineLengths::path_limit))]
+pub fn has_room_to_remove<D: Device, R: Renderer + Drop>(journal: &Journal<D>, hub: &Hub<R>) -> bool
+    ensures { result ≡ true → HasRoomToRemove journal.now.room hub.now.1 }
+{
+    let pages = hub.len();
+    pages <= PAGE_LIMIT && (pages + 1) * REMOVAL_MOST <= journal.room
+}
 
 /// Sees to it that a journal keeps its reserve and the spare room, by so many more bytes at most, and has the hub take puts while it keeps
 /// the reserve. Between turns a server calls it, so that no turn lacks room. After an `Err` the server ends.

@@ -4,7 +4,7 @@ use crate::arguments::Compact;
 use crate::bounded::{Bounded, read_bounded};
 use crate::files::{Pages, Site};
 use crate::held::hold;
-use crate::journal::restore_journal;
+use crate::journal::{make_reserve, restore_journal};
 use crate::listen_fault::ListenFault;
 use crate::site_store::site_store;
 use crate::status::status_of;
@@ -15,8 +15,6 @@ use doc_server_journal::file_device::FileDevice;
 use doc_server_journal::names::Replacement;
 use doc_server_journal::random::new_identity;
 use doc_server_restore::compact::compact;
-use doc_server_restore::compact_fault::CompactFault;
-use doc_server_settling::reserve::{RESERVE, SPARE};
 use doc_store::store::Store;
 use std::fs::{File, remove_file};
 use std::rt::{Clock, Files};
@@ -120,8 +118,8 @@ fn replace<P: AllocGlobal + Clock + Files<File = File>>(
     }
 }
 
-/// Writes the new journal into a file beside the old one, which then takes its name. All of it is on the disk before that, with its reserve
-/// as far as there is room, and both files are locked until it has the name.
+/// Writes the new journal into a file beside the old one, which then takes its name. All of it is on the disk before that, with its
+/// reserve, and both files are locked until it has the name.
 fn write_beside<P: AllocGlobal + Clock + Files<File = File>>(
     rt: &P,
     heap: Heap,
@@ -133,9 +131,7 @@ fn write_beside<P: AllocGlobal + Clock + Files<File = File>>(
     let device = old.make_like(rt, place.new_name())?;
     let identity = new_identity(rt)?;
     let mut written = compact(heap, config, site, device, &identity, seconds_of(rt))?;
-    if written.make_room(RESERVE + SPARE).is_err() {
-        return Err(ListenFault::from(CompactFault::Failed));
-    }
+    make_reserve(&mut written)?;
     place.take_name(rt)?;
     Ok(())
 }

@@ -19,9 +19,22 @@ use doc_server_journal::writing::load;
 use doc_server_journal_records::first;
 use doc_server_restore::edits::Edits;
 use doc_server_restore::restore::restore;
+use doc_server_settling::reserve::{RESERVE, SPARE};
 
 /// How many bytes a journal may have: as many as it takes.
 pub const MOST_BYTES: usize = 1 << 60;
+
+/// Makes the reserve of a new journal.
+pub fn make_reserve<D: Device>(journal: &mut Journal<D>) -> Result<(), ListenFault>
+    requires open { (texts : List (List ℕ))
+        × IsOpen D.seen D.may_leave D.failed D.stale journal.old texts }
+{
+    match journal.make_room(RESERVE + SPARE) {
+        Ok(_) if journal.room >= RESERVE => Ok(()),
+        Ok(_) => Err(ListenFault::NoRoom),
+        Err(_) => Err(ListenFault::from(OpenFault::Failed)),
+    }
+}
 
 /// The journal of a file, opened, and its edits made on a site, in their order. A server that has ended at a sync that failed leaves no
 /// stale place but those from its last record's gate on.
@@ -63,10 +76,12 @@ pub fn restore_journal<D: Device + Drop, E: Edits, K: KeepTorn>(
             make_edits(heap, &texts, site)?;
             Ok(journal.device)
         }
-        Err(Refused {
-            fault: OpenFault::First,
-            device,
-        }) => restore_first(heap, device, site),
+        Err(
+            Refused {
+                fault: OpenFault::First,
+                device,
+            },
+        ) => restore_first(heap, device, site),
         Err(refused) => Err(ListenFault::from(refused.fault)),
     }
 }

@@ -34,6 +34,9 @@ pub enum ListenFault {
     /// The journal isn't read.
     #[error("{0}")]
     Journal(OpenFault),
+    /// The disk has no room for the journal's reserve.
+    #[error("no room for the journal")]
+    NoRoom,
     /// The journal's file lost its name while the server ran.
     #[error("journal moved")]
     Moved,

@@ -9,7 +9,7 @@ use crate::arguments::Listen;
 use crate::bounded::{Bounded, read_bounded};
 use crate::files::{Pages, Site};
 use crate::held::hold;
-use crate::journal::open_journal;
+use crate::journal::{make_reserve, open_journal};
 use crate::listen_fault::ListenFault;
 use crate::named_device::NamedDevice;
 use crate::serving::tell_address;
@@ -22,19 +22,20 @@ use doc_page_parts::heap::Heap;
 use doc_server::site::site_hub;
 use doc_server_config::bounds::Bounds;
 use doc_server_journal::device::Device;
-use doc_server_journal::fault::OpenFault;
 use doc_server_journal::file_device::FileDevice;
 use doc_server_journal::file_fault::FileFault;
 use doc_server_journal::journal::Journal;
 use doc_server_journal::memory::MemoryDevice;
 use doc_server_journal::names::Replacement;
 use doc_server_journal::random::new_identity;
+use doc_server_journal_records::header::Identity;
+use doc_server_poll::fault::PollFault;
 use doc_server_poll::keeping::{Keeping, NamedFile};
 use doc_server_poll::server::Server;
 use doc_server_settling::reserve::{RESERVE, SPARE};
 use doc_server_streams::fault::Fault;
 use doc_server_streams::write_to::WriteTo;
-use std::fs::{File, metadata};
+use std::fs::{File, metadata, remove_file};
 use std::io;
 use std::net::Net;
 use std::os::unix::fs::FileTypeExt;
@@ -110,6 +111,12 @@ fn serve_journal<R: Renderer + Drop, P: Clock + Eprint + Files<File = File> + Ne
     let device = device_of(rt, heap, name)?;
     let mut torn = TornFile { rt, heap, name };
     let mut keeps = Keeping::Keeps(open_journal(heap, device, &mut torn, hub)?);
+    if let Err(fault) = keeps.keep_reserve(hub, RESERVE + SPARE) {
+        return Err(ListenFault::from(PollFault::from(fault)));
+    }
+    if !keeps.has_room(hub) {
+        return Err(ListenFault::NoRoom);
+    }
     match serve_keeping(rt, heap, hub, bounds, command, &mut keeps) {
         Err(ListenFault::Command(Fault::CannotWrite)) if !keeps.is_found() => {
             Err(ListenFault::Moved)
@@ -136,8 +143,8 @@ fn device_of<'a, P: Eprint + Files<File = File>>(
     }
 }
 
-/// Makes a journal of this name, and tells it. It gets the name once it has its header, so that no crash leaves one without. Its reserve
-/// is made with it, as far as there is room.
+/// Makes a journal of this name, and tells it. It gets the name once it has its header, so that no crash leaves one without, nor
+/// without its reserve.
 fn begin_journal<P: Eprint + Files<File = File>>(
     rt: &P,
     heap: Heap,
@@ -146,16 +153,35 @@ fn begin_journal<P: Eprint + Files<File = File>>(
     let place = Replacement::first_of(heap, name)?;
     let device = FileDevice::make(rt, place.new_name())?;
     let identity = new_identity(rt)?;
-    let mut journal = match Journal::make(heap, device, &identity) {
-        Ok(journal) => journal,
-        Err(refused) => return Err(ListenFault::from(refused.fault)),
-    };
-    if journal.make_room(RESERVE + SPARE).is_err() {
-        return Err(ListenFault::from(OpenFault::Failed));
+    match new_journal(heap, device, &identity) {
+        Ok(_journal) => {
+            place.take_first_name(rt)?;
+            let _ = eprintln!(rt; "docs_server: new journal {name}");
+            Ok(())
+        }
+        Err(fault) => {
+            let _ = remove_file(rt, place.new_name());
+            Err(fault)
+        }
     }
-    place.take_first_name(rt)?;
-    let _ = eprintln!(rt; "docs_server: new journal {name}");
-    Ok(())
+}
+
+/// A journal without records, of an empty file, with its reserve.
+fn new_journal<D: Device + Drop>(
+    heap: Heap,
+    device: D,
+    identity: &Identity,
+) -> Result<Journal<D>, ListenFault>
+    requires usable { D.failed device ≡ false }
+{
+    match Journal::make(heap, device, identity) {
+        Ok(journal) => {
+            let mut journal = journal;
+            make_reserve(&mut journal)?;
+            Ok(journal)
+        }
+        Err(refused) => Err(ListenFault::from(refused.fault)),
+    }
 }
 
 /// Binds the address, tells it, and serves until the program is told to stop.

@@ -14,14 +14,16 @@ use std::fs::{File, Metadata, metadata};
 use std::os::unix::fs::MetadataExt;
 use std::rt::Files;
 
-/// A file as a device, in which nothing is written once its name leads elsewhere or nowhere. Between a look and the write behind it is a
-/// moment in which the name may still be lost.
+/// A file as a device, in which nothing is written once its name leads elsewhere or nowhere, or it was cut. Between a look and the write
+/// behind it is a moment in which that may still happen.
 #[derive(Drop)]
 pub struct NamedDevice<'a, P> {
     rt: &'a P,
     name: &'a str,
     /// The numbers of the file's device and of the file on it.
     place: (u64, u64),
+    /// How many bytes it has at least.
+    len: u64,
     device: FileDevice,
     is_moved: bool,
 }
@@ -37,6 +39,7 @@ impl<'a, P: Files<File = File>> NamedDevice<'a, P> {
             rt,
             name,
             place: place_of(&found),
+            len: found.len(),
             device,
             is_moved: false,
         })
@@ -46,7 +49,7 @@ impl<'a, P: Files<File = File>> NamedDevice<'a, P> {
 impl<P: Eprint + Files<File = File>> NamedFile for NamedDevice<'_, P> {
     fn is_found(&self) -> bool {
         match metadata(self.rt, self.name) {
-            Ok(found) => place_of(&found) == self.place,
+            Ok(found) => place_of(&found) == self.place && found.len() >= self.len,
             Err(_) => false,
         }
     }
@@ -104,7 +107,9 @@ impl<P: Eprint + Files<File = File>> Device for NamedDevice<'_, P> {
             self.is_moved = true;
             return Err(DeviceFault);
         }
-        self.device.grow(count)
+        let added = self.device.grow(count)?;
+        self.len = self.len.saturating_add(added as u64);
+        Ok(added)
     }
 
     fn sync(&mut self) -> Result<(), DeviceFault> {

@@ -11,7 +11,8 @@ use doc_page_parts::failure::Memory;
 use doc_page_parts::heap::{Heap, Vec};
 use doc_page_parts::list::List;
 
-/// The texts of the records of a journal, where the bytes are one of the first form. A torn last record is passed over.
+/// The texts of the records of a journal, where the bytes are one of the first form. A torn last record is passed over, but not a
+/// torn only one: a journal without records is a gate alone.
 pub fn read(heap: Heap, bytes: &[u8]) -> Result<Option<List<Bytes>>, Memory>
     ensures { IfOk result (λ found. MatchOption found
         ((texts : Seq (Seq ℕ)) → IsFirst bytes.now texts → ⊥) (λ texts. IsFirst bytes.now texts)) }
@@ -23,6 +24,9 @@ pub fn read(heap: Heap, bytes: &[u8]) -> Result<Option<List<Bytes>>, Memory>
         return Ok(Some(List::new(Vec::new(heap))));
     }
     let records = records_of(heap, bytes)?;
+    if records.texts.get().is_empty() {
+        return Ok(None);
+    }
     if !is_end(&records.digest, records.rest) {
         return Ok(None);
     }
