@@ -5,7 +5,7 @@ use Rattle.std.proofs.lemmas.List.{take_all}
 use Rattle.doc_words_search.specs.Words.{page_words, words_of}
 use Rattle.doc_words_search.specs.WordSteps.{counted}
 use Rattle.doc_words_search.proofs.CountSteps.{counted_all, text_more}
-use Rattle.doc_words_search.proofs.words.counted.Goals as goal
+use Rattle.doc_words_search.proofs.words.gathered.Goals as goal
 
 pub loop-text-preserved : goal.loop-text-preserved
 loop-text-preserved c =
