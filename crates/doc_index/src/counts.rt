@@ -1,8 +1,12 @@
 //! The keys of a page with their counts.
 
 ghost use Rattle.std.specs.Prelude.{◌≡◌, List as Seq, ℕ, None, IfOk, OnOk, OnErr};
+ghost use Rattle.std.specs.Cmp.Lexicographic.{slice_cmp};
 ghost use Rattle.std.specs.FinMap as map;
-ghost use Rattle.doc_index_tables.specs.Maps.{text_map};
+ghost use Rattle.std.specs.List.Sorted.{IsStrictlySortedBy};
+ghost use Rattle.std.specs.Map.{keys_of};
+ghost use Rattle.std.specs.Ordering.{nat_cmp};
+ghost use Rattle.doc_index_tables.specs.Maps.{shown, text_map};
 ghost use Rattle.doc_index_tables.specs.TableSteps.{HasCounts, HasSame, LacksCounts, number_at};
 
 use doc_index_tables::packed::Packed;
@@ -53,6 +57,16 @@ impl Counts {
         let _keys = keys.len();
         Ok(Counts {
             entries: Packed::copy_of(heap, keys)?,
+        })
+    }
+
+    /// These keys with their counts. They stand in the order of their bytes, each once.
+    pub fn of_entries(heap: Heap, entries: &[(&str, u64)]) -> Result<Counts, Memory>
+        requires rising { IsStrictlySortedBy (slice_cmp nat_cmp) (keys_of (shown entries.now)) }
+        ensures { IfOk result (λ counts. counts ≡ map.from_entries (shown entries.now)) }
+    {
+        Ok(Counts {
+            entries: Packed::of_entries(heap, entries)?,
         })
     }
 

@@ -168,6 +168,24 @@ impl<T> Index<T> {
         ensures err { OnErr result (self.new ≡ self.old) }
     {
         let counts = Counts::copy_of(self.heap, keys)?;
+        self.add_counts(path, stamp, value, counts)
+    }
+
+    /// As `add`, with the keys as they are counted.
+    pub fn add_counts(
+        &mut self,
+        path: &Path,
+        stamp: u64,
+        value: T,
+        counts: Counts,
+    ) -> Result<(), Memory>
+    where
+        T: Drop,
+        requires free { map.get (held self.old) (path.now, stamp) ≡ None }
+        ensures ok { OnOk result (held self.new
+            ≡ map.insert (held self.old) (path.now, stamp) (known_as value counts)) }
+        ensures err { OnErr result (self.new ≡ self.old) }
+    {
         let path = path.copy(self.heap)?;
         self.enter(Held {
             path,

@@ -1,11 +1,13 @@
 -- Texts that are packed, after one more, and at a place.
 use Rattle.std.proofs.Common.{◌≡◌, ℕ, zero, suc, ◌+◌, ◌-◌, ◌<◌, ◌≤◌, List, [], ◌∷◌, ◌++◌, length, take, drop, get_or, refl, ap, ap₂, sym, ◌∙◌, arith, subst, length-append, length-drop, inl, inr}
+use Rattle.std.specs.Borrow.{Bor}
 use Rattle.std.specs.Prelude.{slice_index}
 use Rattle.std.specs.Str.{IsUtf8, IsCharBoundary}
 use Rattle.std.proofs.lemmas.Bool.{cases_lt}
-use Rattle.std.proofs.lemmas.List.{take-append-le, drop-append-le, get_or_append_left, take_rest}
+use Rattle.std.proofs.lemmas.List.{map-append, take_more, take-append-le, drop-append-le, get_or_append_left, take_rest}
 use Rattle.std.proofs.lemmas.Str.{IsCharBoundary-at_seam, IsCharBoundary-end, IsCharBoundary-start}
 use Rattle.doc_index_tables.proofs.CountSteps.{drop_all}
+use Rattle.doc_index_tables.specs.Maps.{shown}
 use Rattle.doc_index_tables.specs.Packed.{IsPacked, between, start_of, unpacked}
 
 -- a place in a text is one in the text that goes on behind it
@@ -111,3 +113,10 @@ text_placed bytes ends items start e i text view within same from is =
     text_at bytes 0 ends i e (text, e.1) within same
     (ap (λ t. (t, e.1)) (is ∙ ap (λ s. between bytes s e.0) from))
     ∙ ap (λ l. get_or l i (text, e.1)) view
+
+-- one entry more
+pub entries_more : (es : List (Bor (List ℕ) × ℕ)) (i : ℕ) (d : Bor (List ℕ) × ℕ) (old new : List (List ℕ × ℕ)) → i < length es
+    → old ≡ shown (take i es) → new ≡ old ++ ((get_or es i d).0.now, (get_or es i d).1) ∷ [] → new ≡ shown (take (i + 1) es)
+entries_more es i d old new low so_far more =
+    more ∙ ap (λ front. front ++ ((get_or es i d).0.now, (get_or es i d).1) ∷ []) so_far
+    ∙ sym (ap shown (take_more es i d low) ∙ map-append (λ e. (e.0.now, e.1)) (take i es) (get_or es i d ∷ []))

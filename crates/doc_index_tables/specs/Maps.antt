@@ -1,6 +1,7 @@
 -- Finite maps by numbers, by texts, and by both.
 use Rattle.std.specs.Prelude.{ℕ, List, String, string_bytes, map as mapped}
 use Rattle.std.specs.BTreeMap.{BTreeMap}
+use Rattle.std.specs.Borrow.{Bor}
 use Rattle.std.specs.FinMap as map
 use Rattle.std.specs.Cmp.Lexicographic.{slice_cmp}
 use Rattle.std.specs.Ordering.{nat_cmp, ordering_then}
@@ -27,3 +28,7 @@ by_bytes es = mapped (λ e. (string_bytes e.0, e.1)) es
 -- the map that a `BTreeMap` of texts is
 abbrev pub text_map : {A X : Type 0} → BTreeMap (String A) X → TextMap X
 text_map m = map.from_entries (by_bytes m.entries)
+
+-- entries of texts that are lent
+abbrev pub shown : {X : Type 0} → List (Bor (List ℕ) × X) → List (List ℕ × X)
+shown es = mapped (λ e. (e.0.now, e.1)) es

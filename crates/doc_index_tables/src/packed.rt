@@ -1,7 +1,7 @@
 //! Texts with numbers, packed.
 
 ghost use Rattle.std.specs.Prelude.{◌≡◌, ◌∷◌, ◌++◌, ◌<◌, [], IfOk, OnOk, length, slice_index_or, string_bytes};
-ghost use Rattle.doc_index_tables.specs.Maps.{by_bytes};
+ghost use Rattle.doc_index_tables.specs.Maps.{by_bytes, shown};
 ghost use Rattle.doc_index_tables.specs.Packed.{IsPacked, start_of, unpacked};
 
 use crate::pairs::Pairs;
@@ -46,6 +46,18 @@ impl Packed {
         let mut ends = Pairs::with_capacity(heap, keys.len())?;
         for (key, count) in keys.iter() {
             push(&mut texts, &mut ends, key.as_str(), *count)?;
+        }
+        Ok(Packed { texts, ends })
+    }
+
+    /// These texts with their numbers.
+    pub fn of_entries(heap: Heap, entries: &[(&str, u64)]) -> Result<Packed, Memory>
+        ensures { IfOk result (λ packed. packed ≡ shown entries.now) }
+    {
+        let mut texts = String::with_capacity(heap, room_for(entries))?;
+        let mut ends = Pairs::with_capacity(heap, entries.len())?;
+        for (text, number) in entries {
+            push(&mut texts, &mut ends, text, *number)?;
         }
         Ok(Packed { texts, ends })
     }
@@ -95,6 +107,15 @@ fn room_of(keys: &BTreeMap<String, u64>) -> usize {
     let mut room: usize = 0;
     for key in keys.keys() {
         room = room.saturating_add(key.len());
+    }
+    room
+}
+
+/// How many bytes these texts take.
+fn room_for(entries: &[(&str, u64)]) -> usize {
+    let mut room: usize = 0;
+    for (text, _) in entries {
+        room = room.saturating_add(text.len());
     }
     room
 }

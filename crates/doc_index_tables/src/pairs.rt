@@ -173,7 +173,18 @@ impl Pairs {
         ensures ok { OnOk result (self.new ≡ self.old ++ pair ∷ []) }
         ensures err { OnErr result (self.new ≡ self.old) }
     {
-        self.insert(self.len(), pair)
+        match &mut self.kept {
+            Kept::Narrow(pairs) => match narrow(pair) {
+                Some(pair) => pairs.push(pair)?,
+                None => {
+                    let mut wide = widened(pairs)?;
+                    wide.push(pair)?;
+                    self.kept = Kept::Wide(wide);
+                }
+            },
+            Kept::Wide(pairs) => pairs.push(pair)?,
+        }
+        Ok(())
     }
 
     /// Removes the pair at a place. It takes no memory.

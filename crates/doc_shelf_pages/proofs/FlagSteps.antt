@@ -1,5 +1,5 @@
 -- Flags of pages: of each, in the order of the paths, whether a reader sees it.
-use Rattle.std.proofs.Common.{◌≡◌, ℕ, List, [], ◌++◌, ◌∷◌, Bool, cond, codes, append-nil, append_assoc, refl, ap, ap₂, sym, ◌∙◌}
+use Rattle.std.proofs.Common.{◌≡◌, ℕ, List, [], ◌++◌, ◌∷◌, Bool, cond, codes, refl, ap, ap₂, sym, ◌∙◌}
 use Rattle.std.specs.Prelude.{Option, Some, option_map, map as mapped}
 use Rattle.std.specs.Cmp.Lexicographic.{slice_cmp}
 use Rattle.std.specs.FinMap as map
@@ -19,7 +19,7 @@ use Rattle.doc_page_parts.specs.declared.rendered.Rendered.{Rendered}
 use Rattle.doc_store.proofs.SightSteps.{itself_is}
 use Rattle.doc_store.specs.Store.{StoreState, IsStore}
 use Rattle.doc_store_readers.proofs.FilterSteps.{keys_in_order}
-use Rattle.doc_store_readers.specs.Pages.{Page, StampedPage, without_stamps}
+use Rattle.doc_store_readers.specs.Pages.{Page}
 use Rattle.doc_store_readers.specs.Sites.{View, goal_in, may_see, may_see_at}
 use Rattle.doc_store_readers.specs.declared.reader.Reader.{Reader}
 use Rattle.doc_words_search.specs.Searches.{pages_of as pages_with_words}
@@ -40,27 +40,6 @@ use Rattle.doc_shelf_pages.specs.Views.{Renders, contents_body, linked_pages, li
 pub flagged_by : {X : Type 0} (test : X → Bool) (xs : List X) → flagged (mapped test xs) xs ≡ filter test xs
 flagged_by test [] = refl
 flagged_by test (x ∷ xs) = ap (λ ys. cond (test x) (x ∷ ys) ys) (flagged_by test xs)
-
--- ---- a walk over the pages
-
-module _ (test : Page → Bool) (flags all : List Bool) (entries : List (List ℕ × StampedPage)) where
-  abbrev flags_behind : List (List ℕ × StampedPage) → List Bool
-  flags_behind pages = mapped (λ page. test page.1) (without_stamps pages)
-
-  -- behind one page more
-  pub flag_more : (new : List Bool) (rest : List (List ℕ × StampedPage)) (path : List ℕ) (page : StampedPage) (flag : Bool)
-      → entries ≡ (path, page) ∷ rest → new ≡ flags ++ (flag ∷ []) → flag ≡ test page.page
-      → flags ++ flags_behind entries ≡ all → new ++ flags_behind rest ≡ all
-  flag_more new rest path page flag is pushed same before =
-      ap (λ xs. xs ++ flags_behind rest) pushed
-      ∙ append_assoc flags (flag ∷ []) (flags_behind rest)
-      ∙ ap (λ f. flags ++ (f ∷ flags_behind rest)) same
-      ∙ ap (λ es. flags ++ flags_behind es) (sym is)
-      ∙ before
-
-  -- behind the last one
-  pub flags_end : entries ≡ [] → flags ++ flags_behind entries ≡ all → flags ≡ all
-  flags_end none before = sym (append-nil flags) ∙ ap (λ es. flags ++ flags_behind es) (sym none) ∙ before
 
 -- ---- what flags say
 

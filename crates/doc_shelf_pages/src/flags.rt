@@ -14,9 +14,5 @@ pub fn flags_of(heap: Heap, store: &Store, reader: &Reader) -> Result<Vec<bool>,
     ensures { IfOk result (λ flags. flags.items ≡ mapped (λ page. may_see (Some reader.now) page.1)
         (map.entries store.now.site.pages)) }
 {
-    let mut flags = Vec::with_capacity(heap, store.pages().len())?;
-    'pages: for (_path, page) in store.pages() {
-        flags.push(reader.may_see(page))?;
-    }
-    Ok(flags)
+    store.flags(heap, reader)
 }

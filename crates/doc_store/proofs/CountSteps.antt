@@ -1,5 +1,5 @@
 -- Steps of the sets of groups, each with how many pages have it.
-use Rattle.std.proofs.Common.{◌≡◌, ℕ, zero, suc, ◌+◌, ◌-◌, ◌<◌, ◌≤◌, List, [], ◌∷◌, Bool, true}
+use Rattle.std.proofs.Common.{◌≡◌, ℕ, zero, suc, ◌+◌, List, [], ◌∷◌, Bool, true}
 use Rattle.std.proofs.Common.{false, cond, length, Ordering, Less, refl, ap, sym, ◌∙◌, arith}
 use Rattle.std.specs.Prelude.{Option, Some, None, Vec, filter, sum_by}
 use Rattle.std.specs.BTreeMap.{BTreeMap, UpdatesBy, is_at}
@@ -13,13 +13,12 @@ use Rattle.std.specs.Ordering.{is_eq}
 use Rattle.std.proofs.lemmas.Cmp.{nat_list_cmp_total}
 use Rattle.std.proofs.lemmas.List.Sums.{sum_by-cons}
 use Rattle.std.proofs.lemmas.Map.Lookups.{CmpEqualImpliesEq, exact_bytes}
-use Rattle.std.proofs.lemmas.Option.{same_Some}
 use Rattle.doc_page_parts.proofs.Bools.{clash}
 use Rattle.doc_page_parts.proofs.Maps.{entries_in_order, inserted, looked_up, removed}
 use Rattle.doc_page_parts.proofs.Orders.{is_eq_true}
 use Rattle.doc_store.proofs.SumSteps.{sum_set, sum_taken}
 use Rattle.doc_store.specs.declared.group_sets.GroupSet.{GroupSet}
-use Rattle.doc_store.specs.GroupSets.{AreCounts, SetMap, groups_cmp, number_met, number_with, one_more, same_groups, set_of, sets_shown}
+use Rattle.doc_store.specs.GroupSets.{groups_cmp, number_met, number_with, one_more, same_groups, set_of, sets_shown}
 use Rattle.doc_store_readers.specs.Groups.{meet}
 use Rattle.doc_store_readers.specs.Pages.{StampedPage}
 
@@ -29,10 +28,10 @@ groups_total = lists_total nat_list_cmp_total
 pub groups_exact : CmpEqualImpliesEq groups_cmp
 groups_exact = map.slice_cmp-IsAntisymmetric exact_bytes
 
-groups_from : (groups others : List (List ℕ)) → same_groups groups others ≡ true → groups ≡ others
+pub groups_from : (groups others : List (List ℕ)) → same_groups groups others ≡ true → groups ≡ others
 groups_from groups others e = groups_exact groups others (is_eq_true (groups_cmp groups others) e)
 
-groups_itself : (groups : List (List ℕ)) → same_groups groups groups ≡ true
+pub groups_itself : (groups : List (List ℕ)) → same_groups groups groups ≡ true
 groups_itself groups = ap is_eq (tied_itself groups_total groups)
 
 apart : (one groups names : List (List ℕ)) → same_groups one groups ≡ false → same_groups one names ≡ true
@@ -46,24 +45,24 @@ apart one groups names n y = by (same_groups groups names) refl
 
 -- ---- entries by lists of names, and the map that they make
 
-module _ {A : Type 0} where
-  found_shown : (es : List (Vec (List ℕ) A × GroupSet)) (groups : List (List ℕ))
+module _ {A X : Type 0} where
+  found_shown : (es : List (Vec (List ℕ) A × X)) (groups : List (List ℕ))
       → lookup (is_at (λ names. groups_cmp groups names.items)) es ≡ lookup (is_at (groups_cmp groups)) (sets_shown es)
   found_shown [] groups = refl
   found_shown (e ∷ es) groups = ap (cond (is_at (groups_cmp groups) e.0.items) (Some e.1)) (found_shown es groups)
 
-  pub set_found : (es : List (Vec (List ℕ) A × GroupSet)) (groups : List (List ℕ))
+  pub set_found : (es : List (Vec (List ℕ) A × X)) (groups : List (List ℕ))
       → lookup (is_at (λ names. groups_cmp groups names.items)) es ≡ map.get {R = groups_cmp} (map.from_entries (sets_shown es)) groups
   set_found es groups = found_shown es groups ∙ looked_up groups_total groups_exact (sets_shown es) groups
 
-  others_kept : (test other : Vec (List ℕ) A → Bool) (old new : List (Vec (List ℕ) A × GroupSet))
+  others_kept : (test other : Vec (List ℕ) A → Bool) (old new : List (Vec (List ℕ) A × X))
       → KeepsOthers (λ x y. same_groups x.items y.items) test old new
       → ((x y : Vec (List ℕ) A) → other x ≡ true → other y ≡ same_groups x.items y.items)
       → ((k : Vec (List ℕ) A) → test k ≡ true → other k ≡ false) → lookup other new ≡ lookup other old
   unfolding KeepsOthers
   others_kept test other old new kept = kept other
 
-  set_changed : (m n : BTreeMap (Vec (List ℕ) A) GroupSet) (one : List (List ℕ)) (set : Option GroupSet)
+  set_changed : (m n : BTreeMap (Vec (List ℕ) A) X) (one : List (List ℕ)) (set : Option X)
       → UpdatesBy (λ x y. groups_cmp x.items y.items) (λ names. groups_cmp one names.items) m n set → (groups : List (List ℕ))
       → lookup (is_at (groups_cmp groups)) (sets_shown n.entries)
       ≡ cond (is_at (groups_cmp one) groups) set (lookup (is_at (groups_cmp groups)) (sets_shown m.entries))
@@ -80,145 +79,72 @@ module _ {A : Type 0} where
           n.entries updates.3 (λ x y. (eq_by_cmp_equiv groups_total).congr groups x.items y.items) (λ k. apart one groups k.items e)
           ∙ found_shown m.entries groups
 
-  pub set_put : (m n : BTreeMap (Vec (List ℕ) A) GroupSet) (groups : List (List ℕ)) (set : GroupSet)
+  pub set_put : (m n : BTreeMap (Vec (List ℕ) A) X) (groups : List (List ℕ)) (set : X)
       → UpdatesBy (λ x y. groups_cmp x.items y.items) (λ names. groups_cmp groups names.items) m n (Some set)
       → map.from_entries {R = groups_cmp} (sets_shown n.entries) ≡ map.insert (map.from_entries (sets_shown m.entries)) groups set
   set_put m n groups set updates =
       inserted groups_total groups_exact (sets_shown m.entries) (sets_shown n.entries) groups set
       (set_changed m n groups (Some set) updates)
 
-  pub set_gone : (m n : BTreeMap (Vec (List ℕ) A) GroupSet) (groups : List (List ℕ))
+  pub set_gone : (m n : BTreeMap (Vec (List ℕ) A) X) (groups : List (List ℕ))
       → UpdatesBy (λ x y. groups_cmp x.items y.items) (λ names. groups_cmp groups names.items) m n None
       → map.from_entries {R = groups_cmp} (sets_shown n.entries) ≡ map.remove (map.from_entries (sets_shown m.entries)) groups
   set_gone m n groups updates =
       removed groups_total groups_exact (sets_shown m.entries) (sets_shown n.entries) groups (set_changed m n groups None updates)
 
-  after_shown : (groups : List (List ℕ)) (es : List (Vec (List ℕ) A × GroupSet))
+  after_shown : (groups : List (List ℕ)) (es : List (Vec (List ℕ) A × X))
       → AllByRecursion (λ names. groups_cmp groups names.items ≡ Less) (keys_of es)
       → AllByRecursion (λ names. groups_cmp groups names ≡ Less) (keys_of (sets_shown es))
   after_shown groups [] all = tt
   after_shown groups (e ∷ es) all = (all.0, after_shown groups es all.1)
 
-  sorted_shown : (es : List (Vec (List ℕ) A × GroupSet)) → IsStrictlySortedBy (λ x y. groups_cmp x.items y.items) (keys_of es)
+  sorted_shown : (es : List (Vec (List ℕ) A × X)) → IsStrictlySortedBy (λ x y. groups_cmp x.items y.items) (keys_of es)
       → IsStrictlySortedBy groups_cmp (keys_of (sets_shown es))
   unfolding IsStrictlySortedBy
   sorted_shown [] sorted = tt
   sorted_shown (e ∷ es) sorted = (after_shown e.0.items es sorted.0, sorted_shown es sorted.1)
 
-  same_values : (es : List (Vec (List ℕ) A × GroupSet)) → values_of es ≡ values_of (sets_shown es)
+  same_values : (es : List (Vec (List ℕ) A × X)) → values_of es ≡ values_of (sets_shown es)
   same_values [] = refl
   same_values (e ∷ es) = ap (λ sets. e.1 ∷ sets) (same_values es)
 
   -- the values of sorted entries are those of the map that they make
-  pub values_are : (es : List (Vec (List ℕ) A × GroupSet)) (sets : SetMap)
+  pub values_are : (es : List (Vec (List ℕ) A × X)) (sets : map.FinMap groups_cmp X)
       → IsStrictlySortedBy (λ x y. groups_cmp x.items y.items) (keys_of es) → map.from_entries (sets_shown es) ≡ sets
       → values_of es ≡ map.values sets
   values_are es sets sorted is =
       same_values es ∙ ap values_of (sym (entries_in_order groups_total groups_exact (sets_shown es) (sorted_shown es sorted)))
       ∙ ap map.values is
 
--- ---- one page more, and one less
+-- ---- one page more
 
-none_of : (groups : List (List ℕ)) (n : ℕ) → None ≡ set_of groups n → n ≡ 0
-none_of groups zero e = refl
-none_of groups (suc n) e = absurd cc
+-- sets of groups by their names
+abbrev pub SetMap : Type 0
+SetMap = map.FinMap groups_cmp GroupSet
 
-some_of : (groups : List (List ℕ)) (n : ℕ) (set : GroupSet) → Some set ≡ set_of groups n → (set.groups ≡ groups) × (set.pages ≡ n)
-some_of groups zero set e = absurd cc
-some_of groups (suc n) set e =
-    let same = same_Some set (record { groups = groups; pages = suc n }) e in (ap (λ s. s.groups) same, ap (λ s. s.pages) same)
+-- just those sets stand that pages have, each with how many do
+abbrev pub AreSums : SetMap → (List (List ℕ) → ℕ) → Type 0
+AreSums sets number = (groups : List (List ℕ)) → map.get sets groups ≡ set_of groups (number groups)
 
-set_is : (set : GroupSet) (groups : List (List ℕ)) (n : ℕ) → set.groups ≡ groups → set.pages ≡ suc n → Some set ≡ set_of groups (suc n)
-set_is set groups n g p = λ i. Some (record { groups = g i; pages = p i })
-
-more_itself : (groups : List (List ℕ)) (number : List (List ℕ) → ℕ) → one_more groups number groups ≡ suc (number groups)
+pub more_itself : (groups : List (List ℕ)) (number : List (List ℕ) → ℕ) → one_more groups number groups ≡ suc (number groups)
 more_itself groups number = ap (λ b. cond b 1 0 + number groups) (groups_itself groups) ∙ (omega arith)
 
-more_other : (groups others : List (List ℕ)) (number : List (List ℕ) → ℕ) → same_groups others groups ≡ false
+pub more_other : (groups others : List (List ℕ)) (number : List (List ℕ) → ℕ) → same_groups others groups ≡ false
     → one_more groups number others ≡ number others
 more_other groups others number e = ap (λ b. cond b 1 0 + number others) e ∙ (omega arith)
 
 -- counts that change at one set
-changed : (sets new : SetMap) (number numbers : List (List ℕ) → ℕ) (groups : List (List ℕ)) (set : Option GroupSet) → AreCounts sets number
+changed : (sets new : SetMap) (number numbers : List (List ℕ) → ℕ) (groups : List (List ℕ)) (set : Option GroupSet) → AreSums sets number
     → ((others : List (List ℕ)) → map.get new others ≡ cond (same_groups others groups) set (map.get sets others))
     → set ≡ set_of groups (numbers groups)
-    → ((others : List (List ℕ)) → same_groups others groups ≡ false → number others ≡ numbers others) → AreCounts new numbers
-changed sets new number numbers groups set counts is here there = record {
-  each = λ others. is others ∙ by others (same_groups others groups) refl;
-}
+    → ((others : List (List ℕ)) → same_groups others groups ≡ false → number others ≡ numbers others) → AreSums new numbers
+changed sets new number numbers groups set counts is here there others = is others ∙ by (same_groups others groups) refl
   where
-    by : (others : List (List ℕ)) (b : Bool) → same_groups others groups ≡ b
-        → cond b set (map.get sets others) ≡ set_of others (numbers others)
-    by others true e = here ∙ ap (λ g. set_of g (numbers g)) (sym (groups_from others groups e))
-    by others false e = counts.each others ∙ ap (set_of others) (there others e)
-
-module _ (sets : SetMap) (groups : List (List ℕ)) (number : List (List ℕ) → ℕ) (counts : AreCounts sets number) (new : SetMap) where
-  counted_more : (set : GroupSet) → new ≡ map.insert sets groups set → Some set ≡ set_of groups (suc (number groups))
-      → AreCounts new (one_more groups number)
-  counted_more set is here =
-      changed sets new number (one_more groups number) groups (Some set) counts
-      (λ others. ap (λ m. map.get m others) is ∙ map.get-insert groups_total sets groups set others)
-      (here ∙ ap (set_of groups) (sym (more_itself groups number)))
-      (λ others e. sym (more_other groups others number e))
-
-  -- the first page with these groups
-  pub first_counted : None ≡ map.get sets groups → new ≡ map.insert sets groups (record { groups = groups; pages = 1 })
-      → AreCounts new (one_more groups number)
-  first_counted none is =
-      let no : number groups ≡ 0 = none_of groups (number groups) (none ∙ counts.each groups) in
-      counted_more (record { groups = groups; pages = 1 }) is (ap (λ n. set_of groups (suc n)) (sym no))
-
-  -- another page with these groups
-  pub next_counted : (set : GroupSet) → Some set ≡ map.get sets groups
-      → new ≡ map.insert sets groups (record { groups = set.groups; pages = set.pages + 1 }) → AreCounts new (one_more groups number)
-  next_counted set found is =
-      let same = some_of groups (number groups) set (found ∙ counts.each groups) in
-      counted_more (record { groups = set.groups; pages = set.pages + 1 }) is
-      (set_is (record { groups = set.groups; pages = set.pages + 1 }) groups (number groups) same.0 (omega (arith, same.1)))
-
-module _ (sets : SetMap) (groups : List (List ℕ)) (number : List (List ℕ) → ℕ) (counts : AreCounts sets (one_more groups number)) where
-  stands : map.get sets groups ≡ set_of groups (suc (number groups))
-  stands = counts.each groups ∙ ap (set_of groups) (more_itself groups number)
-
-  pub set_stands : None ≡ map.get sets groups → ⊥
-  set_stands none = by (none_of groups (suc (number groups)) (none ∙ stands))
-    where
-      by : suc (number groups) ≡ 0 → ⊥
-      by e = omega (arith, e)
-
-  -- the last page with these groups goes
-  pub last_uncounted : (new : SetMap) (set : GroupSet) → Some set ≡ map.get sets groups → set.pages ≤ 1 → new ≡ map.remove sets groups
-      → AreCounts new number
-  last_uncounted new set found few is =
-      let same = some_of groups (suc (number groups)) set (found ∙ stands) in
-      let no : number groups ≡ 0 = omega (arith, same.1, few) in
-      changed sets new (one_more groups number) number groups None counts
-      (λ others. ap (λ m. map.get m others) is ∙ map.get-remove groups_total sets groups others)
-      (ap (set_of groups) (sym no))
-      (λ others e. more_other groups others number e)
-
-  -- a page with these groups goes, and others stay
-  pub one_uncounted : (new : SetMap) (set : GroupSet) → Some set ≡ map.get sets groups → 1 < set.pages
-      → new ≡ map.insert sets groups (record { groups = set.groups; pages = set.pages - 1 }) → AreCounts new number
-  one_uncounted new set found many is =
-      let same = some_of groups (suc (number groups)) set (found ∙ stands) in
-      changed sets new (one_more groups number) number groups (Some (record { groups = set.groups; pages = set.pages - 1 })) counts
-      (λ others. ap (λ m. map.get m others) is
-      ∙ map.get-insert groups_total sets groups (record { groups = set.groups; pages = set.pages - 1 }) others)
-      (left set (number groups) same.0 same.1 many)
-      (λ others e. more_other groups others number e)
-    where
-      left : (set : GroupSet) (n : ℕ) → set.groups ≡ groups → set.pages ≡ suc n → 1 < set.pages
-          → Some (record { groups = set.groups; pages = set.pages - 1 }) ≡ set_of groups n
-      left set zero g p many = absurd (omega (arith, p, many))
-      left set (suc n) g p many = set_is (record { groups = set.groups; pages = set.pages - 1 }) groups n g (omega (arith, p))
+    by : (b : Bool) → same_groups others groups ≡ b → cond b set (map.get sets others) ≡ set_of others (numbers others)
+    by true e = here ∙ ap (λ g. set_of g (numbers g)) (sym (groups_from others groups e))
+    by false e = counts others ∙ ap (set_of others) (there others e)
 
 -- ---- how many pages are seen
-
--- the counts of the same numbers
-pub same_counts : (sets : SetMap) (number numbers : List (List ℕ) → ℕ) → ((groups : List (List ℕ)) → number groups ≡ numbers groups)
-    → AreCounts sets number → AreCounts sets numbers
-same_counts sets number numbers same counts = record { each = λ groups. counts.each groups ∙ ap (set_of groups) (same groups) }
 
 nothing : {X : Type 0} (xs : List X) → length xs ≡ 0 → xs ≡ []
 nothing [] e = refl
@@ -243,7 +169,7 @@ module _ (ours : List (List ℕ)) where
   lowered sets groups (suc n) = map.insert sets groups (record { groups = groups; pages = suc n })
 
   lowered_counts : (sets : SetMap) (groups : List (List ℕ)) (number : List (List ℕ) → ℕ) (n : ℕ) → number groups ≡ n
-      → AreCounts sets (one_more groups number) → AreCounts (lowered sets groups n) number
+      → AreSums sets (one_more groups number) → AreSums (lowered sets groups n) number
   unfolding lowered
   lowered_counts sets groups number zero is counts =
       changed sets (map.remove sets groups) (one_more groups number) number groups None counts
@@ -277,16 +203,16 @@ module _ (ours : List (List ℕ)) where
       by true s = omega arith
       by false s = omega arith
 
-  seen_counted : (pages : List StampedPage) (sets : SetMap) → AreCounts sets (number_with pages)
+  seen_counted : (pages : List StampedPage) (sets : SetMap) → AreSums sets (number_with pages)
       → seen_in sets ≡ length (filter (λ page. meet ours page.page.groups) pages)
   unfolding seen_in
-  seen_counted [] sets counts = ap (sum_by (number_met ours)) (no_sets sets (λ g. counts.each g))
+  seen_counted [] sets counts = ap (sum_by (number_met ours)) (no_sets sets (λ g. counts g))
   seen_counted (page ∷ pages) sets counts =
       let groups = page.page.groups in
       let number = number_with pages in
-      let more : AreCounts sets (one_more groups number) = same_counts sets (number_with (page ∷ pages)) (one_more groups number)
-      (λ g. sum_by-cons (λ p. cond (same_groups g p.page.groups) 1 0) page pages) counts in
-      one_seen sets groups (number groups) (more.each groups ∙ ap (set_of groups) (more_itself groups number))
+      let more : AreSums sets (one_more groups number) = λ g.
+      counts g ∙ ap (set_of g) (sum_by-cons (λ p. cond (same_groups g p.page.groups) 1 0) page pages) in
+      one_seen sets groups (number groups) (more groups ∙ ap (set_of groups) (more_itself groups number))
       ∙ ap (λ s. cond (meet ours groups) 1 0 + s)
       (seen_counted pages (lowered sets groups (number groups)) (lowered_counts sets groups number (number groups) refl more))
       ∙ by (meet ours groups) (filter (λ p. meet ours p.page.groups) pages)
@@ -296,7 +222,7 @@ module _ (ours : List (List ℕ)) where
       by false some = omega arith
 
   -- those pages are seen whose groups meet the reader's
-  pub met_counted : (pages : List StampedPage) (sets : SetMap) → AreCounts sets (number_with pages)
+  pub met_counted : (pages : List StampedPage) (sets : SetMap) → AreSums sets (number_with pages)
       → sum_by (number_met ours) (map.values sets) ≡ length (filter (λ page. meet ours page.page.groups) pages)
   unfolding seen_in
   met_counted = seen_counted

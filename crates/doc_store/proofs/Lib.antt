@@ -2,6 +2,7 @@ mod StoreExamples
 pub mod AliasSteps
 pub mod CountSteps
 pub mod NamesLaw
+pub mod NumberSteps
 pub mod PageCounts
 pub mod PageSteps
 pub mod SeenLaw

@@ -1,16 +1,18 @@
 //! The pages of a site by their paths, counted by their groups.
 
-ghost use Rattle.std.specs.Prelude.{◌≡◌, ◌<◌, ◌^◌, Some, IsTrue, IfOk, OnOk, OnErr, length, option_copied, option_map};
+ghost use Rattle.std.specs.Prelude.{◌≡◌, ◌<◌, ◌^◌, Some, IsTrue, IfOk, OnOk, OnErr, length, map as mapped, option_copied, option_map};
 ghost use Rattle.std.specs.FinMap as map;
 ghost use Rattle.std.specs.List.{filter};
 ghost use Rattle.doc_store_pages.specs.MoveSteps.{with_stamped};
 ghost use Rattle.doc_store_pages.specs.SeenSteps.{seen_goal, sees_at};
+ghost use Rattle.doc_store_readers.specs.Maps.{map_values};
 ghost use Rattle.doc_store_readers.specs.Pages.{empty_page};
 ghost use Rattle.doc_store_readers.specs.Sites.{may_see};
 
 use crate::group_sets::GroupSets;
+use crate::numbers::Numbers;
 use doc_page_parts::failure::Memory;
-use doc_page_parts::heap::Heap;
+use doc_page_parts::heap::{Heap, Vec};
 use doc_page_parts::path::Path;
 use doc_store_pages::pages::Pages;
 use doc_store_readers::page::Page;
@@ -18,18 +20,19 @@ use doc_store_readers::reader::Reader;
 use std::collections::btree_map::Iter;
 use std::marker::Model;
 
-/// The pages of a site by their paths, and beside them how many have each set of groups, so that those
-/// that a reader sees are counted by sets. Contracts see the map of the pages.
+/// The pages of a site by their paths, and beside them how many have each set of groups, so that those that a reader sees are counted by
+/// sets, and the number of each page's set, so that one walk tells which they are. Contracts see the map of the pages.
 #[derive(Drop)]
 pub struct CountedPages {
     pages: Pages,
+    numbers: Numbers,
     sets: GroupSets,
 }
 
 impl Model for CountedPages {
     ghost use Rattle.std.specs.Coded.{coded_ℕ, coded_list};
     ghost use Rattle.std.specs.FinMap as map;
-    ghost use Rattle.doc_store.specs.GroupSets.{AreCounts, number_with};
+    ghost use Rattle.doc_store.specs.GroupSets.{AreNumbered};
     ghost use Rattle.doc_store_readers.specs.Maps.{TextMap};
     ghost use Rattle.doc_store_readers.specs.Pages.{StampedPage, stamped_code};
 
@@ -39,7 +42,7 @@ impl Model for CountedPages {
 
     ghost view = { λ p. p.pages };
 
-    ghost invariant = { λ p. AreCounts p.sets (number_with (map.values p.pages)) };
+    ghost invariant = { λ p. AreNumbered p.pages p.numbers p.sets };
 }
 
 impl CountedPages {
@@ -48,6 +51,7 @@ impl CountedPages {
     {
         CountedPages {
             pages: Pages::new(heap),
+            numbers: Numbers::new(heap),
             sets: GroupSets::new(heap),
         }
     }
@@ -112,6 +116,17 @@ impl CountedPages {
         self.sets.count_met(&reader.groups)
     }
 
+    /// Of each page, in the order of the paths, whether the reader sees it. It takes a step for each set of groups, and reads of each page
+    /// the number of its set.
+    pub fn flags(&self, heap: Heap, reader: &Reader) -> Result<Vec<bool>, Memory>
+        ensures { IfOk result (λ flags. flags.items
+            ≡ mapped (λ page. may_see (Some reader.now) page.1)
+            (map.entries (map_values (λ p. p.page) self.now))) }
+    {
+        let seen = self.sets.seen(heap, reader)?;
+        self.numbers.flags(heap, &seen)
+    }
+
     /// Sets the page of a path, and answers the stamp of the page that stood there. It takes memory only for a new path and for
     /// groups that no page has.
     pub fn set(&mut self, heap: Heap, path: &Path, page: Page) -> Result<Option<u64>, Memory>
@@ -120,9 +135,14 @@ impl CountedPages {
             ≡ option_map (λ page. page.stamp) (map.get self.old path.now)) }
         ensures err { OnErr result (self.new ≡ self.old) }
     {
-        self.sets.add(heap, page.groups())?;
+        let number = self.sets.add(heap, page.groups())?;
         let Some(old) = self.pages.get(path) else {
+            if self.numbers.insert(heap, path, number).is_err() {
+                self.sets.remove(page.groups());
+                return Err(Memory);
+            }
             if let Err(refused) = self.pages.insert(heap, path, page) {
+                self.numbers.take(path);
                 self.sets.remove(refused.groups());
                 return Err(Memory);
             }
@@ -131,6 +151,7 @@ impl CountedPages {
         let before = old.stamp();
         self.sets.remove(old.groups());
         self.pages.replace(path, page);
+        self.numbers.replace(path, number);
         Ok(Some(before))
     }
 
@@ -139,9 +160,10 @@ impl CountedPages {
         ensures page { result ≡ map.get self.old path.now }
         ensures rest { self.new ≡ map.remove self.old path.now }
     {
-        let page = self.pages.take(path)?;
-        self.sets.remove(page.groups());
-        Some(page)
+        let taken = self.pages.take(path)?;
+        self.numbers.take(path);
+        self.sets.remove(taken.groups());
+        Some(taken)
     }
 
     /// Makes room for a page under a path that has none.
@@ -164,5 +186,6 @@ impl CountedPages {
         };
         self.sets.remove(room.groups());
         self.pages.rename(from, to, stamp);
+        self.numbers.rename(from, to);
     }
 }

@@ -10,6 +10,7 @@ mod goals;
 mod group_sets;
 pub mod laws;
 pub mod moving;
+mod numbers;
 mod path_set;
 pub mod site_edit;
 pub mod site_sight;

@@ -1,12 +1,12 @@
 //! The store: the pages of a site with their aliases, and edits of them.
 
-ghost use Rattle.std.specs.Prelude.{◌≡◌, ◌+◌, ◌<◌, ◌^◌, Some, Ok, IfOk, OnOk, OnErr, is_some, length, option_map};
+ghost use Rattle.std.specs.Prelude.{◌≡◌, ◌+◌, ◌<◌, ◌^◌, Some, Ok, IfOk, OnOk, OnErr, is_some, length, map as mapped, option_map};
 ghost use Rattle.std.specs.FinMap as map;
 ghost use Rattle.doc_page_parts.specs.Refusals.{Gives};
 ghost use Rattle.doc_store_readers.specs.Groups.{texts_of};
 ghost use Rattle.doc_store.specs.Names.{names_of};
 ghost use Rattle.doc_store_readers.specs.Pages.{without_stamps};
-ghost use Rattle.doc_store_readers.specs.Sites.{view_of};
+ghost use Rattle.doc_store_readers.specs.Sites.{may_see, view_of};
 ghost use Rattle.doc_store.specs.Store.{IsStore, StoreState, empty_store, fits, fits_in, may_move};
 ghost use Rattle.doc_store.specs.Store.{move_fits, moved_in, put_into, stamp_after, with_page, without_page};
 
@@ -243,6 +243,15 @@ impl Store {
         ensures { result ≡ length (view_of self.now.site (Some reader.now)).pages }
     {
         self.pages.count_seen(reader)
+    }
+
+    /// Of each page, in the order of the paths, whether the reader sees it. It takes a step for each set of groups that pages have, and
+    /// reads of each page the number of its set.
+    pub fn flags(&self, heap: Heap, reader: &Reader) -> Result<Vec<bool>, Memory>
+        ensures { IfOk result (λ flags. flags.items
+            ≡ mapped (λ page. may_see (Some reader.now) page.1) (map.entries self.now.site.pages)) }
+    {
+        self.pages.flags(heap, reader)
     }
 
     /// What the reader sees of the site.

@@ -70,8 +70,8 @@ impl WordIndex {
             ≡ map.insert self.old (path.now, stamp) (word_counts page.now)) }
         ensures err { OnErr result (self.new ≡ self.old) }
     {
-        let counter = counted(self.heap, page)?;
-        self.pages.add(path, stamp, (), counter.get())
+        let counts = counted(self.heap, page)?;
+        self.pages.add_counts(path, stamp, (), counts)
     }
 
     /// Holds a page under a path and a stamp that none has, with the words of the page under another

@@ -5,17 +5,19 @@ use Rattle.std.specs.Prelude.{Option, Some, None, map as mapped}
 use Rattle.std.specs.Cmp.Lexicographic.{slice_cmp}
 use Rattle.std.specs.FinMap as map
 use Rattle.std.specs.List.{flat_map, list_any}
+use Rattle.std.specs.List.Sorted.{IsPermutation}
 use Rattle.std.specs.Ordering.{nat_cmp}
 use Rattle.std.proofs.lemmas.Cmp.{nat_list_cmp_total}
 use Rattle.std.proofs.lemmas.List.{take_more}
 use Rattle.std.proofs.lemmas.List.Concat.{flat_map-append}
 use Rattle.std.proofs.lemmas.List.Folds.{list_any-append}
+use Rattle.std.proofs.lemmas.List.Sorted.{sum_by-IsPermutation, IsPermutation-middle, IsPermutation-to_front}
 use Rattle.std.proofs.lemmas.List.Sums.{sum_by_push, sum_by-cons}
 use Rattle.std.proofs.lemmas.Map.Lookups.{exact_bytes}
 use Rattle.std.proofs.lemmas.Map.Text.{is_eq-slice_cmp}
 use Rattle.std.proofs.Math.Bool.{or-false}
 use Rattle.doc_index_tables.specs.Maps.{TextMap}
-use Rattle.doc_page_parts.proofs.Bools.{clash, or_true}
+use Rattle.doc_page_parts.proofs.Bools.{clash, or_true, same_bool}
 use Rattle.doc_page_parts.proofs.Texts.{bytes_eq_true, bytes_eq_itself}
 use Rattle.doc_words_search.specs.Words.{capped, count, counts_of, words_of}
 use Rattle.doc_words_search.specs.WordSteps.{counted, one_more}
@@ -48,7 +50,7 @@ no_count p (w ∷ words) e = sum_by-cons (λ x. cond (p x) 1 0) w words ∙ by (
     by true ih e = absurd (clash true refl e)
     by false ih e = let none : count_by p words ≡ 0 = ih e in omega arith
 
-one_past : (last n : ℕ) → min (min n last + 1) last ≡ min (n + 1) last
+pub one_past : (last n : ℕ) → min (min n last + 1) last ≡ min (n + 1) last
 one_past last n = omega arith
 
 plain : (any : Bool) (n : ℕ) → (any ≡ false → n ≡ 0) → capped (unwrap_or (cond any (Some (capped n)) None) 0 + 1) ≡ capped (n + 1)
@@ -108,3 +110,47 @@ text_more counts new texts i text low is so_far more =
     ∙ sym (counted_append map.empty (flat_map words_of (take i texts)) (words_of text))
     ∙ ap (λ ws. counted map.empty (flat_map words_of (take i texts) ++ ws)) (sym (append-nil (words_of text)))
     ∙ ap (counted map.empty) (sym (ap (flat_map words_of) next ∙ flat_map-append words_of (take i texts) (text ∷ [])))
+
+-- words have the same counts in any order
+pub same_counts : (words more : List (List ℕ)) → IsPermutation words more → counts_of words ≡ counts_of more
+same_counts words more moved = map.same_map nat_list_cmp_total exact_bytes (counts_of words) (counts_of more) (λ q.
+    at_word words q
+    ∙ ap₂ (λ b n. cond b (Some (capped n)) None) (same_bool (list_any (bytes_eq q) words) (list_any (bytes_eq q) more)
+    (λ e. stands (bytes_eq q) words more e (same q)) (λ e. stands (bytes_eq q) more words e (sym (same q)))) (same q)
+    ∙ sym (at_word more q))
+  where
+    same : (q : List ℕ) → count_by (bytes_eq q) words ≡ count_by (bytes_eq q) more
+    same q = sym (sum_by-IsPermutation (λ x. cond (bytes_eq q x) 1 0) words more moved)
+
+    some_count : (p : List ℕ → Bool) (ws : List (List ℕ)) → list_any p ws ≡ true → count_by p ws ≡ 0 → ⊥
+    some_count p [] e none = clash false e refl
+    some_count p (w ∷ ws) e none = by (p w) e (sym (sum_by-cons (λ x. cond (p x) 1 0) w ws) ∙ none) (some_count p ws)
+      where
+        by : (b : Bool) → (b || list_any p ws) ≡ true → cond b 1 0 + count_by p ws ≡ 0
+            → (list_any p ws ≡ true → count_by p ws ≡ 0 → ⊥) → ⊥
+        by true h n ih = absurd (omega (arith, n))
+        by false h n ih = ih h (omega (arith, n))
+
+    stands : (p : List ℕ → Bool) (xs ys : List (List ℕ)) → list_any p xs ≡ true → count_by p xs ≡ count_by p ys → list_any p ys ≡ true
+    stands p xs ys e n = by (list_any p ys) refl
+      where
+        by : (b : Bool) → list_any p ys ≡ b → b ≡ true
+        by true h = refl
+        by false h = absurd (some_count p xs e (n ∙ no_count p ys h))
+
+-- a word before others counts as one behind them
+pub counted_front : (word : List ℕ) (words : List (List ℕ)) → counts_of (word ∷ words) ≡ one_more (counts_of words) word
+counted_front word words =
+    sym (same_counts (words ++ word ∷ []) (word ∷ words) (IsPermutation-to_front words word)) ∙ sym (counted_word words word)
+
+-- so does one between them
+pub counted_between : (words : List (List ℕ)) (word : List ℕ) (more : List (List ℕ))
+    → counts_of ((words ++ word ∷ []) ++ more) ≡ one_more (counts_of (words ++ more)) word
+counted_between words word more =
+    ap counts_of (append_assoc words (word ∷ []) more)
+    ∙ same_counts (words ++ word ∷ more) (word ∷ (words ++ more)) (IsPermutation-middle words word more)
+    ∙ counted_front word (words ++ more)
+
+pub counted_last : (words more : List (List ℕ)) (word : List ℕ)
+    → counts_of (words ++ (more ++ word ∷ [])) ≡ one_more (counts_of (words ++ more)) word
+counted_last words more word = ap counts_of (sym (append_assoc words more (word ∷ []))) ∙ sym (counted_word (words ++ more) word)

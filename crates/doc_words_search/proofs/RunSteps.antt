@@ -1,5 +1,5 @@
 -- The words of a text, character by character.
-use Rattle.std.proofs.Common.{◌≡◌, ℕ, List, [], ◌∷◌, ◌++◌, Bool, true, false, cond, not, if◌then◌else◌, refl, ap, sym, ◌∙◌}
+use Rattle.std.proofs.Common.{◌≡◌, ℕ, List, [], ◌∷◌, ◌++◌, ◌<◌, Bool, true, false, cond, not, if◌then◌else◌, refl, ap, sym, ◌∙◌}
 use Rattle.std.proofs.Common.{◌==◌, append-nil, append_assoc, arith, chars, encode_utf8_all, length}
 use Rattle.std.proofs.lemmas.Bool.Decides.{nat_tests}
 use Rattle.std.specs.Prelude.{map as mapped}
@@ -12,6 +12,7 @@ use Rattle.doc_page_parts.specs.Pages.{is_empty}
 use Rattle.doc_page_parts.proofs.Numbers.{zero_test_true}
 use Rattle.doc_words_search.specs.Words.{folded, is_word_char, words_of}
 use Rattle.doc_words_search.specs.WordSteps.{counted, one_more, word_if, words_after}
+use Rattle.doc_words_search.proofs.CountSteps.{counted_append}
 
 abbrev pieces : List ℕ → List (List ℕ)
 pieces cs = slice_split (λ c. not (is_word_char c)) cs
@@ -77,3 +78,23 @@ one_run counts bytes test u e h = at (chars bytes) (encodes-chars bytes u)
         let some : (length bytes == 0) ≡ false = sym e ∙ h in
         absurd (grind (arith, nat_tests))
     at (c ∷ cs) f = refl
+
+pub some_bytes : (bytes : List ℕ) (test : Bool) → test ≡ (length bytes == 0) → test ≡ false → 0 < length bytes
+some_bytes bytes test e h = let some : (length bytes == 0) ≡ false = sym e ∙ h in grind (arith, nat_tests)
+
+-- a character that ends a run, and the words behind it
+pub gap_counted : (old new : TextMap ℕ) (run text rest behind : List ℕ) (c : ℕ) → words_after run (chars rest) ≡ words_of text
+    → chars rest ≡ c ∷ chars behind → is_word_char c ≡ false → new ≡ counted old (word_if run)
+    → counted new (words_of behind) ≡ counted old (words_of text)
+gap_counted old new run text rest behind c all front gap is =
+    ap (λ m. counted m (words_of behind)) is ∙ sym (counted_append old (word_if run) (words_of behind))
+    ∙ ap (λ ws. counted old (word_if run ++ ws)) (sym (from_start behind))
+    ∙ ap (counted old) (sym (ap (words_after run) front
+    ∙ ap (λ t. if t then words_after (run ++ c ∷ []) (chars behind) else word_if run ++ words_after [] (chars behind)) gap) ∙ all)
+
+-- the end of the text ends one too
+pub end_counted : (old new : TextMap ℕ) (run text rest : List ℕ) → words_after run (chars rest) ≡ words_of text → chars rest ≡ []
+    → new ≡ counted old (word_if run) → counted new (words_of []) ≡ counted old (words_of text)
+end_counted old new run text rest all none is =
+    ap (counted new) (sym (from_start []) ∙ ap (words_after []) chars-nil) ∙ is
+    ∙ ap (counted old) (sym (ap (words_after run) none) ∙ all)

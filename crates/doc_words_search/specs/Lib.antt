@@ -1,3 +1,4 @@
+pub mod Fronts
 pub mod Held
 pub mod SearchSteps
 pub mod Searches

@@ -1,6 +1,6 @@
 //! The characters of words.
 
-ghost use Rattle.std.specs.Prelude.{◌≡◌, ◌∷◌, ◌++◌, [], chars, string_bytes, IfOk, OnOk};
+ghost use Rattle.std.specs.Prelude.{◌≡◌, ◌∷◌, ◌++◌, [], chars, string_bytes, IfOk, MatchOption, OnOk};
 ghost use Rattle.doc_words_search.specs.Words.{folded, is_word_char};
 
 use caseless::Caseless;
@@ -33,4 +33,15 @@ pub fn push_char(out: &mut String, c: char) -> Result<(), Memory>
     ensures { OnOk result (chars (string_bytes out.new) ≡ chars (string_bytes out.old) ++ c ∷ []) }
 {
     Ok(out.push(c)?)
+}
+
+/// The first character, and the text behind it.
+#[tactic(auto, using(std::proofs::lemmas::Str::chars_past_char))]
+pub(crate) fn next_char(text: &str) -> Option<(char, &str)>
+    ensures { MatchOption result (chars text.now ≡ [])
+        (λ next. chars text.now ≡ next.0 ∷ chars next.1.now) }
+{
+    let mut rest = text.chars();
+    let c = rest.next()?;
+    Some((c, rest.as_str()))
 }

@@ -58,7 +58,7 @@ pub fn different_words(heap: Heap, words: &[Word]) -> Result<List<Word>, Memory>
 {
     let mut counter = Counter::new(heap);
     for word in words {
-        counter.add(String::from_str(heap, word.text())?)?;
+        counter.add_plain(word.text())?;
     }
     counter.keys(heap)
 }

@@ -1,20 +1,21 @@
-use Rattle.std.proofs.Common.{ap, append-nil, chars, map-id, sym, [], ◌∙◌}
-use Rattle.std.proofs.lemmas.Iterator.{YieldsList-from_chars}
-use Rattle.std.proofs.lemmas.Iterator.Consumers.{YieldsList-end}
-use Rattle.std.proofs.lemmas.Str.{chars-nil}
-use Rattle.std.proofs.lemmas.Result.{on_ok_weaker}
-use Rattle.doc_words_search.specs.WordSteps.{counted, words_after}
-use Rattle.doc_words_search.proofs.RunSteps.{from_start}
+use Rattle.std.proofs.Common.{ap, length, sym, ◌∙◌}
+use Rattle.std.proofs.lemmas.List.{nil_from_length}
+use Rattle.doc_page_parts.proofs.Numbers.{zero_test_true}
+use Rattle.doc_page_parts.proofs.Texts.{chars_not_empty}
+use Rattle.doc_words_search.specs.Words.{words_of}
+use Rattle.doc_words_search.specs.WordSteps.{counted}
+use Rattle.doc_words_search.proofs.PlainSteps.{no_words}
+use Rattle.doc_words_search.proofs.RunSteps.{some_bytes}
 use Rattle.doc_words_search.proofs.counter.count_text.Goals as goal
 
-pub characters-init : goal.characters-init
-characters-init c = λ rest. ap (λ r. counted c.args.counter.now (words_after r rest)) (ap chars c.in_ok-run.ensures.bytes ∙ chars-nil)
+pub runs-smaller : goal.runs-smaller
+runs-smaller c =
+    c.in_ok-rest.ensures.shorter (chars_not_empty c.runs.rest.now c.runs.invariant.is_text
+    (some_bytes c.runs.rest.now c.is_empty.result c.is_empty.ensures c.runs-test.true))
 
 pub returns : goal.returns
 returns c =
-    let end = YieldsList-end (YieldsList-from_chars c.args.text.now c.utf8.text cc) c.characters.yielded _ c.characters.yielded_by _ _
-    c.in-None.is c.next.ensures.steps in
-    on_ok_weaker c.end_run.result (λ is. is ∙ c.characters.invariant []
-    ∙ ap (λ cs. counted c.args.counter.now (words_after [] cs)) (append-nil c.characters.yielded
-    ∙ (sym (map-id c.characters.yielded) ∙ end.0))
-    ∙ ap (counted c.args.counter.now) (from_start c.args.text.now)) c.end_run.ensures.counts
+    sym (ap (counted c.runs.counter)
+    (ap words_of (nil_from_length c.runs.rest.now
+    (zero_test_true c.is_empty.result (length c.runs.rest.now) c.is_empty.ensures c.runs-test.false))
+    ∙ no_words)) ∙ c.runs.invariant.same

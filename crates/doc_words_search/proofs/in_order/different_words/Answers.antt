@@ -1,4 +1,4 @@
-use Rattle.std.proofs.Common.{ap, rules, string_bytes, ◌≡◌, ◌∙◌}
+use Rattle.std.proofs.Common.{ap, ◌∙◌}
 use Rattle.std.specs.FinMap as map
 use Rattle.std.proofs.lemmas.List.{take_all}
 use Rattle.std.proofs.lemmas.Result.{IfOk-weaker}
@@ -9,9 +9,8 @@ use Rattle.doc_words_search.proofs.in_order.different_words.Goals as goal
 
 pub loop-word-preserved : goal.loop-word-preserved
 loop-word-preserved c =
-    let word : string_bytes c.in_ok-from_str.field-0 ≡ c.word-item.result = search rules in
-    word_more c.loop-word.counter c.add.new.self c.args.words.now c.loop-word.word-index c.word-item.result c.loop-word-test.true
-    c.word-item.is c.loop-word.invariant (c.in_ok-add.ensures ∙ ap (one_more c.loop-word.counter) word)
+    word_more c.loop-word.counter c.add_plain.new.self c.args.words.now c.loop-word.word-index c.word-item.result c.loop-word-test.true
+    c.word-item.is c.loop-word.invariant (c.in_ok-add_plain.ensures ∙ ap (one_more c.loop-word.counter) c.text.ensures)
 
 pub returns : goal.returns
 returns c =

@@ -12,10 +12,10 @@ returns-then-reader c =
 
 pub count_met-requires : goal.count_met-requires
 count_met-requires c =
-    few_seen c.args.reader.now c.self.inside.pages c.self.inside.sets c.self.invariant c.len-all.result c.len-all.ensures.len
+    few_seen c.args.reader.now c.self.inside.pages c.self.inside.sets c.self.invariant.counts c.len-all.result c.len-all.ensures.len
     c.len-all.ensures.small
 
 pub returns : goal.returns
 returns c =
-    c.count_met.ensures ∙ reader_sees c.args.reader.now c.self.inside.pages c.self.inside.sets c.self.invariant c.if-reader.false
+    c.count_met.ensures ∙ reader_sees c.args.reader.now c.self.inside.pages c.self.inside.sets c.self.invariant.counts c.if-reader.false
     ∙ ap (λ m. length (filter (λ page. may_see (Some c.args.reader.now) page.page) (map.values m))) c.self.view_is
