@@ -6,6 +6,7 @@ pub mod EntryWalk
 pub mod FlatSteps
 pub mod HalfSteps
 pub mod PackedSteps
+pub mod PairEnds
 pub mod PairSteps
 pub mod PlaceSteps
 pub mod RowSteps

@@ -1,19 +1,11 @@
-use Rattle.std.proofs.Common.{◌≡◌, ◌∙◌, ap, rules, subst}
-use Rattle.std.specs.List.Sorted.{IsBinarySearchResult}
-use Rattle.std.specs.Ordering.{nat_cmp}
-use Rattle.std.proofs.lemmas.List.Sorted.{answers_always}
-use Rattle.doc_index_tables.specs.Pairs.{pairs_in}
+use Rattle.doc_index_tables.proofs.PairEnds.{last_below, none_yet}
 use Rattle.doc_index_tables.proofs.pairs.Pairs.search.Goals as goal
+use Rattle.doc_index_tables.proofs.pairs.Pairs.search.Goals.{then-count-eq0-via-then-count-eq0, then-count-eq0-via-else-count-eq0+then-at-first}
 
-pub returns-in-Narrow-clause-place : goal.returns-in-Narrow-clause-place
-returns-in-Narrow-clause-place c =
-    let kept : c.in-Narrow.pairs.items ≡ c.args.self.now = cc (ap pairs_in c.in-Narrow.is) in
-    subst (λ es. IsBinarySearchResult (λ pair. nat_cmp pair.0 c.args.first) es c.binary_search_by_key.result) (c.deref.ensures.value ∙ kept)
-    (c.binary_search_by_key.ensures.position (λ pair. pair.0) (answers_always _ _ _ (λ f a r g called. search rules)))
-
-pub returns-in-Wide-clause-place : goal.returns-in-Wide-clause-place
-returns-in-Wide-clause-place c =
-    let kept : c.in-Wide.pairs.items ≡ c.args.self.now = cc (ap pairs_in c.in-Wide.is) in
-    subst (λ es. IsBinarySearchResult (λ pair. nat_cmp pair.0 c.args.first) es c.binary_search_by_key-in-Wide.result)
-    (c.deref-in-Wide.ensures.value ∙ kept)
-    (c.binary_search_by_key-in-Wide.ensures.position (λ pair. pair.0) (answers_always _ _ _ (λ f a r g called. search rules)))
+pub returns-then-count-eq0-clause-place : goal.returns-then-count-eq0-clause-place
+returns-then-count-eq0-clause-place c = elim c.then-count-eq0.branch [
+  | then-count-eq0-via-then-count-eq0 w ↦ none_yet c.args.first c.args.self.now c.len-count.result c.len-count.ensures w.if-count-eq0.true
+  | then-count-eq0-via-else-count-eq0+then-at-first w ↦
+      last_below c.args.first c.args.self.now c.len-count.result c.len-count.ensures w.at.result w.if-count-eq0.false w.at.ensures
+      w.if-at-first.true
+]

@@ -1,5 +1,5 @@
 use Rattle.std.proofs.Common.{◌≡◌, take}
-use Rattle.doc_index_tables.proofs.pairs.widened.Given as goal
+use Rattle.doc_index_tables.proofs.pairs.wide_of_narrow.Given as goal
 
 -- the pairs so far
 abbrev pub invariant-loop-first : goal.invariant-loop-first
