@@ -1,7 +1,6 @@
 -- Entries of a map in the order of their keys.
-use Rattle.std.proofs.lemmas.Map.Lookups.{exact_bytes}
-use Rattle.std.proofs.Common.{String, string_bytes, ◌≡◌, List, [], ◌∷◌, cond, is_eq, refl, ap, ◌∙◌}
-use Rattle.std.specs.Prelude.{Some, map as mapped}
+use Rattle.std.proofs.Common.{String, string_bytes, ◌≡◌, List, [], ◌∷◌, cond, is_eq, ap, ◌∙◌}
+use Rattle.std.specs.Prelude.{Some}
 use Rattle.std.specs.declared.cmp.Ordering.{Ordering}
 use Rattle.std.specs.declared.cmp.Ordering.TheVariants.{Less}
 use Rattle.std.specs.Cmp.{IsTotalOrder, eq_by_cmp_equiv}
@@ -9,11 +8,10 @@ use Rattle.std.specs.Cmp.Lexicographic.{slice_cmp}
 use Rattle.std.specs.FinMap as map
 use Rattle.std.specs.List.{AllByRecursion}
 use Rattle.std.specs.List.Sorted.{IsStrictlySortedBy}
-use Rattle.std.specs.Map.{keys_of, values_of}
+use Rattle.std.specs.Map.{keys_of}
 use Rattle.std.specs.String.{string_cmp}
 use Rattle.std.specs.Ordering.{nat_cmp}
-use Rattle.std.proofs.lemmas.Cmp.{nat_list_cmp_total, tied_itself}
-use Rattle.doc_page_parts.proofs.Maps.{entries_in_order}
+use Rattle.std.proofs.lemmas.Cmp.{tied_itself}
 use Rattle.doc_index_tables.specs.Maps.{by_bytes}
 
 module _ {K X : Type 0} (R : K → K → Ordering) where
@@ -48,12 +46,3 @@ module _ {A X : Type 0} where
   unfolding IsStrictlySortedBy
   sorted_bytes [] sorted = tt
   sorted_bytes (e ∷ es) sorted = (before_bytes e.0 es sorted.0, sorted_bytes es sorted.1)
-
-  values_bytes : (es : List (String A × X)) → mapped (λ e. e.1) (by_bytes es) ≡ values_of es
-  values_bytes [] = refl
-  values_bytes (e ∷ es) = ap (λ vs. e.1 ∷ vs) (values_bytes es)
-
-  pub values_in_order : (es : List (String A × X)) → IsStrictlySortedBy string_cmp (keys_of es)
-      → map.values (map.from_entries {R = slice_cmp nat_cmp} (by_bytes es)) ≡ values_of es
-  values_in_order es sorted =
-      ap (mapped (λ e. e.1)) (entries_in_order nat_list_cmp_total exact_bytes (by_bytes es) (sorted_bytes es sorted)) ∙ values_bytes es

@@ -5,9 +5,10 @@ pub mod EntrySteps
 pub mod EntryWalk
 pub mod FlatSteps
 pub mod HalfSteps
+pub mod NumberSteps
 pub mod PackedSteps
 pub mod PairEnds
 pub mod PairSteps
 pub mod PlaceSteps
-pub mod RowSteps
 pub mod TableSteps
+pub mod TextSteps

@@ -1,5 +1,5 @@
-//! Numbers by text and number, as a tree of rows by text, each row in the order of its numbers; and texts with numbers, packed
-//! one after another. The tables of `doc_index` are made of them.
+//! Numbers by text and number, as a row for each text, in the order of its numbers; values by text, in which short texts are numbers;
+//! and texts with numbers, packed one after another. The tables of `doc_index` are made of them.
 #![tactic(auto)]
 
 pub mod block;
@@ -9,3 +9,4 @@ pub mod packed;
 pub mod pairs;
 pub mod row;
 pub mod table;
+pub mod text_table;

@@ -1,9 +1,0 @@
-use Rattle.std.proofs.Common.{◌∙◌, ap, string_bytes}
-use Rattle.std.specs.FinMap as map
-use Rattle.doc_index_tables.proofs.TableSteps.{inserted_text}
-use Rattle.doc_index_tables.proofs.table.Table.insert.Goals as goal
-
-pub returns-clause-ok : goal.returns-clause-ok
-returns-clause-ok c =
-    inserted_text c.self.inside.rows c.insert.new.self (string_bytes c.args.text) c.args.row c.in_ok-insert.ensures.updates
-    ∙ ap (λ m. map.insert m (string_bytes c.args.text) c.args.row) c.self.view_is
