@@ -190,10 +190,6 @@ counted_on r y n given is = by y (subst (λ x. SomeIff x (n + 1 < 18446744073709
     by : (y : ℕ) → SomeIff (Some y) (n + 1 < 18446744073709551616) (n + 1) → y ≡ n + 1
     by y h = h.1
 
-pub empty_small : (m : NumberMap ℕ) → m ≡ map.empty → map.len m ≤ 512
-empty_small m none =
-    let size : map.len m ≡ 0 = ap map.len none ∙ map.len-empty nat_cmp ℕ in omega (arith, size)
-
 pub smaller : (k : ℕ) (m new : NumberMap ℕ) → new ≡ map.remove m k → map.len m ≤ 512 → map.len new ≤ 512
 smaller k m new is small =
     subst (λ n. n ≤ 512) (sym (ap map.len is ∙ map.len-remove nat_cmp_total m k)) (by small (map.contains_key m k))

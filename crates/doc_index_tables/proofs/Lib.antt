@@ -10,5 +10,6 @@ pub mod PackedSteps
 pub mod PairEnds
 pub mod PairSteps
 pub mod PlaceSteps
+pub mod SingleSteps
 pub mod TableSteps
 pub mod TextSteps

@@ -43,6 +43,15 @@ impl Block {
         }
     }
 
+    /// A block without numbers, with room for so many small ones.
+    pub fn with_capacity(heap: Heap, count: usize) -> Result<Block, Memory>
+        ensures { IfOk result (λ block. block ≡ map.empty) }
+    {
+        Ok(Block {
+            entries: Pairs::with_capacity(heap, count)?,
+        })
+    }
+
     /// The heap that it stands on.
     pub fn heap(&self) -> Heap {
         self.entries.heap()

@@ -8,7 +8,7 @@ ghost use Rattle.std.specs.Ordering.{nat_cmp};
 ghost use Rattle.doc_index_tables.specs.Blocks.{AreBlocks, IsPlace, begins_by, block_limit, joined, without};
 
 use crate::block::Block;
-use crate::entries::Entries;
+use crate::block_entries::BlockEntries;
 use doc_page_parts::failure::Memory;
 use doc_page_parts::heap::Vec;
 use std::marker::Model;
@@ -69,10 +69,10 @@ impl Blocks {
     }
 
     /// The numbers in their order, each with its number.
-    pub fn iter(&self) -> Entries<'_>
+    pub fn iter(&self) -> BlockEntries<'_>
         ensures { result ≡ map.entries self.now }
     {
-        Entries::new(&self.blocks)
+        BlockEntries::new(&self.blocks)
     }
 
     /// Sets the number of a number.

@@ -1,37 +1,50 @@
-//! The entries of blocks, one after another.
+//! The entries of a row, one after another.
 
 ghost use Rattle.std.specs.Prelude.{◌≡◌};
 ghost use Rattle.std.specs.Iterator.{YieldsFirst, item_count};
-ghost use Rattle.doc_index_tables.specs.Blocks.{IsStart, joined};
+ghost use Rattle.std.specs.Option.{option_to_list};
 
-use crate::block::Block;
+use crate::block_entries::BlockEntries;
 use std::marker::Model;
 
-/// The entries of blocks that are left, in their order. Contracts see the list of them.
+/// The entries of a row that are left, in their order. Contracts see the list of them.
 #[derive(Drop)]
 pub struct Entries<'a> {
-    blocks: &'a [Block],
-    next: usize,
+    left: Left<'a>,
+}
+
+#[derive(Drop)]
+enum Left<'a> {
+    Single(Option<(u64, u64)>),
+    Blocks(BlockEntries<'a>),
 }
 
 impl<'a> Model for Entries<'a> {
-    ghost use Rattle.std.specs.Prelude.{ℕ, List as Seq, drop};
-    ghost use Rattle.doc_index_tables.specs.Blocks.{IsStart, joined};
+    ghost use Rattle.std.specs.Prelude.{ℕ, List as Seq};
+    ghost use Rattle.doc_index_tables.specs.Rows.{entries_left};
 
     ghost Value = { Seq (ℕ × ℕ) };
 
-    ghost view = { λ e. drop e.next (joined e.blocks.now) };
-
-    ghost invariant = { λ e. IsStart e.next e.blocks.now };
+    ghost view = { λ e. entries_left e.left };
 }
 
 impl<'a> Entries<'a> {
-    /// All entries of blocks.
-    pub fn new(blocks: &'a [Block]) -> Self
-        requires { IsStart 0 blocks.now }
-        ensures { result ≡ joined blocks.now }
+    /// One entry at most.
+    pub fn of_single(entry: Option<(u64, u64)>) -> Self
+        ensures { result ≡ option_to_list entry }
     {
-        Entries { blocks, next: 0 }
+        Entries {
+            left: Left::Single(entry),
+        }
+    }
+
+    /// The entries of blocks.
+    pub fn of_blocks(entries: BlockEntries<'a>) -> Self
+        ensures { result ≡ entries.entry }
+    {
+        Entries {
+            left: Left::Blocks(entries),
+        }
     }
 }
 
@@ -43,18 +56,9 @@ impl<'a> Iterator for Entries<'a> {
     ghost remaining = { item_count (λ s. s) };
 
     fn next(&mut self) -> Option<(u64, u64)> {
-        let (block, others) = self.blocks.split_first()?;
-        if self.next < block.len() {
-            let entry = block.at(self.next);
-            self.next += 1;
-            return Some(entry);
+        match &mut self.left {
+            Left::Single(entry) => entry.take(),
+            Left::Blocks(entries) => entries.next(),
         }
-        let (block, _) = others.split_first()?;
-        let entry = block.at(0);
-        *self = Entries {
-            blocks: others,
-            next: 1,
-        };
-        Some(entry)
     }
 }

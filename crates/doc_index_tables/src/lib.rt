@@ -3,10 +3,12 @@
 #![tactic(auto)]
 
 pub mod block;
+pub mod block_entries;
 pub mod blocks;
 pub mod entries;
 pub mod packed;
 pub mod pairs;
 pub mod row;
+pub mod single;
 pub mod table;
 pub mod text_table;

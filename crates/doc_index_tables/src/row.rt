@@ -4,8 +4,10 @@ ghost use Rattle.std.specs.Prelude.{◌≡◌, OnOk, OnErr};
 ghost use Rattle.std.specs.FinMap as map;
 
 use crate::block::Block;
+use crate::block_entries::BlockEntries;
 use crate::blocks::{BLOCK_LIMIT, Blocks};
 use crate::entries::Entries;
+use crate::single::Single;
 use doc_page_parts::failure::Memory;
 use doc_page_parts::heap::Heap;
 use std::array::from_ref;
@@ -17,9 +19,10 @@ pub struct Row {
     kept: Kept,
 }
 
-/// One block until it is full, and then many.
+/// One number in place, then one block until it is full, and then many. What was once more stays so.
 #[derive(Drop)]
 enum Kept {
+    Single(Single),
     One(Block),
     Many(Blocks),
 }
@@ -46,7 +49,7 @@ impl Row {
         ensures { result ≡ map.empty }
     {
         Row {
-            kept: Kept::One(Block::new(heap)),
+            kept: Kept::Single(Single::new(heap)),
         }
     }
 
@@ -55,6 +58,7 @@ impl Row {
         ensures { result ≡ map.len self.now }
     {
         match &self.kept {
+            Kept::Single(single) => single.len(),
             Kept::One(block) => block.len(),
             Kept::Many(blocks) => blocks.len(),
         }
@@ -65,6 +69,7 @@ impl Row {
         ensures { result ≡ map.get self.now number }
     {
         match &self.kept {
+            Kept::Single(single) => single.get(number),
             Kept::One(block) => block.get(number),
             Kept::Many(blocks) => blocks.get(number),
         }
@@ -75,8 +80,9 @@ impl Row {
         ensures { result ≡ map.entries self.now }
     {
         match &self.kept {
-            Kept::One(block) => Entries::new(from_ref(block)),
-            Kept::Many(blocks) => blocks.iter(),
+            Kept::Single(single) => Entries::of_single(single.entry()),
+            Kept::One(block) => Entries::of_blocks(BlockEntries::new(from_ref(block))),
+            Kept::Many(blocks) => Entries::of_blocks(blocks.iter()),
         }
     }
 
@@ -86,6 +92,14 @@ impl Row {
         ensures err { OnErr result (self.new ≡ self.old) }
     {
         match &mut self.kept {
+            Kept::Single(single) => {
+                if single.set(number, value) {
+                    return Ok(());
+                }
+                let block = single.with(number, value)?;
+                self.kept = Kept::One(block);
+                Ok(())
+            }
             Kept::One(block) => {
                 if block.len() < BLOCK_LIMIT {
                     return block.set(number, value);
@@ -103,6 +117,7 @@ impl Row {
         ensures { self.new ≡ map.remove self.old number }
     {
         match &mut self.kept {
+            Kept::Single(single) => single.take(number),
             Kept::One(block) => block.take(number),
             Kept::Many(blocks) => blocks.take(number),
         }

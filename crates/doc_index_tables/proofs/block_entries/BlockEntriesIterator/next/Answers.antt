@@ -2,7 +2,7 @@ use Rattle.std.proofs.Common.{◌+◌, ℕ, List, drop, subst, sym}
 use Rattle.std.specs.Iterator.{YieldsFirst}
 use Rattle.doc_index_tables.specs.Blocks.{joined}
 use Rattle.doc_index_tables.proofs.EntryWalk.{entry_next, entry_none, entry_turn, fewer_left}
-use Rattle.doc_index_tables.proofs.entries.EntriesIterator.next.Goals as goal
+use Rattle.doc_index_tables.proofs.block_entries.BlockEntriesIterator.next.Goals as goal
 
 pub returns-then-self-len-clause-steps : goal.returns-then-self-len-clause-steps
 returns-then-self-len-clause-steps c =
