@@ -1,6 +1,6 @@
 -- An index: what its order says, and the index after a page enters it and after one leaves it.
 use Rattle.std.proofs.Common.{◌≡◌, ◌≢◌, ◌<◌, ◌≤◌, ◌+◌, ◌-◌, lt_of_le_of_lt, arith, ℕ, List, [], ◌∷◌, Bool, true, false, cond, ◌&&◌, length, get_or, insert, remove, is_some, refl, ap, sym, subst, ◌∙◌, All, HoldsAt, IsTrue}
-use Rattle.std.specs.Prelude.{IfOk, MatchResult, Result, Ok, Err, Option, Some, None}
+use Rattle.std.specs.Prelude.{MatchResult, Result, Ok, Err, Option, Some, None}
 use Rattle.std.specs.Cmp.Lexicographic.{slice_cmp}
 use Rattle.std.specs.FinMap as map
 use Rattle.std.specs.List.Sorted.{IsBinarySearchResult, IsNonDecreasingBy, IsPartitionPoint, IsSearchInRange, IsStrictlySortedBy}
@@ -9,7 +9,8 @@ use Rattle.std.specs.Ordering.{nat_cmp, ordering_index}
 use Rattle.std.specs.declared.cmp.Ordering.TheVariants.{Less, Equal, Greater}
 use Rattle.std.proofs.lemmas.List.Edits.{length-insert, length-remove}
 use Rattle.std.proofs.lemmas.List.Elements.{All-from_recursion}
-use Rattle.std.proofs.lemmas.Option.{none-some}
+use Rattle.std.proofs.lemmas.List.{get_or_default}
+use Rattle.std.proofs.lemmas.Option.{none-some, same_Some}
 use Rattle.doc_index.specs.declared.held.Held.{Held}
 use Rattle.doc_index.specs.Held.{Known, count_in, held, known, slot_at}
 use Rattle.doc_index.specs.IndexSteps.{IsIndex}
@@ -21,10 +22,6 @@ use Rattle.doc_page_parts.proofs.Maps.{is_sorted_keys}
 use Rattle.doc_page_parts.proofs.Options.{is_some_false}
 use Rattle.doc_index.proofs.HeldSteps.{apart_after, apart_left, held_as, held_entered, held_left, held_one, not_same, pair_of, stays, stood_before}
 use Rattle.doc_index.proofs.OrderSteps.{HavePages, IsGap, all_present, along, equal_is, find_gap, gap_from, order_of, put_gap, removed_along, rises}
-
-pub told : {X E : Type 0} {P Q : X → Type 0} (r : Result X E) → ((x : X) → P x → Q x) → IfOk r P → IfOk r Q
-told (Ok x) f h = f x h
-told (Err e) f h = tt
 
 -- an empty index
 pub nothing_held : {T : Type 0} → IsIndex {T = T} 0 [] [] map.empty
@@ -55,13 +52,6 @@ module _ {T : Type 0} {last : ℕ} (slots : List (Option (Held T))) (order : Lis
   pub all_have : All (λ slot. IsTrue (is_some (slot_at slots slot))) order
   all_have = All-from_recursion (λ slot. IsTrue (is_some (slot_at slots slot))) order have_pages
 
-  -- a slot that a search found, and what there is where it found none
-  pub slot_found : (q : List ℕ × ℕ) (at slot : ℕ) → HoldsAt (λ i. order_of slots q i ≡ Equal) order at → slot ≡ get_or order at slot
-      → (page : Held T) × (slot_at slots slot ≡ Some page) × (page.path ≡ q.0) × (page.stamp ≡ q.1)
-  slot_found q at slot equal there =
-      let found = equal_is (slot_at slots slot) q (subst (λ i. order_of slots q i ≡ Equal) (sym there) (equal slot)) in
-      (found.0, found.1, ap (λ p. p.0) found.2, ap (λ p. p.1) found.2)
-
   gap_at : (q : List ℕ × ℕ) (at : ℕ) → at ≤ length order
       → (IsNonDecreasingBy (λ i. ordering_index (order_of slots q i)) order
       → IsPartitionPoint (λ i. order_of slots q i ≡ Less) (λ i. order_of slots q i ≡ Greater) order at)
@@ -78,24 +68,29 @@ module _ {T : Type 0} {last : ℕ} (slots : List (Option (Held T))) (order : Lis
       map.get-entries (held slots) q ∙ ap (map.find pair_cmp q) (sym is.ordered)
       ∙ find_gap slots q order at have_pages (gap_at q at within parts)
 
+  -- the page in a slot that a search found
   pub stands : (q : List ℕ × ℕ) (at slot : ℕ) → HoldsAt (λ i. order_of slots q i ≡ Equal) order at → slot ≡ get_or order at slot
       → (page : Held T) × (slot_at slots slot ≡ Some page) × (pair_of page ≡ q) × (map.get (held slots) q ≡ Some (known page))
   stands q at slot equal there =
       let found = equal_is (slot_at slots slot) q (subst (λ i. order_of slots q i ≡ Equal) (sym there) (equal slot)) in
       (found.0, found.1, found.2, held_as slots is.apart q slot found.0 found.1 found.2)
 
+  pub has_pair : (q : List ℕ × ℕ) (at slot : ℕ) → HoldsAt (λ i. order_of slots q i ≡ Equal) order at → slot ≡ get_or order at slot
+      → (page : Held T) → slot_at slots slot ≡ Some page → pair_of page ≡ q
+  has_pair q at slot equal there page stood =
+      let found = stands q at slot equal there in
+      ap pair_of (same_Some page found.0 (sym stood ∙ found.1)) ∙ found.2
+
   -- the place of a pair that is free
   pub free_place : (q : List ℕ × ℕ) → map.get (held slots) q ≡ None → (r : Result ℕ ℕ) (at : ℕ) → IsSearchInRange r (length order)
-      → IsBinarySearchResult (order_of slots q) order r → MatchResult r (λ x. at ≡ x) (λ x. at ≡ x)
+      → IsBinarySearchResult (order_of slots q) order r → {P : ℕ → Type 0} → MatchResult r (λ x. at ≡ x) P → ((x : ℕ) → P x → at ≡ x)
       → (at ≤ length order) × IsGap slots q order at
-  free_place q free (Ok x) at within place is_at =
-      let there = stands q x (get_or order x 0) place (sym (same_slot order x within)) in
+  free_place q free (Ok x) at within place is_at told =
+      let there = stands q x (get_or order x 0) place (get_or_default order x 0 (get_or order x 0) within) in
       absurd (none-some (known there.0) (sym free ∙ there.3))
-    where
-      same_slot : (xs : List ℕ) (i : ℕ) → i < length xs → get_or xs i (get_or xs i 0) ≡ get_or xs i 0
-      same_slot xs i within = ?
-  free_place q free (Err x) at within place is_at =
-      (subst (λ n. n ≤ length order) (sym is_at) within, subst (IsGap slots q order) (sym is_at) (gap_at q x within place))
+  free_place q free (Err x) at within place is_at told =
+      let same = sym (told x is_at) in
+      (subst (λ n. n ≤ length order) same within, subst (IsGap slots q order) same (gap_at q x within place))
 
   -- a page enters a slot
   module _ (v : ℕ) (page : Held T) (vacant : slot_at slots v ≡ None) (free : map.get (held slots) (pair_of page) ≡ None)
@@ -152,7 +147,7 @@ module _ {T : Type 0} {last : ℕ} (slots : List (Option (Held T))) (order : Lis
     left_others = stood_before slots is.apart v page stood after gone elsewhere
 
     module _ (at : ℕ) (order_after : List ℕ) (postings_after : NumberTable) (within : at < length order)
-        (leads : HoldsAt (λ i. i ≡ v) order at) (removed : order_after ≡ remove order at)
+        (leads : v ≡ get_or order at v) (removed : order_after ≡ remove order at)
         (counts : LacksCounts page.counts v postings postings_after) where
       pub left : IsIndex last after order_after postings_after
       left = record {
@@ -163,7 +158,7 @@ module _ {T : Type 0} {last : ℕ} (slots : List (Option (Held T))) (order : Lis
               elsewhere i differs ∙ at_other,
               λ same. differs (is.apart i v other page at_other stood (ap (λ p. p.0) same) (ap (λ p. p.1) same)),
             ))
-            order at have_pages within leads (held slots) is.ordered
+            order at have_pages within (λ d. get_or_default order at d v within ∙ sym leads) (held slots) is.ordered
             ∙ ap map.entries (sym left_held);
         count = one_less (length order_after) (map.len (held slots)) (ap (λ os. length os + 1) removed ∙ length-remove order at within ∙ is.count)
             ∙ sym (map.len-remove pairs_total (held slots) (pair_of page)
