@@ -1,0 +1,3 @@
+pub mod NameSteps
+pub mod Names
+pub mod PageNumbers
