@@ -43,7 +43,8 @@ above_at P [] i d all within = absurd (omega (arith, within))
 above_at P (x ∷ ks) zero d all within = all.0
 above_at P (x ∷ ks) (suc i) d all within = above_at P ks i d all.1 (omega (arith, within))
 
-at_from : (k : List ℕ) (ks : List (List ℕ)) (i : ℕ) → IsStrictlySortedBy text_cmp ks → i < length ks → HoldsAt (λ x. x ≡ k) ks i → IsAt k ks i
+at_from : (k : List ℕ) (ks : List (List ℕ)) (i : ℕ) → IsStrictlySortedBy text_cmp ks → i < length ks → HoldsAt (λ x. x ≡ k) ks i
+    → IsAt k ks i
 unfolding IsStrictlySortedBy
 at_from k [] i sorted within at = absurd (omega (arith, within))
 at_from k (x ∷ ks) zero sorted within at = ap (λ y. text_cmp k y) (at x) ∙ tied_itself nat_list_cmp_total k
