@@ -5,6 +5,7 @@ pub mod NamesLaw
 pub mod NumberSteps
 pub mod PageCounts
 pub mod PageSteps
+pub mod RowSteps
 pub mod SeenLaw
 pub mod SetSteps
 pub mod SightSteps

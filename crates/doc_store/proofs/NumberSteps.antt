@@ -1,20 +1,18 @@
 -- Steps of the sets of groups, each with how many pages have it and with its number.
-use Rattle.std.proofs.Common.{◌≡◌, ◌≢◌, ℕ, zero, suc, ◌+◌, ◌-◌, ◌<◌, ◌≤◌, List, [], ◌∷◌, Bool, true, false, cond, get_or, set, ◌++◌, length}
-use Rattle.std.proofs.Common.{map as mapped, append-nil, append_assoc, refl, ap, sym, ◌∙◌, arith}
+use Rattle.std.proofs.Common.{◌≡◌, ◌≢◌, ℕ, zero, suc, ◌+◌, ◌-◌, ◌<◌, ◌≤◌, List, [], ◌∷◌, Bool, true, false, cond, get_or, set}
+use Rattle.std.proofs.Common.{refl, ap, sym, ◌∙◌, arith}
 use Rattle.std.specs.Prelude.{Option, Some, None, option_map, Result, Ok, Err, IfOk, OnOk}
 use Rattle.std.specs.Cmp.{tied_itself}
 use Rattle.std.specs.FinMap as map
 use Rattle.std.specs.Ordering.{nat_cmp, eq_by_cmp, is_eq}
 use Rattle.std.proofs.lemmas.Cmp.{nat_cmp_total}
-use Rattle.std.proofs.lemmas.List.{get_or_past}
 use Rattle.std.proofs.lemmas.Map.Lookups.{exact_unsigned}
 use Rattle.std.proofs.lemmas.Option.{none-some, same_Some}
 use Rattle.doc_page_parts.proofs.Bools.{clash}
 use Rattle.doc_page_parts.proofs.Orders.{is_eq_true}
 use Rattle.doc_store.proofs.CountSteps.{groups_from, groups_itself, groups_total, more_itself, more_other}
 use Rattle.doc_store.specs.declared.group_sets.GroupSet.{GroupSet}
-use Rattle.doc_store.specs.GroupSets.{AreCounts, Keeps, NumberedSets, groups_at, groups_cmp, no_sets, one_more, same_groups, sees_groups, set_of, slot_at}
-use Rattle.doc_store_readers.specs.declared.reader.Reader.{Reader}
+use Rattle.doc_store.specs.GroupSets.{AreCounts, Keeps, NumberedSets, groups_at, groups_cmp, no_sets, one_more, same_groups, set_of, slot_at}
 
 same_number : ℕ → ℕ → Bool
 same_number m n = eq_by_cmp nat_cmp m n
@@ -251,14 +249,6 @@ module _ (old new : NumberedSets) (n : ℕ) (kept : (m : ℕ) → m ≢ n → sl
           ∙ sym (ap (option_map (λ (x : GroupSet). x.groups)) before) ∙ ap (groups_at old) (sym is) ∙ there
       by false e = ap (option_map (λ (x : GroupSet). x.groups)) (kept slot (not_same slot n e)) ∙ there
 
-  pub keeps_beside : slot_at old n ≡ None → Keeps old new number
-  keeps_beside vacant slot others there more = by (same_number slot n) refl
-    where
-      by : (b : Bool) → same_number slot n ≡ b → groups_at new slot ≡ Some others
-      by true e = absurd (none-some others (sym (ap (option_map (λ (x : GroupSet). x.groups)) vacant)
-          ∙ ap (groups_at old) (sym (number_is slot n e)) ∙ there))
-      by false e = ap (option_map (λ (x : GroupSet). x.groups)) (kept slot (not_same slot n e)) ∙ there
-
 -- the counts of the same numbers
 pub same_counts : (sets : NumberedSets) (number numbers : List (List ℕ) → ℕ) → ((groups : List (List ℕ)) → number groups ≡ numbers groups)
     → AreCounts sets number → AreCounts sets numbers
@@ -282,41 +272,3 @@ pub started : {E : Type 0} (result : Result ℕ E) (old new : NumberedSets) (gro
 started (Ok n) old new groups none vacant put at kept = λ number counts.
     first_counted old groups number counts new n kept none vacant put at
 started (Err e) old new groups none vacant put at kept = vacant
-
--- ---- a walk over numbers
-
--- one flag more
-pub said_more : (says : ℕ → Bool) (flags : List Bool) (flag : Bool) → ((n : ℕ) → n < length flags → get_or flags n false ≡ says n)
-    → flag ≡ says (length flags) → (n : ℕ) → n < length (flags ++ flag ∷ []) → get_or (flags ++ flag ∷ []) n false ≡ says n
-said_more says [] flag before same zero few = same
-said_more says [] flag before same (suc n) few = absurd (omega (arith, few))
-said_more says (f ∷ flags) flag before same zero few = before zero (omega arith)
-said_more says (f ∷ flags) flag before same (suc n) few =
-    said_more (λ k. says (suc k)) flags flag (λ k less. before (suc k) (omega (arith, less))) same n (omega (arith, few))
-
--- the last one
-pub said_all : (says : ℕ → Bool) (flags : List Bool) → ((n : ℕ) → n < length flags → get_or flags n false ≡ says n)
-    → ((n : ℕ) → length flags ≤ n → says n ≡ false) → (n : ℕ) → get_or flags n false ≡ says n
-said_all says [] before past n = sym (past n (omega arith))
-said_all says (f ∷ flags) before past zero = before zero (omega arith)
-said_all says (f ∷ flags) before past (suc n) =
-    said_all (λ k. says (suc k)) flags (λ k less. before (suc k) (omega (arith, less))) (λ k more. past (suc k) (omega (arith, more))) n
-
--- no reader sees pages with a set whose number none has
-pub sees_none : (reader : Reader) (sets : NumberedSets) (most n : ℕ) → length sets.slots ≤ most → most ≤ n
-    → sees_groups reader (groups_at sets n) ≡ false
-sees_none reader sets most n within past =
-    ap (λ o. sees_groups reader (option_map (λ (t : GroupSet). t.groups) o)) (get_or_past sets.slots n None (omega (arith, within, past)))
-
-module _ {X : Type 0} (says : X → Bool) (flags : List Bool) (all : List Bool) (xs : List X) where
-  pub flags_more : (new : List Bool) (rest : List X) (x : X) (flag : Bool) → xs ≡ x ∷ rest → new ≡ flags ++ flag ∷ [] → flag ≡ says x
-      → flags ++ mapped says xs ≡ all → new ++ mapped says rest ≡ all
-  flags_more new rest x flag is pushed same before =
-      ap (λ ys. ys ++ mapped says rest) pushed
-      ∙ append_assoc flags (flag ∷ []) (mapped says rest)
-      ∙ ap (λ f. flags ++ (f ∷ mapped says rest)) same
-      ∙ ap (λ ys. flags ++ mapped says ys) (sym is)
-      ∙ before
-
-  pub flags_end : xs ≡ [] → flags ++ mapped says xs ≡ all → flags ≡ all
-  flags_end none before = sym (append-nil flags) ∙ ap (λ ys. flags ++ mapped says ys) (sym none) ∙ before

@@ -363,9 +363,6 @@ module _ (pages : TextMap StampedPage) (numbers : TextMap ℕ) (sets : NumberedS
             (leads_renamed pages numbers sets are.leads from to stamp) new (keeps behind all);
       }
 
-  pub has_number : (path : List ℕ) → map.contains_key numbers path ≡ map.contains_key pages path
-  has_number = same_paths pages numbers sets are.leads
-
   pub room_numbered : (from to : List ℕ) → map.contains_key (map.remove numbers from) to ≡ map.contains_key (map.remove pages from) to
   room_numbered from to =
       same_paths (map.remove pages from) (map.remove numbers from) sets (leads_taken pages numbers sets are.leads from) to

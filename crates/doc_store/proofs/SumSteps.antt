@@ -38,9 +38,6 @@ module _ {K X : Type 0} {R : K → K → Ordering} (total : IsTotalOrder R) (exa
       by q true e = ap (map.get m) (exact q k (is_eq_true (R q k) e)) ∙ found
       by q false e = refl
 
-  pub put_again : (m : map.FinMap R X) (k : K) (v : X) → map.get m k ≡ Some v → map.insert m k v ≡ m
-  put_again m k v found = set_over m k v ∙ sym (put_back m k v found)
-
   pub none_to_take : (m : map.FinMap R X) (k : K) → map.get m k ≡ None → m ≡ map.remove m k
   none_to_take m k none = map.same_map total exact _ _ (λ q. by q (eq_by_cmp R q k) refl ∙ sym (map.get-remove total m k q))
     where
