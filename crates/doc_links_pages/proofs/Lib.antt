@@ -2,4 +2,3 @@ pub mod AnchorSteps
 pub mod CountSteps
 mod Examples
 pub mod HeadingSteps
-pub mod RankSteps

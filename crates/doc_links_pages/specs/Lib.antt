@@ -2,4 +2,3 @@ pub mod KnownSteps
 pub mod Links
 pub mod Names
 pub mod PageLinks
-pub mod Ranks

@@ -5,13 +5,11 @@ ghost use Rattle.doc_index_tables.specs.Maps.{text_map};
 ghost use Rattle.doc_links_pages.specs.KnownSteps.{HasAnchors, HasKeys};
 ghost use Rattle.doc_links_pages.specs.Links.{has_anchor};
 ghost use Rattle.doc_links_pages.specs.PageLinks.{page_links};
-ghost use Rattle.doc_links_pages.specs.Ranks.{AreRanks};
 
 use crate::keys::keys_of;
 use crate::page_links::{PageLinks, copy_of_headings};
-use crate::ranks::ranks_of;
 use doc_page_parts::failure::Memory;
-use doc_page_parts::heap::{BTreeMap, Heap, String, Vec};
+use doc_page_parts::heap::{BTreeMap, Heap, String};
 use doc_page_parts::list::List;
 use doc_page_parts::path::Path;
 use doc_page_parts::rendered::{Heading, Piece};
@@ -20,13 +18,11 @@ use doc_resolve::{LinkKind, kinds};
 use std::collections::BTreeSet;
 use std::marker::Model;
 
-/// What an index knows of a page. The anchors of its headings stand in a tree besides, so that one is found in the time of a logarithm,
-/// and the ranks of its links, by which a report reads no path of a link.
+/// What an index knows of a page. The anchors of its headings stand in a tree besides, so that one is found in the time of a logarithm.
 #[derive(Drop)]
 pub struct Known {
     page: PageLinks,
     anchors: BTreeSet<Text, Heap>,
-    ranks: Vec<u32>,
 }
 
 impl Model for Known {
@@ -35,12 +31,10 @@ impl Model for Known {
     ghost Value = { PageLinks };
 
     ghost use Rattle.doc_links_pages.specs.KnownSteps.{HasAnchors};
-    ghost use Rattle.doc_links_pages.specs.Ranks.{AreRanks};
 
     ghost view = { λ k. k.page };
 
-    ghost invariant = { λ k.
-        HasAnchors k.page.headings k.anchors × AreRanks k.page.links k.ranks.items };
+    ghost invariant = { λ k. HasAnchors k.page.headings k.anchors };
 }
 
 impl Known {
@@ -57,18 +51,10 @@ impl Known {
     {
         let links = List::new(kinds(heap, path, pieces)?);
         let keys = keys_of(heap, links.get())?;
-        let ranks = ranks_of(heap, links.get(), &keys)?;
         let anchors = anchors_of(heap, headings)?;
         let headings = copy_of_headings(heap, headings)?;
         let page = PageLinks { links, headings };
-        Ok((
-            Known {
-                page,
-                anchors,
-                ranks,
-            },
-            keys,
-        ))
+        Ok((Known { page, anchors }, keys))
     }
 
     pub fn links(&self) -> &[LinkKind]
@@ -81,13 +67,6 @@ impl Known {
         ensures { result.now ≡ self.now.headings }
     {
         self.page.headings.get()
-    }
-
-    /// Of each link the place of the path that it writes among the paths that the page's links write.
-    pub fn ranks(&self) -> &[u32]
-        ensures { AreRanks self.now.links result.now }
-    {
-        &self.ranks
     }
 
     /// Whether a heading of the page has this anchor.

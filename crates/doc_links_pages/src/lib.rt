@@ -9,5 +9,4 @@ pub mod answers;
 pub mod keys;
 pub mod known;
 pub mod page_links;
-pub(crate) mod ranks;
 pub mod reference;
