@@ -3,6 +3,7 @@ pub mod CountSteps
 pub mod CutSteps
 pub mod EntrySteps
 pub mod EntryWalk
+mod Examples
 pub mod FlatSteps
 pub mod HalfSteps
 pub mod NumberSteps
