@@ -122,7 +122,7 @@ fn place_of(paths: &[Path], path: &Path) -> Result<usize, usize>
     paths.binary_search(path)
 }
 
-/// Inserts a path and its number at a place, each in its row.
+/// Inserts a path and its number at a place, each in its row. Both have their room before either changes.
 fn insert_in(
     paths: &mut Vec<Path>,
     numbers: &mut Vec<usize>,
