@@ -3,7 +3,8 @@
 ghost use Rattle.std.specs.Prelude.{◌≡◌, ℕ, List as Seq, true, false, bytes_eq, IfOk};
 ghost use Rattle.std.specs.FinMap as map;
 ghost use Rattle.doc_links_names.specs.Names.{AddsNothing, AddsOnly, Keeps, KeepsOthers, uses};
-ghost use Rattle.doc_links_names.specs.PageNumbers.{AreLinkNumbers, IsAnchorNumber, IsAnchorPart, IsLinkNumber, is_anchor, is_written, writes_text};
+ghost use Rattle.doc_links_names.specs.PageNumbers.{AreLinkNumbers, IsAnchorNumber, IsAnchorPart, IsLinkNumber};
+ghost use Rattle.doc_links_names.specs.PageNumbers.{is_anchor, is_written, writes_text};
 ghost use Rattle.doc_links_pages.specs.Links.{has_anchor};
 
 use crate::names::Names;

@@ -2,7 +2,8 @@
 
 ghost use Rattle.std.specs.Prelude.{◌≡◌, ◌<◌, ℕ, List as Seq, Some, None, true, false, bytes_eq, IfOk, OnErr, OnOk};
 ghost use Rattle.std.specs.FinMap as map;
-ghost use Rattle.doc_links_names.specs.Names.{AddsNothing, AddsOnly, AreApart, Keeps, KeepsOthers, KeepsOtherTexts, number_of, uses, without_use};
+ghost use Rattle.doc_links_names.specs.Names.{AddsNothing, AddsOnly, AreApart, Keeps, KeepsOthers, KeepsOtherTexts};
+ghost use Rattle.doc_links_names.specs.Names.{number_of, uses, without_use};
 
 use crate::name::Name;
 use crate::name_map::NameMap;
