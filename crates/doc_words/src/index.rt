@@ -19,6 +19,7 @@ use doc_page_parts::sight::Sight;
 use doc_words_search::flagging::slots_flagged;
 use doc_words_search::hit::Hit;
 use doc_words_search::marking::slots_for;
+use doc_words_search::ranking::search_in_order;
 use doc_words_search::search::{search_in, seen_among};
 use doc_words_search::word::Word;
 use doc_words_search::words::counted;
@@ -169,8 +170,8 @@ impl WordIndex {
             → IfOk result (λ hits. hits ≡ search (seen goals (pages_of self.now)) words.now) }
     {
         let slots = self.pages.in_order(heap)?;
-        let seen = slots_flagged(heap, &self.pages, &slots, flags)?;
-        search_in(heap, &self.pages, &seen, seen.len() as u64, words)
+        let seen = slots_flagged(heap, &slots, flags)?;
+        search_in_order(heap, &self.pages, &seen, seen.len() as u64, words)
     }
 
     /// How many pages have one of these words at least, whether they are seen or not: as many as have the

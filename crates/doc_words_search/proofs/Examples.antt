@@ -1,10 +1,11 @@
 -- Searches on examples, over pages known by lists of words with their counts.
-use Rattle.std.proofs.Common.{◌≡◌, ℕ, ◌-◌, ◌^◌, List, [], ◌∷◌, length, codes, refl, bytes_eq, if◌then◌else◌}
+use Rattle.std.proofs.Common.{◌≡◌, ℕ, ◌-◌, ◌^◌, List, [], ◌∷◌, true, false, length, codes, refl, bytes_eq, if◌then◌else◌}
 use Rattle.std.specs.Prelude.{Option, Some, None, map as mapped}
 use Rattle.std.specs.List.{range_with_len}
 use Rattle.std.specs.Map.{lookup}
 use Rattle.doc_page_parts.specs.Sights.{seen}
 use Rattle.doc_words_search.specs.Searches.{best, score}
+use Rattle.doc_words_search.specs.SearchSteps.{flagged}
 use Rattle.doc_words_search.specs.declared.hit.Hit.{Hit}
 
 abbrev Counts : Type 0
@@ -79,3 +80,11 @@ total = refl
 -- no more than 100 are found
 most : length (best counted (mapped (λ n. (n ∷ [], [])) (range_with_len 0 101)) []) ≡ 100
 most = refl
+
+-- a flag is that of the slot at its place
+by_place : flagged (true ∷ false ∷ true ∷ []) (4 ∷ 0 ∷ 2 ∷ []) ≡ 4 ∷ 2 ∷ []
+by_place = refl
+
+-- what has no flag isn't seen
+no_flag : flagged (true ∷ []) (4 ∷ 0 ∷ 2 ∷ []) ≡ 4 ∷ []
+no_flag = refl

@@ -11,6 +11,7 @@ pub mod PlaceSteps
 pub mod PlainSteps
 pub mod RankSteps
 pub mod RunSteps
+pub mod ScoredSteps
 pub mod SearchSteps
 pub mod TallySteps
 mod WordExamples

@@ -32,7 +32,7 @@ rank_exact a b e = by (nat_cmp b.score a.score) refl e
         ap₂ made (slice_cmp-IsAntisymmetric nat_cmp-IsAntisymmetric a.path b.path e) (sym (nat_cmp-IsAntisymmetric b.score a.score p))
     by Greater p e = cc
 
-abbrev before : Hit → Hit → Bool
+abbrev pub before : Hit → Hit → Bool
 before a b = is_lt (rank_cmp a b)
 
 trans_before : (a b c : Hit) → before a b ≡ true → before b c ≡ true → before a c ≡ true

@@ -1,16 +1,18 @@
 -- A search over the slots of the pages that are seen, in the order of their paths.
-use Rattle.std.specs.Prelude.{◌≡◌, ⊤, ℕ, suc, ◌+◌, ◌*◌, ◌/◌, List, [], ◌∷◌, drop, length, take, Bool, true, false, cond, if◌then◌else◌}
-use Rattle.std.specs.Prelude.{Option, Some, None, is_some, unwrap_or, map as mapped, option_copied, slice_index_or, sum_by}
+use Rattle.std.specs.Prelude.{◌≡◌, ⊤, ℕ, suc, ◌+◌, ◌*◌, ◌/◌, List, [], ◌∷◌, length, take, Bool, true, false, cond, if◌then◌else◌}
+use Rattle.std.specs.Prelude.{IsTrue, Option, Some, None, is_some, unwrap_or, map as mapped, option_copied, slice_index_or, sum_by}
 use Rattle.std.specs.FinMap as map
-use Rattle.std.specs.List.{filter, list_all}
+use Rattle.std.specs.List.{All, enumerate_from, filter, flat_map, list_all, zip}
+use Rattle.std.specs.List.Sorted.{IsStrictlySortedBy}
 use Rattle.doc_index.specs.declared.held.Held.{Held}
 use Rattle.doc_index.specs.Held.{count_in, slot_at}
-use Rattle.doc_index_tables.specs.Maps.{TextMap}
+use Rattle.doc_index_tables.specs.Maps.{TextMap, pair_cmp}
 use Rattle.doc_index_tables.specs.TableSteps.{number_in}
 use Rattle.doc_page_parts.specs.Sights.{leads_to_itself}
 use Rattle.doc_words_search.specs.Searches.{holders, holds_all, ranked}
 use Rattle.doc_words_search.specs.Words.{capped}
 use Rattle.doc_words_search.specs.declared.hit.Hit.{Hit}
+use Rattle.doc_words_search.specs.declared.ranking.Scored.{Scored}
 use Rattle.doc_words_search.specs.declared.search.Found.{Found}
 use Rattle.doc_words_search.specs.declared.weighing.Postings.{Postings}
 use Rattle.doc_words_search.specs.declared.weighing.Postings.TheVariants.{AtPlaces, InRow}
@@ -91,13 +93,13 @@ abbrev pub MarksWords : {T : Type 0} → List (Option (Held T)) → List Bool �
 MarksWords slots marks [] = ⊤
 MarksWords slots marks (word ∷ words) = MarksWord slots marks word × MarksWords slots marks words
 
--- of the slots that have a page, those whose flag is set: the first flag is that of the first of them
-abbrev pub flagged : {T : Type 0} → List (Option (Held T)) → List Bool → List ℕ → List ℕ
-flagged slots flags [] = []
-flagged slots flags (n ∷ ns) =
-    if is_some (slot_at slots n)
-    then (if marked_at flags 0 then n ∷ flagged slots (drop 1 flags) ns else flagged slots (drop 1 flags) ns)
-    else flagged slots flags ns
+-- of slots with flags those whose flag is set
+abbrev pub with_flag : List (ℕ × Bool) → List ℕ
+with_flag pairs = mapped (λ one. one.0) (filter (λ one. one.1) pairs)
+
+-- of these slots those whose flags are set: each has the flag at its place
+abbrev pub flagged : List Bool → List ℕ → List ℕ
+flagged flags ns = with_flag (zip ns flags)
 
 -- the count of a word in a slot, by what was looked up
 abbrev pub count_at : Postings → ℕ → Option ℕ
@@ -140,3 +142,29 @@ hit_at slots words slot = hit_in (slot_at slots slot) (score_at words slot)
 -- the hit that was found
 abbrev pub hit_of : Found → Hit
 hit_of found = record { path = found.path.now; score = found.score.0 }
+
+-- the path and the stamp of the page in a slot
+abbrev pub key_in : {T : Type 0} → Option (Held T) → List ℕ × ℕ
+key_in None = ([], 0)
+key_in (Some page) = (page.path, page.stamp)
+
+abbrev pub key_at : {T : Type 0} → List (Option (Held T)) → ℕ → List ℕ × ℕ
+key_at slots slot = key_in (slot_at slots slot)
+
+-- each of these slots has a page, and their paths and stamps rise
+pub record AreInOrder {T : Type 0} (slots : List (Option (Held T))) (ns : List ℕ) : Type 0 where
+  pub present : All (λ slot. IsTrue (is_some (slot_at slots slot))) ns
+  pub rise : IsStrictlySortedBy pair_cmp (mapped (key_at slots) ns)
+
+-- what is found at a place, where there is a score
+abbrev pub scored : ℕ → Option ℕ → List Scored
+scored place None = []
+scored place (Some score) = record { score = record { 0 = score }; place = place } ∷ []
+
+-- the slots whose pages have each word, by their places, with their scores
+abbrev pub scored_among : List Weighed → List ℕ → List Scored
+scored_among words ns = flat_map (λ one. scored one.0 (score_at words one.1)) (enumerate_from 0 ns)
+
+-- the hit of what was found at a place among slots
+abbrev pub hit_placed : {T : Type 0} → List (Option (Held T)) → List ℕ → Scored → Hit
+hit_placed slots ns one = record { path = (key_at slots (slice_index_or ns one.place 0)).0; score = one.score.0 }

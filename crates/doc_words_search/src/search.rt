@@ -18,7 +18,7 @@ use doc_page_parts::sight::Sight;
 use std::cmp::Reverse;
 
 /// At most so many hits are answered.
-const MOST: usize = 100;
+pub(crate) const MOST: usize = 100;
 
 /// A hit as it is found, ordered by score falling and then by path.
 #[derive(PartialEq, Eq, PartialOrd, Ord, Drop)]

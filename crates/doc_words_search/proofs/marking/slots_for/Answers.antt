@@ -11,7 +11,7 @@ pub returns-then-is_empty : goal.returns-then-is_empty
 returns-then-is_empty c =
     told c.in_order.result (λ slots is.
     agree_all c.args.words.now (pages_at c.args.pages.now slots.items) (pages_of (words_held c.args.pages.now))
-    (sym (pages_in_order c.args.pages.now slots.items is))) c.in_order.ensures
+    (sym (pages_in_order c.args.pages.now slots.items is))) c.in_order.ensures.entries
 
 pub returns : goal.returns
 returns c =

@@ -14,5 +14,5 @@ returns g c =
     ∙ sym (seen_full slots goals c.deref.result.now)
     ∙ ap length (seen_pages slots goals c.deref.result.now
     ∙ ap (seen goals) (ap (pages_at slots) c.deref.ensures.value
-    ∙ sym (pages_in_order slots c.in_ok-slots.slots.items c.in_ok-slots.ensures)
+    ∙ sym (pages_in_order slots c.in_ok-slots.slots.items c.in_ok-slots.ensures.entries)
     ∙ ap pages_of c.self.view_is))
