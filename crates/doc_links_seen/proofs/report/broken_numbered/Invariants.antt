@@ -1,9 +1,9 @@
 use Rattle.std.proofs.Common.{◌≡◌, take}
-use Rattle.doc_links_seen.specs.Decisions.{broken_of}
+use Rattle.doc_links_seen.specs.Numbered.{broken_of}
 use Rattle.doc_links_seen.specs.Memos.{IsMemo}
 use Rattle.doc_links_seen.specs.SeenPages.{seen_pages}
 use Rattle.doc_links_seen.specs.SeenSteps.{pages_at}
-use Rattle.doc_links_seen.proofs.report.broken_at.Given as goal
+use Rattle.doc_links_seen.proofs.report.broken_numbered.Given as goal
 
 -- the slots so far
 abbrev pub invariant-loop-slot : goal.invariant-loop-slot
