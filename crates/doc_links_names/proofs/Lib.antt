@@ -1,1 +1,5 @@
 pub mod Laws
+pub mod NameSteps
+pub mod NumberSteps
+pub mod Numberings
+pub mod Uses

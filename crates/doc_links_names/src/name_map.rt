@@ -44,7 +44,9 @@ impl NameMap {
     pub(crate) fn number(&self, text: &str) -> Option<usize>
         ensures { result ≡ number_of self.now text.now }
     {
-        let name = self.names.get(text)?;
+        let Some(name) = self.names.get(text) else {
+            return None;
+        };
         Some(name.number)
     }
 
@@ -92,12 +94,13 @@ impl NameMap {
         ensures rest { map.remove self.new text.now ≡ map.remove self.old text.now }
         ensures kept { IfNone result (self.new ≡ without_use self.old text.now slot) }
     {
-        let name = self.names.get_mut(text)?;
+        let Some(name) = self.names.get_mut(text) else {
+            return None;
+        };
         name.slots.take(slot as u64);
-        if name.slots.len() == 0 {
-            Some(name.number)
-        } else {
-            None
+        if name.slots.len() > 0 {
+            return None;
         }
+        Some(name.number)
     }
 }

@@ -1,0 +1,12 @@
+use Rattle.std.proofs.Common.{arith}
+use Rattle.doc_links_names.proofs.NumberSteps.{one_more}
+use Rattle.doc_links_names.proofs.Uses.{keeps_then}
+use Rattle.doc_links_names.proofs.link_numbers.link_numbers.Goals as goal
+
+pub loop-link-preserved : goal.loop-link-preserved
+loop-link-preserved c = record {
+  kept = keeps_then c.args.names.now c.loop-link.names c.link_number.new.names c.loop-link.invariant.kept c.in_ok-link_number.ensures.kept;
+  told = one_more c.loop-link.names c.link_number.new.names c.args.slot c.args.links.now c.loop-link.pairs c.push.new.self
+      c.loop-link.link-index c.link-item.result c.in_ok-link_number.field-0 (omega (arith, c.loop-link-test.true)) c.link-item.is
+      c.in_ok-push.ensures.ok c.in_ok-link_number.ensures.kept c.loop-link.invariant.told c.in_ok-link_number.ensures.pair;
+}
