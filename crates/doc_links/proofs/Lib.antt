@@ -1,4 +1,5 @@
 pub mod EntrySteps
+pub mod FlaggedSteps
 pub mod HeldSteps
 pub mod KeySteps
 pub mod MapSteps
@@ -7,3 +8,4 @@ pub mod OrderSteps
 pub mod SourceSteps
 pub mod StampSteps
 pub mod TallySteps
+pub mod WrittenSteps

@@ -1,2 +1,3 @@
 pub mod IndexSteps
 pub mod StampSteps
+pub mod WrittenSteps

@@ -16,10 +16,11 @@ ghost use Rattle.doc_links.specs.IndexSteps.{links_to, without_counts};
 use crate::entries::entries_of;
 use crate::sources::{count_to, sources_in};
 use crate::tally::tally_of;
+use crate::written::{sources_at, written_in};
 use doc_index::index::Index;
 use doc_links_pages::answers::{Broken, Entry};
 use doc_links_pages::known::Known;
-use doc_links_seen::report::{broken_at, broken_in};
+use doc_links_seen::report::broken_in;
 use doc_links_seen::seen::{SeenPage, pages_at, seen_in, slots_flagged};
 use doc_page_parts::failure::Memory;
 use doc_page_parts::heap::{Heap, Vec};
@@ -153,21 +154,6 @@ impl LinkIndex {
         seen_in(self.heap, &self.pages, &slots, sight)
     }
 
-    /// As `pages_seen`, told of each page that is held, by path and then by stamp, whether it is seen.
-    pub fn pages_flagged<S: Sight>(
-        &self,
-        flags: &[bool],
-        sight: &S,
-    ) -> Result<Vec<SeenPage<'_>>, Memory>
-        requires seen { flags.now ≡ mapped
-            (λ page. leads_to_itself (S.goals sight.now page.0) page.0) (pages_of self.now) }
-        ensures { IfOk result (λ all.
-            seen_pages all.items ≡ seen (S.goals sight.now) (pages_of self.now)) }
-    {
-        let slots = slots_seen(self.heap, &self.pages, flags)?;
-        pages_at(self.heap, &self.pages, &slots)
-    }
-
     /// The pages that a sight sees, by path, with their headings.
     pub fn contents<S: Sight>(&self, sight: &S) -> Result<List<Entry>, Memory>
         ensures { IfOk result (λ all.
@@ -200,7 +186,7 @@ impl LinkIndex {
             all ≡ broken (S.goals sight.now) (seen (S.goals sight.now) (pages_of self.now))) }
     {
         let slots = slots_seen(self.heap, &self.pages, flags)?;
-        broken_at(self.heap, &self.pages, &slots, sight)
+        broken_in(self.heap, &pages_at(self.heap, &self.pages, &slots)?, sight)
     }
 
     /// The pages that a sight sees and that have links to a page which it sees, by path, each with the number of these links. There
@@ -235,6 +221,50 @@ impl LinkIndex {
     {
         let tally = tally_of(self.heap, &self.pages, names, sight)?;
         tally.list(self.heap)
+    }
+
+    /// As `backlinks_under`, told of each page that is held, by path and then by stamp, whether it is seen. The sight is asked for no
+    /// page: one that is hidden takes the time of a few steps, and each page that is held takes some, also where none links to the
+    /// target.
+    pub fn backlinks_flagged<S: Sight>(
+        &self,
+        target: &Path,
+        names: &[&Path],
+        flags: &[bool],
+        sight: &S,
+    ) -> Result<List<(Path, u64)>, Memory>
+        requires once { IsOnce self.now }
+        requires target { IsTrue (is_some
+            (page_at (seen (S.goals sight.now) (pages_of self.now)) target.now)) }
+        requires names { AreNames (mapped (λ name. name.now) names.now) (S.goals sight.now)
+            (seen (S.goals sight.now) (pages_of self.now)) target.now }
+        requires seen { flags.now ≡ mapped
+            (λ page. leads_to_itself (S.goals sight.now page.0) page.0) (pages_of self.now) }
+        ensures { IfOk result (λ all.
+            all ≡ backlinks (S.goals sight.now) (seen (S.goals sight.now) (pages_of self.now))
+            target.now) }
+    {
+        let slots = slots_seen(self.heap, &self.pages, flags)?;
+        let counts = written_in(self.heap, &self.pages, names)?;
+        sources_at(self.heap, &self.pages, &slots, &counts)
+    }
+
+    /// How many pages write one of these paths at most, whether they are seen or not. A guess, on which nothing rests: of so many pages
+    /// `backlinks_under` asks the sight.
+    pub fn reach_of_names(&self, names: &[&Path]) -> usize {
+        let mut reach: usize = 0;
+        for name in names {
+            reach = reach.saturating_add(self.writers(name));
+        }
+        reach
+    }
+
+    /// How many pages write a path.
+    fn writers(&self, name: &Path) -> usize {
+        let Some(row) = self.pages.of_key(name.text()) else {
+            return 0;
+        };
+        row.len()
     }
 }
 
