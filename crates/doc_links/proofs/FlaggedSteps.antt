@@ -18,44 +18,12 @@ use Rattle.doc_links_pages.specs.Names.{AreNames, is_written, writes}
 use Rattle.doc_links_pages.specs.PageLinks.{pages_of}
 use Rattle.doc_links_pages.specs.declared.page_links.PageLinks.{PageLinks}
 use Rattle.doc_links_seen.specs.SeenSteps.{AreKeyed, page_in, pages_at}
+use Rattle.doc_index.proofs.HeldSteps.{held_one}
 use Rattle.doc_links.proofs.NamedSteps.{counted_names}
 use Rattle.doc_links.proofs.SourceSteps.{with_target}
 
 abbrev Slots : Type 0
 Slots = List (Option (Held PageLinks))
-
-abbrev found : Slots → List ℕ × ℕ → Option (Known PageLinks)
-found slots k = map.find pair_cmp k (entries_of slots)
-
--- what is found under the path and the stamp of a slot's page, where each page that has them is known alike
-found_here : (slots : Slots) (i : ℕ) (page : Held PageLinks) (k : Known PageLinks) → slot_at slots i ≡ Some page
-    → ((j : ℕ) (other : Held PageLinks) → slot_at slots j ≡ Some other → other.path ≡ page.path → other.stamp ≡ page.stamp
-    → known other ≡ k) → found slots (page.path, page.stamp) ≡ Some k
-found_here [] i page k at alike = absurd (none-some page at)
-found_here (None ∷ slots) zero page k at alike = absurd (none-some page at)
-found_here (None ∷ slots) (suc i) page k at alike = found_here slots i page k at (λ j. alike (suc j))
-found_here (Some first ∷ slots) zero page k at alike =
-    let same : first ≡ page = same_Some first page at in
-    ap (λ b. cond b (Some (known first)) (found slots (page.path, page.stamp)))
-    (ap (λ (p : Held PageLinks). same_pair (page.path, page.stamp) (p.path, p.stamp)) same ∙ pair_itself (page.path, page.stamp))
-    ∙ ap Some (alike zero first refl (ap (λ (p : Held PageLinks). p.path) same) (ap (λ (p : Held PageLinks). p.stamp) same))
-found_here (Some first ∷ slots) (suc i) page k at alike =
-    by (same_pair (page.path, page.stamp) (first.path, first.stamp)) refl (found_here slots i page k at (λ j. alike (suc j)))
-  where
-    by : (b : Bool) → same_pair (page.path, page.stamp) (first.path, first.stamp) ≡ b → found slots (page.path, page.stamp) ≡ Some k
-        → cond b (Some (known first)) (found slots (page.path, page.stamp)) ≡ Some k
-    by true e rest =
-        let pair = pair_is (page.path, page.stamp) (first.path, first.stamp) e in
-        ap Some (alike zero first refl (sym (ap (λ q. q.0) pair)) (sym (ap (λ q. q.1) pair)))
-    by false e rest = rest
-
--- the page of a slot is held under its path and stamp
-pub held_in_slot : (slots : Slots) → AreApart slots → (i : ℕ) (page : Held PageLinks) → slot_at slots i ≡ Some page
-    → map.get (held slots) (page.path, page.stamp) ≡ Some (known page)
-held_in_slot slots apart i page at =
-    map.get-from_entries pairs_total (entries_of slots) (page.path, page.stamp)
-    ∙ found_here slots i page (known page) at (λ j other there path stamp.
-    ap known (same_Some other page (sym there ∙ ap (slot_at slots) (apart j i other page there at path stamp) ∙ at)))
 
 or_later : (a b : Bool) → b ≡ true → (a || b) ≡ true
 or_later true b e = refl
@@ -86,7 +54,7 @@ module _ (goals : List ℕ → Option (List ℕ)) (target : List ℕ) (slots : S
         ∙ counted_names goals target names are.once are.lead page.value.links all
       where
         keys : HasKeys page.value.links page.counts
-        keys = keyed (page.path, page.stamp) (known page) (held_in_slot slots apart slot page at)
+        keys = keyed (page.path, page.stamp) (known page) (held_one slots apart slot page at)
 
     told : (some : List ℕ) → HasNamesOf (pages_at slots some)
         → sources_at slots counts some ≡ sources_of goals target (pages_at slots some)

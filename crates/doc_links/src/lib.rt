@@ -7,6 +7,7 @@
 
 mod entries;
 mod link_index;
+mod numbering;
 mod sources;
 mod tally;
 mod written;

@@ -14,14 +14,15 @@ ghost use Rattle.doc_links_seen.specs.SeenSteps.{pages_at};
 ghost use Rattle.doc_links.specs.IndexSteps.{links_to, without_counts};
 
 use crate::entries::entries_of;
+use crate::numbering::{Numbering, add_numbered, leave_page};
 use crate::sources::{count_to, sources_in};
 use crate::tally::tally_of;
 use crate::written::{sources_at, written_in};
 use doc_index::index::Index;
 use doc_links_pages::answers::{Broken, Entry};
 use doc_links_pages::known::Known;
-use doc_links_seen::report::broken_in;
-use doc_links_seen::seen::{SeenPage, pages_at, seen_in, slots_flagged};
+use doc_links_seen::report::{broken_in, broken_numbered};
+use doc_links_seen::seen::{SeenPage, seen_in, slots_flagged};
 use doc_page_parts::failure::Memory;
 use doc_page_parts::heap::{Heap, Vec};
 use doc_page_parts::list::List;
@@ -38,12 +39,17 @@ use std::marker::Model;
 pub struct LinkIndex {
     heap: Heap,
     pages: Index<Known>,
+    numbering: Numbering,
 }
 
 /// Written out, so that it is proved here once: what a derived drop does is proved wherever a value is let go.
 impl Drop for LinkIndex {
     fn drop(self) {
-        let LinkIndex { heap: _, pages: _ } = self;
+        let LinkIndex {
+            heap: _,
+            pages: _,
+            numbering: _,
+        } = self;
     }
 }
 
@@ -61,9 +67,10 @@ impl Model for LinkIndex {
 
     ghost view = { λ i. without_counts i.pages };
 
+    ghost use Rattle.doc_links.specs.NumberingSteps.{HasNumbers};
     ghost use Rattle.doc_links_seen.specs.SeenSteps.{AreKeyed};
 
-    ghost invariant = { λ i. AreKeyed i.pages };
+    ghost invariant = { λ i. AreKeyed i.pages × HasNumbers i.pages i.numbering };
 }
 
 impl LinkIndex {
@@ -74,6 +81,7 @@ impl LinkIndex {
         LinkIndex {
             heap,
             pages: Index::new(heap),
+            numbering: Numbering::new(heap),
         }
     }
 
@@ -101,7 +109,15 @@ impl LinkIndex {
         ensures err { OnErr result (self.new ≡ self.old) }
     {
         let (known, keys) = Known::with_keys(self.heap, path, pieces, headings)?;
-        self.pages.add(path, stamp, known, &keys)
+        add_numbered(
+            self.heap,
+            &mut self.pages,
+            &mut self.numbering,
+            path,
+            stamp,
+            known,
+            &keys,
+        )
     }
 
     /// Lets the page under a path and a stamp go, and tells whether there was one. It takes no memory.
@@ -109,6 +125,7 @@ impl LinkIndex {
         ensures answer { result ≡ map.contains_key self.old (path.now, stamp) }
         ensures rest { self.new ≡ map.remove self.old (path.now, stamp) }
     {
+        leave_page(&self.pages, &mut self.numbering, path, stamp);
         self.pages.drop_page(path, stamp)
     }
 
@@ -186,7 +203,14 @@ impl LinkIndex {
             all ≡ broken (S.goals sight.now) (seen (S.goals sight.now) (pages_of self.now))) }
     {
         let slots = slots_seen(self.heap, &self.pages, flags)?;
-        broken_in(self.heap, &pages_at(self.heap, &self.pages, &slots)?, sight)
+        broken_numbered(
+            self.heap,
+            &self.pages,
+            &slots,
+            &self.numbering.names,
+            &self.numbering.numbers,
+            sight,
+        )
     }
 
     /// The pages that a sight sees and that have links to a page which it sees, by path, each with the number of these links. There
