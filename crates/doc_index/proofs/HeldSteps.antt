@@ -11,6 +11,12 @@ use Rattle.doc_index_tables.specs.TableSteps.{same_number}
 use Rattle.doc_index_tables.proofs.CountSteps.{number_is, number_itself}
 use Rattle.doc_index_tables.proofs.PairSteps.{pair_is, pair_itself, pairs_exact, pairs_total, same_pair}
 
+pub some_is : {A : Type 0} (x y : A) → Some x ≡ Some y → x ≡ y
+some_is x y e = cc
+
+pub not_some : {A : Type 0} (x : A) → None ≡ Some x → ⊥
+not_some x e = cc
+
 pub not_same : (i v : ℕ) → same_number i v ≡ false → i ≢ v
 not_same i v e is = true≢false (sym (ap (λ j. same_number j v) is ∙ number_itself v) ∙ e)
 

@@ -1,6 +1,6 @@
 -- An order of slots: what a search in it finds, and what it has once a slot is inserted or removed.
 use Rattle.std.proofs.Common.{◌≡◌, ◌≢◌, ◌<◌, ◌≤◌, ◌-◌, ◌∙◌, ℕ, zero, suc, List, [], ◌∷◌, Bool, true, false, cond, not, length, get_or, insert, remove, is_some, is_eq, refl, ap, ap₂, sym, subst, arith}
-use Rattle.std.specs.Prelude.{IsTrue, Option, Some, None, map as mapped}
+use Rattle.std.specs.Prelude.{IfOk, IsTrue, Result, Ok, Err, Option, Some, None, map as mapped}
 use Rattle.std.specs.Cmp.{eq_by_cmp_equiv}
 use Rattle.std.specs.FinMap as map
 use Rattle.std.specs.FinMap.Entries.{by_order, find-where_key, is_sorted-where_key, same_entries, where_key}
@@ -20,6 +20,10 @@ use Rattle.doc_index_tables.specs.TableSteps.{same_number}
 use Rattle.doc_index_tables.proofs.CountSteps.{number_is}
 use Rattle.doc_index_tables.proofs.PairSteps.{pair_is, pair_itself, pairs_exact, pairs_total, same_pair}
 use Rattle.doc_index.proofs.HeldSteps.{not_same, pair_of}
+
+pub told : {X E : Type 0} {P Q : X → Type 0} (r : Result X E) → ((x : X) → P x → Q x) → IfOk r P → IfOk r Q
+told (Ok x) f h = f x h
+told (Err e) f h = tt
 
 -- where the last is less, each is
 least : (o : Ordering) → ordering_index o ≤ 0 → o ≡ Less

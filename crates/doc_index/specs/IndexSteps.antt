@@ -8,7 +8,7 @@ use Rattle.doc_index.specs.Held.{AreApart, count_in, entries_of, held, slot_at}
 use Rattle.doc_index_tables.specs.Maps.{pair_cmp}
 use Rattle.doc_index_tables.specs.TableSteps.{NumberTable, number_at}
 
--- how the path and the stamp of a page compare with others
+-- how the path and the stamp of a page compare with others: where there is no page, as less
 abbrev pub compared : {T : Type 0} → Option (Held T) → List ℕ × ℕ → Ordering
 compared None pair = Less
 compared (Some page) pair = pair_cmp (page.path, page.stamp) pair

@@ -100,7 +100,7 @@ impl<T> Index<T> {
         Ok(Vec::from_slice(heap, &self.order)?)
     }
 
-    /// The slot of the page under a path and a stamp.
+    /// The slot of the page under a path and a stamp, which it keeps until it goes.
     pub fn slot_of(&self, path: &Path, stamp: u64) -> Option<usize>
         ensures slot { IfSome result (λ slot. (page : Held T) × (slot_at self.now slot ≡ Some page)
             × (page.path ≡ path.now) × (page.stamp ≡ stamp)) }
@@ -165,7 +165,8 @@ impl<T> Index<T> {
         &self.postings
     }
 
-    /// Holds a page under a path and a stamp that none has. A refusal leaves the index as it was.
+    /// Holds a page under a path and a stamp that none has. Those that are held keep their slots. A
+    /// refusal leaves the index as it was.
     pub fn add(
         &mut self,
         path: &Path,
@@ -260,8 +261,8 @@ impl<T> Index<T> {
         ensures ok { OnOk result (held self.new
             ≡ map.insert (held self.old) (page.path, page.stamp) (known page)) }
         ensures err { OnErr result (self.new ≡ self.old) }
-        ensures others { (i : ℕ) (page : Held T)
-            → slot_at self.old i ≡ Some page → slot_at self.new i ≡ Some page }
+        ensures others { (i : ℕ) (other : Held T)
+            → slot_at self.old i ≡ Some other → slot_at self.new i ≡ Some other }
     {
         self.slots.reserve(1)?;
         let slot = self.slots.vacant_key();
@@ -279,8 +280,8 @@ impl<T> Index<T> {
         Ok(())
     }
 
-    /// Lets the page under a path and a stamp go, and tells whether there was one. It takes no
-    /// memory.
+    /// Lets the page under a path and a stamp go, and tells whether there was one. The others keep
+    /// their slots. It takes no memory.
     pub fn drop_page(&mut self, path: &Path, stamp: u64) -> bool
     where
         T: Drop,
