@@ -23,7 +23,8 @@ module _ (old new : NameTable) (slot : ℕ) (keeps : (t : List ℕ) → KeepsUse
   link_kept (Page path anchor) pair (inr is) = inr (is.0, is.1, number_kept path is.0 is.2, anchor_kept anchor pair.1 is.3)
   link_kept Nowhere pair is = is
 
-  pub links_kept : (links : List LinkKind) (pairs : List (ℕ × ℕ)) → AreLinkNumbers old slot links pairs → AreLinkNumbers new slot links pairs
+  pub links_kept : (links : List LinkKind) (pairs : List (ℕ × ℕ)) → AreLinkNumbers old slot links pairs
+      → AreLinkNumbers new slot links pairs
   links_kept [] [] are = are
   links_kept [] (pair ∷ pairs) are = absurd are
   links_kept (link ∷ links) [] are = absurd are
@@ -52,5 +53,6 @@ numbered_kept_others old new slot other path page numbers apart keeps is =
     numbered_by old new slot (λ t. keeps t slot apart) path page numbers is
 
 -- texts of one number are the same
-pub same_text : (names : NameTable) (s t : List ℕ) (n : ℕ) → AreApart names → number_of names s ≡ Some n → number_of names t ≡ Some n → s ≡ t
+pub same_text : (names : NameTable) (s t : List ℕ) (n : ℕ) → AreApart names → number_of names s ≡ Some n → number_of names t ≡ Some n
+    → s ≡ t
 same_text names s t n apart first second = apart s t n first second

@@ -1,23 +1,21 @@
 -- The numbers of a page, told one after another.
 use Rattle.std.proofs.Common.{◌≡◌, ◌<◌, ◌+◌, ℕ, List, [], ◌∷◌, ◌++◌, Bool, true, false, cond, length, get_or, take, is_some, true≢false, refl, ap, sym, subst, ◌∙◌}
-use Rattle.std.specs.Prelude.{bytes_eq, Some}
+use Rattle.std.specs.Prelude.{Some}
 use Rattle.std.specs.FinMap as map
 use Rattle.std.specs.Ordering.{nat_cmp}
 use Rattle.std.proofs.lemmas.Cmp.{nat_cmp_total}
 use Rattle.std.proofs.lemmas.List.{take_more}
-use Rattle.std.proofs.lemmas.List.Folds.{list_any_at}
 use Rattle.doc_index_tables.specs.Maps.{NumberMap}
 use Rattle.doc_index_tables.specs.TableSteps.{same_number}
 use Rattle.doc_index_tables.proofs.CountSteps.{number_is}
 use Rattle.doc_page_parts.specs.declared.rendered.Heading.{Heading}
-use Rattle.doc_page_parts.proofs.Texts.{bytes_eq_itself}
 use Rattle.doc_resolve.specs.declared.link_kind.LinkKind.{LinkKind}
 use Rattle.doc_links_pages.specs.declared.page_links.PageLinks.{PageLinks}
-use Rattle.doc_links_pages.specs.Links.{has_anchor}
 use Rattle.doc_links_names.specs.Names.{Keeps, NameTable, number_of, uses}
 use Rattle.doc_links_names.specs.PageNumbers.{AreLinkNumbers, IsAnchorNumber, IsLinkNumber, IsNumbered}
 use Rattle.doc_links_names.specs.declared.page_numbers.PageNumbers.{PageNumbers}
 use Rattle.doc_links_names.proofs.Laws.{links_kept, number_kept}
+use Rattle.doc_links_names.proofs.TextSteps.{anchor_there}
 use Rattle.doc_links_names.proofs.Uses.{keeps_then}
 
 module _ (names : NameTable) (slot : ℕ) where
@@ -51,12 +49,6 @@ module _ (old new : NameTable) (slot : ℕ) (headings : List Heading) (numbers a
     (keeps : Keeps old new) (used : uses new text slot ≡ true) (known : number_of new text ≡ Some number)
     (made : after ≡ map.insert numbers number 0)
     (told : (n : ℕ) → map.contains_key numbers n ≡ true → IsAnchorNumber old slot headings n) where
-  there : has_anchor headings text ≡ true
-  there =
-      ap (has_anchor headings) shown
-      ∙ list_any_at (λ (h : Heading). bytes_eq h.anchor heading.anchor) headings i heading within
-      (ap (λ (h : Heading). bytes_eq h.anchor heading.anchor) (sym is) ∙ bytes_eq_itself heading.anchor)
-
   pub one_more_anchor : (n : ℕ) → map.contains_key after n ≡ true → IsAnchorNumber new slot headings n
   one_more_anchor n has =
       by (same_number n number) refl
@@ -64,7 +56,7 @@ module _ (old new : NameTable) (slot : ℕ) (headings : List Heading) (numbers a
     where
       by : (b : Bool) → same_number n number ≡ b → is_some (cond b (Some 0) (map.get numbers n)) ≡ true
           → IsAnchorNumber new slot headings n
-      by true e has = (text, there, used, known ∙ ap Some (sym (number_is n number e)))
+      by true e has = (text, anchor_there headings i heading text within is shown, used, known ∙ ap Some (sym (number_is n number e)))
       by false e has =
           let was = told n has in
           let kept = number_kept old new slot (λ t. keeps t slot) was.0 n (was.2, was.3) in

@@ -9,8 +9,8 @@ use Rattle.slab.specs.Slab.{Slab, Updates, get}
 use Rattle.doc_index_tables.specs.TableSteps.{same_text}
 use Rattle.doc_index_tables.proofs.CountSteps.{text_itself}
 use Rattle.doc_index_tables.proofs.TableSteps.{same_text as text_is}
-use Rattle.doc_links_names.specs.Names.{NameTable, number_of}
-use Rattle.doc_links_names.specs.NameSteps.{IsNumbering, freed, freed_in, left_in, without_slot, without_use}
+use Rattle.doc_links_names.specs.Names.{NameTable, number_of, left_in, without_slot, without_use}
+use Rattle.doc_links_names.specs.NameSteps.{IsNumbering, freed, freed_in}
 use Rattle.doc_links_names.specs.declared.name.Name.{Name}
 use Rattle.doc_links_names.proofs.NameSteps.{number_in, removed_elsewhere, removed_there, same_numbers, set_elsewhere, set_there}
 

@@ -1,16 +1,19 @@
 -- Names after a slot uses a text, and after it uses it no longer.
-use Rattle.std.proofs.Common.{◌≡◌, ◌≢◌, ◌<◌, arith, ℕ, List, Bool, true, false, cond, ◌==◌, eqb→eq, T, is_some, refl, ap, sym, subst, ◌∙◌, true≢false}
-use Rattle.std.specs.Prelude.{Option, Some, None}
+use Rattle.std.proofs.Common.{◌≡◌, ◌≢◌, ◌<◌, arith, ℕ, List, Bool, true, false, cond, ◌==◌, eqb→eq, T, is_some, refl, ap, sym, subst, ◌∙◌, true≢false, inl, inr}
+use Rattle.std.specs.Prelude.{◌⊎◌, bytes_eq, Option, Some, None}
 use Rattle.std.specs.FinMap as map
 use Rattle.std.specs.Ordering.{nat_cmp}
+use Rattle.std.proofs.lemmas.Cmp.{nat_cmp_total}
 use Rattle.std.proofs.lemmas.Option.{none-some}
 use Rattle.doc_index_tables.specs.Maps.{NumberMap}
-use Rattle.doc_index_tables.specs.TableSteps.{same_text}
+use Rattle.doc_index_tables.specs.TableSteps.{same_number, same_text}
+use Rattle.doc_index_tables.proofs.CountSteps.{number_is, number_itself}
 use Rattle.doc_index_tables.proofs.TableSteps.{same_text as text_is}
-use Rattle.doc_links_names.specs.Names.{Keeps, KeepsOthers, KeepsOtherTexts, KeepsUse, NameTable, number_of, uses, uses_in}
-use Rattle.doc_links_names.specs.NameSteps.{freed, freed_in, left_in, used_by, used_in, with_slot, without_slot, without_use}
+use Rattle.doc_page_parts.proofs.Texts.{bytes_eq_itself}
+use Rattle.doc_links_names.specs.Names.{AddsNothing, AddsOnly, Keeps, KeepsOthers, KeepsOtherTexts, KeepsUse, NameTable, number_of, uses, uses_in, left_in, without_slot, without_use}
+use Rattle.doc_links_names.specs.NameSteps.{freed, freed_in, used_by, used_in, with_slot}
 use Rattle.doc_links_names.specs.declared.name.Name.{Name}
-use Rattle.doc_links_names.proofs.NameSteps.{keeps_next, keeps_same, no_name, number_in, other_text, removed_elsewhere, same_numbers, set_elsewhere, set_there, slot_joins, slot_remains, slot_stays}
+use Rattle.doc_links_names.proofs.NameSteps.{keeps_next, keeps_same, no_name, number_in, other_text, removed_elsewhere, removed_there, same_numbers, set_elsewhere, set_there, slot_joins, slot_remains, slot_stays}
 
 -- what stays twice stays
 pub keeps_then : (a b d : NameTable) → Keeps a b → Keeps b d → Keeps a d
@@ -111,6 +114,145 @@ module _ (names : NameTable) (text : List ℕ) (slot : ℕ) where
   pub left_keeps_texts : KeepsOtherTexts text names (without_use names text slot)
   left_keeps_texts t s apart =
       keeps_same names (without_use names text slot) t s (left_elsewhere t (other_text t text apart) (map.get names text))
+
+-- what a slot adds
+pub adds_itself : (texts : List ℕ → Bool) (slot : ℕ) (a : NameTable) → AddsOnly texts slot a a
+adds_itself texts slot a t s used = inl used
+
+pub adds_nothing_then : (a b d : NameTable) → AddsNothing a b → AddsNothing b d → AddsNothing a d
+adds_nothing_then a b d first second t s used = first t s (second t s used)
+
+-- what is added twice
+pub adds_then : (first second all : List ℕ → Bool) (slot : ℕ) (a b d : NameTable) → ((t : List ℕ) → first t ≡ true → all t ≡ true)
+    → ((t : List ℕ) → second t ≡ true → all t ≡ true) → AddsOnly first slot a b → AddsOnly second slot b d → AddsOnly all slot a d
+adds_then first second all slot a b d to to_more adds more t s used = later (more t s used)
+  where
+    once : (uses a t s ≡ true) ⊎ ((s ≡ slot) × (first t ≡ true)) → (uses a t s ≡ true) ⊎ ((s ≡ slot) × (all t ≡ true))
+    once (inl was) = inl was
+    once (inr new) = inr (new.0, to t new.1)
+
+    later : (uses b t s ≡ true) ⊎ ((s ≡ slot) × (second t ≡ true)) → (uses a t s ≡ true) ⊎ ((s ≡ slot) × (all t ≡ true))
+    later (inl was) = once (adds t s was)
+    later (inr new) = inr (new.0, to_more t new.1)
+
+-- a slot that joined others
+joined : (slots : NumberMap ℕ) (slot s : ℕ) → map.contains_key (map.insert slots slot 0) s ≡ true
+    → (map.contains_key slots s ≡ true) ⊎ (s ≡ slot)
+joined slots slot s has =
+    by (same_number s slot) refl (sym (ap is_some (map.get-insert nat_cmp_total slots slot 0 s)) ∙ has)
+  where
+    by : (b : Bool) → same_number s slot ≡ b → is_some (cond b (Some 0) (map.get slots s)) ≡ true
+        → (map.contains_key slots s ≡ true) ⊎ (s ≡ slot)
+    by true e h = inr (number_is s slot e)
+    by false e h = inl h
+
+-- a slot that is left after another went
+remained : (slots : NumberMap ℕ) (slot s : ℕ) → map.contains_key (map.remove slots slot) s ≡ true → map.contains_key slots s ≡ true
+remained slots slot s has =
+    by (same_number s slot) (sym (ap is_some (map.get-remove nat_cmp_total slots slot s)) ∙ has)
+  where
+    by : (b : Bool) → is_some (cond b None (map.get slots s)) ≡ true → map.contains_key slots s ≡ true
+    by true h = absurd (true≢false (sym h))
+    by false h = h
+
+module _ (names : NameTable) (text : List ℕ) where
+  -- what uses texts after a name is set
+  set_uses : (name : Name) (t : List ℕ) (s : ℕ) → uses (map.insert names text name) t s ≡ true
+      → (uses names t s ≡ true) ⊎ ((t ≡ text) × (map.contains_key name.slots s ≡ true))
+  set_uses name t s used = by (same_text t text) refl
+    where
+      by : (b : Bool) → same_text t text ≡ b → (uses names t s ≡ true) ⊎ ((t ≡ text) × (map.contains_key name.slots s ≡ true))
+      by true e =
+          inr (
+            text_is t text e,
+            sym (ap (λ x. uses_in x s) (set_there names text name))
+                ∙ ap (λ u. uses (map.insert names text name) u s) (sym (text_is t text e)) ∙ used,
+          )
+      by false e = inl (sym (ap (λ x. uses_in x s) (set_elsewhere names text name t e)) ∙ used)
+
+  itself : (t : List ℕ) → t ≡ text → bytes_eq text t ≡ true
+  itself t same = ap (bytes_eq text) same ∙ bytes_eq_itself text
+
+  abbrev no_slots : NumberMap ℕ
+  no_slots = map.empty
+
+  -- a text that had no name is used by one slot
+  pub fresh_adds : (number slot : ℕ) (slots : NumberMap ℕ) → slots ≡ map.insert no_slots slot 0
+      → AddsOnly (bytes_eq text) slot names (map.insert names text (record { number = number; slots = slots }))
+  fresh_adds number slot slots one t s used = by (set_uses (record { number = number; slots = slots }) t s used)
+    where
+      alone : (map.contains_key no_slots s ≡ true) ⊎ (s ≡ slot) → s ≡ slot
+      alone (inl none) = absurd (true≢false (sym none ∙ ap is_some (map.get-empty nat_cmp s)))
+      alone (inr same) = same
+
+      by : (uses names t s ≡ true) ⊎ ((t ≡ text) × (map.contains_key slots s ≡ true))
+          → (uses names t s ≡ true) ⊎ ((s ≡ slot) × (bytes_eq text t ≡ true))
+      by (inl was) = inl was
+      by (inr new) = inr (alone (joined no_slots slot s (ap (λ m. map.contains_key m s) (sym one) ∙ new.1)), itself t new.0)
+
+  -- one slot more uses a text that has a name
+  pub used_adds : (slot : ℕ) → AddsOnly (bytes_eq text) slot names (used_by names text slot)
+  used_adds slot = by (map.get names text) refl
+    where
+      by_name : (name : Name) → map.get names text ≡ Some name → (t : List ℕ) (s : ℕ)
+          → (uses names t s ≡ true) ⊎ ((t ≡ text) × (map.contains_key (map.insert name.slots slot 0) s ≡ true))
+          → (uses names t s ≡ true) ⊎ ((s ≡ slot) × (bytes_eq text t ≡ true))
+      by_name name e t s (inl was) = inl was
+      by_name name e t s (inr new) = by_slot (joined name.slots slot s new.1)
+        where
+          by_slot : (map.contains_key name.slots s ≡ true) ⊎ (s ≡ slot) → (uses names t s ≡ true) ⊎ ((s ≡ slot) × (bytes_eq text t ≡ true))
+          by_slot (inl was) = inl (ap (λ u. uses names u s) new.0 ∙ ap (λ x. uses_in x s) e ∙ was)
+          by_slot (inr same) = inr (same, itself t new.0)
+
+      by : (x : Option Name) → map.get names text ≡ x → AddsOnly (bytes_eq text) slot names (used_in x names text slot)
+      by None e = adds_itself (bytes_eq text) slot names
+      by (Some name) e = λ t s used. by_name name e t s (set_uses (with_slot name slot) t s used)
+
+  -- a slot that uses a text no longer adds nothing, and doesn't use it
+  module _ (slot : ℕ) where
+    removed_adds : AddsNothing names (map.remove names text)
+    removed_adds t s used = by (same_text t text) refl
+      where
+        by : (b : Bool) → same_text t text ≡ b → uses names t s ≡ true
+        by true e =
+            absurd (true≢false (sym used ∙ ap (λ u. uses (map.remove names text) u s) (text_is t text e)
+            ∙ ap (λ x. uses_in x s) (removed_there names text)))
+        by false e = sym (ap (λ x. uses_in x s) (removed_elsewhere names text t e)) ∙ used
+
+    fewer_adds : (name : Name) → map.get names text ≡ Some name → AddsNothing names (map.insert names text (without_slot name slot))
+    fewer_adds name stands t s used = by (set_uses (without_slot name slot) t s used)
+      where
+        by : (uses names t s ≡ true) ⊎ ((t ≡ text) × (map.contains_key (map.remove name.slots slot) s ≡ true)) → uses names t s ≡ true
+        by (inl was) = was
+        by (inr left) =
+            ap (λ u. uses names u s) left.0 ∙ ap (λ x. uses_in x s) stands ∙ remained name.slots slot s left.1
+
+    pub left_adds : AddsNothing names (without_use names text slot)
+    left_adds = by (map.get names text) refl
+      where
+        by_len : (name : Name) → map.get names text ≡ Some name → (b : Bool)
+            → AddsNothing names (cond b (map.remove names text) (map.insert names text (without_slot name slot)))
+        by_len name e true = removed_adds
+        by_len name e false = fewer_adds name e
+
+        by : (x : Option Name) → map.get names text ≡ x → AddsNothing names (left_in x names text slot)
+        by None e = λ t s used. used
+        by (Some name) e = by_len name e (map.len (map.remove name.slots slot) == 0)
+
+    pub left_gone : uses (without_use names text slot) text slot ≡ false
+    left_gone = by (map.get names text) refl
+      where
+        by_len : (name : Name) (b : Bool)
+            → uses (cond b (map.remove names text) (map.insert names text (without_slot name slot))) text slot ≡ false
+        by_len name true = ap (λ x. uses_in x slot) (removed_there names text)
+        by_len name false =
+            ap (λ x. uses_in x slot) (set_there names text (without_slot name slot))
+            ∙ ap is_some (map.get-remove nat_cmp_total name.slots slot slot
+            ∙ ap (λ b. cond b None (map.get name.slots slot)) (number_itself slot))
+
+        by : (x : Option Name) → map.get names text ≡ x → uses (left_in x names text slot) text slot ≡ false
+        by None e = ap (λ x. uses_in x slot) e
+        by (Some name) e = by_len name (map.len (map.remove name.slots slot) == 0)
 
 -- how many slots are left tells whether a name goes
 module _ (names : NameTable) (text : List ℕ) (slot : ℕ) (name : Name) (stands : map.get names text ≡ Some name)

@@ -24,10 +24,6 @@ used_in (Some name) names text slot = map.insert names text (with_slot name slot
 abbrev pub used_by : NameTable → List ℕ → ℕ → NameTable
 used_by names text slot = used_in (map.get names text) names text slot
 
--- a name without a slot
-abbrev pub without_slot : Name → ℕ → Name
-without_slot name slot = record { number = name.number; slots = map.remove name.slots slot }
-
 abbrev pub freed_in : Option Name → ℕ → Option ℕ
 freed_in None slot = None
 freed_in (Some name) slot = if map.len (map.remove name.slots slot) == 0 then Some name.number else None
@@ -35,15 +31,6 @@ freed_in (Some name) slot = if map.len (map.remove name.slots slot) == 0 then So
 -- the number of a text that no slot but this uses
 abbrev pub freed : NameTable → List ℕ → ℕ → Option ℕ
 freed names text slot = freed_in (map.get names text) slot
-
-abbrev pub left_in : Option Name → NameTable → List ℕ → ℕ → NameTable
-left_in None names text slot = names
-left_in (Some name) names text slot =
-    if map.len (map.remove name.slots slot) == 0 then map.remove names text else map.insert names text (without_slot name slot)
-
--- a slot doesn't use a text: a name that no slot uses goes
-abbrev pub without_use : NameTable → List ℕ → ℕ → NameTable
-without_use names text slot = left_in (map.get names text) names text slot
 
 -- the numbers of texts differ, and each is a taken key
 pub record IsNumbering (names : NameTable) (keys : Slab (Unit {0})) : Type 0 where

@@ -1,5 +1,5 @@
 -- Names: numbers of texts, and what uses them.
-use Rattle.std.specs.Prelude.{◌≡◌, ◌≢◌, ℕ, List, Option, Some, None, Bool, true, false, option_map}
+use Rattle.std.specs.Prelude.{◌≡◌, ◌≢◌, ◌⊎◌, ◌==◌, ℕ, List, Option, Some, None, Bool, true, false, option_map, if◌then◌else◌}
 use Rattle.std.specs.FinMap as map
 use Rattle.doc_index_tables.specs.Maps.{TextMap}
 use Rattle.doc_links_names.specs.declared.name.Name.{Name}
@@ -38,3 +38,25 @@ KeepsOthers slot old new = (t : List ℕ) (s : ℕ) → s ≢ slot → KeepsUse 
 -- what slots use of other texts stays
 abbrev pub KeepsOtherTexts : List ℕ → NameTable → NameTable → Type 0
 KeepsOtherTexts text old new = (t : List ℕ) (s : ℕ) → t ≢ text → KeepsUse old new t s
+
+-- nothing is used that wasn't
+abbrev pub AddsNothing : NameTable → NameTable → Type 0
+AddsNothing old new = (t : List ℕ) (s : ℕ) → uses new t s ≡ true → uses old t s ≡ true
+
+-- what is used that wasn't are texts of a kind, which a slot uses
+abbrev pub AddsOnly : (List ℕ → Bool) → ℕ → NameTable → NameTable → Type 0
+AddsOnly texts slot old new =
+    (t : List ℕ) (s : ℕ) → uses new t s ≡ true → (uses old t s ≡ true) ⊎ ((s ≡ slot) × (texts t ≡ true))
+
+-- a name without a slot
+abbrev pub without_slot : Name → ℕ → Name
+without_slot name slot = record { number = name.number; slots = map.remove name.slots slot }
+
+abbrev pub left_in : Option Name → NameTable → List ℕ → ℕ → NameTable
+left_in None names text slot = names
+left_in (Some name) names text slot =
+    if map.len (map.remove name.slots slot) == 0 then map.remove names text else map.insert names text (without_slot name slot)
+
+-- a slot doesn't use a text: a name that no slot uses goes
+abbrev pub without_use : NameTable → List ℕ → ℕ → NameTable
+without_use names text slot = left_in (map.get names text) names text slot

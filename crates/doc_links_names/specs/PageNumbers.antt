@@ -1,7 +1,7 @@
 -- The numbers of a page.
-use Rattle.std.specs.Prelude.{◌≡◌, ◌⊎◌, ℕ, suc, List, Option, Some, None, true}
+use Rattle.std.specs.Prelude.{◌≡◌, ◌⊎◌, ◌||◌, ℕ, suc, List, Option, Some, None, Bool, true, false, bytes_eq}
 use Rattle.std.specs.FinMap as map
-use Rattle.std.specs.List.{AllZip}
+use Rattle.std.specs.List.{AllZip, list_any}
 use Rattle.doc_page_parts.specs.declared.rendered.Heading.{Heading}
 use Rattle.doc_resolve.specs.declared.link_kind.LinkKind.{LinkKind}
 use Rattle.doc_resolve.specs.declared.link_kind.LinkKind.TheVariants.{External, Page, Nowhere}
@@ -35,6 +35,23 @@ AreLinkNumbers names slot links pairs = AllZip (IsLinkNumber names slot) links p
 abbrev pub IsAnchorNumber : NameTable → ℕ → List Heading → ℕ → Type 0
 IsAnchorNumber names slot headings n =
     (anchor : List ℕ) × (has_anchor headings anchor ≡ true) × (uses names anchor slot ≡ true) × (number_of names anchor ≡ Some n)
+
+abbrev pub is_anchor : List ℕ → Option (List ℕ) → Bool
+is_anchor text None = false
+is_anchor text (Some anchor) = bytes_eq anchor text
+
+-- a link writes this text, as its path or as its anchor
+abbrev pub writes_text : List ℕ → LinkKind → Bool
+writes_text text External = false
+writes_text text (Page path anchor) = bytes_eq path text || is_anchor text anchor
+writes_text text Nowhere = false
+
+abbrev pub is_written : List LinkKind → List ℕ → Bool
+is_written links text = list_any (writes_text text) links
+
+-- a text of the page at a path: the path, what a link writes, or the anchor of a heading
+abbrev pub is_text_of : List ℕ → PageLinks → List ℕ → Bool
+is_text_of path page text = bytes_eq path text || (is_written page.links text || has_anchor page.headings text)
 
 -- the numbers of the page at a path that a slot holds, as these names have them. What is told is true; that all is told isn't said
 pub record IsNumbered (names : NameTable) (slot : ℕ) (path : List ℕ) (page : PageLinks) (numbers : PageNumbers) : Type 0 where

@@ -1,9 +1,10 @@
 //! The numbers of what the links and the headings of a page write.
 
-ghost use Rattle.std.specs.Prelude.{◌≡◌, ℕ, true, IfOk};
+ghost use Rattle.std.specs.Prelude.{◌≡◌, ℕ, List as Seq, true, false, bytes_eq, IfOk};
 ghost use Rattle.std.specs.FinMap as map;
-ghost use Rattle.doc_links_names.specs.Names.{Keeps, KeepsOthers};
-ghost use Rattle.doc_links_names.specs.PageNumbers.{AreLinkNumbers, IsAnchorNumber, IsAnchorPart, IsLinkNumber};
+ghost use Rattle.doc_links_names.specs.Names.{AddsNothing, AddsOnly, Keeps, KeepsOthers, uses};
+ghost use Rattle.doc_links_names.specs.PageNumbers.{AreLinkNumbers, IsAnchorNumber, IsAnchorPart, IsLinkNumber, is_anchor, is_written, writes_text};
+ghost use Rattle.doc_links_pages.specs.Links.{has_anchor};
 
 use crate::names::Names;
 use doc_index_tables::pairs::Pairs;
@@ -23,6 +24,7 @@ pub(crate) fn link_numbers(
 ) -> Result<Pairs, Memory>
     ensures pairs { IfOk result (λ pairs. AreLinkNumbers names.new slot links.now pairs) }
     ensures kept { Keeps names.old names.new }
+    ensures only { AddsOnly (is_written links.now) slot names.old names.new }
 {
     let mut pairs = Pairs::with_capacity(heap, links.len())?;
     for link in links {
@@ -40,6 +42,7 @@ fn link_number(
 ) -> Result<(u64, u64), Memory>
     ensures pair { IfOk result (λ pair. IsLinkNumber names.new slot link.now pair) }
     ensures kept { Keeps names.old names.new }
+    ensures only { AddsOnly (λ t. writes_text t link.now) slot names.old names.new }
 {
     let LinkKind::Page { path, anchor } = link else {
         return Ok((0, 0));
@@ -58,6 +61,7 @@ fn anchor_part(
 ) -> Result<u64, Memory>
     ensures part { IfOk result (λ part. IsAnchorPart names.new slot anchor.now part) }
     ensures kept { Keeps names.old names.new }
+    ensures only { AddsOnly (λ t. is_anchor t anchor.now) slot names.old names.new }
 {
     let Some(anchor) = anchor else {
         return Ok(0);
@@ -69,6 +73,7 @@ fn anchor_part(
 fn enter_after_zero(heap: Heap, names: &mut Names, slot: usize, text: &str) -> Result<u64, Memory>
     ensures part { IfOk result (λ part. IsAnchorPart names.new slot (Some text.now) part) }
     ensures kept { Keeps names.old names.new }
+    ensures only { AddsOnly (bytes_eq text.now) slot names.old names.new }
 {
     let number = names.enter(heap, text, slot)? as u64;
     let Some(after) = number.checked_add(1) else {
@@ -86,6 +91,7 @@ pub(crate) fn anchor_numbers(
 ) -> Result<Row, Memory>
     ensures numbers { IfOk result (λ numbers. (n : ℕ) → map.contains_key numbers n ≡ true → IsAnchorNumber names.new slot headings.now n) }
     ensures kept { Keeps names.old names.new }
+    ensures only { AddsOnly (has_anchor headings.now) slot names.old names.new }
 {
     let mut numbers = Row::new(heap);
     for heading in headings {
@@ -97,7 +103,9 @@ pub(crate) fn anchor_numbers(
 
 /// Lets a slot use what links write no longer.
 pub(crate) fn leave_links(names: &mut Names, slot: usize, links: &[LinkKind])
-    ensures { KeepsOthers slot names.old names.new }
+    ensures kept { KeepsOthers slot names.old names.new }
+    ensures gone { (text : Seq ℕ) → is_written links.now text ≡ true → uses names.new text slot ≡ false }
+    ensures fewer { AddsNothing names.old names.new }
 {
     for link in links {
         leave_link(names, slot, link);
@@ -105,7 +113,9 @@ pub(crate) fn leave_links(names: &mut Names, slot: usize, links: &[LinkKind])
 }
 
 fn leave_link(names: &mut Names, slot: usize, link: &LinkKind)
-    ensures { KeepsOthers slot names.old names.new }
+    ensures kept { KeepsOthers slot names.old names.new }
+    ensures gone { (text : Seq ℕ) → writes_text text link.now ≡ true → uses names.new text slot ≡ false }
+    ensures fewer { AddsNothing names.old names.new }
 {
     let LinkKind::Page { path, anchor } = link else {
         return;
@@ -118,7 +128,9 @@ fn leave_link(names: &mut Names, slot: usize, link: &LinkKind)
 
 /// Lets a slot use the anchors of headings no longer.
 pub(crate) fn leave_headings(names: &mut Names, slot: usize, headings: &[Heading])
-    ensures { KeepsOthers slot names.old names.new }
+    ensures kept { KeepsOthers slot names.old names.new }
+    ensures gone { (text : Seq ℕ) → has_anchor headings.now text ≡ true → uses names.new text slot ≡ false }
+    ensures fewer { AddsNothing names.old names.new }
 {
     for heading in headings {
         names.leave(heading.anchor.get(), slot);

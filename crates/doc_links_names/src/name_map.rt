@@ -2,8 +2,8 @@
 
 ghost use Rattle.std.specs.Prelude.{◌≡◌, None, IfOk, IfNone, OnOk, OnErr, string_bytes};
 ghost use Rattle.std.specs.FinMap as map;
-ghost use Rattle.doc_links_names.specs.NameSteps.{freed, used_by, without_use};
-ghost use Rattle.doc_links_names.specs.Names.{number_of};
+ghost use Rattle.doc_links_names.specs.NameSteps.{freed, used_by};
+ghost use Rattle.doc_links_names.specs.Names.{number_of, without_use};
 
 use crate::name::Name;
 use doc_page_parts::failure::Memory;

@@ -1,8 +1,8 @@
 //! Numbers of texts.
 
-ghost use Rattle.std.specs.Prelude.{◌≡◌, ◌<◌, ℕ, List as Seq, Some, true, IfOk, OnOk};
+ghost use Rattle.std.specs.Prelude.{◌≡◌, ◌<◌, ℕ, List as Seq, Some, None, true, false, bytes_eq, IfOk, OnErr, OnOk};
 ghost use Rattle.std.specs.FinMap as map;
-ghost use Rattle.doc_links_names.specs.Names.{AreApart, Keeps, KeepsOthers, KeepsOtherTexts, number_of, uses};
+ghost use Rattle.doc_links_names.specs.Names.{AddsNothing, AddsOnly, AreApart, Keeps, KeepsOthers, KeepsOtherTexts, number_of, uses, without_use};
 
 use crate::name::Name;
 use crate::name_map::NameMap;
@@ -67,6 +67,8 @@ impl Names {
         ensures number { IfOk result (λ n. number_of self.new text.now ≡ Some n) }
         ensures used { OnOk result (uses self.new text.now slot ≡ true) }
         ensures kept { Keeps self.old self.new }
+        ensures only { AddsOnly (bytes_eq text.now) slot self.old self.new }
+        ensures err { OnErr result (self.new ≡ self.old) }
     {
         if let Some(number) = self.names.use_by(text, slot)? {
             return Ok(number);
@@ -80,6 +82,8 @@ impl Names {
         ensures number { IfOk result (λ n. number_of self.new text.now ≡ Some n) }
         ensures used { OnOk result (uses self.new text.now slot ≡ true) }
         ensures kept { Keeps self.old self.new }
+        ensures only { AddsOnly (bytes_eq text.now) slot self.old self.new }
+        ensures err { OnErr result (self.new ≡ self.old) }
     {
         let mut slots = Row::new(heap);
         slots.set(slot as u64, 0)?;
@@ -95,6 +99,9 @@ impl Names {
     pub fn leave(&mut self, text: &str, slot: usize)
         ensures kept { KeepsOthers slot self.old self.new }
         ensures others { KeepsOtherTexts text.now self.old self.new }
+        ensures gone { uses self.new text.now slot ≡ false }
+        ensures fewer { AddsNothing self.old self.new }
+        ensures rest { self.new ≡ without_use self.old text.now slot }
     {
         if let Some(number) = self.names.take(text, slot) {
             self.taken.try_remove(number);

@@ -1,9 +1,9 @@
 //! The numbers of a page.
 
-ghost use Rattle.std.specs.Prelude.{◌≡◌, ◌<◌, IfOk, length, slice_index_or};
+ghost use Rattle.std.specs.Prelude.{◌≡◌, ◌<◌, ℕ, List as Seq, true, false, IfOk, length, slice_index_or};
 ghost use Rattle.std.specs.FinMap as map;
-ghost use Rattle.doc_links_names.specs.Names.{Keeps, KeepsOthers};
-ghost use Rattle.doc_links_names.specs.PageNumbers.{IsNumbered};
+ghost use Rattle.doc_links_names.specs.Names.{AddsNothing, AddsOnly, Keeps, KeepsOthers, uses};
+ghost use Rattle.doc_links_names.specs.PageNumbers.{IsNumbered, is_text_of};
 
 use crate::link_numbers::{anchor_numbers, leave_headings, leave_links, link_numbers};
 use crate::names::Names;
@@ -38,6 +38,7 @@ impl PageNumbers {
     ) -> Result<PageNumbers, Memory>
         ensures numbered { IfOk result (λ numbers. IsNumbered names.new slot path.now page.now numbers) }
         ensures kept { Keeps names.old names.new }
+        ensures only { AddsOnly (is_text_of path.now page.now) slot names.old names.new }
     {
         let own = names.enter(heap, path.text(), slot)?;
         let links = link_numbers(heap, names, slot, page.links())?;
@@ -51,7 +52,10 @@ impl PageNumbers {
 
     /// Lets a slot use the texts of the page at a path no longer. It takes no memory.
     pub fn leave(names: &mut Names, slot: usize, path: &Path, page: &Known)
-        ensures { KeepsOthers slot names.old names.new }
+        ensures kept { KeepsOthers slot names.old names.new }
+        ensures gone { (text : Seq ℕ)
+            → is_text_of path.now page.now text ≡ true → uses names.new text slot ≡ false }
+        ensures fewer { AddsNothing names.old names.new }
     {
         names.leave(path.text(), slot);
         leave_links(names, slot, page.links());

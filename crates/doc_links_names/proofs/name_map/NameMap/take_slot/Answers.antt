@@ -2,7 +2,8 @@ use Rattle.std.proofs.Common.{◌∙◌, ap, arith, refl, sym}
 use Rattle.std.specs.FinMap as map
 use Rattle.doc_index_tables.specs.Maps.{text_map}
 use Rattle.doc_index_tables.proofs.TableSteps.{inserted_text, looked_up_text, set_and_removed}
-use Rattle.doc_links_names.specs.NameSteps.{freed_in, left_in}
+use Rattle.doc_links_names.specs.Names.{left_in}
+use Rattle.doc_links_names.specs.NameSteps.{freed_in}
 use Rattle.doc_links_names.specs.declared.name.Name.{Name}
 use Rattle.doc_links_names.proofs.Uses.{freed_last, left_is, not_freed}
 use Rattle.doc_links_names.proofs.name_map.NameMap.take_slot.Goals as goal

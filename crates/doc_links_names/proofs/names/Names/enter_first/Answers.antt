@@ -1,13 +1,13 @@
 use Rattle.std.proofs.Common.{◌∙◌, ap, subst, sym}
-use Rattle.std.specs.Prelude.{Some}
+use Rattle.std.specs.Prelude.{bytes_eq, Some}
 use Rattle.std.specs.FinMap as map
 use Rattle.slab.specs.Slab.{Slab, Updates}
-use Rattle.doc_links_names.specs.Names.{Keeps, number_of, uses}
+use Rattle.doc_links_names.specs.Names.{AddsOnly, Keeps, number_of, uses}
 use Rattle.doc_links_names.specs.NameSteps.{IsNumbering}
 use Rattle.doc_links_names.specs.declared.name.Name.{Name}
 use Rattle.doc_links_names.proofs.NameSteps.{slot_joins}
 use Rattle.doc_links_names.proofs.Numberings.{fresh_numbering, same_keys}
-use Rattle.doc_links_names.proofs.Uses.{fresh_keeps, fresh_number, fresh_used}
+use Rattle.doc_links_names.proofs.Uses.{fresh_adds, fresh_keeps, fresh_number, fresh_used}
 use Rattle.doc_links_names.proofs.names.Names.enter_first.Goals as goal
 
 pub invariant_of-self-2 : goal.invariant_of-self-2
@@ -43,3 +43,12 @@ returns-clause-kept c =
     subst (λ m. Keeps m c.insert.new.self) c.self.view_is
     (subst (λ m. Keeps c.self.inside.names m) (sym made)
     (fresh_keeps c.self.inside.names c.args.text.now name (ap (λ m. number_of m c.args.text.now) c.self.view_is ∙ c.requires)))
+
+pub returns-clause-only : goal.returns-clause-only
+returns-clause-only c =
+    let name : Name = record { number = c.vacant_key-number.result; slots = c.set.new.self } in
+    let made = c.in_ok-insert.ensures.ok ∙ ap (λ t. map.insert c.self.inside.names t name) c.in_ok-from_str.ensures.ok in
+    subst (λ m. AddsOnly (bytes_eq c.args.text.now) c.args.slot m c.insert.new.self) c.self.view_is
+    (subst (λ m. AddsOnly (bytes_eq c.args.text.now) c.args.slot c.self.inside.names m) (sym made)
+    (fresh_adds c.self.inside.names c.args.text.now c.vacant_key-number.result c.args.slot c.set.new.self
+    (c.in_ok-set.ensures.ok ∙ ap (λ m. map.insert m c.args.slot 0) c.new-slots.ensures)))
