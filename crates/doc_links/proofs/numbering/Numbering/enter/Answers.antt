@@ -17,7 +17,7 @@ returns-in_default-clause-numbered c slots there are =
     (cleared slots old.names old.numbers.items are c.clear.new.numbers.items c.args.slot c.clear.ensures.gone c.clear.ensures.others)
     numbers c.make_room.ensures.same in
     kept_others slots c.of.new.names numbers (kept slots old.names numbers were c.of.new.names c.of.ensures.kept) c.leave.new.names
-    c.args.slot (c.make_room.ensures.same c.args.slot ∙ c.clear.ensures.gone) c.leave.ensures
+    c.args.slot (c.make_room.ensures.same c.args.slot ∙ c.clear.ensures.gone) c.leave.ensures.kept
 
 pub returns-clause-numbered : goal.returns-clause-numbered
 returns-clause-numbered c slots there are =

@@ -7,4 +7,4 @@ returns-clause-numbered c slots are =
     let numbers = c.clear.new.numbers.items in
     kept_others slots old.names numbers
     (cleared slots old.names old.numbers.items are numbers c.args.slot c.clear.ensures.gone c.clear.ensures.others)
-    c.leave.new.names c.args.slot c.clear.ensures.gone c.leave.ensures
+    c.leave.new.names c.args.slot c.clear.ensures.gone c.leave.ensures.kept
