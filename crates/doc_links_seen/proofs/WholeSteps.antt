@@ -1,7 +1,13 @@
 -- Links that are whole by their numbers.
 use Rattle.std.proofs.Common.{◌≡◌, ◌<◌, ℕ, zero, suc, List, [], ◌∷◌, ◌++◌, Bool, true, false, cond, ◌+◌, ◌==◌, is_eq, length, set, refl, ap, arith, inl, inr, sym, subst, ◌∙◌}
 use Rattle.std.specs.Prelude.{Option, Some, None, bytes_eq, option_and_then, slice_get, slice_index_or}
-use Rattle.std.specs.List.{AllByRecursion, AllZip, Contains}
+use Rattle.std.specs.FinMap as map
+use Rattle.std.specs.List.{AllByRecursion, AllZip, Contains, list_any}
+use Rattle.std.specs.Ordering.{eq_by_cmp, nat_cmp}
+use Rattle.std.proofs.lemmas.List.{append_assoc}
+use Rattle.std.proofs.lemmas.Cmp.{nat_cmp_total}
+use Rattle.std.specs.Prelude.{map as mapped, ◌||◌}
+use Rattle.doc_index_tables.specs.Maps.{NumberMap}
 use Rattle.std.specs.declared.cmp.Ordering.TheVariants.{Less}
 use Rattle.std.specs.List.Sorted.{IsStrictlySortedBy}
 use Rattle.std.specs.Map.{keys_of}
@@ -18,7 +24,7 @@ use Rattle.doc_links_names.specs.declared.page_numbers.PageNumbers.{PageNumbers}
 use Rattle.doc_links_pages.specs.Links.{fault_in, fault_of, has_anchor, page_among, page_at}
 use Rattle.doc_links_pages.specs.declared.answers.Reason.{Reason}
 use Rattle.doc_links_pages.specs.declared.page_links.PageLinks.{PageLinks}
-use Rattle.doc_links_seen.specs.Numbered.{AreAllWhole, AreNumbered, AreSeen, AreStands, has_anchor_part, is_whole, is_whole_at, numbers_at, pair_at, whole_of}
+use Rattle.doc_links_seen.specs.Numbered.{AreAllWhole, AreNamed, AreNumbered, AreSeen, AreStands, has_anchor_part, is_whole, is_whole_at, numbers_at, pair_at, whole_of}
 use Rattle.doc_links_seen.specs.SeenSteps.{IsInOrder, page_in, pages_at}
 use Rattle.doc_links_seen.proofs.SearchSteps.{path_cmp}
 use Rattle.doc_page_parts.proofs.Texts.{bytes_eq_true}
@@ -48,6 +54,71 @@ stood some numbers stands slot number stand own at next is within has are n othe
         (subst (Contains some) slot_is has, own, ap (numbers_at numbers) (sym slot_is) ∙ at, sym (here ∙ is))
     by false apart =
         are n other (sym (get_or-set_other stands number n stand 0 (eqb-false n number apart)) ∙ e)
+
+-- an anchor of the page in a slot leads to it
+pub named : (numbers : List (Option PageNumbers)) (found : List ℕ) (slot number stand : ℕ) (own : PageNumbers)
+    → numbers_at numbers slot ≡ Some own → stand ≡ slot + 1 → map.contains_key own.anchors number ≡ true → number < length found
+    → AreNamed numbers found → AreNamed numbers (set found number stand)
+named numbers found slot number stand own at next has within are n other e = by (n == number) refl
+  where
+    by : (b : Bool) → (n == number) ≡ b
+        → (it : PageNumbers) × (numbers_at numbers other ≡ Some it) × (map.contains_key it.anchors n ≡ true)
+    by true same =
+        let here : n ≡ number = eqb-true n number same in
+        let stands_here : stand ≡ suc other =
+        sym (get_or-set_same found number stand 0 within) ∙ ap (λ k. slice_index_or (set found number stand) k 0) (sym here) ∙ e in
+        let slot_is : slot ≡ other = omega (arith, stands_here, next) in
+        (own, ap (numbers_at numbers) (sym slot_is) ∙ at, subst (λ k. map.contains_key own.anchors k ≡ true) (sym here) has)
+    by false apart =
+        are n other (sym (get_or-set_other found number n stand 0 (eqb-false n number apart)) ∙ e)
+
+-- a page has an anchor that leads to it
+pub named_whole : (numbers : List (Option PageNumbers)) (found : List ℕ) (stand anchor slot n : ℕ) → stand ≡ suc slot → anchor ≡ suc n
+    → slice_index_or found n 0 ≡ stand → AreNamed numbers found → is_whole_at numbers stand anchor ≡ true
+named_whole numbers found stand anchor slot n next part is are =
+    let here = are n slot (is ∙ next) in
+    subst (λ k. is_whole_at numbers k anchor ≡ true) (sym next)
+    (subst (λ k. is_whole_at numbers (suc slot) k ≡ true) (sym part)
+    (subst (λ o. has_anchor_part o (suc n) ≡ true) (sym here.1) here.2))
+
+-- where a page stands and no anchor is asked for
+pub asks_none : (numbers : List (Option PageNumbers)) (stand anchor slot : ℕ) → stand ≡ suc slot → anchor ≡ 0
+    → is_whole_at numbers stand anchor ≡ true
+asks_none numbers stand anchor slot next none =
+    subst (λ k. is_whole_at numbers k anchor ≡ true) (sym next) (subst (λ k. is_whole_at numbers (suc slot) k ≡ true) (sym none) refl)
+
+-- ---- the keys of a row stand in it
+
+or_true : (b : Bool) → (b || true) ≡ true
+or_true true = refl
+or_true false = refl
+
+itself : (k : ℕ) → eq_by_cmp nat_cmp k k ≡ true
+itself k = ap is_eq (tied_itself nat_cmp_total k)
+
+among_keys : (front es : List (ℕ × ℕ)) (e : ℕ × ℕ) → list_any (eq_by_cmp nat_cmp e.0) (mapped (λ x. x.0) (front ++ e ∷ es)) ≡ true
+among_keys [] es e = ap (λ b. b || list_any (eq_by_cmp nat_cmp e.0) (mapped (λ x. x.0) es)) (itself e.0)
+among_keys (x ∷ front) es e =
+    ap (λ b. eq_by_cmp nat_cmp e.0 x.0 || b) (among_keys front es e) ∙ or_true (eq_by_cmp nat_cmp e.0 x.0)
+
+abbrev pub AreIn : NumberMap ℕ → List (ℕ × ℕ) → Type 0
+AreIn row es = AllByRecursion (λ e. map.contains_key row e.0 ≡ true) es
+
+all_in : (row : NumberMap ℕ) (front es : List (ℕ × ℕ)) → map.entries row ≡ front ++ es → AreIn row es
+all_in row front [] is = tt
+all_in row front (e ∷ es) is = (
+  map.contains_key-keys row e.0
+      ∙ ap (λ xs. list_any (eq_by_cmp nat_cmp e.0) (mapped (λ x. x.0) xs)) is
+      ∙ among_keys front es e,
+  all_in row (front ++ e ∷ []) es (is ∙ sym (append_assoc front (e ∷ []) es)),
+)
+
+pub entries_in : (row : NumberMap ℕ) (es : List (ℕ × ℕ)) → es ≡ map.entries row → AreIn row es
+entries_in row es is = all_in row [] es (sym is)
+
+pub next_in : (row : NumberMap ℕ) (es more : List (ℕ × ℕ)) (e : ℕ × ℕ) → es ≡ e ∷ more → AreIn row es
+    → (map.contains_key row e.0 ≡ true) × AreIn row more
+next_in row es more e is all = subst (AreIn row) is all
 
 -- ---- the page of a slot, among the pages of some
 
@@ -152,10 +223,13 @@ module _ (goals : List ℕ → Option (List ℕ)) (slots : List (Option (Held Pa
       → number_of names path ≡ Some n → IsAnchorPart names slot anchor part → is_whole_at numbers stand part ≡ true
       → fault_in path anchor (page_among goals pages path) ≡ None
   at_stand slot n path anchor part zero is number told whole = absurd (differ whole)
-  at_stand slot n path anchor part (suc other) is number told whole =
+  at_stand slot n path anchor zero (suc other) is number told whole =
       let here = are n other is in
-      at_slot slot other n path anchor part here.1 here.0 here.2 here.3 number told
-      (subst (λ o. has_anchor_part o part ≡ true) here.2 whole)
+      at_slot slot other n path anchor zero here.1 here.0 here.2 here.3 number told refl
+  at_stand slot n path anchor (suc m) (suc other) is number told whole =
+      let here = are n other is in
+      at_slot slot other n path anchor (suc m) here.1 here.0 here.2 here.3 number told
+      (subst (λ o. has_anchor_part o (suc m) ≡ true) here.2 whole)
 
   of_link : (slot : ℕ) (link : LinkKind) (pair : ℕ × ℕ) → IsLinkNumber names slot link pair
       → is_whole stands numbers pair.0 pair.1 ≡ true → fault_of goals pages link ≡ None

@@ -31,6 +31,15 @@ IsStand some numbers n stand =
 abbrev pub AreStands : List ℕ → List (Option PageNumbers) → List ℕ → Type 0
 AreStands some numbers stands = (n : ℕ) → IsStand some numbers n (slice_index_or stands n 0)
 
+-- what stands for the number of an anchor: 0, or a slot and 1 whose page has an anchor of this number
+abbrev pub IsNamed : List (Option PageNumbers) → ℕ → ℕ → Type 0
+IsNamed numbers n stand =
+    (slot : ℕ) → stand ≡ suc slot
+    → (own : PageNumbers) × (numbers_at numbers slot ≡ Some own) × (map.contains_key own.anchors n ≡ true)
+
+abbrev pub AreNamed : List (Option PageNumbers) → List ℕ → Type 0
+AreNamed numbers named = (n : ℕ) → IsNamed numbers n (slice_index_or named n 0)
+
 -- a page has the anchor of this number and 1, or none is asked for
 abbrev pub has_anchor_part : Option PageNumbers → ℕ → Bool
 has_anchor_part None part = false
@@ -39,7 +48,8 @@ has_anchor_part (Some own) (suc n) = map.contains_key own.anchors n
 
 abbrev pub is_whole_at : List (Option PageNumbers) → ℕ → ℕ → Bool
 is_whole_at numbers zero anchor = false
-is_whole_at numbers (suc slot) anchor = has_anchor_part (numbers_at numbers slot) anchor
+is_whole_at numbers (suc slot) zero = true
+is_whole_at numbers (suc slot) (suc n) = has_anchor_part (numbers_at numbers slot) (suc n)
 
 -- a link of this pair is whole by its numbers: they lead to one of the pages that stand, and to one of its anchors
 abbrev pub is_whole : List ℕ → List (Option PageNumbers) → ℕ → ℕ → Bool

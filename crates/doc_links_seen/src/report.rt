@@ -3,7 +3,7 @@
 ghost use Rattle.std.specs.Prelude.{◌≡◌, ◌++◌, [], ◌∷◌, None, true, IfOk, OnOk, option_copied, option_map};
 ghost use Rattle.doc_index.specs.Held.{slot_at};
 ghost use Rattle.doc_links_seen.specs.Memos.{IsMemo};
-ghost use Rattle.doc_links_seen.specs.Numbered.{AreAllWhole, AreNumbered, AreSeen, AreWhole, broken_of, whole_of};
+ghost use Rattle.doc_links_seen.specs.Numbered.{AreAllWhole, AreNamed, AreNumbered, AreSeen, AreWhole, broken_of, whole_of};
 ghost use Rattle.doc_links_seen.specs.SeenSteps.{IsInOrder, page_in, pages_at};
 ghost use Rattle.doc_links_pages.specs.Links.{broken, broken_by, broken_from, fault_in, fault_of, page_among};
 ghost use Rattle.doc_links_seen.specs.SeenPages.{seen_page, seen_pages};
@@ -83,6 +83,7 @@ fn push_slot<'a, S: Sight>(
     memo: &mut Memo<'a>,
 ) -> Result<(), Memory>
     requires order { IsInOrder (seen_pages pages.now) }
+    requires named { AreNamed stands.now.numbers.now stands.now.named.items }
     requires whole { AreAllWhole (S.goals sight.now) (seen_pages pages.now) index.now
         stands.now.slots.items stands.now.numbers.now }
     requires memo { IsMemo (S.goals sight.now) (seen_pages pages.now) memo.old }
@@ -110,6 +111,7 @@ fn push_broken<'a, S: Sight>(
     sight: &S,
     memo: &mut Memo<'a>,
 ) -> Result<(), Memory>
+    requires named { AreNamed stands.now.numbers.now stands.now.named.items }
     requires whole { AreWhole (S.goals sight.now) (seen_pages pages.now) page.now.known.now.links
         (whole_of stands.now.slots.items stands.now.numbers.now (option_copied own)) }
     requires memo { IsMemo (S.goals sight.now) (seen_pages pages.now) memo.old }

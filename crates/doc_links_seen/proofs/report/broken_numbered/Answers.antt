@@ -1,10 +1,14 @@
 use Rattle.std.proofs.Common.{arith, ap, subst, sym, ◌∙◌}
-use Rattle.doc_links_seen.specs.Numbered.{AreAllWhole}
+use Rattle.doc_links_seen.specs.Numbered.{AreAllWhole, AreNamed}
 use Rattle.doc_links_seen.specs.SeenPages.{seen_pages}
 use Rattle.doc_links_seen.specs.SeenSteps.{pages_at}
 use Rattle.doc_links_seen.proofs.AnswerSteps.{all_told}
 use Rattle.doc_links_seen.proofs.WholeSteps.{all_whole}
 use Rattle.doc_links_seen.proofs.report.broken_numbered.Goals as goal
+
+pub push_slot-requires-clause-named : goal.push_slot-requires-clause-named
+push_slot-requires-clause-named g c =
+    subst (λ numbers. AreNamed numbers c.in_ok-stands.stands.named.items) (sym c.in_ok-stands.ensures.numbers) c.in_ok-stands.ensures.named
 
 pub push_slot-requires-clause-whole : goal.push_slot-requires-clause-whole
 push_slot-requires-clause-whole g c =
