@@ -1,14 +1,9 @@
 -- The pages that link to a page, by the numbers of the slots of those that are seen.
-use Rattle.std.proofs.Common.{◌≡◌, ℕ, zero, suc, List, [], ◌∷◌, ◌++◌, Bool, true, false, cond, ◌||◌, is_some, sum_by, refl, ap, ap₂, sym, ◌∙◌}
+use Rattle.std.proofs.Common.{◌≡◌, ℕ, List, [], ◌∷◌, ◌++◌, Bool, true, false, ◌||◌, is_some, sum_by, refl, ap, ap₂, sym, ◌∙◌}
 use Rattle.std.specs.Prelude.{Option, Some, None, IsTrue, bytes_eq, count_by, unwrap_or}
-use Rattle.std.specs.FinMap as map
-use Rattle.std.specs.List.{flat_map, list_any}
-use Rattle.std.proofs.lemmas.List.{append-nil}
-use Rattle.std.proofs.lemmas.Option.{none-some, same_Some}
+use Rattle.std.specs.List.{list_any}
 use Rattle.doc_index.specs.declared.held.Held.{Held}
-use Rattle.doc_index.specs.Held.{AreApart, Known, count_in, entries_of, held, known, slot_at}
-use Rattle.doc_index_tables.specs.Maps.{pair_cmp}
-use Rattle.doc_index_tables.proofs.PairSteps.{pair_is, pair_itself, pairs_total, same_pair}
+use Rattle.doc_index.specs.Held.{AreApart, count_in, known, slot_at}
 use Rattle.doc_page_parts.specs.Sights.{leads_to_itself, seen}
 use Rattle.doc_links.specs.IndexSteps.{goes_to, source_of, sources_of, without_counts, written_at}
 use Rattle.doc_links.specs.WrittenSteps.{count_of, source_in, sources_at}

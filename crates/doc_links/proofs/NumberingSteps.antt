@@ -1,13 +1,12 @@
 -- Numbers of pages that come and go.
-use Rattle.std.proofs.Common.{◌≡◌, ◌<◌, ℕ, zero, suc, List, [], ◌∷◌, ◌++◌, Bool, true, false, cond, ◌==◌, get_or, is_some, length, set, ap, inl, inr, refl, sym, subst, ◌∙◌}
-use Rattle.std.specs.Prelude.{◌≢◌, ◌⊎◌, Option, Some, None, IfSome, option_copied}
-use Rattle.std.specs.Borrow.{Bor}
+use Rattle.std.proofs.Common.{◌≡◌, ◌<◌, ℕ, zero, suc, List, [], ◌∷◌, ◌++◌, Bool, true, false, cond, ◌==◌, is_some, length, set, ap, inl, inr, refl, sym, subst, ◌∙◌}
+use Rattle.std.specs.Prelude.{◌≢◌, ◌⊎◌, Option, Some, None}
 use Rattle.std.specs.FinMap as map
 use Rattle.std.specs.Ordering.{eq_by_cmp}
 use Rattle.std.proofs.lemmas.Bool.{eqb-false, eqb-true}
 use Rattle.std.proofs.lemmas.List.{get_or-set_other, get_or-set_same}
 use Rattle.std.proofs.lemmas.Option.{none-some, same_Some}
-use Rattle.doc_index.specs.Held.{AreApart, Known, held, known, slot_at}
+use Rattle.doc_index.specs.Held.{AreApart, held, known, slot_at}
 use Rattle.doc_index.specs.declared.held.Held.{Held}
 use Rattle.doc_index.proofs.HeldSteps.{Lacks, Stands, held_as, held_one, none_held, pair_of, stands_or_lacks}
 use Rattle.doc_index_tables.specs.Maps.{PairMap, pair_cmp}

@@ -3,7 +3,6 @@ use Rattle.std.specs.Prelude.{◌≡◌, ℕ, List, Option, Some, None}
 use Rattle.doc_index.specs.Held.{slot_at}
 use Rattle.doc_index.specs.declared.held.Held.{Held}
 use Rattle.doc_links.specs.declared.numbering.Numbering.{Numbering}
-use Rattle.doc_links_names.specs.declared.page_numbers.PageNumbers.{PageNumbers}
 use Rattle.doc_links_pages.specs.declared.page_links.PageLinks.{PageLinks}
 use Rattle.doc_links_seen.specs.Numbered.{AreNumbered, numbers_at}
 

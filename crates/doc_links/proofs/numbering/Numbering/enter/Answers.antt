@@ -1,4 +1,4 @@
-use Rattle.std.proofs.Common.{sym, ◌∙◌}
+use Rattle.std.proofs.Common.{◌∙◌}
 use Rattle.doc_links.proofs.NumberingSteps.{as_they_were, cleared, entered, kept, kept_others}
 use Rattle.doc_links.proofs.numbering.Numbering.enter.Goals as goal
 
