@@ -1,6 +1,6 @@
 -- What an index of links holds, by what its pages hold.
 use Rattle.std.proofs.Common.{◌≡◌, ℕ, List, [], ◌∷◌, ◌++◌, Bool, true, false, cond, is_some, refl, ap, ap₂, sym, ◌∙◌}
-use Rattle.std.specs.Prelude.{Option, Some, None, option_map, map as mapped, Result, OnOk}
+use Rattle.std.specs.Prelude.{Option, Some, None, option_map, map as mapped, Result, Ok, Err, IfOk, OnErr, OnOk}
 use Rattle.std.specs.FinMap as map
 use Rattle.std.specs.List.{flat_map}
 use Rattle.doc_index.specs.Held.{Known, entries_of, held, known_as, slot_at}
@@ -17,6 +17,11 @@ use Rattle.doc_links.proofs.MapSteps.{empty_with, entries_with, get_with, insert
 
 abbrev value_of : Known PageLinks → PageLinks
 value_of page = page.value
+
+-- what is told of an answer, if there is one
+pub told : {X E : Type 0} {P Q : X → Type 0} (r : Result X E) → ((x : X) → P x → Q x) → IfOk r P → IfOk r Q
+told (Ok x) f h = f x h
+told (Err e) f h = tt
 
 module _ (slots : List (Option (Held PageLinks))) where
   pub got : (k : List ℕ × ℕ) → map.get (without_counts slots) k ≡ option_map value_of (map.get (held slots) k)
@@ -48,6 +53,12 @@ module _ (slots : List (Option (Held PageLinks))) where
       on_ok r (λ e.
       ap (with_values value_of) e ∙ insert_with pairs_total pairs_exact value_of (held slots) k (known_as page counts)
       ∙ ap₂ (λ m p. map.insert m k p) before same) is
+
+-- what a refusal leaves
+pub same_held : {E : Type 0} (slots new : List (Option (Held PageLinks))) {old : PairMap PageLinks} (r : Result (Unit {0}) E)
+    → without_counts slots ≡ old → OnErr r (held new ≡ held slots) → OnErr r (without_counts new ≡ old)
+same_held slots new (Ok x) before is = tt
+same_held slots new (Err e) before is = ap (with_values value_of) is ∙ before
 
 pub nothing : without_counts [] ≡ map.empty
 nothing = empty_with pairs_total pairs_exact value_of

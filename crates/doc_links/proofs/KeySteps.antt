@@ -6,7 +6,7 @@ use Rattle.std.specs.Ordering.{eq_by_cmp}
 use Rattle.doc_index.specs.declared.held.Held.{Held}
 use Rattle.doc_index.specs.Held.{Known, held}
 use Rattle.doc_index_tables.specs.Maps.{pair_cmp}
-use Rattle.doc_index.proofs.HeldSteps.{not_some, some_is}
+use Rattle.std.proofs.lemmas.Option.{none-some as not_some, same_Some as some_is}
 use Rattle.doc_index_tables.proofs.PairSteps.{pairs_total}
 use Rattle.doc_links_seen.specs.SeenSteps.{AreKeyed}
 use Rattle.doc_links_pages.specs.KnownSteps.{HasKeys}
@@ -32,7 +32,10 @@ module _ (old new : List (Option (Held PageLinks))) (k : List ℕ × ℕ) (are :
       by true e = absurd (not_some other e)
       by false e = are q other e
 
+  keyed_same : held new ≡ held old → AreKeyed new
+  keyed_same is q other at = are q other (ap (λ m. map.get m q) (sym is) ∙ at)
+
   pub keyed_after : {E : Type 0} (r : Result (Unit {0}) E) (page : Known PageLinks) → HasKeys page.value.links page.counts
-      → OnOk r (held new ≡ map.insert (held old) k page) → OnErr r (new ≡ old) → AreKeyed new
+      → OnOk r (held new ≡ map.insert (held old) k page) → OnErr r (held new ≡ held old) → AreKeyed new
   keyed_after (Ok x) page has ok err = keyed_added page has ok
-  keyed_after (Err e) page has ok err = subst AreKeyed (sym err) are
+  keyed_after (Err e) page has ok err = keyed_same err

@@ -1,9 +1,12 @@
 pub mod EntrySteps
+pub mod FlaggedSteps
 pub mod HeldSteps
 pub mod KeySteps
 pub mod MapSteps
 pub mod NamedSteps
+pub mod NumberingSteps
 pub mod OrderSteps
 pub mod SourceSteps
 pub mod StampSteps
 pub mod TallySteps
+pub mod WrittenSteps

@@ -16,7 +16,7 @@ use Rattle.std.proofs.lemmas.Map.Text.{is_eq-slice_cmp}
 use Rattle.doc_index.specs.declared.held.Held.{Held}
 use Rattle.doc_index.specs.Held.{Known, count_in, entries_of, held, known, slot_at}
 use Rattle.doc_index_tables.specs.Maps.{TextMap, pair_cmp}
-use Rattle.doc_index.proofs.HeldSteps.{not_some, some_is}
+use Rattle.std.proofs.lemmas.Option.{none-some as not_some, same_Some as some_is}
 use Rattle.doc_index_tables.proofs.PairSteps.{pair_is, pair_itself, pairs_total, same_pair}
 use Rattle.doc_page_parts.proofs.Maps.{entries_in_order}
 use Rattle.doc_page_parts.specs.Sights.{leads_to_itself, seen}

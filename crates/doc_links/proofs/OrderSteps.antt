@@ -15,7 +15,7 @@ use Rattle.doc_index_tables.specs.Maps.{PairMap, pair_cmp}
 use Rattle.doc_index_tables.proofs.PairSteps.{pairs_total, same_pair}
 use Rattle.doc_page_parts.specs.Sights.{leads_to_itself, seen}
 use Rattle.doc_links_seen.proofs.SearchSteps.{path_cmp}
-use Rattle.doc_links_seen.specs.Decisions.{AreSeen}
+use Rattle.doc_links_seen.specs.Numbered.{AreSeen}
 use Rattle.doc_links_seen.specs.SeenSteps.{IsInOrder}
 use Rattle.doc_page_parts.proofs.Texts.{bytes_eq_true}
 use Rattle.doc_links_pages.specs.Links.{page_at}

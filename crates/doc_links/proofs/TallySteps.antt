@@ -20,7 +20,7 @@ use Rattle.doc_index.specs.Held.{AreApart, count_in, entries_of, known, slot_at}
 use Rattle.doc_index_tables.specs.Maps.{NumberMap, TextMap, pair_cmp}
 use Rattle.doc_index_tables.specs.TableSteps.{same_number}
 use Rattle.doc_index_tables.proofs.CountSteps.{number_is, number_itself, text_itself}
-use Rattle.doc_index.proofs.HeldSteps.{not_some, some_is}
+use Rattle.std.proofs.lemmas.Option.{none-some as not_some, same_Some as some_is}
 use Rattle.doc_index_tables.proofs.PairSteps.{pair_itself, pairs_total, same_pair}
 use Rattle.doc_page_parts.specs.Sights.{leads_to_itself}
 use Rattle.doc_links.specs.IndexSteps.{AreSingle, IsTally, if_seen, with_count, with_page, with_row, without_counts, written_at}

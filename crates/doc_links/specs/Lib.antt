@@ -1,2 +1,4 @@
 pub mod IndexSteps
+pub mod NumberingSteps
 pub mod StampSteps
+pub mod WrittenSteps

@@ -7,8 +7,10 @@
 
 mod entries;
 mod link_index;
+mod numbering;
 mod sources;
 mod tally;
+mod written;
 
 pub use doc_links_pages::answers::{Broken, Entry, Reason};
 pub use doc_links_pages::page_links::PageLinks;

@@ -14,13 +14,15 @@ ghost use Rattle.doc_links_seen.specs.SeenSteps.{pages_at};
 ghost use Rattle.doc_links.specs.IndexSteps.{links_to, without_counts};
 
 use crate::entries::entries_of;
+use crate::numbering::{Numbering, add_numbered, leave_page};
 use crate::sources::{count_to, sources_in};
 use crate::tally::tally_of;
+use crate::written::{sources_at, written_in};
 use doc_index::index::Index;
 use doc_links_pages::answers::{Broken, Entry};
 use doc_links_pages::known::Known;
-use doc_links_seen::report::{broken_at, broken_in};
-use doc_links_seen::seen::{SeenPage, pages_at, seen_in, slots_flagged};
+use doc_links_seen::report::{broken_in, broken_numbered};
+use doc_links_seen::seen::{SeenPage, seen_in, slots_flagged};
 use doc_page_parts::failure::Memory;
 use doc_page_parts::heap::{Heap, Vec};
 use doc_page_parts::list::List;
@@ -37,12 +39,17 @@ use std::marker::Model;
 pub struct LinkIndex {
     heap: Heap,
     pages: Index<Known>,
+    numbering: Numbering,
 }
 
 /// Written out, so that it is proved here once: what a derived drop does is proved wherever a value is let go.
 impl Drop for LinkIndex {
     fn drop(self) {
-        let LinkIndex { heap: _, pages: _ } = self;
+        let LinkIndex {
+            heap: _,
+            pages: _,
+            numbering: _,
+        } = self;
     }
 }
 
@@ -60,9 +67,10 @@ impl Model for LinkIndex {
 
     ghost view = { λ i. without_counts i.pages };
 
+    ghost use Rattle.doc_links.specs.NumberingSteps.{HasNumbers};
     ghost use Rattle.doc_links_seen.specs.SeenSteps.{AreKeyed};
 
-    ghost invariant = { λ i. AreKeyed i.pages };
+    ghost invariant = { λ i. AreKeyed i.pages × HasNumbers i.pages i.numbering };
 }
 
 impl LinkIndex {
@@ -73,6 +81,7 @@ impl LinkIndex {
         LinkIndex {
             heap,
             pages: Index::new(heap),
+            numbering: Numbering::new(heap),
         }
     }
 
@@ -100,7 +109,15 @@ impl LinkIndex {
         ensures err { OnErr result (self.new ≡ self.old) }
     {
         let (known, keys) = Known::with_keys(self.heap, path, pieces, headings)?;
-        self.pages.add(path, stamp, known, &keys)
+        add_numbered(
+            self.heap,
+            &mut self.pages,
+            &mut self.numbering,
+            path,
+            stamp,
+            known,
+            &keys,
+        )
     }
 
     /// Lets the page under a path and a stamp go, and tells whether there was one. It takes no memory.
@@ -108,6 +125,7 @@ impl LinkIndex {
         ensures answer { result ≡ map.contains_key self.old (path.now, stamp) }
         ensures rest { self.new ≡ map.remove self.old (path.now, stamp) }
     {
+        leave_page(&self.pages, &mut self.numbering, path, stamp);
         self.pages.drop_page(path, stamp)
     }
 
@@ -153,21 +171,6 @@ impl LinkIndex {
         seen_in(self.heap, &self.pages, &slots, sight)
     }
 
-    /// As `pages_seen`, told of each page that is held, by path and then by stamp, whether it is seen.
-    pub fn pages_flagged<S: Sight>(
-        &self,
-        flags: &[bool],
-        sight: &S,
-    ) -> Result<Vec<SeenPage<'_>>, Memory>
-        requires seen { flags.now ≡ mapped
-            (λ page. leads_to_itself (S.goals sight.now page.0) page.0) (pages_of self.now) }
-        ensures { IfOk result (λ all.
-            seen_pages all.items ≡ seen (S.goals sight.now) (pages_of self.now)) }
-    {
-        let slots = slots_seen(self.heap, &self.pages, flags)?;
-        pages_at(self.heap, &self.pages, &slots)
-    }
-
     /// The pages that a sight sees, by path, with their headings.
     pub fn contents<S: Sight>(&self, sight: &S) -> Result<List<Entry>, Memory>
         ensures { IfOk result (λ all.
@@ -200,7 +203,14 @@ impl LinkIndex {
             all ≡ broken (S.goals sight.now) (seen (S.goals sight.now) (pages_of self.now))) }
     {
         let slots = slots_seen(self.heap, &self.pages, flags)?;
-        broken_at(self.heap, &self.pages, &slots, sight)
+        broken_numbered(
+            self.heap,
+            &self.pages,
+            &slots,
+            &self.numbering.names,
+            &self.numbering.numbers,
+            sight,
+        )
     }
 
     /// The pages that a sight sees and that have links to a page which it sees, by path, each with the number of these links. There
@@ -235,6 +245,50 @@ impl LinkIndex {
     {
         let tally = tally_of(self.heap, &self.pages, names, sight)?;
         tally.list(self.heap)
+    }
+
+    /// As `backlinks_under`, told of each page that is held, by path and then by stamp, whether it is seen. The sight is asked for no
+    /// page: one that is hidden takes the time of a few steps, and each page that is held takes some, also where none links to the
+    /// target.
+    pub fn backlinks_flagged<S: Sight>(
+        &self,
+        target: &Path,
+        names: &[&Path],
+        flags: &[bool],
+        sight: &S,
+    ) -> Result<List<(Path, u64)>, Memory>
+        requires once { IsOnce self.now }
+        requires target { IsTrue (is_some
+            (page_at (seen (S.goals sight.now) (pages_of self.now)) target.now)) }
+        requires names { AreNames (mapped (λ name. name.now) names.now) (S.goals sight.now)
+            (seen (S.goals sight.now) (pages_of self.now)) target.now }
+        requires seen { flags.now ≡ mapped
+            (λ page. leads_to_itself (S.goals sight.now page.0) page.0) (pages_of self.now) }
+        ensures { IfOk result (λ all.
+            all ≡ backlinks (S.goals sight.now) (seen (S.goals sight.now) (pages_of self.now))
+            target.now) }
+    {
+        let slots = slots_seen(self.heap, &self.pages, flags)?;
+        let counts = written_in(self.heap, &self.pages, names)?;
+        sources_at(self.heap, &self.pages, &slots, &counts)
+    }
+
+    /// How many pages write one of these paths at most, whether they are seen or not. A guess, on which nothing rests: of so many pages
+    /// `backlinks_under` asks the sight.
+    pub fn reach_of_names(&self, names: &[&Path]) -> usize {
+        let mut reach: usize = 0;
+        for name in names {
+            reach = reach.saturating_add(self.writers(name));
+        }
+        reach
+    }
+
+    /// How many pages write a path.
+    fn writers(&self, name: &Path) -> usize {
+        let Some(row) = self.pages.of_key(name.text()) else {
+            return 0;
+        };
+        row.len()
     }
 }
 

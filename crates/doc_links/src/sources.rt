@@ -52,7 +52,7 @@ fn sources_of<S: Sight>(
 }
 
 /// Adds a page, where it has such links.
-fn push_source(
+pub(crate) fn push_source(
     heap: Heap,
     all: &mut Vec<(Path, u64)>,
     page: &Path,

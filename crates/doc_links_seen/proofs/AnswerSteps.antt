@@ -9,7 +9,7 @@ use Rattle.doc_links_pages.specs.Links.{broken, broken_from}
 use Rattle.doc_index.specs.Held.{slot_at}
 use Rattle.doc_index.specs.declared.held.Held.{Held}
 use Rattle.doc_links_pages.specs.declared.page_links.PageLinks.{PageLinks}
-use Rattle.doc_links_seen.specs.Decisions.{broken_of}
+use Rattle.doc_links_seen.specs.Numbered.{broken_of}
 use Rattle.doc_links_seen.specs.SeenPages.{seen_page, seen_pages}
 use Rattle.doc_links_seen.specs.SeenSteps.{page_in, pages_at}
 use Rattle.doc_links_seen.proofs.FlagSteps.{one_slot}

@@ -1,5 +1,5 @@
 -- Slots whose pages are flagged.
-use Rattle.std.proofs.Common.{◌≡◌, ◌<◌, ◌+◌, ℕ, List, [], ◌∷◌, ◌++◌, Bool, true, false, cond, drop, get_or, length, ap, sym, ◌∙◌}
+use Rattle.std.proofs.Common.{◌≡◌, ◌<◌, ◌+◌, ℕ, List, [], ◌∷◌, ◌++◌, Bool, true, false, cond, drop, get_or, is_some, length, refl, ap, sym, ◌∙◌}
 use Rattle.std.specs.Prelude.{Option, Some, None, map as mapped}
 use Rattle.std.specs.List.{filter}
 use Rattle.std.proofs.lemmas.List.{append-nil, append_assoc, drop_more}
@@ -13,6 +13,14 @@ use Rattle.doc_links_seen.specs.SeenSteps.{page_in, pages_at}
 abbrev pub SeenBy : Type 0
 SeenBy = List ℕ × PageLinks → Bool
 
+-- a slot that has a page
+page_there : (x : Option (Held PageLinks)) → is_some x ≡ true → (page : Held PageLinks) × (x ≡ Some page)
+page_there None is = absurd (differ is)
+  where
+    differ : false ≡ true → ⊥
+    differ e = cc
+page_there (Some page) is = (page, refl)
+
 module _ (slots : List (Option (Held PageLinks))) where
   -- a slot more
   pub one_slot : (all : List ℕ) (slot : ℕ) → pages_at slots (all ++ slot ∷ []) ≡ pages_at slots all ++ page_in (slot_at slots slot)
@@ -21,16 +29,8 @@ module _ (slots : List (Option (Held PageLinks))) where
       ∙ ap (λ ps. pages_at slots all ++ ps) (append-nil (page_in (slot_at slots slot)))
 
   module _ (sees : SeenBy) (slot : ℕ) (others : List (List ℕ × PageLinks)) (all : List ℕ) where
-    -- a slot without a page
-    pub no_page : (flags : List Bool) → slot_at slots slot ≡ None → flags ≡ mapped sees (page_in (slot_at slots slot) ++ others)
-        → (flags ≡ mapped sees others) × (pages_at slots all ≡ pages_at slots all ++ filter sees (page_in (slot_at slots slot)))
-    no_page flags none are = (
-      are ∙ ap (λ p. mapped sees (page_in p ++ others)) none,
-      sym (ap (λ p. pages_at slots all ++ filter sees (page_in p)) none ∙ append-nil (pages_at slots all)),
-    )
-
     -- the first flag is that of the slot's page
-    pub first_flag : (flags rest : List Bool) (flag : Bool) (page : Held PageLinks) → slot_at slots slot ≡ Some page
+    first_flag : (flags rest : List Bool) (flag : Bool) (page : Held PageLinks) → slot_at slots slot ≡ Some page
         → flags ≡ flag ∷ rest → flags ≡ mapped sees (page_in (slot_at slots slot) ++ others)
         → (flag ≡ sees (page.path, page.value)) × (rest ≡ mapped sees others)
     first_flag flags rest flag page at parted are =
@@ -42,7 +42,7 @@ module _ (slots : List (Option (Held PageLinks))) where
         tails : flag ∷ rest ≡ sees (page.path, page.value) ∷ mapped sees others → rest ≡ mapped sees others
         tails e = cc
 
-    pub no_flag : {X : Type 0} (flags : List Bool) (page : Held PageLinks) → slot_at slots slot ≡ Some page → flags ≡ []
+    no_flag : {X : Type 0} (flags : List Bool) (page : Held PageLinks) → slot_at slots slot ≡ Some page → flags ≡ []
         → flags ≡ mapped sees (page_in (slot_at slots slot) ++ others) → X
     no_flag flags page at none are = absurd (differ (sym none ∙ are ∙ ap (λ p. mapped sees (page_in p ++ others)) at))
       where
@@ -50,20 +50,39 @@ module _ (slots : List (Option (Held PageLinks))) where
         differ e = cc
 
     -- the page is left out, or added
-    pub left_out : (page : Held PageLinks) → slot_at slots slot ≡ Some page → false ≡ sees (page.path, page.value)
+    left_out : (page : Held PageLinks) → slot_at slots slot ≡ Some page → false ≡ sees (page.path, page.value)
         → pages_at slots all ≡ pages_at slots all ++ filter sees (page_in (slot_at slots slot))
     left_out page at is =
         sym (ap (λ p. pages_at slots all ++ filter sees (page_in p)) at
         ∙ ap (λ b. pages_at slots all ++ cond b ((page.path, page.value) ∷ []) []) (sym is)
         ∙ append-nil (pages_at slots all))
 
-    pub added : (after : List ℕ) (page : Held PageLinks) → slot_at slots slot ≡ Some page → true ≡ sees (page.path, page.value)
+    added : (after : List ℕ) (page : Held PageLinks) → slot_at slots slot ≡ Some page → true ≡ sees (page.path, page.value)
         → after ≡ all ++ slot ∷ [] → pages_at slots after ≡ pages_at slots all ++ filter sees (page_in (slot_at slots slot))
     added after page at is made =
         ap (pages_at slots) made ∙ one_slot all slot
         ∙ ap (λ p. pages_at slots all ++ page_in p) at
         ∙ sym (ap (λ p. pages_at slots all ++ filter sees (page_in p)) at
         ∙ ap (λ b. pages_at slots all ++ cond b ((page.path, page.value) ∷ []) []) (sym is))
+
+    -- there is a flag for the page, and it is left out or added
+    pub lacks_flag : {X : Type 0} (flags : List Bool) → is_some (slot_at slots slot) ≡ true → flags ≡ []
+        → flags ≡ mapped sees (page_in (slot_at slots slot) ++ others) → X
+    lacks_flag flags there none are = let page = page_there (slot_at slots slot) there in no_flag flags page.0 page.1 none are
+
+    pub passed_over : (flags rest : List Bool) (flag : Bool) → is_some (slot_at slots slot) ≡ true → flags ≡ flag ∷ rest → flag ≡ false
+        → flags ≡ mapped sees (page_in (slot_at slots slot) ++ others)
+        → (rest ≡ mapped sees others) × (pages_at slots all ≡ pages_at slots all ++ filter sees (page_in (slot_at slots slot)))
+    passed_over flags rest flag there parted off are =
+        let page = page_there (slot_at slots slot) there in
+        let both = first_flag flags rest flag page.0 page.1 parted are in (both.1, left_out page.0 page.1 (sym off ∙ both.0))
+
+    pub taken : (flags rest : List Bool) (flag : Bool) (after : List ℕ) → is_some (slot_at slots slot) ≡ true → flags ≡ flag ∷ rest
+        → flag ≡ true → after ≡ all ++ slot ∷ [] → flags ≡ mapped sees (page_in (slot_at slots slot) ++ others)
+        → (rest ≡ mapped sees others) × (pages_at slots after ≡ pages_at slots all ++ filter sees (page_in (slot_at slots slot)))
+    taken flags rest flag after there parted on made are =
+        let page = page_there (slot_at slots slot) there in
+        let both = first_flag flags rest flag page.0 page.1 parted are in (both.1, added after page.0 page.1 (sym on ∙ both.0) made)
 
   -- what is flagged so far, and what is left of slots and flags
   abbrev pub IsFlagged : List Bool → List ℕ → List ℕ → List Bool → List ℕ → Type 0

@@ -1,6 +1,5 @@
 pub mod AnswerSteps
-pub mod ColumnSteps
 pub mod FlagSteps
-pub mod FoundSteps
 pub mod MemoSteps
 pub mod SearchSteps
+pub mod WholeSteps

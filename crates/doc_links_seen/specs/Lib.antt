@@ -1,4 +1,4 @@
-pub mod Decisions
 pub mod Memos
+pub mod Numbered
 pub mod SeenPages
 pub mod SeenSteps

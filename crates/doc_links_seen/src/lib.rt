@@ -3,8 +3,7 @@
 //! Of a page that isn't seen nothing is told, and a link to it is as a link to none.
 #![tactic(auto)]
 
-pub(crate) mod decisions;
-pub(crate) mod found;
 pub(crate) mod memo;
 pub mod report;
 pub mod seen;
+pub(crate) mod stands;

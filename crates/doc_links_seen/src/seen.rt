@@ -1,7 +1,7 @@
 //! The pages of an index that a sight sees.
 
-ghost use Rattle.std.specs.Prelude.{◌≡◌, ◌++◌, ℕ, List as Seq, Bool, IfOk, OnOk, map as mapped, option_copied, option_map};
-ghost use Rattle.std.specs.List.{filter, flat_map};
+ghost use Rattle.std.specs.Prelude.{◌≡◌, ◌++◌, ℕ, List as Seq, Bool, IfOk, IsTrue, OnOk, is_some, map as mapped, option_copied, option_map};
+ghost use Rattle.std.specs.List.{All, filter, flat_map};
 ghost use Rattle.doc_index.specs.Held.{slot_at};
 ghost use Rattle.doc_page_parts.specs.Sights.{seen};
 ghost use Rattle.doc_links_pages.specs.declared.page_links.PageLinks.{PageLinks};
@@ -113,13 +113,14 @@ fn push_seen<'a, S: Sight>(
     Ok(())
 }
 
-/// Those of these slots whose pages are flagged: there is a flag for each slot that has a page, in this order.
+/// Those of these slots whose pages are flagged. Each has a page, and there is a flag for each, in this order: none is looked up.
 pub fn slots_flagged(
     heap: Heap,
     index: &Index<Known>,
     slots: &[u64],
     flags: &[bool],
 ) -> Result<Vec<u64>, Memory>
+    requires present { All (λ slot. IsTrue (is_some (slot_at index.now slot))) slots.now }
     ensures { (sees : Seq ℕ × PageLinks → Bool)
         → flags.now ≡ mapped sees (pages_at index.now slots.now) → IfOk result (λ all.
         pages_at index.now all.items ≡ filter sees (pages_at index.now slots.now)) }
@@ -132,22 +133,20 @@ pub fn slots_flagged(
     Ok(all)
 }
 
-/// Adds a slot, where it has a page and the first flag says so. The flags behind that are left.
+/// Adds a slot that has a page, where the first flag says so. The flags behind that are left.
 fn push_flagged<'a>(
     all: &mut Vec<u64>,
     index: &Index<Known>,
     slot: u64,
     flags: &'a [bool],
 ) -> Result<&'a [bool], Memory>
+    requires present { IsTrue (is_some (slot_at index.now slot)) }
     ensures { (sees : Seq ℕ × PageLinks → Bool) (others : Seq (Seq ℕ × PageLinks))
         → flags.now ≡ mapped sees (page_in (slot_at index.now slot) ++ others)
         → IfOk result (λ rest. (rest.now ≡ mapped sees others)
         × (pages_at index.now all.new.items ≡ pages_at index.now all.old.items
         ++ filter sees (page_in (slot_at index.now slot)))) }
 {
-    if index.slot(slot as usize).is_none() {
-        return Ok(flags);
-    }
     let Some((flag, rest)) = flags.split_first() else {
         return Ok(flags);
     };

@@ -1,5 +1,5 @@
 use Rattle.std.proofs.Common.{sym, ◌∙◌}
-use Rattle.doc_index.proofs.OrderSteps.{told}
+use Rattle.doc_links.proofs.HeldSteps.{told}
 use Rattle.doc_links_seen.specs.SeenPages.{seen_pages}
 use Rattle.doc_links.proofs.SourceSteps.{no_page, some_page, with_target, without_target}
 use Rattle.doc_links.proofs.sources.sources_in.Goals as goal

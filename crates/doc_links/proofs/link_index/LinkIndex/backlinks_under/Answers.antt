@@ -1,6 +1,6 @@
 use Rattle.std.proofs.Common.{ap, subst, sym, ◌∙◌}
 use Rattle.std.specs.Prelude.{IsTrue, is_some, map as mapped}
-use Rattle.doc_index.proofs.OrderSteps.{told}
+use Rattle.doc_links.proofs.HeldSteps.{told}
 use Rattle.doc_page_parts.specs.Sights.{seen}
 use Rattle.doc_links_pages.specs.Links.{backlinks, page_at}
 use Rattle.doc_links_pages.specs.Names.{AreNames}
@@ -19,7 +19,7 @@ returns g c =
     told c.list.result (λ all is.
     is
     ∙ answered goals target slots (mapped (λ name. name.now) c.args.names.now) c.in_ok-tally.tally
-    (subst IsOnce (sym c.self.view_is) c.requires.once) c.self.invariant
+    (subst IsOnce (sym c.self.view_is) c.requires.once) c.self.invariant.0
     (subst (λ m. AreNames (mapped (λ name. name.now) c.args.names.now) goals (seen goals (pages_of m)) target)
     (sym c.self.view_is) c.requires.names) c.in_ok-tally.ensures
     (subst (λ m. IsTrue (is_some (page_at (seen goals (pages_of m)) target))) (sym c.self.view_is) c.requires.target)

@@ -1,5 +1,5 @@
 use Rattle.std.proofs.Common.{ap, ◌∙◌}
-use Rattle.doc_index.proofs.OrderSteps.{told}
+use Rattle.doc_links.proofs.HeldSteps.{told}
 use Rattle.doc_links_pages.specs.Links.{broken}
 use Rattle.doc_links_seen.specs.SeenPages.{seen_pages}
 use Rattle.doc_links.proofs.OrderSteps.{seen_in_order}

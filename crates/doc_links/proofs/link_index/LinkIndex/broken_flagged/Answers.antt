@@ -1,14 +1,19 @@
-use Rattle.std.proofs.Common.{◌≡◌, ℕ, List, Bool, ap, sym, ◌∙◌}
+use Rattle.std.proofs.Common.{◌≡◌, ℕ, List, Bool, ap, subst, sym, ◌∙◌}
 use Rattle.std.specs.Prelude.{map as mapped}
 use Rattle.doc_page_parts.specs.Sights.{leads_to_itself, seen}
 use Rattle.doc_links_pages.specs.PageLinks.{pages_of}
 use Rattle.doc_links_pages.specs.declared.page_links.PageLinks.{PageLinks}
+use Rattle.doc_links_seen.specs.Numbered.{AreNumbered}
 use Rattle.doc_links_seen.specs.SeenSteps.{pages_at}
 use Rattle.doc_links.proofs.OrderSteps.{seen_in_order, they_are_seen}
 use Rattle.doc_links.proofs.link_index.LinkIndex.broken_flagged.Goals as goal
 
-pub broken_at-requires-clause-order : goal.broken_at-requires-clause-order
-broken_at-requires-clause-order g c =
+pub broken_numbered-requires-clause-numbered : goal.broken_numbered-requires-clause-numbered
+broken_numbered-requires-clause-numbered g c =
+    subst (AreNumbered c.self.inside.pages c.self.inside.numbering.names) (sym c.deref-2.ensures.value) c.self.invariant.1
+
+pub broken_numbered-requires-clause-order : goal.broken_numbered-requires-clause-order
+broken_numbered-requires-clause-order g c =
     let goals = g.S.Sight.goals c.args.sight.now in
     let sees : List ℕ × PageLinks → Bool = λ page. leads_to_itself (goals page.0) page.0 in
     let them : pages_at c.self.inside.pages c.deref.result.now ≡ seen goals (pages_of c.args.self.now) =
@@ -17,8 +22,8 @@ broken_at-requires-clause-order g c =
     ∙ ap (λ m. seen goals (pages_of m)) c.self.view_is in
     seen_in_order goals c.args.self.now (pages_at c.self.inside.pages c.deref.result.now) c.requires.once them
 
-pub broken_at-requires-clause-seen : goal.broken_at-requires-clause-seen
-broken_at-requires-clause-seen g c =
+pub broken_numbered-requires-clause-seen : goal.broken_numbered-requires-clause-seen
+broken_numbered-requires-clause-seen g c =
     let goals = g.S.Sight.goals c.args.sight.now in
     let sees : List ℕ × PageLinks → Bool = λ page. leads_to_itself (goals page.0) page.0 in
     let them : pages_at c.self.inside.pages c.deref.result.now ≡ seen goals (pages_of c.args.self.now) =

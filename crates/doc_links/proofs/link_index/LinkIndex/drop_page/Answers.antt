@@ -2,6 +2,7 @@ use Rattle.std.proofs.Common.{ℕ, List, ap, ◌∙◌}
 use Rattle.std.specs.FinMap as map
 use Rattle.doc_links.proofs.HeldSteps.{has_key, removed}
 use Rattle.doc_links.proofs.KeySteps.{keyed_removed}
+use Rattle.doc_links.proofs.NumberingSteps.{fewer_held}
 use Rattle.doc_links.proofs.link_index.LinkIndex.drop_page.Goals as goal
 
 pub returns-clause-answer : goal.returns-clause-answer
@@ -16,4 +17,10 @@ returns-clause-rest c =
 
 pub invariant_of-self : goal.invariant_of-self
 invariant_of-self c =
-    keyed_removed c.self.inside.pages c.drop_page.new.self (c.args.path.now, c.args.stamp) c.self.invariant c.drop_page.ensures.rest
+    let slots = c.self.inside.pages in
+    let numbering = c.leave_page.new.numbering in (
+      keyed_removed slots c.drop_page.new.self (c.args.path.now, c.args.stamp) c.self.invariant.0 c.drop_page.ensures.rest,
+      fewer_held slots numbering.names numbering.numbers.items (c.leave_page.ensures.numbered c.self.invariant.1) c.drop_page.new.self
+          c.args.path.now c.args.stamp c.leave_page.ensures.apart c.drop_page.ensures.rest c.drop_page.ensures.others
+          c.leave_page.ensures.gone,
+    )

@@ -1,0 +1,10 @@
+use Rattle.doc_links.proofs.NumberingSteps.{cleared, kept_others}
+use Rattle.doc_links.proofs.numbering.Numbering.leave.Goals as goal
+
+pub returns-clause-numbered : goal.returns-clause-numbered
+returns-clause-numbered c slots are =
+    let old = c.args.self.now in
+    let numbers = c.clear.new.numbers.items in
+    kept_others slots old.names numbers
+    (cleared slots old.names old.numbers.items are numbers c.args.slot c.clear.ensures.gone c.clear.ensures.others)
+    c.leave.new.names c.args.slot c.clear.ensures.gone c.leave.ensures.kept
