@@ -118,5 +118,6 @@ fn links_from(
     let Some(page) = kept.get(path, stamp) else {
         return Ok(List::new(Vec::new(heap)));
     };
-    Ok(List::new(kinds(heap, place, page.pieces.get())?))
+    let pieces = page.pieces(heap)?;
+    Ok(List::new(kinds(heap, place, pieces.get())?))
 }

@@ -5,29 +5,31 @@ ghost use Rattle.doc_shelf_pages.specs.Templates.{body_of, title_of};
 
 use doc_page_parts::escaping::push_escaped;
 use doc_page_parts::failure::Memory;
-use doc_page_parts::filling::push_filled;
 use doc_page_parts::heap::{Heap, String};
 use doc_page_parts::linker::Linker;
 use doc_page_parts::path::Path;
-use doc_page_parts::rendered::{Heading, Piece, Rendered};
+use doc_page_parts::rendered::Heading;
 use doc_page_parts::text::Text;
+use doc_shelf_packed::PackedPage;
 
 /// The bytes round the title.
 const FRAME_LEN: usize = 32;
 
-/// Room for a link's opening tag.
-const LINK_ROOM: usize = 64;
-
 /// The document of a page: a head with its title, and the page with its links as they are shown.
-pub fn body<L: Linker>(heap: Heap, path: &Path, page: &Rendered, linker: &L) -> Result<Text, Memory>
+pub fn body<L: Linker>(
+    heap: Heap,
+    path: &Path,
+    page: &PackedPage,
+    linker: &L,
+) -> Result<Text, Memory>
     ensures { IfOk result (λ body. body ≡ body_of path.now (L.shown linker.now) page.now) }
 {
-    let title = title(path, page.headings.get());
-    let mut out = String::with_capacity(heap, room(title, page.pieces.get()))?;
+    let title = title(path, page.headings());
+    let mut out = String::with_capacity(heap, room(title, page))?;
     out.push_str("<!DOCTYPE html>\n<title>")?;
     push_escaped(&mut out, title)?;
     out.push_str("</title>\n")?;
-    push_filled(heap, &mut out, page, linker)?;
+    page.push_filled(heap, &mut out, linker)?;
     Ok(Text::new(out))
 }
 
@@ -44,13 +46,8 @@ fn title<'a>(path: &'a Path, headings: &'a [Heading]) -> &'a str
 }
 
 /// About how many bytes the document takes; escapes in the title and long links take more.
-fn room(title: &str, pieces: &[Piece]) -> usize {
-    let mut room = FRAME_LEN.saturating_add(title.len());
-    for piece in pieces {
-        room = room.saturating_add(match piece {
-            Piece::Html(html) => html.get().len(),
-            Piece::Link(_) => LINK_ROOM,
-        });
-    }
-    room
+fn room(title: &str, page: &PackedPage) -> usize {
+    FRAME_LEN
+        .saturating_add(title.len())
+        .saturating_add(page.room())
 }

@@ -165,7 +165,7 @@ fn searched_under<'a>(kept: &'a KeptPages, path: &Path, stamp: u64) -> Option<Se
         return None;
     };
     Some(Searched {
-        headings: page.headings.get(),
+        headings: page.headings(),
         words,
     })
 }

@@ -6,7 +6,7 @@ ghost use Rattle.doc_shelf_pages.specs.Held.{by_path};
 ghost use Rattle.doc_shelf_pages.specs.KeptPages.{IsFree, carried, none_kept, with_page, without_page};
 ghost use Rattle.doc_shelf_pages.specs.RenderingSteps.{flagged, lines_at, texts_of};
 
-use crate::copying::kept_of;
+use crate::keeping::kept_of;
 use crate::renderings::Renderings;
 use doc_links::LinkIndex;
 use doc_page_parts::failure::Memory;
@@ -14,6 +14,7 @@ use doc_page_parts::heap::{Heap, Vec};
 use doc_page_parts::path::Path;
 use doc_page_parts::rendered::Rendered;
 use doc_page_parts::text::Text;
+use doc_shelf_packed::PackedPage;
 use doc_words::index::WordIndex;
 use std::marker::Model;
 
@@ -93,7 +94,7 @@ impl KeptPages {
     }
 
     /// The rendering under a path and a stamp, as it is kept.
-    pub fn get(&self, path: &Path, stamp: u64) -> Option<&Rendered>
+    pub fn get(&self, path: &Path, stamp: u64) -> Option<&PackedPage>
         ensures { option_copied result ≡ map.get self.now.renderings (path.now, stamp) }
     {
         self.renderings.get(path, stamp)
@@ -129,8 +130,8 @@ impl KeptPages {
     }
 
     /// Keeps the page under one path and stamp, where there is one, under another path and stamp too, under which none is kept: its
-    /// links as they are at that path, and its words and its rendering as they are. Memory is taken in the same order, and nothing
-    /// is rendered. A refusal drops what was added and leaves all as it was.
+    /// links as they are at that path, and its words and its rendering as they are. Its pieces are made anew for the links. Memory is
+    /// taken in the same order, and nothing is rendered. A refusal drops what was added and leaves all as it was.
     pub fn carry(
         &mut self,
         from: &Path,
@@ -146,8 +147,9 @@ impl KeptPages {
         let Some(page) = self.renderings.get(from, from_stamp) else {
             return Ok(());
         };
+        let pieces = page.pieces(self.heap)?;
         self.links
-            .add_parts(to, stamp, page.pieces.get(), page.headings.get())?;
+            .add_parts(to, stamp, pieces.get(), page.headings())?;
         if self.words.add_copy(from, from_stamp, to, stamp).is_err() {
             self.links.drop_page(to, stamp);
             return Err(Memory);

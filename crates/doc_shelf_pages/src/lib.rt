@@ -11,11 +11,11 @@
 //! `hits` what a search finds; `named` finds paths that texts are, and `visible` the page that a reader may see.
 #![tactic(auto)]
 
-mod copying;
 pub mod edit_laws;
 pub mod edits;
 mod flags;
 mod hits;
+mod keeping;
 mod kept_pages;
 mod lined;
 pub mod lists;

@@ -11,22 +11,23 @@ use doc_listings::push_entry_lines;
 use doc_page_parts::failure::Memory;
 use doc_page_parts::heap::{Heap, String, Vec};
 use doc_page_parts::path::Path;
-use doc_page_parts::rendered::{Heading, Rendered};
+use doc_page_parts::rendered::Heading;
 use doc_page_parts::text::Text;
+use doc_shelf_packed::PackedPage;
 
-/// A rendering, and the lines that contents have of its page.
+/// A rendering, packed, and the lines that contents have of its page.
 #[derive(Drop)]
 pub struct Lined {
-    pub page: Rendered,
+    pub page: PackedPage,
     pub lines: Text,
 }
 
 impl Lined {
     /// The rendering of the page at a path.
-    pub fn new(heap: Heap, path: &Path, page: Rendered) -> Result<Lined, Memory>
+    pub fn new(heap: Heap, path: &Path, page: PackedPage) -> Result<Lined, Memory>
         ensures { IfOk result (λ it. it ≡ lined path.now page) }
     {
-        let lines = lines_of(heap, path, page.headings.get())?;
+        let lines = lines_of(heap, path, page.headings())?;
         Ok(Lined { page, lines })
     }
 }

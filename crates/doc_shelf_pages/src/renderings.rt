@@ -5,7 +5,6 @@ ghost use Rattle.std.specs.FinMap as map;
 ghost use Rattle.doc_shelf_pages.specs.Held.{by_path};
 ghost use Rattle.doc_shelf_pages.specs.RenderingSteps.{flagged, lines_at, texts_of, with_copy};
 
-use crate::copying::copy_of;
 use crate::lined::{Lined, flagged_lines};
 use doc_index::index::Index;
 use doc_page_parts::failure::Memory;
@@ -13,9 +12,10 @@ use doc_page_parts::heap::{BTreeMap, Heap, String, Vec};
 use doc_page_parts::path::Path;
 use doc_page_parts::rendered::Rendered;
 use doc_page_parts::text::Text;
+use doc_shelf_packed::PackedPage;
 use std::marker::Model;
 
-/// Renderings, each held under a path and a stamp, with the lines that contents have of its page at that path. Contracts see the map of
+/// Renderings, packed, each held under a path and a stamp, with the lines that contents have of its page at that path. Contracts see the map of
 /// the renderings.
 #[derive(Drop)]
 pub struct Renderings {
@@ -52,7 +52,7 @@ impl Renderings {
         }
     }
 
-    pub fn get(&self, path: &Path, stamp: u64) -> Option<&Rendered>
+    pub fn get(&self, path: &Path, stamp: u64) -> Option<&PackedPage>
         ensures { option_copied result ≡ map.get self.now (path.now, stamp) }
     {
         let Some(lined) = self.pages.get(path, stamp) else {
@@ -72,6 +72,16 @@ impl Renderings {
 
     /// Holds a rendering under a path and a stamp that none has. A refusal drops it and leaves the others.
     pub fn add(&mut self, path: &Path, stamp: u64, page: Rendered) -> Result<(), Memory>
+        requires free { map.get self.old (path.now, stamp) ≡ None }
+        ensures ok { OnOk result (self.new
+            ≡ map.insert self.old (path.now, stamp) page) }
+        ensures err { OnErr result (self.new ≡ self.old) }
+    {
+        let page = PackedPage::of(self.heap, page)?;
+        self.hold(path, stamp, page)
+    }
+
+    fn hold(&mut self, path: &Path, stamp: u64, page: PackedPage) -> Result<(), Memory>
         requires free { map.get self.old (path.now, stamp) ≡ None }
         ensures ok { OnOk result (self.new
             ≡ map.insert self.old (path.now, stamp) page) }
@@ -99,8 +109,8 @@ impl Renderings {
         let Some(page) = self.get(from, from_stamp) else {
             return Ok(());
         };
-        let copy = copy_of(self.heap, page)?;
-        self.add(to, stamp, copy)
+        let copy = page.copy(self.heap)?;
+        self.hold(to, stamp, copy)
     }
 
     /// Lets the rendering under a path and a stamp go, and tells whether there was one. It takes no memory.

@@ -11,12 +11,12 @@ ghost use Rattle.doc_shelf_pages.specs.Views.{Renders};
 ghost use Rattle.doc_store_readers.specs.Sites.{goal_in};
 
 use doc_page_parts::failure::Memory;
-use doc_page_parts::filling::push_filled;
 use doc_page_parts::heap::{Heap, String};
 use doc_page_parts::path::Path;
-use doc_page_parts::rendered::{Heading, Rendered};
+use doc_page_parts::rendered::Heading;
 use doc_page_parts::text::Text;
 use doc_resolve::SiteLinker;
+use doc_shelf_packed::PackedPage;
 use doc_shelf_pages::KeptPages;
 use doc_shelf_pages::named::path_named;
 use doc_shelf_pages::visible::visible_page;
@@ -64,7 +64,7 @@ fn headings_at<'a>(
     let Some(page) = rendering_at(store, kept, path, reader) else {
         return None;
     };
-    Some(page.headings.get())
+    Some(page.headings())
 }
 
 /// The HTML of the page at a path, where the reader sees one there, with its links as the reader sees them.
@@ -84,8 +84,8 @@ pub fn html(
         return Ok(None);
     };
     let sight = store.sight(reader);
-    let mut out = String::new(heap);
-    push_filled(heap, &mut out, page, &SiteLinker::new(path, &sight))?;
+    let mut out = String::with_capacity(heap, page.room())?;
+    page.push_filled(heap, &mut out, &SiteLinker::new(path, &sight))?;
     Ok(Some(Text::new(out)))
 }
 
@@ -104,7 +104,7 @@ pub fn texts<'a>(
     let Some(page) = rendering_at(store, kept, path, reader) else {
         return None;
     };
-    Some(page.texts.get())
+    Some(page.texts())
 }
 
 /// The rendering of the page at a path, as it is kept, where the reader sees one there.
@@ -113,7 +113,7 @@ fn rendering_at<'a>(
     kept: &'a KeptPages,
     path: &Path,
     reader: &Reader,
-) -> Option<&'a Rendered>
+) -> Option<&'a PackedPage>
     ensures { (render : Renders) → IsKept render store.now kept.now
         → option_copied result ≡ option_map (kept_of kept.now.with_texts)
         (rendered_at render (seen_in store.now reader.now) path.now) }

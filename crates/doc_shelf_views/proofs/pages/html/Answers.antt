@@ -13,7 +13,7 @@ returns c render k =
     let view = seen_in c.args.store.now c.args.reader.now in
     let path = c.args.path.now in
     let page = c.in-Some.page.now in
-    ap Some (made c.new-2.result _ _ _ c.new-2.ensures c.in_ok-push_filled.ensures.ok c.new-out.ensures.bytes)
+    ap Some (made c.new-2.result _ _ _ c.new-2.ensures c.in_ok-push_filled.ensures.ok c.in_ok-out.ensures.bytes)
     ∙ (λ i. Some (filled (λ dest. shown (goal_in (c.new.ensures.sight i)) (c.new.ensures.page i) dest) page))
     ∙ (λ i. Some (filled (shown (goal_in (c.sight-sight.ensures i)) path) page))
     ∙ html_is (shown (goal_in view) path) c.args.kept.now.with_texts (Some page) _ (c.in-Some.ensures render k)

@@ -3,7 +3,7 @@ use Rattle.std.specs.FinMap as map
 use Rattle.doc_shelf_pages.specs.declared.lined.Lined.{Lined}
 use Rattle.doc_shelf_pages.proofs.HeldSteps.{added, free}
 use Rattle.doc_shelf_pages.proofs.LinedSteps.{lined_after}
-use Rattle.doc_shelf_pages.proofs.renderings.Renderings.add.Goals as goal
+use Rattle.doc_shelf_pages.proofs.renderings.Renderings.hold.Goals as goal
 
 pub add-requires : goal.add-requires
 add-requires c =
