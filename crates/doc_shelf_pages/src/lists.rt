@@ -1,11 +1,16 @@
 //! The lists that readers are answered, from what is kept of the pages.
 
 ghost use Rattle.std.specs.Prelude.{◌≡◌, IfOk, Some};
+ghost use Rattle.doc_links_pages.specs.Links.{backlinks};
+ghost use Rattle.doc_links_pages.specs.PageLinks.{pages_of};
+ghost use Rattle.doc_page_parts.specs.Sights.{seen};
 ghost use Rattle.doc_shelf_pages.specs.Shelves.{IsKept};
 ghost use Rattle.doc_shelf_pages.specs.ViewLaws.{seen_in};
 ghost use Rattle.doc_shelf_pages.specs.Views.{Renders, backlinks_body, contents_body, report_body, search_body};
 ghost use Rattle.doc_store_readers.specs.Pages.{Page};
-ghost use Rattle.doc_store_readers.specs.Sites.{page_at};
+ghost use Rattle.doc_store_readers.specs.Groups.{texts_of};
+ghost use Rattle.doc_store_readers.specs.Sites.{goal_in, page_at};
+ghost use Rattle.doc_store.specs.Names.{names_of};
 ghost use Rattle.doc_store.specs.Store.{IsStore};
 
 use crate::KeptPages;
@@ -14,11 +19,15 @@ use crate::hits::hits_of;
 use doc_listings::{push_backlinks, push_contents_of_lines, push_hits, push_report};
 use doc_page_parts::failure::Memory;
 use doc_page_parts::heap::{Heap, String};
+use doc_page_parts::list::List;
 use doc_page_parts::path::Path;
 use doc_page_parts::text::Text;
 use doc_store::reader::Reader;
 use doc_store::store::Store;
 use doc_words::word::Word;
+
+/// All pages are walked over where more than one in so many may write a name of a page.
+const WALKED: usize = 64;
 
 /// The pages that a reader sees, with their headings: a page of HTML.
 pub fn contents(
@@ -53,11 +62,37 @@ pub fn backlinks(
         ≡ backlinks_body render (seen_in store.now reader.now) path.now) }
 {
     let names = store.names_of(path)?;
-    let sight = store.sight(reader);
-    let sources = kept.links().backlinks_under(path, &names, &sight)?;
+    let sources = sources_of(heap, store, kept, path, &names, reader)?;
     let mut out = String::new(heap);
     push_backlinks(heap, &mut out, sources.get())?;
     Ok(Text::new(out))
+}
+
+/// The pages that a reader sees with links to a page of these names, each with the number of these links. Where many pages write one of
+/// the names, one walk over all tells which are seen; else each page that writes one is asked for.
+fn sources_of(
+    heap: Heap,
+    store: &Store,
+    kept: &KeptPages,
+    path: &Path,
+    names: &[&Path],
+    reader: &Reader,
+) -> Result<List<(Path, u64)>, Memory>
+    requires kept { (render : Renders) × IsStore store.now × IsKept render store.now kept.now }
+    requires page { (page : Page) × (page_at (seen_in store.now reader.now).pages path.now
+        ≡ Some page) }
+    requires names { texts_of names.now ≡ names_of store.now.site path.now }
+    ensures { IfOk result (λ sources. sources
+        ≡ backlinks (goal_in (seen_in store.now reader.now))
+        (seen (goal_in (seen_in store.now reader.now)) (pages_of kept.now.links)) path.now) }
+{
+    let links = kept.links();
+    let sight = store.sight(reader);
+    if links.reach_of_names(names) <= store.pages().len() / WALKED {
+        return links.backlinks_under(path, names, &sight);
+    }
+    let flags = flags_of(heap, store, reader)?;
+    links.backlinks_flagged(path, names, &flags, &sight)
 }
 
 /// What a search for these words finds among the pages that a reader sees: a line for each.

@@ -1,21 +1,15 @@
-use Rattle.std.proofs.Common.{ap, ◌∙◌}
+use Rattle.std.proofs.Common.{ap, refl, ◌∙◌}
 use Rattle.doc_store_readers.specs.Groups.{texts_of}
-use Rattle.doc_shelf_pages.proofs.ListSteps.{backlinks_are, made, names_are, target_is}
+use Rattle.doc_shelf_pages.proofs.ListSteps.{backlinks_are, made}
+use Rattle.doc_shelf_pages.specs.ViewLaws.{seen_in}
 use Rattle.doc_shelf_pages.proofs.lists.backlinks.Goals as goal
 
-pub backlinks_under-requires-clause-target : goal.backlinks_under-requires-clause-target
-backlinks_under-requires-clause-target c =
-    target_is c.requires.kept.0 c.args.store.now c.args.kept.now c.args.reader.now c.requires.kept.1 c.requires.kept.2
-    c.sight-sight.result c.sight-sight.ensures c.links.result.now c.links.ensures c.args.path.now c.requires.page.0 c.requires.page.1
-
-pub backlinks_under-requires-clause-names : goal.backlinks_under-requires-clause-names
-backlinks_under-requires-clause-names c =
-    names_are c.requires.kept.0 c.args.store.now c.args.kept.now c.args.reader.now c.requires.kept.1 c.requires.kept.2
-    c.sight-sight.result c.sight-sight.ensures c.links.result.now c.links.ensures c.args.path.now c.requires.page.0 c.requires.page.1 _
-    (ap texts_of c.deref.ensures.value ∙ c.in_ok-names.ensures)
+pub sources_of-requires-clause-names : goal.sources_of-requires-clause-names
+sources_of-requires-clause-names c = ap texts_of c.deref.ensures.value ∙ c.in_ok-names.ensures
 
 pub returns : goal.returns
 returns c render k =
     made c.new.result _ _ _ c.new.ensures c.in_ok-push_backlinks.ensures.ok c.new-out.ensures.bytes
-    ∙ backlinks_are render c.args.store.now c.args.kept.now c.args.reader.now c.requires.kept.1 k c.sight-sight.result
-    c.sight-sight.ensures c.links.result.now c.links.ensures c.args.path.now _ (c.get.ensures ∙ c.in_ok-sources.ensures)
+    ∙ backlinks_are render c.args.store.now c.args.kept.now c.args.reader.now c.requires.kept.1 k
+    (seen_in c.args.store.now c.args.reader.now) refl c.args.kept.now.links refl c.args.path.now _
+    (c.get.ensures ∙ c.in_ok-sources.ensures)
