@@ -1,14 +1,16 @@
 //! Pages held under a path and a stamp, and asked by key.
 
 ghost use Rattle.std.specs.Prelude.{◌≡◌, ◌<◌, ◌≤◌, ℕ, List as Seq, [], Some, None, IfOk, IfSome, OnOk, OnErr};
-ghost use Rattle.std.specs.Prelude.{map as mapped, count_by, is_some, option_copied, option_map};
+ghost use Rattle.std.specs.Prelude.{IsTrue, map as mapped, count_by, insert, is_some, length, option_copied, option_map};
+ghost use Rattle.std.specs.List.{All};
 ghost use Rattle.std.specs.FinMap as map;
 ghost use Rattle.doc_index.specs.Held.{AreApart, count_in, counts_of, entries_of, held, known, known_as, slot_at};
 ghost use Rattle.doc_index_tables.specs.Maps.{text_map};
-ghost use Rattle.doc_index_tables.specs.TableSteps.{HasCounts, HasSame, number_at, number_in, with_number};
+ghost use Rattle.doc_index_tables.specs.TableSteps.{HasCounts, HasSame, number_at, number_in};
 
 use crate::counts::Counts;
 use crate::held::Held;
+use crate::order::search;
 use doc_index_tables::row::Row;
 use doc_index_tables::table::Table;
 use doc_page_parts::failure::Memory;
@@ -22,7 +24,7 @@ pub struct Index<T> {
     heap: Heap,
     slots: Slab<Held<T>, Heap>,
     last: usize,
-    places: Table,
+    order: Vec<u64>,
     postings: Table,
 }
 
@@ -33,7 +35,7 @@ impl<T: Drop> Drop for Index<T> {
             heap: _,
             slots: _,
             last: _,
-            places: _,
+            order: _,
             postings: _,
         } = self;
     }
@@ -53,7 +55,7 @@ impl<T> Model for Index<T> {
 
     ghost view = { λ i. i.slots.slots };
 
-    ghost invariant = { λ i. IsIndex i.last i.slots.slots i.places i.postings };
+    ghost invariant = { λ i. IsIndex i.last i.slots.slots i.order.items i.postings };
 }
 
 impl<T> Index<T> {
@@ -65,7 +67,7 @@ impl<T> Index<T> {
             heap,
             slots: Slab::new(heap),
             last: 0,
-            places: Table::new(heap),
+            order: Vec::new(heap),
             postings: Table::new(heap),
         }
     }
@@ -90,10 +92,24 @@ impl<T> Index<T> {
     /// The slots of the pages by path and then by stamp: what their pages are known for is what is
     /// held, in its order.
     pub fn in_order(&self, heap: Heap) -> Result<Vec<u64>, Memory>
-        ensures { IfOk result (λ slots.
+        ensures entries { IfOk result (λ slots.
             entries_of (mapped (slot_at self.now) slots.items) ≡ map.entries (held self.now)) }
+        ensures present { IfOk result (λ slots.
+            All (λ slot. IsTrue (is_some (slot_at self.now slot))) slots.items) }
     {
-        self.places.numbers(heap)
+        Ok(Vec::from_slice(heap, &self.order)?)
+    }
+
+    /// The slot of the page under a path and a stamp, which it keeps until it goes.
+    pub fn slot_of(&self, path: &Path, stamp: u64) -> Option<usize>
+        ensures slot { IfSome result (λ slot. (page : Held T) × (slot_at self.now slot ≡ Some page)
+            × (page.path ≡ path.now) × (page.stamp ≡ stamp)) }
+        ensures held { is_some result ≡ map.contains_key (held self.now) (path.now, stamp) }
+    {
+        let Ok(at) = search(&self.slots, &self.order, path, stamp) else {
+            return None;
+        };
+        Some(self.order[at] as usize)
     }
 
     /// A slot after which none has a page.
@@ -130,10 +146,7 @@ impl<T> Index<T> {
         ensures { option_map known (option_copied result)
             ≡ map.get (held self.now) (path.now, stamp) }
     {
-        let Some(slot) = self.places.get(path.text(), stamp) else {
-            return None;
-        };
-        self.slots.get(slot as usize)
+        self.slot(self.slot_of(path, stamp)?)
     }
 
     /// The slots of the pages that have a key, each with the count of the key in its page.
@@ -152,7 +165,8 @@ impl<T> Index<T> {
         &self.postings
     }
 
-    /// Holds a page under a path and a stamp that none has. A refusal leaves the index as it was.
+    /// Holds a page under a path and a stamp that none has. Those that are held keep their slots. A
+    /// refusal leaves the index as it was.
     pub fn add(
         &mut self,
         path: &Path,
@@ -166,6 +180,8 @@ impl<T> Index<T> {
         ensures ok { OnOk result (held self.new
             ≡ map.insert (held self.old) (path.now, stamp) (known_as value (text_map keys.now))) }
         ensures err { OnErr result (self.new ≡ self.old) }
+        ensures others { (i : ℕ) (page : Held T)
+            → slot_at self.old i ≡ Some page → slot_at self.new i ≡ Some page }
     {
         let counts = Counts::copy_of(self.heap, keys)?;
         self.add_counts(path, stamp, value, counts)
@@ -185,6 +201,8 @@ impl<T> Index<T> {
         ensures ok { OnOk result (held self.new
             ≡ map.insert (held self.old) (path.now, stamp) (known_as value counts)) }
         ensures err { OnErr result (self.new ≡ self.old) }
+        ensures others { (i : ℕ) (page : Held T)
+            → slot_at self.old i ≡ Some page → slot_at self.new i ≡ Some page }
     {
         let path = path.copy(self.heap)?;
         self.enter(Held {
@@ -211,6 +229,8 @@ impl<T> Index<T> {
         ensures ok { OnOk result (held self.new ≡ map.insert (held self.old) (to.now, stamp)
             (known_as value (counts_of (map.get (held self.old) (from.now, from_stamp))))) }
         ensures err { OnErr result (self.new ≡ self.old) }
+        ensures others { (i : ℕ) (page : Held T)
+            → slot_at self.old i ≡ Some page → slot_at self.new i ≡ Some page }
     {
         let counts = self.counts_of(from, from_stamp)?;
         let path = to.copy(self.heap)?;
@@ -241,14 +261,18 @@ impl<T> Index<T> {
         ensures ok { OnOk result (held self.new
             ≡ map.insert (held self.old) (page.path, page.stamp) (known page)) }
         ensures err { OnErr result (self.new ≡ self.old) }
+        ensures others { (i : ℕ) (other : Held T)
+            → slot_at self.old i ≡ Some other → slot_at self.new i ≡ Some other }
     {
         self.slots.reserve(1)?;
         let slot = self.slots.vacant_key();
+        let at = search(&self.slots, &self.order, &page.path, page.stamp).unwrap_or_else(|at| at);
         place(
             self.heap,
-            &mut self.places,
+            &mut self.order,
+            at,
             &mut self.postings,
-            &page,
+            &page.counts,
             slot as u64,
         )?;
         self.last = later(self.last, slot);
@@ -256,21 +280,24 @@ impl<T> Index<T> {
         Ok(())
     }
 
-    /// Lets the page under a path and a stamp go, and tells whether there was one. It takes no
-    /// memory.
+    /// Lets the page under a path and a stamp go, and tells whether there was one. The others keep
+    /// their slots. It takes no memory.
     pub fn drop_page(&mut self, path: &Path, stamp: u64) -> bool
     where
         T: Drop,
         ensures answer { result ≡ map.contains_key (held self.old) (path.now, stamp) }
         ensures rest { held self.new ≡ map.remove (held self.old) (path.now, stamp) }
+        ensures others { (i : ℕ) (page : Held T)
+            → slot_at self.new i ≡ Some page → slot_at self.old i ≡ Some page }
     {
-        let Some(slot) = self.places.get(path.text(), stamp) else {
+        let Ok(at) = search(&self.slots, &self.order, path, stamp) else {
             return false;
         };
+        let slot = self.order[at];
         let Some(page) = self.slots.try_remove(slot as usize) else {
             return false;
         };
-        self.places.take(path.text(), stamp);
+        self.order.remove(at);
         page.counts.take_from(&mut self.postings, slot);
         true
     }
@@ -284,28 +311,26 @@ fn later(a: usize, b: usize) -> usize
     if a < b { b } else { a }
 }
 
-/// Leads a page's path and stamp, and each of its keys, to a slot. A refusal leaves both tables as
+/// Leads a place in an order, and each key, to a slot. A refusal leaves the order and the postings as
 /// they were.
-fn place<T>(
+fn place(
     heap: Heap,
-    places: &mut Table,
+    order: &mut Vec<u64>,
+    at: usize,
     postings: &mut Table,
-    page: &Held<T>,
+    counts: &Counts,
     slot: u64,
 ) -> Result<(), Memory>
-    requires { (text : Seq ℕ) → number_at postings.old text slot ≡ None }
-    ensures places { OnOk result
-        (places.new ≡ with_number places.old page.now.path page.now.stamp slot) }
-    ensures postings { OnOk result (HasCounts page.now.counts slot postings.old postings.new) }
-    ensures places_err { OnErr result (places.new ≡ places.old) }
+    requires within { at ≤ length order.old.items }
+    requires free { (text : Seq ℕ) → number_at postings.old text slot ≡ None }
+    ensures order { OnOk result (order.new.items ≡ insert order.old.items at slot) }
+    ensures postings { OnOk result (HasCounts counts.now slot postings.old postings.new) }
+    ensures order_err { OnErr result (order.new.items ≡ order.old.items) }
     ensures postings_err { OnErr result (HasSame postings.old postings.new) }
 {
-    page.counts.add_to(heap, postings, slot)?;
-    if places
-        .set(heap, page.path.text(), page.stamp, slot)
-        .is_err()
-    {
-        page.counts.take_from(postings, slot);
+    counts.add_to(heap, postings, slot)?;
+    if order.insert(at, slot).is_err() {
+        counts.take_from(postings, slot);
         return Err(Memory);
     }
     Ok(())

@@ -1,50 +1,62 @@
-use Rattle.std.proofs.Common.{ap, sym, is_some, ◌∙◌}
+use Rattle.std.proofs.Common.{ap, get_or, is_some, length, subst, sym, ◌∙◌}
+use Rattle.std.specs.Prelude.{◌<◌}
 use Rattle.std.specs.FinMap as map
 use Rattle.doc_index.specs.Held.{held}
-use Rattle.doc_index_tables.specs.TableSteps.{number_at, without_number}
-use Rattle.doc_index.proofs.HeldSteps.{known_none}
-use Rattle.doc_index.proofs.IndexSteps.{absent, held_left, left, stands}
+use Rattle.doc_index.specs.IndexSteps.{IsIndex}
+use Rattle.doc_index.proofs.HeldSteps.{absent}
+use Rattle.doc_index.proofs.IndexSteps.{has_pair, left, left_held, none_found, stands}
 use Rattle.doc_index.proofs.index.Index.drop_page.Goals as goal
 
 pub returns-in_default-clause-answer : goal.returns-in_default-clause-answer
 returns-in_default-clause-answer g c =
-    ap is_some (known_none c.self.inside.slots.slots c.self.inside.places c.self.inside.postings c.self.invariant c.args.path.now
-    c.text.result.now c.args.stamp c.text.ensures c.in_default.ensures
+    let is =
+    subst (λ o. IsIndex c.self.inside.last c.self.inside.slots.slots o c.self.inside.postings) (sym c.deref.ensures.value)
+    c.self.invariant in
+    ap is_some (sym (none_found c.self.inside.slots.slots c.deref.result.now c.self.inside.postings is (c.args.path.now, c.args.stamp)
+    c.in_default.field-0 c.in_default.ensures.within c.in_default.ensures.place)
     ∙ ap (λ s. map.get (held s) (c.args.path.now, c.args.stamp)) c.self.view_is)
 
 pub returns-in_default-clause-rest : goal.returns-in_default-clause-rest
 returns-in_default-clause-rest g c =
+    let is =
+    subst (λ o. IsIndex c.self.inside.last c.self.inside.slots.slots o c.self.inside.postings) (sym c.deref.ensures.value)
+    c.self.invariant in
     absent c.args.self.now (c.args.path.now, c.args.stamp)
-    (known_none c.self.inside.slots.slots c.self.inside.places c.self.inside.postings c.self.invariant c.args.path.now
-    c.text.result.now c.args.stamp c.text.ensures c.in_default.ensures
-    ∙ ap (λ s. map.get (held s) (c.args.path.now, c.args.stamp)) c.self.view_is)
+    (ap (λ s. map.get (held s) (c.args.path.now, c.args.stamp)) (sym c.self.view_is)
+    ∙ none_found c.self.inside.slots.slots c.deref.result.now c.self.inside.postings is (c.args.path.now, c.args.stamp)
+    c.in_default.field-0 c.in_default.ensures.within c.in_default.ensures.place)
 
 pub invariant_of-self-2 : goal.invariant_of-self-2
 invariant_of-self-2 g c =
-    left c.self.inside.slots.slots c.self.inside.places c.self.inside.postings c.self.invariant (c.args.path.now, c.args.stamp)
-    c.in-Some.slot c.in-Some-try_remove.page
-    (sym (c.in-Some.ensures ∙ ap (λ t. number_at c.self.inside.places t c.args.stamp) c.text.ensures))
-    (sym c.in-Some-try_remove.ensures.value)
-    c.try_remove.new.self.slots c.take.new.self c.take_from.new.table
-    c.in-Some-try_remove.ensures.updates.changed c.in-Some-try_remove.ensures.updates.others
-    (c.take.ensures ∙ ap (λ t. without_number c.self.inside.places t c.args.stamp) c.text-2.ensures) c.take_from.ensures
+    left c.self.inside.slots.slots c.self.inside.order.items c.self.inside.postings c.self.invariant c.index-slot.result.now c.in-Some.page
+    (sym c.in-Some.ensures.value) c.try_remove.new.self.slots
+    c.in-Some.ensures.updates.changed c.in-Some.ensures.updates.others
+    c.in-Ok.at c.remove.new.self.items c.take_from.new.table
+    (subst (λ o. c.in-Ok.at < length o) c.deref.ensures.value c.in-Ok.ensures.within)
+    c.index-slot.ensures c.remove.ensures.items c.take_from.ensures
 
 pub returns-clause-answer : goal.returns-clause-answer
 returns-clause-answer g c =
-    ap is_some (sym (stands c.self.inside.slots.slots c.self.inside.places c.self.inside.postings c.self.invariant
-    (c.args.path.now, c.args.stamp)
-    c.in-Some.slot c.in-Some-try_remove.page
-    (sym (c.in-Some.ensures ∙ ap (λ t. number_at c.self.inside.places t c.args.stamp) c.text.ensures))
-    (sym c.in-Some-try_remove.ensures.value))
-    ∙ ap (λ s. map.get (held s) (c.args.path.now, c.args.stamp)) c.self.view_is)
+    let is =
+    subst (λ o. IsIndex c.self.inside.last c.self.inside.slots.slots o c.self.inside.postings) (sym c.deref.ensures.value)
+    c.self.invariant in
+    let there =
+    stands c.self.inside.slots.slots c.deref.result.now c.self.inside.postings is (c.args.path.now, c.args.stamp) c.in-Ok.at
+    c.index-slot.result.now c.in-Ok.ensures.place
+    (c.index-slot.ensures ∙ ap (λ o. get_or o c.in-Ok.at c.index-slot.result.now) (sym c.deref.ensures.value)) in
+    ap is_some (sym there.3 ∙ ap (λ s. map.get (held s) (c.args.path.now, c.args.stamp)) c.self.view_is)
 
 pub returns-clause-rest : goal.returns-clause-rest
 returns-clause-rest g c =
-    held_left c.self.inside.slots.slots c.self.inside.places c.self.inside.postings c.self.invariant (c.args.path.now, c.args.stamp)
-    c.in-Some.slot c.in-Some-try_remove.page
-    (sym (c.in-Some.ensures ∙ ap (λ t. number_at c.self.inside.places t c.args.stamp) c.text.ensures))
-    (sym c.in-Some-try_remove.ensures.value)
-    c.try_remove.new.self.slots c.take.new.self c.take_from.new.table
-    c.in-Some-try_remove.ensures.updates.changed c.in-Some-try_remove.ensures.updates.others
-    (c.take.ensures ∙ ap (λ t. without_number c.self.inside.places t c.args.stamp) c.text-2.ensures) c.take_from.ensures
+    let is =
+    subst (λ o. IsIndex c.self.inside.last c.self.inside.slots.slots o c.self.inside.postings) (sym c.deref.ensures.value)
+    c.self.invariant in
+    left_held c.self.inside.slots.slots c.self.inside.order.items c.self.inside.postings c.self.invariant
+    c.index-slot.result.now c.in-Some.page (sym c.in-Some.ensures.value) c.try_remove.new.self.slots
+    c.in-Some.ensures.updates.changed c.in-Some.ensures.updates.others
+    ∙ ap (map.remove (held c.self.inside.slots.slots))
+    (has_pair c.self.inside.slots.slots c.deref.result.now c.self.inside.postings is (c.args.path.now, c.args.stamp) c.in-Ok.at
+    c.index-slot.result.now c.in-Ok.ensures.place
+    (c.index-slot.ensures ∙ ap (λ o. get_or o c.in-Ok.at c.index-slot.result.now) (sym c.deref.ensures.value))
+    c.in-Some.page (sym c.in-Some.ensures.value))
     ∙ ap (λ s. map.remove (held s) (c.args.path.now, c.args.stamp)) c.self.view_is

@@ -11,5 +11,5 @@ returns c =
     told c.flagged_lines.result (λ lines is.
     lines_told slots c.args.self.now c.self.invariant c.self.view_is c.args.flags.now
     (entries_of (mapped (slot_at slots) c.deref.result.now))
-    (ap (λ ns. entries_of (mapped (slot_at slots) ns)) c.deref.ensures.value ∙ c.in_ok-slots.ensures) (texts_of lines.items) is)
+    (ap (λ ns. entries_of (mapped (slot_at slots) ns)) c.deref.ensures.value ∙ c.in_ok-slots.ensures.entries) (texts_of lines.items) is)
     c.flagged_lines.ensures
