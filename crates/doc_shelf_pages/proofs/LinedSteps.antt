@@ -106,14 +106,12 @@ module _ (slots : List (Option (Held Lined))) (numbers : List ℕ) (i : ℕ) whe
   left_of n flags = flagged_lines flags (entries_of (mapped (slot_at slots) (drop n numbers)))
 
   -- behind one slot more
-  pub slot_more : (lines new all : List (List ℕ)) (flags left : List Bool) (page : Option (Held Lined)) → i < length numbers
-      → page ≡ slot_at slots (get_or numbers i 0)
+  pub slot_more : (lines new all : List (List ℕ)) (flags left : List Bool) → i < length numbers
       → new ++ left_of (i + 1) left
-      ≡ lines ++ flagged_lines flags (entries_of (page ∷ mapped (slot_at slots) (drop (i + 1) numbers)))
+      ≡ lines ++ flagged_lines flags (entries_of (slot_at slots (get_or numbers i 0) ∷ mapped (slot_at slots) (drop (i + 1) numbers)))
       → lines ++ left_of i flags ≡ all → new ++ left_of (i + 1) left ≡ all
-  slot_more lines new all flags left page within same step before =
+  slot_more lines new all flags left within step before =
       step
-      ∙ ap (λ o. lines ++ flagged_lines flags (entries_of (o ∷ mapped (slot_at slots) (drop (i + 1) numbers)))) same
       ∙ ap (λ ns. lines ++ flagged_lines flags (entries_of (mapped (slot_at slots) ns))) (sym (drop_more numbers i 0 within))
       ∙ before
 

@@ -1,11 +1,10 @@
 //! Renderings with the lines that contents have of their pages.
 
-ghost use Rattle.std.specs.Prelude.{◌≡◌, ◌++◌, ◌∷◌, List as Seq, Option as Maybe, IfOk, map as mapped, option_copied};
+ghost use Rattle.std.specs.Prelude.{◌≡◌, ◌++◌, ◌∷◌, List as Seq, Option as Maybe, All, IfOk, IsTrue, is_some, map as mapped};
 ghost use Rattle.doc_index.specs.Held.{entries_of, slot_at};
 ghost use Rattle.doc_index.specs.declared.held.Held.{Held as Page};
 ghost use Rattle.doc_shelf_pages.specs.RenderingSteps.{flagged_lines, lined, lines_of, texts_of};
 
-use doc_index::held::Held;
 use doc_index::index::Index;
 use doc_listings::push_entry_lines;
 use doc_page_parts::failure::Memory;
@@ -41,43 +40,47 @@ fn lines_of(heap: Heap, path: &Path, headings: &[Heading]) -> Result<Text, Memor
     Text::copy_of(heap, lines.as_str())
 }
 
-/// The lines of the pages in these slots whose flags are set: each page has one flag, in the order of the slots.
+/// The lines of the pages in these slots whose flags are set: each slot has a page, and one flag. A slot is looked into where its flag is set.
 pub fn flagged_lines<'a>(
     heap: Heap,
     pages: &'a Index<Lined>,
     slots: &[u64],
     flags: &[bool],
 ) -> Result<Vec<&'a Text>, Memory>
+    requires { All (λ slot. IsTrue (is_some (slot_at pages.now slot))) slots.now }
     ensures { IfOk result (λ lines. texts_of lines.items
         ≡ flagged_lines flags.now (entries_of (mapped (slot_at pages.now) slots.now))) }
 {
     let mut lines = Vec::with_capacity(heap, flags.len())?;
     let mut left = flags;
-    'slots: for number in slots {
-        left = push_flagged(&mut lines, pages.slot(*number as usize), left)?;
+    'slots: for slot in slots {
+        left = push_flagged(&mut lines, pages, *slot, left)?;
     }
     Ok(lines)
 }
 
-/// Adds the lines of a slot's page, where there is one and the first flag is set; and answers the flags of the pages behind.
+/// Adds the lines of a slot's page, where the first flag is set; and answers the flags of the pages behind.
 fn push_flagged<'a, 'b>(
     lines: &mut Vec<&'a Text>,
-    page: Option<&'a Held<Lined>>,
+    pages: &'a Index<Lined>,
+    slot: u64,
     flags: &'b [bool],
 ) -> Result<&'b [bool], Memory>
+    requires { IsTrue (is_some (slot_at pages.now slot)) }
     ensures { (rest : Seq (Maybe (Page Lined))) → IfOk result (λ left.
         texts_of lines.new.items ++ flagged_lines left.now (entries_of rest)
         ≡ texts_of lines.old.items
-        ++ flagged_lines flags.now (entries_of (option_copied page.entry ∷ rest))) }
+        ++ flagged_lines flags.now (entries_of (slot_at pages.now slot ∷ rest))) }
 {
-    let Some(page) = page else {
-        return Ok(flags);
-    };
     let Some((flag, left)) = flags.split_first() else {
         return Ok(flags);
     };
-    if *flag {
-        lines.push(&page.value.lines)?;
+    if !*flag {
+        return Ok(left);
     }
+    let Some(page) = pages.slot(slot as usize) else {
+        return Ok(left);
+    };
+    lines.push(&page.value.lines)?;
     Ok(left)
 }
