@@ -1,5 +1,5 @@
 -- What front matter and its title make of a text.
-use Rattle.std.proofs.Common.{◌≡◌, ℕ, Bool, true, false, List, [], ◌∷◌, ◌++◌, refl, ap, sym, ◌∙◌, Option, Some, None}
+use Rattle.std.proofs.Common.{◌≡◌, Bool, true, false, List, [], ◌++◌, refl, ap, sym, ◌∙◌, Option, Some, None}
 use Rattle.std.specs.Prelude.{option_and_then, codes, flat_map}
 use Rattle.std.specs.List.{concat}
 use Rattle.std.specs.Str.{chars}

@@ -1,4 +1,4 @@
-use Rattle.std.proofs.Common.{rules, ◌≡◌, true, false, ◌∙◌, sym, ap, [], None, Some, chars}
+use Rattle.std.proofs.Common.{rules, ◌≡◌, true, false, ◌∙◌, sym}
 use Rattle.doc_front.proofs.LineSteps.{closed_here, closed_on, closed_never}
 use Rattle.doc_front.proofs.fences.closed.Goals as goal
 

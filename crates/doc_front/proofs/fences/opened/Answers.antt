@@ -1,4 +1,4 @@
-use Rattle.std.proofs.Common.{rules, ◌≡◌, true, false, ◌∙◌, sym, ap, [], None, Some, chars}
+use Rattle.std.proofs.Common.{rules, ◌≡◌, true, false, ◌∙◌, sym, None}
 use Rattle.doc_front.specs.FrontSteps.{lines_in}
 use Rattle.doc_front.proofs.LineSteps.{opened_first, opened_not, opened_none}
 use Rattle.doc_front.proofs.fences.opened.Goals as goal

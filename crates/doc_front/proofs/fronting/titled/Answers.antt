@@ -1,4 +1,4 @@
-use Rattle.std.proofs.Common.{rules, ◌≡◌, true, false, ◌∙◌, sym, ap, ℕ, List, [], None, Some, chars}
+use Rattle.std.proofs.Common.{rules, ◌≡◌, true, false, ◌∙◌, sym, ap, ℕ, List, Some, chars}
 use Rattle.doc_front.specs.ValueSteps.{value_shown}
 use Rattle.doc_front.proofs.FrontSteps.{has_one, no_title, no_value, title_stands}
 use Rattle.doc_front.proofs.fronting.titled.Goals as goal

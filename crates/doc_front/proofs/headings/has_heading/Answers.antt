@@ -1,4 +1,4 @@
-use Rattle.std.proofs.Common.{rules, ◌≡◌, true, false, ◌∙◌, sym, ap, [], None, Some, chars}
+use Rattle.std.proofs.Common.{rules, ◌≡◌, true, false, ◌∙◌, sym}
 use Rattle.doc_front.proofs.LineSteps.{heading_here, heading_on, heading_never}
 use Rattle.doc_front.proofs.headings.has_heading.Goals as goal
 

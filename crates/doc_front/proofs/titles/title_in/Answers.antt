@@ -1,4 +1,4 @@
-use Rattle.std.proofs.Common.{rules, ◌≡◌, true, false, ◌∙◌, sym, ap, [], None, Some, chars}
+use Rattle.std.proofs.Common.{rules, ◌≡◌, true, false, ◌∙◌, sym}
 use Rattle.doc_front.proofs.LineSteps.{title_ends, title_here, title_on_next, title_never}
 use Rattle.doc_front.proofs.titles.title_in.Goals as goal
 

@@ -1,4 +1,4 @@
-use Rattle.std.proofs.Common.{rules, ◌≡◌, true, false, ◌∙◌, sym, ap, [], None, Some, chars, arith}
+use Rattle.std.proofs.Common.{rules, ◌≡◌, ◌∙◌, None, arith}
 use Rattle.std.proofs.lemmas.Bool.Decides.{nat_tests}
 use Rattle.doc_lines.specs.RestSteps.{rest_of}
 use Rattle.doc_front.proofs.ValueSteps.{before_none, before_mark, before_other}

@@ -1,4 +1,4 @@
-use Rattle.std.proofs.Common.{rules, ◌≡◌, true, false, ◌∙◌, sym, ap, [], ℕ, List, None, Some, chars}
+use Rattle.std.proofs.Common.{rules, ◌∙◌, ap, ℕ, List, Some, chars}
 use Rattle.std.proofs.lemmas.Str.{chars-nil}
 use Rattle.doc_front.proofs.ValueSteps.{made_first, made_on, made_not, made_all, fewer_left}
 use Rattle.doc_front.proofs.values.undoubled.Goals as goal

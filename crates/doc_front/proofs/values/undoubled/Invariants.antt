@@ -1,4 +1,4 @@
-use Rattle.std.proofs.Common.{◌≡◌, ℕ, false, chars, length, string_bytes}
+use Rattle.std.proofs.Common.{◌≡◌, false, chars, length, string_bytes}
 use denote.Text.{Utf8}
 use denote.Shadow.{shadow}
 use Rattle.doc_front.specs.Titles.{single_quoted}
