@@ -17,7 +17,8 @@ Found = Option (List Text × List Text)
 skipped_by : Text → Found → Text
 skipped_by text found = elim found [ None ↦ text | Some front ↦ concat front.1 ]
 
-pub skipped_is : (text behind : Text) (inside : List Text) → Some (inside, lines_of behind) ≡ front_in (lines_of text) → behind ≡ skipped text
+pub skipped_is : (text behind : Text) (inside : List Text) → Some (inside, lines_of behind) ≡ front_in (lines_of text)
+    → behind ≡ skipped text
 unfolding skipped skipped_by
 skipped_is text behind inside e = sym (lines_join behind) ∙ ap (skipped_by text) e
 

@@ -1,5 +1,6 @@
 -- What the first line of a text tells of its front.
-use Rattle.std.proofs.Common.{◌≡◌, ℕ, ◌<◌, ◌==◌, length, chars, arith, eq-eqb, Bool, true, false, List, [], ap, sym, ◌∙◌, Option, Some, None}
+use Rattle.std.proofs.Common.{◌≡◌, ℕ, ◌<◌, ◌==◌, length, chars, arith, eq-eqb, Bool, true, false, List}
+use Rattle.std.proofs.Common.{[], ap, sym, ◌∙◌, Option, Some, None}
 use Rattle.std.specs.Prelude.{◌||◌, ◌&&◌}
 use Rattle.std.specs.Str.{IsUtf8}
 use Rattle.std.proofs.lemmas.Bool.{both_ways}

@@ -1,5 +1,6 @@
 -- What steps over a value tell of it.
-use Rattle.std.proofs.Common.{◌≡◌, ℕ, Bool, true, false, ◌==◌, List, [], ◌∷◌, ◌++◌, refl, ap, sym, ◌∙◌, Option, Some, None, append_assoc, chars, arith, ◌≤◌, ◌<◌, length}
+use Rattle.std.proofs.Common.{◌≡◌, ℕ, Bool, true, false, ◌==◌, List, [], ◌∷◌, ◌++◌, refl, ap, sym, ◌∙◌, Option}
+use Rattle.std.proofs.Common.{Some, None, append_assoc, chars, arith, ◌≤◌, ◌<◌, length}
 use Rattle.std.specs.Prelude.{option_map}
 use Rattle.std.proofs.lemmas.List.{append-nil}
 use Rattle.std.proofs.lemmas.Bool.Decides.{nat_tests}
@@ -123,7 +124,8 @@ made_not whole made text rest c same e f =
     ∙ ap (behind_made made) (sym (ap (single_quoted false) e ∙ unit c rest))
     ∙ same
 
-pub made_all : (whole : Option Text) (made text : Text) → behind_made made (single_quoted false text) ≡ whole → text ≡ [] → Some made ≡ whole
+pub made_all : (whole : Option Text) (made text : Text) → behind_made made (single_quoted false text) ≡ whole → text ≡ []
+    → Some made ≡ whole
 unfolding single_quoted
 made_all whole made text same e =
     ap Some (sym (append-nil made)) ∙ ap (λ (t : Text). behind_made made (single_quoted false t)) (sym e) ∙ same
