@@ -8,18 +8,28 @@ use Rattle.doc_page_parts.specs.Paths.{is_path}
 use Rattle.doc_page_parts.specs.Tokens.{is_token}
 use Rattle.doc_store_readers.specs.declared.readers.ReadersError.TheVariants as readers
 use Rattle.doc_store_readers.specs.Groups.{groups_of_names}
+use Rattle.doc_front.specs.declared.rules.FrontMatter.TheVariants.{Skip, Title}
+use Rattle.doc_front.specs.Front.{none}
 use Rattle.doc_server_config.specs.declared.config.ConfigError.TheVariants.{BadToml, BadReaders, BadSetting, BadPage}
 use Rattle.doc_server_config.specs.declared.page_row.Source.TheVariants.{Text, File}
 use Rattle.doc_server_config.specs.Configurations.{config_of}
 
 -- nothing is said: connections are kept, and so are 64 filled pages; there are no readers and no pages
 empty_text : config_of (codes "")
-    ≡ Ok (record { keep_alive = true; cache = 64; entities = None; readers = map.empty; pages = []; browse = None })
+    ≡ Ok (record { keep_alive = true; cache = 64; entities = None; front = none; readers = map.empty; pages = []; browse = None })
 unfolding toml_on_literals
 empty_text = refl
 
 all_settings : config_of (codes "keep_alive = false\ncache = 4096\nentities = \"e.txt\"\nother = 1\nreader = []\n")
-    ≡ Ok (record { keep_alive = false; cache = 4096; entities = Some (codes "e.txt"); readers = map.empty; pages = []; browse = None })
+    ≡ Ok (record {
+      keep_alive = false;
+      cache = 4096;
+      entities = Some (codes "e.txt");
+      front = none;
+      readers = map.empty;
+      pages = [];
+      browse = None;
+    })
 unfolding toml_on_literals
 all_settings = refl
 
@@ -28,6 +38,7 @@ pages_in_order : config_of (codes "[[page]]\npath = \"b.md\"\ngroups = [\"ops\"]
       keep_alive = true;
       cache = 64;
       entities = None;
+      front = none;
       readers = map.empty;
       pages = record { path = codes "b.md"; groups = codes "ops" ∷ []; source = Text (codes "x") }
           ∷ record { path = codes "a.md"; groups = []; source = File (codes "f") } ∷ [];
@@ -35,6 +46,40 @@ pages_in_order : config_of (codes "[[page]]\npath = \"b.md\"\ngroups = [\"ops\"]
     })
 unfolding toml_on_literals is_path chars groups_of_names
 pages_in_order = refl
+
+fronts :
+    (config_of (codes "[markdown]\nfront_matter = \"title\"\nskip_bom = true\n")
+    ≡ Ok (record {
+      keep_alive = true;
+      cache = 64;
+      entities = None;
+      front = record { skip_bom = true; front_matter = Title };
+      readers = map.empty;
+      pages = [];
+      browse = None;
+    }))
+    × (config_of (codes "[markdown]\nfront_matter = \"skip\"\n")
+    ≡ Ok (record {
+      keep_alive = true;
+      cache = 64;
+      entities = None;
+      front = record { skip_bom = false; front_matter = Skip };
+      readers = map.empty;
+      pages = [];
+      browse = None;
+    }))
+unfolding toml_on_literals
+fronts = (refl, refl)
+
+-- no table, another key, and other values
+bad_fronts :
+    (config_of (codes "markdown = 1") ≡ Err BadSetting)
+    × (config_of (codes "[markdown]\ntitle = true\n") ≡ Err BadSetting)
+    × (config_of (codes "[markdown]\nfront_matter = \"keep\"\n") ≡ Err BadSetting)
+    × (config_of (codes "[markdown]\nfront_matter = true\n") ≡ Err BadSetting)
+    × (config_of (codes "[markdown]\nskip_bom = \"true\"\n") ≡ Err BadSetting)
+unfolding toml_on_literals
+bad_fronts = (refl, refl, refl, refl, refl)
 
 no_toml : config_of (codes "cache = ") ≡ Err BadToml
 unfolding toml_on_literals

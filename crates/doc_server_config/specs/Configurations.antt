@@ -19,6 +19,7 @@ config_with settings readers pages =
       keep_alive = settings.keep_alive;
       cache = settings.cache;
       entities = settings.entities;
+      front = settings.front;
       readers = readers;
       pages = pages;
       browse = None;

@@ -13,3 +13,4 @@ pub mod Overlaps
 pub mod OverlapSteps
 pub mod FolderPages
 pub mod Browsing
+pub mod Markdown
