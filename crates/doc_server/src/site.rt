@@ -34,6 +34,7 @@ pub fn site_hub<R: Renderer + Drop>(
         keep_alive,
         cache,
         entities: _,
+        front: _,
         readers,
         pages,
         browse,
