@@ -57,7 +57,11 @@ pub fn run_listen<
     match read_bounded(rt, command.config) {
         Ok(Bounded { site, bounds }) => {
             let Site { pages, entities } = site;
-            let renderer: CommonMark<L> = CommonMark::with_front(entities, blank, pages.config.front);
+            let renderer: CommonMark<L> = CommonMark::with_front(
+                entities,
+                blank,
+                pages.config.front,
+            );
             status_of(rt, listen_with(rt, renderer, pages, bounds, command))
         }
         Err(fault) => status_of(rt, Err(fault)),
