@@ -1,9 +1,14 @@
 -- The definitions on worked examples.
-use Rattle.std.proofs.Common.{◌≡◌, codes, refl}
-use Rattle.std.specs.Prelude.{Some, None}
+use Rattle.std.proofs.Common.{◌≡◌, ℕ, List, [], ◌∷◌, true, false, codes, refl}
+use Rattle.std.specs.Prelude.{Option, Some, None, Ok, Err}
 use Rattle.std.specs.Path.{rsplit_once}
-use Rattle.doc_media.specs.declared.kind.MediaKind.TheVariants.{Png, Jpeg, Gz, Pdf, Svg}
-use Rattle.doc_media.specs.Kinds.{kind_of}
+use Rattle.doc_media.specs.declared.kind.MediaKind.TheVariants.{Png, Jpeg, Ico, Gz, Pdf, Svg, Txt, Csv}
+use Rattle.doc_media.specs.declared.manner.Manner.TheVariants.{Shown, Boxed, Saved}
+use Rattle.doc_media.specs.declared.media.MediaError.TheVariants.{Taken, MediaFull}
+use Rattle.doc_media.specs.Held.{fits, media_limit, medium_limit}
+use Rattle.doc_media.specs.Kinds.{content_type, kind_of, manner_of}
+use Rattle.doc_media.specs.Media.{Beside, goal_beside, medium_in}
+use Rattle.doc_store_readers.specs.Pages.{Page}
 
 -- ---- kinds
 
@@ -58,3 +63,67 @@ other_extension = refl
 picture_behind_a_picture : kind_of (codes "a.png.svg") ≡ Some Svg
 unfolding kind_of rsplit_once
 picture_behind_a_picture = refl
+
+-- ---- how media are told and taken
+
+icon : content_type Ico ≡ codes "image/vnd.microsoft.icon"
+icon = refl
+
+text : content_type Txt ≡ codes "text/plain; charset=utf-8"
+text = refl
+
+drawing : manner_of Svg ≡ Boxed
+drawing = refl
+
+document : manner_of Pdf ≡ Shown
+document = refl
+
+table : manner_of Csv ≡ Saved
+table = refl
+
+-- ---- what stands beside a view
+
+abbrev picture : Page
+picture = record { groups = codes "staff" ∷ []; text = codes "8 bytes!" }
+
+-- what the readers of the group `staff` see
+abbrev staff : Beside
+staff = Some ((codes "guide/pic.png", picture) ∷ [])
+
+-- no path leads to a page
+abbrev no_page : List ℕ → Option (List ℕ)
+no_page path = None
+
+seen_medium : medium_in staff (codes "guide/pic.png") ≡ Some picture
+seen_medium = refl
+
+absent_medium : medium_in staff (codes "guide/none.png") ≡ None
+absent_medium = refl
+
+no_media : medium_in None (codes "guide/pic.png") ≡ None
+no_media = refl
+
+link_to_a_medium : goal_beside no_page staff (codes "guide/pic.png") ≡ Some (codes "guide/pic.png")
+link_to_a_medium = refl
+
+link_to_none : goal_beside no_page staff (codes "guide/none.png") ≡ None
+link_to_none = refl
+
+link_to_a_hidden_medium : goal_beside no_page (Some []) (codes "guide/pic.png") ≡ None
+link_to_a_hidden_medium = refl
+
+link_to_a_page : goal_beside (λ _. Some (codes "guide/start.md")) staff (codes "guide/old.md") ≡ Some (codes "guide/start.md")
+link_to_a_page = refl
+
+-- ---- what is refused
+
+taken_comes_first : fits true 10000 [] ≡ Err Taken
+taken_comes_first = refl
+
+too_many : fits false 10000 [] ≡ Err MediaFull
+unfolding media_limit medium_limit
+too_many = refl
+
+the_last : fits false 9999 [] ≡ Ok tt
+unfolding media_limit medium_limit
+the_last = refl

@@ -1,6 +1,6 @@
 //! Media by their paths.
 
-ghost use Rattle.std.specs.Prelude.{◌≡◌, ◌<◌, ◌^◌, OnOk, OnErr, option_copied};
+ghost use Rattle.std.specs.Prelude.{◌≡◌, OnOk, OnErr, option_copied};
 ghost use Rattle.std.specs.FinMap as map;
 
 use crate::medium::Medium;
@@ -39,8 +39,7 @@ impl HeldMedia {
     }
 
     pub fn len(&self) -> usize
-        ensures len { result ≡ map.len self.now }
-        ensures small { result < 2 ^ 63 }
+        ensures { result ≡ map.len self.now }
     {
         self.entries.len()
     }

@@ -88,7 +88,7 @@ impl Media {
     }
 
     /// Adds a medium under a path that names its kind. Refused are, in this order, `Taken`, `TooLong`, `MediaFull` and
-    /// `Memory`; then nothing changes.
+    /// `Memory`; then nothing changes. How many bytes the media may have together is for the caller to bound.
     pub fn add(
         &mut self,
         path: &Path,

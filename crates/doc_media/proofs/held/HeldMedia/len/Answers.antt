@@ -5,7 +5,7 @@ use Rattle.std.proofs.lemmas.Map.Lookups.{exact_bytes}
 use Rattle.doc_page_parts.proofs.Maps.{len-sorted}
 use Rattle.doc_media.proofs.held.HeldMedia.len.Goals as goal
 
-pub returns-clause-len : goal.returns-clause-len
-returns-clause-len c =
+pub returns : goal.returns
+returns c =
     c.len.ensures.len ∙ len-sorted nat_list_cmp_total exact_bytes c.self.inside.entries.entries c.len.ensures.ordered
     ∙ ap map.len c.self.view_is
