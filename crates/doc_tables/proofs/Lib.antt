@@ -1,0 +1,6 @@
+mod Computing
+mod TableExamples
+pub mod PartLaws
+pub mod CellLaws
+pub mod AlignmentLaws
+pub mod ColumnLaws

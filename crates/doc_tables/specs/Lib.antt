@@ -1,0 +1,3 @@
+pub mod TableRows
+pub mod CellSteps
+pub mod ColumnSteps
