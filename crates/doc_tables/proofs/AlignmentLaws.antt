@@ -27,20 +27,20 @@ no_colon (c ∷ rest) e = at (c == 58) e
 by_pair : Bool → ℕ → ℕ → Text → Text
 by_pair b c d rest = elim b [ true ↦ d ∷ unescape_pipes rest | false ↦ c ∷ unescape_pipes (d ∷ rest) ]
 
-empty_stays : unescape_pipes [] ≡ []
+pub empty_stays : unescape_pipes [] ≡ []
 unfolding unescape_pipes
 empty_stays = refl
 
-single_stays : (c : ℕ) → unescape_pipes (c ∷ []) ≡ c ∷ []
+pub single_stays : (c : ℕ) → unescape_pipes (c ∷ []) ≡ c ∷ []
 unfolding unescape_pipes
 single_stays c = refl
 
 -- two characters that are no such pair
-no_pair : (c d : ℕ) (rest : Text) → ((c == 92) && (d == 124)) ≡ false → unescape_pipes (c ∷ d ∷ rest) ≡ c ∷ unescape_pipes (d ∷ rest)
+pub no_pair : (c d : ℕ) (rest : Text) → ((c == 92) && (d == 124)) ≡ false → unescape_pipes (c ∷ d ∷ rest) ≡ c ∷ unescape_pipes (d ∷ rest)
 unfolding unescape_pipes by_pair
 no_pair c d rest e = ap (λ (b : Bool). by_pair b c d rest) e
 
-is_pair : (c d : ℕ) → ((c == 92) && (d == 124)) ≡ true → (c ≡ 92) × (d ≡ 124)
+pub is_pair : (c d : ℕ) → ((c == 92) && (d == 124)) ≡ true → (c ≡ 92) × (d ≡ 124)
 is_pair c d e = at (c == 92) (d == 124) refl refl e
   where
     at : (x y : Bool) → (c == 92) ≡ x → (d == 124) ≡ y → (x && y) ≡ true → (c ≡ 92) × (d ≡ 124)

@@ -115,64 +115,64 @@ none_at_all (one ∷ made) whole cells same e f = absurd (omega (arith, f))
 
 -- ---- with a header
 
-table_by : Text → Columns → Bool → Option TableSource
-table_by header columns b = elim b [
+unfoldable pub table_by : Text → List Text → Columns → Bool → Option TableSource
+table_by header rows columns b = elim b [
   | false ↦ None
   | true ↦ Some (record {
     columns = columns;
     header = cells_of_line header;
-    rows = map (λ line. take (length columns) (cells_of_line line)) [];
+    rows = map (λ line. take (length columns) (cells_of_line line)) rows;
   })
 ]
 
-table_among : Text → Option Columns → Option TableSource
-table_among header found = elim found [
+unfoldable pub table_among : Text → List Text → Option Columns → Option TableSource
+table_among header rows found = elim found [
   | None ↦ None
-  | Some columns ↦ table_by header columns (has_columns columns && (length (cells_of_line header) == length columns))
+  | Some columns ↦ table_by header rows columns (has_columns columns && (length (cells_of_line header) == length columns))
 ]
 
-columns_in : Option TableSource → Option Columns
+abbrev pub columns_in : Option TableSource → Option Columns
 columns_in table = option_map (λ (t : TableSource). t.columns) table
 
-begins : (header : Text) (columns : Columns) (x y : Bool) → columns_in (table_by header columns (x && y))
+begins : (header : Text) (columns : Columns) (x y : Bool) → columns_in (table_by header [] columns (x && y))
     ≡ option_and_then (λ (found : Columns). columns_by found y) (columns_by columns x)
-unfolding table_by columns_in
+unfolding table_by
 begins header columns true true = refl
 begins header columns true false = refl
 begins header columns false y = refl
 
 columns_of_table : (header delimiters : Text)
-    → columns_with header delimiters ≡ columns_in (table_among header (alignments_of (cells_of_line delimiters)))
-unfolding table_with table_among table_by columns_in
+    → columns_with header delimiters ≡ columns_in (table_among header [] (alignments_of (cells_of_line delimiters)))
+unfolding table_with table_among table_by
 columns_of_table header delimiters = refl
 
 -- no delimiter row, and so no table
 pub no_row : (header delimiters : Text) → None ≡ columns_of (cells_of_line delimiters) → None ≡ columns_with header delimiters
-unfolding table_among columns_in
+unfolding table_among
 no_row header delimiters e = sym (columns_of_table header delimiters ∙ at (alignments_of (cells_of_line delimiters)) e)
   where
-    at : (found : Option Columns) → None ≡ option_and_then some_columns found → columns_in (table_among header found) ≡ None
+    at : (found : Option Columns) → None ≡ option_and_then some_columns found → columns_in (table_among header [] found) ≡ None
     at None f = refl
     at (Some columns) f = of (has_columns columns) f
       where
         of : (x : Bool) → None ≡ columns_by columns x
-            → columns_in (table_by header columns (x && (length (cells_of_line header) == length columns))) ≡ None
+            → columns_in (table_by header [] columns (x && (length (cells_of_line header) == length columns))) ≡ None
         of true g = absurd cc
         of false g = begins header columns false true
 
 -- a delimiter row, with as many cells as the header or not
 pub row_is : (header delimiters : Text) (columns : Columns) (n : ℕ) (y : Bool) → Some columns ≡ columns_of (cells_of_line delimiters)
     → n ≡ length columns → y ≡ (length (cells_of_line header) == n) → columns_by columns y ≡ columns_with header delimiters
-unfolding table_among columns_in
+unfolding table_among
 row_is header delimiters columns n y e size f = sym (columns_of_table header delimiters ∙ at (alignments_of (cells_of_line delimiters)) e)
   where
     at : (found : Option Columns) → Some columns ≡ option_and_then some_columns found
-        → columns_in (table_among header found) ≡ columns_by columns y
+        → columns_in (table_among header [] found) ≡ columns_by columns y
     at None g = absurd cc
     at (Some others) g = of (has_columns others) g
       where
         of : (x : Bool) → Some columns ≡ columns_by others x
-            → columns_in (table_by header others (x && (length (cells_of_line header) == length others))) ≡ columns_by columns y
+            → columns_in (table_by header [] others (x && (length (cells_of_line header) == length others))) ≡ columns_by columns y
         of true h =
             let same : columns ≡ others = cc in
             begins header others true (length (cells_of_line header) == length others)

@@ -4,3 +4,4 @@ pub mod PartLaws
 pub mod CellLaws
 pub mod AlignmentLaws
 pub mod ColumnLaws
+pub mod TableLaws

@@ -5,27 +5,7 @@ use Rattle.std.proofs.lemmas.List.{append_cancel_right}
 use Rattle.doc_rules.specs.Characters.{Text}
 use Rattle.doc_rules.specs.Parsers.{is}
 use Rattle.doc_tables.specs.CellSteps.{end_of_part, parts_in}
-use Rattle.doc_tables.specs.TableRows.{parts_behind, parts, without_pipe}
-
--- ---- a '|' at the front
-
-pub pipe_goes : (line rest : Text) → Some rest ≡ is 124 line → rest ≡ without_pipe line
-unfolding without_pipe
-pipe_goes [] rest e = absurd cc
-pipe_goes (c ∷ behind) rest e = at (c == 124) e
-  where
-    at : (b : Bool) → Some rest ≡ (elim b [ true ↦ Some behind | false ↦ None ]) → rest ≡ (elim b [ true ↦ behind | false ↦ c ∷ behind ])
-    at true f = cc
-    at false f = absurd cc
-
-pub no_pipe : (line : Text) → None ≡ is 124 line → line ≡ without_pipe line
-unfolding without_pipe
-no_pipe [] e = refl
-no_pipe (c ∷ behind) e = at (c == 124) e
-  where
-    at : (b : Bool) → ◌≡◌ {A = Option Text} None (elim b [ true ↦ Some behind | false ↦ None ]) → c ∷ behind ≡ (elim b [ true ↦ behind | false ↦ c ∷ behind ])
-    at true f = absurd cc
-    at false f = refl
+use Rattle.doc_tables.specs.TableRows.{parts_behind, parts}
 
 -- ---- where the first part ends
 

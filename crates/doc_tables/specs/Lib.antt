@@ -1,3 +1,4 @@
 pub mod TableRows
 pub mod CellSteps
 pub mod ColumnSteps
+pub mod Laws

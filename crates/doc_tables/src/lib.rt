@@ -4,4 +4,5 @@
 pub mod alignment;
 pub mod cells;
 pub mod columns;
+pub mod laws;
 mod parts;
