@@ -5,3 +5,4 @@ pub mod CellLaws
 pub mod AlignmentLaws
 pub mod ColumnLaws
 pub mod TableLaws
+pub mod UnescapeLaws

@@ -1,7 +1,7 @@
 -- The cells of a line, seen one by one.
-use Rattle.std.specs.Prelude.{Bool, true, false, not, ◌&&◌, ◌==◌, List, [], ◌∷◌, map, Option, Some, None, chars, codes}
+use Rattle.std.specs.Prelude.{ℕ, Bool, true, false, not, ◌&&◌, ◌==◌, List, [], ◌∷◌, map, Option, Some, None, chars, codes}
 use Rattle.doc_rules.specs.Characters.{Text, is_space_or_tab, is_blank_text, strip}
-use Rattle.doc_rules.specs.Parsers.{word, holds}
+use Rattle.doc_rules.specs.Parsers.{is, word, holds}
 use Rattle.doc_lines.specs.RestSteps.{rest_of}
 use Rattle.doc_tables.specs.declared.cells.Cell.{Cell}
 use Rattle.doc_tables.specs.declared.cells.Cells.{Cells}
@@ -46,3 +46,7 @@ has_escaped_pipe text = holds (word (codes "\\|")) text
 -- what is read of a cell
 abbrev pub cell_text : Cell → Text
 cell_text cell = unescape_pipes (chars cell.source.now)
+
+-- what stands behind a '|' that this character stands before, where it is a backslash
+unfoldable pub behind_pair : ℕ → Text → Option Text
+behind_pair c rest = elim (c == 92) [ true ↦ is 124 rest | false ↦ None ]

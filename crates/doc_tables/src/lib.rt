@@ -6,3 +6,4 @@ pub mod cells;
 pub mod columns;
 pub mod laws;
 mod parts;
+pub mod unescaping;
