@@ -6,4 +6,6 @@ pub mod cells;
 pub mod columns;
 pub mod laws;
 mod parts;
+#[cfg(test)]
+mod tests;
 pub mod unescaping;
