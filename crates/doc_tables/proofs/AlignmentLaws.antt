@@ -139,9 +139,6 @@ unfolding dashes
 same_dashes text = ap colon_end (same_strip text) ∙ same_end (behind_dashes text)
 
 -- one dash at least
-some_by : Bool → Text → Option Bool
-some_by b rest = elim b [ true ↦ dashes rest | false ↦ None ]
-
 pair_some : (rest : Text) → some_dashes (unescape_pipes (92 ∷ 124 ∷ rest)) ≡ some_dashes (92 ∷ 124 ∷ rest)
 unfolding unescape_pipes some_dashes
 pair_some rest = refl

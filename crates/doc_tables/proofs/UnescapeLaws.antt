@@ -5,7 +5,6 @@ use Rattle.std.specs.Prelude.{◌&&◌}
 use Rattle.std.proofs.lemmas.Bool.Decides.{nat_tests}
 use Rattle.std.proofs.lemmas.List.{append-nil}
 use Rattle.doc_rules.specs.Characters.{Text}
-use Rattle.doc_rules.specs.Parsers.{is}
 use Rattle.doc_tables.specs.CellSteps.{behind_pair}
 use Rattle.doc_tables.specs.TableRows.{unescape_pipes}
 use Rattle.doc_tables.proofs.AlignmentLaws.{empty_stays, single_stays, no_pair}
@@ -14,13 +13,6 @@ use Rattle.doc_tables.proofs.AlignmentLaws.{empty_stays, single_stays, no_pair}
 
 found_by : Bool → Text → Option Text
 found_by b rest = elim b [ true ↦ Some rest | false ↦ None ]
-
-pair_by : Bool → Text → Option Text
-pair_by b rest = elim b [ true ↦ is 124 rest | false ↦ None ]
-
-and_false : (a b : Bool) → b ≡ false → (a && b) ≡ false
-and_false true b e = e
-and_false false b e = refl
 
 first_pair : (rest : Text) → unescape_pipes (92 ∷ 124 ∷ rest) ≡ 124 ∷ unescape_pipes rest
 unfolding unescape_pipes
