@@ -65,10 +65,12 @@ pub no_more : (made : Columns) (whole : Option Columns) (cells more : List Text)
     → whole ≡ option_and_then some_columns (behind_made made (alignments_of cells)) → cells ≡ cell ∷ more → length made ≡ 100 → None ≡ whole
 unfolding alignments_by
 no_more made whole cells more cell same e f =
-    sym (same ∙ ap (λ (o : Option Columns). option_and_then some_columns (behind_made made o)) (first_of cells more cell (alignment_of cell) e refl)
+    sym (same
+    ∙ ap (λ (o : Option Columns). option_and_then some_columns (behind_made made o)) (first_of cells more cell (alignment_of cell) e refl)
     ∙ at (alignment_of cell) (alignments_of more))
   where
-    at : (found : Option Alignment) (rest : Option Columns) → option_and_then some_columns (behind_made made (alignments_by found rest)) ≡ None
+    at : (found : Option Alignment) (rest : Option Columns)
+        → option_and_then some_columns (behind_made made (alignments_by found rest)) ≡ None
     at None rest = refl
     at (Some one) None = refl
     at (Some one) (Some rest) =

@@ -8,7 +8,8 @@ use Rattle.doc_tables.specs.declared.alignment.Alignment.{Alignment}
 use Rattle.doc_tables.specs.CellSteps.{has_escaped_pipe}
 use Rattle.doc_tables.specs.ColumnSteps.{columns_with}
 use Rattle.doc_tables.specs.Laws.{StandsForItself, TwoLinesBegin, GrowsByLines, LinesJoin}
-use Rattle.doc_tables.specs.TableRows.{alignments_of, cells_of_line, has_columns, TableSource, table_with, table_in, text_lines, unescape_pipes}
+use Rattle.doc_tables.specs.TableRows.{alignments_of, cells_of_line, has_columns, TableSource, table_with, table_in, text_lines}
+use Rattle.doc_tables.specs.TableRows.{unescape_pipes}
 use Rattle.doc_tables.proofs.ColumnLaws.{table_by, table_among, columns_in}
 use Rattle.doc_tables.proofs.AlignmentLaws.{empty_stays, single_stays, no_pair, is_pair}
 
@@ -70,7 +71,8 @@ columns_tell : (table : Option TableSource) → is_some table ≡ is_some (colum
 columns_tell None = refl
 columns_tell (Some table) = refl
 
-begun : (header delimiters : Text) (rows : List Text) → is_some (table_with header delimiters rows) ≡ is_some (columns_with header delimiters)
+begun : (header delimiters : Text) (rows : List Text)
+    → is_some (table_with header delimiters rows) ≡ is_some (columns_with header delimiters)
 begun header delimiters rows =
     columns_tell (table_with header delimiters rows)
     ∙ ap (λ (found : Option (List Alignment)). is_some found) (two_lines_begin header delimiters rows)
@@ -119,7 +121,8 @@ grows_by_lines (line ∷ second ∷ more) last next =
 
 -- ---- the lines of a text
 
-onto_more : (c : ℕ) (line : Text) (lines more whole : List Text) → whole ≡ line ∷ lines → onto_first c (whole ++ more) ≡ onto_first c whole ++ more
+onto_more : (c : ℕ) (line : Text) (lines more whole : List Text) → whole ≡ line ∷ lines
+    → onto_first c (whole ++ more) ≡ onto_first c whole ++ more
 unfolding onto_first
 onto_more c line lines more whole e =
     ap (λ (l : List Text). onto_first c (l ++ more)) e ∙ sym (ap (λ (l : List Text). onto_first c l ++ more) e)

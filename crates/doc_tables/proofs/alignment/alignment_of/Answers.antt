@@ -6,4 +6,6 @@ use Rattle.doc_tables.proofs.alignment.alignment_of.Goals as goal
 
 pub returns-in_ok-some_dashes-in-None : goal.returns-in_ok-some_dashes-in-None
 returns-in_ok-some_dashes-in-None c =
-    ap Some c.aligned-in-None.ensures ∙ ap (option_map (aligned false)) c.in_ok-some_dashes-in-None.ensures ∙ sym (no_colon _ c.in-None.ensures)
+    ap Some c.aligned-in-None.ensures
+    ∙ ap (option_map (aligned false)) c.in_ok-some_dashes-in-None.ensures
+    ∙ sym (no_colon _ c.in-None.ensures)
