@@ -4,7 +4,7 @@ use crate::columns::table_columns;
 use crate::unescaping::unescaped;
 use std::test::Fail;
 
-/// As cmark-gfm 0.29.0.gfm.6 aligns them.
+/// By the rules of section 4.10: a cell with a `\|` is one cell, and colons align.
 #[test]
 fn columns(rt: HostRuntime) -> Result<(), Fail> {
     let found = table_columns(rt.alloc(), "| a | b\\|c |", ":-|-:")?;
