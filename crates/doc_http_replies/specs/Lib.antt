@@ -4,6 +4,7 @@ pub mod ReplyForms
 pub mod ReplySteps
 pub mod Heads
 pub mod PeopleReplies
+pub mod PieceSteps
 pub mod EditReplies
 pub mod Manners
 pub mod Laws

@@ -12,6 +12,7 @@ pub mod laws;
 mod lines;
 pub mod manner;
 pub mod people_reply;
+pub mod pieces;
 pub mod policies;
 pub mod reply;
 pub mod reply_form;

@@ -173,7 +173,7 @@ fn push_allow(out: &mut String, allow: Option<Allow>) -> Result<(), Memory>
 }
 
 /// The type of the content.
-fn content_type(html: bool) -> &'static str
+pub fn content_type(html: bool) -> &'static str
     ensures { result.now ≡ type_of html }
 {
     if html {

@@ -1,6 +1,7 @@
 //! One request, how the reply to it is written, and whether a put that it asks for is taken.
 
 ghost use Rattle.std.specs.Prelude.{◌≡◌, IfOk, None};
+ghost use Rattle.doc_http_replies.specs.PieceSteps.{content_in};
 ghost use Rattle.doc_http_replies.specs.ReplyForms.{code_of, content_reply, reply_of};
 ghost use Rattle.doc_hub_answers.specs.AnswerSteps.{sent_in};
 ghost use Rattle.doc_hub_answers.specs.Replies.{only_reply, refused};
@@ -12,6 +13,7 @@ use doc_http::reply_form::ReplyForm;
 use doc_http::request::Request;
 use doc_http::status::Status;
 use doc_http_replies::manner::Manner;
+use doc_http_replies::pieces::{Pieces, write_pieces};
 use doc_page_parts::bytes::Bytes;
 use doc_page_parts::failure::Memory;
 use doc_page_parts::heap::Heap;
@@ -56,6 +58,15 @@ impl Exchange<'_> {
     {
         let bytes = text.get().as_bytes();
         let reply = write_content(self.heap, html, bytes, self.manner)?;
+        Ok(self.sent(reply))
+    }
+
+    /// The answer that these texts are together, HTML or else plain, after no edit.
+    pub fn pieces(&self, html: bool, pieces: &Pieces) -> Result<Answer, Memory>
+        ensures { IfOk result
+            (λ a. a ≡ sent_in self.now (only_reply (content_reply html (content_in pieces.now)))) }
+    {
+        let reply = write_pieces(self.heap, html, pieces, self.manner)?;
         Ok(self.sent(reply))
     }
 

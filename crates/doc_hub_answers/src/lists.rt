@@ -15,8 +15,10 @@ use crate::exchange::Exchange;
 use crate::goals::goal_answer;
 use doc_http::request::Request;
 use doc_http::status::Status;
+use doc_http_replies::pieces::Pieces;
 use doc_http_targets::query::parameter;
 use doc_http_targets::written_path::written_path;
+use doc_listings::{CONTENTS_END, CONTENTS_FRONT};
 use doc_page::renderer::Renderer;
 use doc_page_parts::failure::Memory;
 use doc_page_parts::heap::Heap;
@@ -36,7 +38,15 @@ pub fn contents_answer<R: Renderer + Drop>(
     ensures { IfOk result (λ a. a ≡ sent_in exchange.now (only_reply (html_reply (contents_body
         (R.page shelf.now.0) (view_of shelf.now.1.site (Some reader.now)))))) }
 {
-    exchange.content(true, &shelf.contents(reader)?)
+    let lines = shelf.contents(reader)?;
+    exchange.pieces(
+        true,
+        &Pieces {
+            front: CONTENTS_FRONT,
+            texts: &lines,
+            end: CONTENTS_END,
+        },
+    )
 }
 
 /// The pages that the reader sees with links to the page that the rest of a target writes, where they see that; or where its

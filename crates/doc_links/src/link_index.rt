@@ -67,10 +67,10 @@ impl Model for LinkIndex {
 
     ghost view = { λ i. without_counts i.pages };
 
-    ghost use Rattle.doc_links.specs.NumberingSteps.{HasNumbers};
+    ghost use Rattle.doc_links.specs.NumberingSteps.{HasNamed, HasNumbers};
     ghost use Rattle.doc_links_seen.specs.SeenSteps.{AreKeyed};
 
-    ghost invariant = { λ i. AreKeyed i.pages × HasNumbers i.pages i.numbering };
+    ghost invariant = { λ i. AreKeyed i.pages × HasNumbers i.pages i.numbering × HasNamed i.numbering };
 }
 
 impl LinkIndex {
@@ -209,6 +209,7 @@ impl LinkIndex {
             &slots,
             &self.numbering.names,
             &self.numbering.numbers,
+            &self.numbering.named,
             sight,
         )
     }

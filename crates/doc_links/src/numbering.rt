@@ -5,7 +5,7 @@ ghost use Rattle.std.specs.FinMap as map;
 ghost use Rattle.doc_index.specs.Held.{AreApart, held, known_as, slot_at};
 ghost use Rattle.doc_index.specs.declared.held.Held.{Held as HeldPage};
 ghost use Rattle.doc_index_tables.specs.Maps.{text_map};
-ghost use Rattle.doc_links.specs.NumberingSteps.{HasNumbers, IsGone};
+ghost use Rattle.doc_links.specs.NumberingSteps.{HasNamed, HasNumbers, IsGone};
 ghost use Rattle.doc_links_pages.specs.declared.page_links.PageLinks.{PageLinks};
 ghost use Rattle.doc_links_seen.specs.Numbered.{numbers_at};
 
@@ -14,25 +14,29 @@ use doc_index::index::Index;
 use doc_links_names::names::Names;
 use doc_links_names::page_numbers::PageNumbers;
 use doc_links_pages::known::Known;
+use doc_links_seen::named::Named;
 use doc_page_parts::failure::Memory;
 use doc_page_parts::heap::{BTreeMap, Heap, String, Vec};
 use doc_page_parts::path::Path;
 
-/// The numbers of pages by their slots, and the names that are numbered.
+/// The numbers of pages by their slots, the names that are numbered, and which page an anchor leads to.
 #[derive(Drop)]
 pub struct Numbering {
     pub(crate) names: Names,
     pub(crate) numbers: Vec<Option<PageNumbers>>,
+    pub(crate) named: Named,
 }
 
 impl Numbering {
     /// No page has numbers. It takes no memory.
     pub(crate) fn new(heap: Heap) -> Numbering
-        ensures { (slots : Seq (Maybe (HeldPage PageLinks))) → HasNumbers slots result }
+        ensures numbered { (slots : Seq (Maybe (HeldPage PageLinks))) → HasNumbers slots result }
+        ensures named { HasNamed result }
     {
         Numbering {
             names: Names::new(heap),
             numbers: Vec::new(heap),
+            named: Named::new(heap),
         }
     }
 
@@ -40,15 +44,17 @@ impl Numbering {
     fn enter(&mut self, heap: Heap, slot: usize, page: &Held<Known>) -> Result<(), Memory>
         ensures numbered { (slots : Seq (Maybe (HeldPage PageLinks))) → slot_at slots slot ≡ Some page.now
             → HasNumbers slots self.old → HasNumbers slots self.new }
+        ensures named { HasNamed self.old → HasNamed self.new }
         ensures gone { OnErr result (numbers_at self.new.numbers.items slot ≡ None) }
     {
-        clear(&mut self.numbers, slot);
+        self.forget(slot);
         make_room(&mut self.numbers, slot)?;
         let Ok(numbers) = PageNumbers::of(heap, &mut self.names, slot, &page.path, &page.value)
         else {
             PageNumbers::leave(&mut self.names, slot, &page.path, &page.value);
             return Err(Memory);
         };
+        self.named.enter(slot, &numbers);
         self.numbers[slot] = Some(numbers);
         Ok(())
     }
@@ -57,21 +63,28 @@ impl Numbering {
     fn leave(&mut self, slot: usize, page: &Held<Known>)
         ensures numbered { (slots : Seq (Maybe (HeldPage PageLinks)))
             → HasNumbers slots self.old → HasNumbers slots self.new }
+        ensures named { HasNamed self.old → HasNamed self.new }
         ensures gone { numbers_at self.new.numbers.items slot ≡ None }
     {
-        clear(&mut self.numbers, slot);
+        self.forget(slot);
         PageNumbers::leave(&mut self.names, slot, &page.path, &page.value);
     }
-}
 
-/// A slot has no numbers.
-fn clear(numbers: &mut Vec<Option<PageNumbers>>, slot: usize)
-    ensures gone { numbers_at numbers.new.items slot ≡ None }
-    ensures others { (i : ℕ) → i ≢ slot
-        → numbers_at numbers.new.items i ≡ numbers_at numbers.old.items i }
-{
-    if slot < numbers.len() {
-        numbers[slot] = None;
+    /// A slot has no numbers, and no anchor leads to it. It takes no memory.
+    fn forget(&mut self, slot: usize)
+        ensures names { self.new.names ≡ self.old.names }
+        ensures gone { numbers_at self.new.numbers.items slot ≡ None }
+        ensures others { (i : ℕ) → i ≢ slot
+            → numbers_at self.new.numbers.items i ≡ numbers_at self.old.numbers.items i }
+        ensures named { HasNamed self.old → HasNamed self.new }
+    {
+        if slot >= self.numbers.len() {
+            return;
+        }
+        if let Some(numbers) = &self.numbers[slot] {
+            self.named.leave(slot, numbers);
+        }
+        self.numbers[slot] = None;
     }
 }
 
@@ -101,6 +114,7 @@ pub(crate) fn add_numbered(
         ≡ map.insert (held pages.old) (path.now, stamp) (known_as known (text_map keys.now))) }
     ensures err { OnErr result (held pages.new ≡ held pages.old) }
     ensures numbered { HasNumbers pages.old numbering.old → HasNumbers pages.new numbering.new }
+    ensures named { HasNamed numbering.old → HasNamed numbering.new }
 {
     pages.add(path, stamp, known, keys)?;
     let Err(refused) = enter_page(heap, pages, numbering, path, stamp) else {
@@ -120,6 +134,7 @@ fn enter_page(
 ) -> Result<(), Memory>
     ensures apart { AreApart pages.now }
     ensures numbered { HasNumbers pages.now numbering.old → HasNumbers pages.now numbering.new }
+    ensures named { HasNamed numbering.old → HasNamed numbering.new }
     ensures gone { OnErr result (IsGone pages.now numbering.new path.now stamp) }
 {
     let _apart = pages.len();
@@ -136,6 +151,7 @@ fn enter_page(
 pub(crate) fn leave_page(pages: &Index<Known>, numbering: &mut Numbering, path: &Path, stamp: u64)
     ensures apart { AreApart pages.now }
     ensures numbered { HasNumbers pages.now numbering.old → HasNumbers pages.now numbering.new }
+    ensures named { HasNamed numbering.old → HasNamed numbering.new }
     ensures gone { IsGone pages.now numbering.new path.now stamp }
 {
     let _apart = pages.len();

@@ -4,6 +4,7 @@
 #![tactic(auto)]
 
 pub(crate) mod memo;
+pub mod named;
 pub mod report;
 pub mod seen;
 pub(crate) mod stands;

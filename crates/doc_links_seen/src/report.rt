@@ -9,6 +9,7 @@ ghost use Rattle.doc_links_pages.specs.Links.{broken, broken_by, broken_from, fa
 ghost use Rattle.doc_links_seen.specs.SeenPages.{seen_page, seen_pages};
 
 use crate::memo::Memo;
+use crate::named::Named;
 use crate::seen::{SeenPage, pages_at};
 use crate::stands::Stands;
 use doc_index::index::Index;
@@ -36,7 +37,8 @@ pub fn broken_in<S: Sight>(
 {
     let mut all = Vec::new(heap);
     let mut memo = Memo::new(heap);
-    let stands = Stands::none(heap);
+    let named = Named::new(heap);
+    let stands = Stands::none(heap, &named);
     for page in pages {
         push_broken(heap, &mut all, page, None, &stands, pages, sight, &mut memo)?;
     }
@@ -51,15 +53,17 @@ pub fn broken_numbered<S: Sight>(
     slots: &[u64],
     names: &Names,
     numbers: &[Option<PageNumbers>],
+    named: &Named,
     sight: &S,
 ) -> Result<List<Broken>, Memory>
     requires numbered { AreNumbered index.now names.now numbers.now }
+    requires named { AreNamed numbers.now named.now.slots.items }
     requires order { IsInOrder (pages_at index.now slots.now) }
     requires seen { AreSeen (S.goals sight.now) (pages_at index.now slots.now) }
     ensures { IfOk result (λ all. all ≡ broken (S.goals sight.now) (pages_at index.now slots.now)) }
 {
     let pages = pages_at(heap, index, slots)?;
-    let stands = Stands::of(heap, names.bound(), slots, numbers)?;
+    let stands = Stands::of(heap, names.bound(), slots, numbers, named)?;
     let mut all = Vec::new(heap);
     let mut memo = Memo::new(heap);
     for slot in slots {
@@ -83,7 +87,7 @@ fn push_slot<'a, S: Sight>(
     memo: &mut Memo<'a>,
 ) -> Result<(), Memory>
     requires order { IsInOrder (seen_pages pages.now) }
-    requires named { AreNamed stands.now.numbers.now stands.now.named.items }
+    requires named { AreNamed stands.now.numbers.now stands.now.named.now.slots.items }
     requires whole { AreAllWhole (S.goals sight.now) (seen_pages pages.now) index.now
         stands.now.slots.items stands.now.numbers.now }
     requires memo { IsMemo (S.goals sight.now) (seen_pages pages.now) memo.old }
@@ -111,7 +115,7 @@ fn push_broken<'a, S: Sight>(
     sight: &S,
     memo: &mut Memo<'a>,
 ) -> Result<(), Memory>
-    requires named { AreNamed stands.now.numbers.now stands.now.named.items }
+    requires named { AreNamed stands.now.numbers.now stands.now.named.now.slots.items }
     requires whole { AreWhole (S.goals sight.now) (seen_pages pages.now) page.now.known.now.links
         (whole_of stands.now.slots.items stands.now.numbers.now (option_copied own)) }
     requires memo { IsMemo (S.goals sight.now) (seen_pages pages.now) memo.old }

@@ -1,34 +1,34 @@
 //! Links that are whole by their numbers: no text of theirs is read.
 
-ghost use Rattle.std.specs.Prelude.{◌≡◌, ◌+◌, ℕ, List as Seq, Option as Maybe, Some, false, true, IfOk, IsTrue, option_copied, slice_index_or};
-ghost use Rattle.std.specs.FinMap as map;
+ghost use Rattle.std.specs.Prelude.{◌≡◌, ℕ, List as Seq, Option as Maybe, [], false, IfOk, option_copied};
 ghost use Rattle.std.specs.List.{Contains};
 ghost use Rattle.doc_links_seen.specs.Numbered.{AreNamed, AreStands, has_anchor_part, is_whole, is_whole_at, numbers_at, pair_at, whole_of};
 
+use crate::named::Named;
 use doc_links_names::page_numbers::PageNumbers;
 use doc_page_parts::failure::Memory;
 use doc_page_parts::heap::{Heap, Vec};
 
-/// Where the pages that are seen stand, by the numbers of their paths and by those of their anchors; and the numbers of all pages, by
-/// slot. An anchor that several pages have leads to one of them, and is sought among the numbers of the others.
+/// Where the pages that are seen stand, by the numbers of their paths; a page of each anchor; and the numbers of all pages, by slot. An
+/// anchor that several pages have leads to one of them, and is sought among the numbers of the others.
 #[derive(Drop)]
 pub(crate) struct Stands<'a> {
     /// Of each number the slot of the page whose path has it, and 1; or 0.
     pub(crate) slots: Vec<u64>,
-    /// Of each number the slot of a page that has the anchor which has it, and 1; or 0.
-    pub(crate) named: Vec<u64>,
+    pub(crate) named: &'a Named,
     pub(crate) numbers: &'a [Option<PageNumbers>],
 }
 
 impl<'a> Stands<'a> {
     /// No page stands, so that no link is whole. It takes no memory.
-    pub fn none(heap: Heap) -> Stands<'a>
+    pub fn none(heap: Heap, named: &'a Named) -> Stands<'a>
         ensures none { (own : Maybe PageNumbers) (i : ℕ) → whole_of result.slots.items result.numbers.now own i ≡ false }
-        ensures named { AreNamed result.numbers.now result.named.items }
+        ensures numbers { result.numbers.now ≡ [] }
+        ensures named { result.named.now ≡ named.now }
     {
         Stands {
             slots: Vec::new(heap),
-            named: Vec::new(heap),
+            named,
             numbers: &[],
         }
     }
@@ -39,14 +39,15 @@ impl<'a> Stands<'a> {
         bound: usize,
         slots: &[u64],
         numbers: &'a [Option<PageNumbers>],
+        named: &'a Named,
     ) -> Result<Stands<'a>, Memory>
         ensures stands { IfOk result (λ stands. AreStands slots.now numbers.now stands.slots.items) }
-        ensures named { IfOk result (λ stands. AreNamed numbers.now stands.named.items) }
+        ensures named { IfOk result (λ stands. stands.named.now ≡ named.now) }
         ensures numbers { IfOk result (λ stands. stands.numbers.now ≡ numbers.now) }
     {
         Ok(Stands {
             slots: stands_of(heap, bound, slots, numbers)?,
-            named: named_of(heap, bound, slots, numbers)?,
+            named,
             numbers,
         })
     }
@@ -60,7 +61,7 @@ impl<'a> Stands<'a> {
 
     /// Whether the link at a place of a page of these numbers is whole by its numbers. Where it isn't, its texts tell.
     pub fn is_whole(&self, own: Option<&PageNumbers>, place: usize) -> bool
-        requires { AreNamed self.now.numbers.now self.now.named.items }
+        requires { AreNamed self.now.numbers.now self.now.named.now.slots.items }
         ensures { result ≡ whole_of self.now.slots.items self.now.numbers.now (option_copied own.entry) place }
     {
         let (path, anchor) = pair_at(own, place);
@@ -69,7 +70,7 @@ impl<'a> Stands<'a> {
 
     /// Whether a link of these numbers leads to a page that stands, and to one of its anchors.
     fn leads_to(&self, path: u64, anchor: u64) -> bool
-        requires { AreNamed self.now.numbers.now self.now.named.items }
+        requires { AreNamed self.now.numbers.now self.now.named.now.slots.items }
         ensures { result ≡ is_whole self.now.slots.items self.now.numbers.now path anchor }
     {
         let Some(number) = path.checked_sub(1) else {
@@ -83,7 +84,7 @@ impl<'a> Stands<'a> {
 
     /// Whether a page stands here, with an anchor of this number, where one is asked for.
     fn has_at(&self, stand: u64, anchor: u64) -> bool
-        requires { AreNamed self.now.numbers.now self.now.named.items }
+        requires { AreNamed self.now.numbers.now self.now.named.now.slots.items }
         ensures { result ≡ is_whole_at self.now.numbers.now stand anchor }
     {
         let Some(slot) = stand.checked_sub(1) else {
@@ -92,24 +93,11 @@ impl<'a> Stands<'a> {
         if anchor == 0 {
             return true;
         }
-        if is_named(&self.named, stand, anchor) {
+        if self.named.leads_to(anchor, stand) {
             return true;
         }
         has_anchor_part(numbers_at(self.numbers, slot as usize), anchor)
     }
-}
-
-/// Whether the anchor of this number and 1 leads to the page that stands here.
-fn is_named(named: &[u64], stand: u64, anchor: u64) -> bool
-    ensures { IsTrue result → (n : ℕ) × (anchor ≡ n + 1) × (slice_index_or named.now n 0 ≡ stand) }
-{
-    let Some(number) = anchor.checked_sub(1) else {
-        return false;
-    };
-    let Some(found) = named.get(number as usize) else {
-        return false;
-    };
-    *found == stand
 }
 
 /// Of each number below a bound the slot of the page whose path has it, of those in these slots, and 1; or 0.
@@ -143,51 +131,6 @@ fn set_stand(stands: &mut Vec<u64>, slot: u64, numbers: &[Option<PageNumbers>])
     let number = page.own();
     if number < stands.len() {
         stands[number] = stand;
-    }
-}
-
-/// Of each number below a bound the slot of a page with the anchor that has it, of those in these slots, and 1; or 0.
-fn named_of(
-    heap: Heap,
-    bound: usize,
-    slots: &[u64],
-    numbers: &[Option<PageNumbers>],
-) -> Result<Vec<u64>, Memory>
-    ensures { IfOk result (λ named. AreNamed numbers.now named.items) }
-{
-    let mut named = Vec::new(heap);
-    named.resize(bound, 0)?;
-    for slot in slots {
-        set_named(&mut named, *slot, numbers);
-    }
-    Ok(named)
-}
-
-/// The anchors of the page in a slot lead to it.
-fn set_named(named: &mut Vec<u64>, slot: u64, numbers: &[Option<PageNumbers>])
-    ensures { AreNamed numbers.now named.old.items → AreNamed numbers.now named.new.items }
-{
-    let Some(page) = numbers_at(numbers, slot as usize) else {
-        return;
-    };
-    let Some(stand) = slot.checked_add(1) else {
-        return;
-    };
-    for (number, _) in page.anchors.iter() {
-        set_name(named, number, stand);
-    }
-}
-
-/// An anchor of this number leads to what stands here. A number that is past the last leads nowhere.
-fn set_name(named: &mut Vec<u64>, number: u64, stand: u64)
-    ensures { (numbers : Seq (Maybe PageNumbers)) (slot : ℕ) (own : PageNumbers)
-        → numbers_at numbers slot ≡ Some own → stand ≡ slot + 1
-        → map.contains_key own.anchors number ≡ true → AreNamed numbers named.old.items
-        → AreNamed numbers named.new.items }
-{
-    let number = number as usize;
-    if number < named.len() {
-        named[number] = stand;
     }
 }
 

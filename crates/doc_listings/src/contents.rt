@@ -17,6 +17,12 @@ use doc_page_parts::heap::{Heap, String};
 use doc_page_parts::path::Path;
 use doc_page_parts::rendered::Heading;
 
+/// What a page of contents has before the lines of its pages.
+pub const CONTENTS_FRONT: &str = "<!DOCTYPE html>\n<title>Contents</title>\n<ul>\n";
+
+/// What it has behind them.
+pub const CONTENTS_END: &str = "</ul>\n";
+
 /// Room for the address of a page.
 const ADDRESS_ROOM: usize = 256;
 
@@ -34,9 +40,9 @@ pub fn push_contents<P: Listed>(heap: Heap, out: &mut String, pages: &[P]) -> Re
     ensures err { OnErr result (StartsWith (string_bytes out.new) (string_bytes out.old)) }
 {
     out.reserve(room_of(pages))?;
-    out.push_str("<!DOCTYPE html>\n<title>Contents</title>\n<ul>\n")?;
+    out.push_str(CONTENTS_FRONT)?;
     push_pages(heap, out, pages)?;
-    out.push_str("</ul>\n")?;
+    out.push_str(CONTENTS_END)?;
     Ok(())
 }
 

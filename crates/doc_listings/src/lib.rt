@@ -7,12 +7,10 @@
 mod backlinks;
 mod contents;
 mod hits;
-mod lined;
 mod number;
 mod report;
 
 pub use backlinks::push_backlinks;
-pub use contents::{push_contents, push_entry_lines};
+pub use contents::{CONTENTS_END, CONTENTS_FRONT, push_contents, push_entry_lines};
 pub use hits::push_hits;
-pub use lined::push_contents_of_lines;
 pub use report::push_report;

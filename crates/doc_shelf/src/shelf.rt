@@ -5,6 +5,7 @@ ghost use Rattle.std.specs.FinMap as map;
 ghost use Rattle.doc_http_replies.specs.Heads.{dressed_bytes};
 ghost use Rattle.doc_http_replies.specs.Manners.{dress_of};
 ghost use Rattle.doc_http_replies.specs.ReplyForms.{reply_of};
+ghost use Rattle.doc_listings.specs.Listings.{contents_of_lines};
 ghost use Rattle.doc_page_parts.specs.Refusals.{Gives, IsAnswer};
 ghost use Rattle.doc_page_parts.specs.Pages.{filled};
 ghost use Rattle.doc_people.specs.Folders.{keys};
@@ -17,6 +18,7 @@ ghost use Rattle.doc_people.specs.Views.{rendered_at, rendered_pages, sees};
 ghost use Rattle.doc_resolve.specs.Hrefs.{shown};
 ghost use Rattle.doc_shelf.specs.Shelves.{rendered_for, shelf_made};
 ghost use Rattle.doc_shelf_documents.specs.Documents.{page_shown};
+ghost use Rattle.doc_shelf_pages.specs.RenderingSteps.{texts_of};
 ghost use Rattle.doc_shelf_pages.specs.ViewLaws.{seen_in};
 ghost use Rattle.doc_shelf_pages.specs.Views.{backlinks_body, contents_body, report_body, search_body};
 ghost use Rattle.doc_store_readers.specs.Sites.{goal_in, page_at};
@@ -34,7 +36,7 @@ use doc_links_pages::answers::Broken;
 use doc_page::renderer::Renderer;
 use doc_page_parts::bytes::Bytes;
 use doc_page_parts::failure::Memory;
-use doc_page_parts::heap::Heap;
+use doc_page_parts::heap::{Heap, Vec};
 use doc_page_parts::list::List;
 use doc_page_parts::path::Path;
 use doc_page_parts::rendered::{Heading, Rendered};
@@ -316,9 +318,9 @@ impl<R: Renderer + Drop> Shelf<R> {
         reply_with_page(writing, &self.kept, &mut self.cache, path, stamp, &sight)
     }
 
-    /// The page of HTML that lists the pages that a reader sees.
-    pub fn contents(&self, reader: &Reader) -> Result<Text, Memory>
-        ensures { IfOk result (λ text. text
+    /// The lines of the pages that a reader sees, each with its headings: what the page of contents is made of.
+    pub fn contents(&self, reader: &Reader) -> Result<Vec<&Text>, Memory>
+        ensures { IfOk result (λ lines. contents_of_lines (texts_of lines.items)
             ≡ contents_body (R.page self.now.0) (seen_in self.now.1 reader.now)) }
     {
         contents(self.heap, &self.store, &self.kept, reader)

@@ -2,8 +2,10 @@
 
 ghost use Rattle.std.specs.Prelude.{◌≡◌, IfOk, Some};
 ghost use Rattle.doc_links_pages.specs.Links.{backlinks};
+ghost use Rattle.doc_listings.specs.Listings.{contents_of_lines};
 ghost use Rattle.doc_links_pages.specs.PageLinks.{pages_of};
 ghost use Rattle.doc_page_parts.specs.Sights.{seen};
+ghost use Rattle.doc_shelf_pages.specs.RenderingSteps.{texts_of};
 ghost use Rattle.doc_shelf_pages.specs.Shelves.{IsKept};
 ghost use Rattle.doc_shelf_pages.specs.ViewLaws.{seen_in};
 ghost use Rattle.doc_shelf_pages.specs.Views.{Renders, backlinks_body, contents_body, report_body, search_body};
@@ -16,9 +18,9 @@ ghost use Rattle.doc_store.specs.Store.{IsStore};
 use crate::KeptPages;
 use crate::flags::flags_of;
 use crate::hits::hits_of;
-use doc_listings::{push_backlinks, push_contents_of_lines, push_hits, push_report};
+use doc_listings::{push_backlinks, push_hits, push_report};
 use doc_page_parts::failure::Memory;
-use doc_page_parts::heap::{Heap, String};
+use doc_page_parts::heap::{Heap, String, Vec};
 use doc_page_parts::list::List;
 use doc_page_parts::path::Path;
 use doc_page_parts::text::Text;
@@ -29,21 +31,19 @@ use doc_words::word::Word;
 /// All pages are walked over where more than one in so many may write a name of a page.
 const WALKED: usize = 64;
 
-/// The pages that a reader sees, with their headings: a page of HTML.
-pub fn contents(
+/// The lines of the pages that a reader sees, each with its headings: what a page of contents is made of.
+pub fn contents<'a>(
     heap: Heap,
     store: &Store,
-    kept: &KeptPages,
+    kept: &'a KeptPages,
     reader: &Reader,
-) -> Result<Text, Memory>
+) -> Result<Vec<&'a Text>, Memory>
     ensures { (render : Renders) → IsStore store.now → IsKept render store.now kept.now
-        → IfOk result (λ text. text ≡ contents_body render (seen_in store.now reader.now)) }
+        → IfOk result (λ lines. contents_of_lines (texts_of lines.items)
+        ≡ contents_body render (seen_in store.now reader.now)) }
 {
     let flags = flags_of(heap, store, reader)?;
-    let lines = kept.lines_of(&flags)?;
-    let mut out = String::new(heap);
-    push_contents_of_lines(&mut out, &lines)?;
-    Ok(Text::new(out))
+    kept.lines_of(&flags)
 }
 
 /// The pages that a reader sees with links to a page that they see: a line for each.
