@@ -1,5 +1,6 @@
 use Rattle.std.proofs.Common.{arith, ap, subst, sym, ◌∙◌}
 use Rattle.doc_links_seen.specs.Numbered.{AreAllWhole, AreNamed}
+use Rattle.doc_links_seen.specs.declared.named.Named.{Named}
 use Rattle.doc_links_seen.specs.SeenPages.{seen_pages}
 use Rattle.doc_links_seen.specs.SeenSteps.{pages_at}
 use Rattle.doc_links_seen.proofs.AnswerSteps.{all_told}
@@ -8,7 +9,8 @@ use Rattle.doc_links_seen.proofs.report.broken_numbered.Goals as goal
 
 pub push_slot-requires-clause-named : goal.push_slot-requires-clause-named
 push_slot-requires-clause-named g c =
-    subst (λ numbers. AreNamed numbers c.in_ok-stands.stands.named.items) (sym c.in_ok-stands.ensures.numbers) c.in_ok-stands.ensures.named
+    subst (λ numbers. AreNamed numbers c.in_ok-stands.stands.named.now.slots.items) (sym c.in_ok-stands.ensures.numbers)
+    (subst (λ (named : Named). AreNamed c.args.numbers.now named.slots.items) (sym c.in_ok-stands.ensures.named) c.requires.named)
 
 pub push_slot-requires-clause-whole : goal.push_slot-requires-clause-whole
 push_slot-requires-clause-whole g c =
