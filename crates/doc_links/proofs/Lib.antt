@@ -4,6 +4,7 @@ pub mod HeldSteps
 pub mod KeySteps
 pub mod MapSteps
 pub mod NamedSteps
+pub mod NamingSteps
 pub mod NumberingSteps
 pub mod OrderSteps
 pub mod SourceSteps

@@ -1,13 +1,13 @@
 //! The numbers of the pages of an index, and the names that they count.
 
-ghost use Rattle.std.specs.Prelude.{◌≡◌, ◌≢◌, ◌<◌, ℕ, List as Seq, Option as Maybe, None, Some, OnOk, OnErr, length};
+ghost use Rattle.std.specs.Prelude.{◌≡◌, ◌≢◌, ◌<◌, ◌+◌, ℕ, List as Seq, Option as Maybe, None, Some, OnOk, OnErr, length, option_copied, slice_index_or};
 ghost use Rattle.std.specs.FinMap as map;
 ghost use Rattle.doc_index.specs.Held.{AreApart, held, known_as, slot_at};
 ghost use Rattle.doc_index.specs.declared.held.Held.{Held as HeldPage};
 ghost use Rattle.doc_index_tables.specs.Maps.{text_map};
 ghost use Rattle.doc_links.specs.NumberingSteps.{HasNamed, HasNumbers, IsGone};
 ghost use Rattle.doc_links_pages.specs.declared.page_links.PageLinks.{PageLinks};
-ghost use Rattle.doc_links_seen.specs.Numbered.{numbers_at};
+ghost use Rattle.doc_links_seen.specs.Numbered.{AreNamed, numbers_at};
 
 use doc_index::held::Held;
 use doc_index::index::Index;
@@ -47,7 +47,8 @@ impl Numbering {
         ensures named { HasNamed self.old → HasNamed self.new }
         ensures gone { OnErr result (numbers_at self.new.numbers.items slot ≡ None) }
     {
-        self.forget(slot);
+        forget_anchors(&self.numbers, &mut self.named, slot);
+        clear(&mut self.numbers, slot);
         make_room(&mut self.numbers, slot)?;
         let Ok(numbers) = PageNumbers::of(heap, &mut self.names, slot, &page.path, &page.value)
         else {
@@ -66,25 +67,42 @@ impl Numbering {
         ensures named { HasNamed self.old → HasNamed self.new }
         ensures gone { numbers_at self.new.numbers.items slot ≡ None }
     {
-        self.forget(slot);
+        forget_anchors(&self.numbers, &mut self.named, slot);
+        clear(&mut self.numbers, slot);
         PageNumbers::leave(&mut self.names, slot, &page.path, &page.value);
     }
+}
 
-    /// A slot has no numbers, and no anchor leads to it. It takes no memory.
-    fn forget(&mut self, slot: usize)
-        ensures names { self.new.names ≡ self.old.names }
-        ensures gone { numbers_at self.new.numbers.items slot ≡ None }
-        ensures others { (i : ℕ) → i ≢ slot
-            → numbers_at self.new.numbers.items i ≡ numbers_at self.old.numbers.items i }
-        ensures named { HasNamed self.old → HasNamed self.new }
-    {
-        if slot >= self.numbers.len() {
-            return;
-        }
-        if let Some(numbers) = &self.numbers[slot] {
-            self.named.leave(slot, numbers);
-        }
-        self.numbers[slot] = None;
+/// No anchor leads to a slot. It takes no memory.
+fn forget_anchors(numbers: &[Option<PageNumbers>], named: &mut Named, slot: usize)
+    ensures named { AreNamed numbers.now named.old.slots.items → AreNamed numbers.now named.new.slots.items }
+    ensures gone { AreNamed numbers.now named.old.slots.items
+        → (n : ℕ) → slice_index_or named.new.slots.items n 0 ≢ slot + 1 }
+{
+    let Some(page) = numbers_at(numbers, slot) else {
+        return;
+    };
+    named.leave(slot, page);
+}
+
+/// The numbers of the page in a slot.
+fn numbers_at(numbers: &[Option<PageNumbers>], slot: usize) -> Option<&PageNumbers>
+    ensures { option_copied result ≡ numbers_at numbers.now slot }
+{
+    let Some(numbers) = numbers.get(slot) else {
+        return None;
+    };
+    numbers.as_ref()
+}
+
+/// A slot has no numbers.
+fn clear(numbers: &mut Vec<Option<PageNumbers>>, slot: usize)
+    ensures gone { numbers_at numbers.new.items slot ≡ None }
+    ensures others { (i : ℕ) → i ≢ slot
+        → numbers_at numbers.new.items i ≡ numbers_at numbers.old.items i }
+{
+    if slot < numbers.len() {
+        numbers[slot] = None;
     }
 }
 

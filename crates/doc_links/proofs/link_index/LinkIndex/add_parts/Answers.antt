@@ -25,4 +25,5 @@ invariant_of-self c = (
       (known_as c.in_ok-known.known (text_map c.in_ok-known.keys)) c.in_ok-known.ensures.keys c.add_numbered.ensures.ok
       c.add_numbered.ensures.err,
   c.add_numbered.ensures.numbered c.self.invariant.1,
+  c.add_numbered.ensures.named c.self.invariant.2,
 )

@@ -5,12 +5,18 @@ use Rattle.doc_links_pages.specs.PageLinks.{pages_of}
 use Rattle.doc_links_pages.specs.declared.page_links.PageLinks.{PageLinks}
 use Rattle.doc_links_seen.specs.Numbered.{AreNumbered}
 use Rattle.doc_links_seen.specs.SeenSteps.{pages_at}
+use Rattle.doc_links.proofs.NamingSteps.{of_slice}
 use Rattle.doc_links.proofs.OrderSteps.{seen_in_order, they_are_seen}
 use Rattle.doc_links.proofs.link_index.LinkIndex.broken_flagged.Goals as goal
 
 pub broken_numbered-requires-clause-numbered : goal.broken_numbered-requires-clause-numbered
 broken_numbered-requires-clause-numbered g c =
     subst (AreNumbered c.self.inside.pages c.self.inside.numbering.names) (sym c.deref-2.ensures.value) c.self.invariant.1
+
+pub broken_numbered-requires-clause-named : goal.broken_numbered-requires-clause-named
+broken_numbered-requires-clause-named g c =
+    of_slice c.self.inside.numbering.numbers.items c.deref-2.result.now c.self.inside.numbering.named.slots.items c.deref-2.ensures.value
+    c.self.invariant.2
 
 pub broken_numbered-requires-clause-order : goal.broken_numbered-requires-clause-order
 broken_numbered-requires-clause-order g c =

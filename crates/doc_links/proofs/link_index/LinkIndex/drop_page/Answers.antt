@@ -23,4 +23,5 @@ invariant_of-self c =
       fewer_held slots numbering.names numbering.numbers.items (c.leave_page.ensures.numbered c.self.invariant.1) c.drop_page.new.self
           c.args.path.now c.args.stamp c.leave_page.ensures.apart c.drop_page.ensures.rest c.drop_page.ensures.others
           c.leave_page.ensures.gone,
+      c.leave_page.ensures.named c.self.invariant.2,
     )

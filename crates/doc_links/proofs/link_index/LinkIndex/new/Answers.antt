@@ -9,4 +9,4 @@ pub returns : goal.returns
 returns c = ap without_counts c.new.ensures ∙ nothing
 
 pub invariant_of-result : goal.invariant_of-result
-invariant_of-result c = (subst AreKeyed (sym c.new.ensures) keyed_none, c.new-2.ensures c.new.result)
+invariant_of-result c = (subst AreKeyed (sym c.new.ensures) keyed_none, c.new-2.ensures.numbered c.new.result, c.new-2.ensures.named)
