@@ -5,7 +5,7 @@ ghost use Rattle.doc_links_pages.specs.Links.{backlinks};
 ghost use Rattle.doc_listings.specs.Listings.{contents_of_lines};
 ghost use Rattle.doc_links_pages.specs.PageLinks.{pages_of};
 ghost use Rattle.doc_page_parts.specs.Sights.{seen};
-ghost use Rattle.doc_shelf_pages.specs.RenderingSteps.{texts_of};
+ghost use Rattle.doc_shelf_pages.specs.RenderingSteps.{texts_of as lines_in};
 ghost use Rattle.doc_shelf_pages.specs.Shelves.{IsKept};
 ghost use Rattle.doc_shelf_pages.specs.ViewLaws.{seen_in};
 ghost use Rattle.doc_shelf_pages.specs.Views.{Renders, backlinks_body, contents_body, report_body, search_body};
@@ -39,7 +39,7 @@ pub fn contents<'a>(
     reader: &Reader,
 ) -> Result<Vec<&'a Text>, Memory>
     ensures { (render : Renders) → IsStore store.now → IsKept render store.now kept.now
-        → IfOk result (λ lines. contents_of_lines (texts_of lines.items)
+        → IfOk result (λ lines. contents_of_lines (lines_in lines.items)
         ≡ contents_body render (seen_in store.now reader.now)) }
 {
     let flags = flags_of(heap, store, reader)?;
