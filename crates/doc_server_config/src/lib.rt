@@ -18,7 +18,7 @@ pub mod folder;
 pub mod folder_pages;
 mod growth;
 pub mod listening;
-mod markdown;
+pub mod markdown;
 pub mod overlap;
 pub mod page_row;
 pub mod settings;
