@@ -19,6 +19,7 @@ use crate::told_folders::tell_passed;
 use crate::torn::TornFile;
 use doc_html::CommonMark;
 use doc_hub::hub::Hub;
+use doc_media::media::Media;
 use doc_page::renderer::Renderer;
 use doc_page_parts::heap::Heap;
 use doc_server::site::site_hub;
@@ -62,6 +63,7 @@ pub fn run_listen<
             Bounded {
                 site,
                 bounds,
+                media,
                 moves,
                 passed,
             },
@@ -75,7 +77,7 @@ pub fn run_listen<
             );
             status_of(
                 rt,
-                listen_with(rt, renderer, pages, moves.get(), bounds, command),
+                listen_with(rt, renderer, pages, media, moves.get(), bounds, command),
             )
         }
         Err(fault) => status_of(rt, Err(fault)),
@@ -91,6 +93,7 @@ fn listen_with<
     rt: &P,
     renderer: R,
     pages: Pages,
+    _media: Option<Media>,
     moves: &[Move],
     bounds: Bounds,
     command: &Listen<'_>,
