@@ -20,7 +20,7 @@ pub mod folder_pages;
 pub mod folder_rules;
 mod growth;
 pub mod listening;
-mod markdown;
+pub mod markdown;
 mod media_names;
 pub mod overlap;
 pub mod page_row;

@@ -73,7 +73,7 @@ pub fn run_listen<
             let renderer: CommonMark<L> = CommonMark::with_front(
                 entities,
                 blank,
-                pages.config.front,
+                pages.config.markdown.front,
             );
             status_of(
                 rt,

@@ -10,4 +10,5 @@ returns-clause-sound c = record {
   marks = c.clear.ensures.sound;
   brackets = nothing_open _ _ _ c.clear.ensures.items c.clear.ensures.runs c.clear-2.ensures.items;
   dead = omega arith;
+  images = tt;
 }

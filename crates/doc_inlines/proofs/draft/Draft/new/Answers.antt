@@ -10,4 +10,5 @@ returns-clause-sound c = record {
   marks = c.new.ensures.sound;
   brackets = nothing_open _ _ _ c.new.ensures.items c.new.ensures.runs c.new-2.ensures.items;
   dead = omega arith;
+  images = tt;
 }

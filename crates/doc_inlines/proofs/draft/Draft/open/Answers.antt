@@ -15,4 +15,5 @@ returns-clause-sound c = record {
   brackets = bracket_open _ _ _ _ _ _ _ _ c.requires.sound.brackets c.place-place.ensures.marks c.place-place.ensures.runs c.requires.text
       c.in_ok-push-2.ensures.items c.in_ok-push-2.ensures.runs c.in_ok-push.ensures.items;
   dead = still_below _ _ _ _ c.requires.sound.dead c.in_ok-push.ensures.items;
+  images = images_told _ _ _ c.requires.sound.images c.in_ok-push.ensures.items c.images_test;
 }

@@ -14,5 +14,5 @@ returns c =
       last = popped_live _ _ _ _ _ _ _ _ e new live;
       text = popped_text _ _ _ _ _ _ e c.requires.brackets;
       stood = popped_stood _ _ _ _ _ e c.requires.brackets;
-      sound = record { marks = c.requires.marks; brackets = popped_open _ _ _ _ _ e c.requires.brackets; dead = popped_dead _ _ _ new };
+      sound = record { marks = c.requires.marks; brackets = popped_open _ _ _ _ _ e c.requires.brackets; dead = popped_dead _ _ _ new; images = images_left _ _ _ e c.requires.images };
     }
