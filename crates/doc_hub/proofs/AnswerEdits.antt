@@ -1,9 +1,12 @@
 -- The edit that goes with an answer: what holds of no edit, of that of the response, and of that of the response to a request that edits,
 -- holds of it.
-use Rattle.std.proofs.Common.{List, ℕ, Bool, true, false}
+use Rattle.std.proofs.Common.{◌≡◌, List, ℕ, Bool, true, false, refl, sym, subst}
 use Rattle.std.specs.Prelude.{not, ◌&&◌, ◌||◌, ◌==◌, Option, Some, None, ⊤, if◌then◌else◌}
 use Rattle.doc_http.specs.declared.request.Request.{Request}
 use Rattle.doc_http_replies.specs.Heads.{Dress}
+use Rattle.doc_media.specs.Media.{Beside, Media, beside_of}
+use Rattle.doc_hub_media.proofs.MediaLaws.{media_edit_nothing}
+use Rattle.doc_hub_media.specs.MediaAnswers.{MediaResponse, media_answer, media_response}
 use Rattle.doc_hub_answers.proofs.AnswerEdits.{response_can}
 use Rattle.doc_hub_answers.specs.Edits.{CanBeMade, puts_taken}
 use Rattle.doc_hub_answers.specs.Replies.{Renders, Response, plain_answer, refused, response_to}
@@ -14,8 +17,8 @@ use Rattle.doc_hub_editing.specs.EditAnswers.{edit_response}
 use Rattle.doc_hub_editing.specs.EditResponses.{EditingResponse}
 use Rattle.doc_hub_asking.specs.Asking.{Asking, is_guest, row_of}
 use Rattle.doc_hub_people.specs.PeopleAnswers.{people_reply}
-use Rattle.doc_hub_replies.specs.Answers.{answer_by, answer_of, asks_for_style, dress_for, edited_or, is_for_people, kept_from_guests}
-use Rattle.doc_hub_replies.specs.Answers.{people_answer, style_answer, unedited}
+use Rattle.doc_hub_replies.specs.Answers.{answer_by, answer_of, asks_for_style, dress_by, dress_for, edited_or, is_for_people, kept_from_guests}
+use Rattle.doc_hub_replies.specs.Answers.{media_or, people_answer, style_answer, unedited}
 use Rattle.doc_people.specs.declared.settings.Browse.{Browse}
 use Rattle.doc_people.specs.declared.settings.Settings.{Settings}
 use Rattle.doc_store.specs.Store.{StoreState}
@@ -46,6 +49,13 @@ module _ (P : Option Edit → Type 0) (nothing : P None) where
   edited None dress close request other holds also = also
   edited (Some response) dress close request other holds also = holds
 
+  -- what media have a part in makes no edit
+  beside : (found : Option MediaResponse) (dress : Dress) (close : Bool) (request : Request) (other : Answer)
+      → ((response : MediaResponse) → found ≡ Some response → (media_answer dress response close request).edit ≡ None)
+      → Holds other → Holds (media_or found dress close request other)
+  beside None dress close request other none holds = holds
+  beside (Some response) dress close request other none holds = subst P (sym (none response refl)) nothing
+
   module _ (render : Renders) (view : View) (asking : Asking) (left : Bool) (request : Request)
       (holds : HoldsBefore (response_to render view (row_of asking) left request)) where
     pub not_editing : (browse : Browse) (close : Bool) → Holds (unedited browse render view asking left close request)
@@ -65,9 +75,14 @@ module _ (P : Option Edit → Type 0) (nothing : P None) where
         (edited found (dress_for browse asking) close request other (edits browse) (not_editing browse close))
 
     pub answer_holds : ((browse : Browse) → HoldsFor P (edit_response render browse view asking left (is_for_people request) request))
-        → (settings : Settings) → P (answer_of settings render view asking left request).edit
+        → (settings : Settings) (media : Beside) → P (answer_of settings render view media asking left request).edit
     unfolding answer_of
-    answer_holds edits settings = by_browse edits settings.browse (request.close || not settings.keep_alive)
+    answer_holds edits settings media =
+        let close : Bool = request.close || not settings.keep_alive in
+        let found : Option MediaResponse = media_response settings.browse render view media asking (is_for_people request) request in
+        beside found (dress_by settings.browse asking) close request (answer_by settings.browse render view asking left close request)
+        (media_edit_nothing settings.browse render view media asking (is_for_people request) close request (dress_by settings.browse asking))
+        (by_browse edits settings.browse close)
 
 can_holds : (store : StoreState) (text : List ℕ) (found : Option EditingResponse) → EditingCan store text found
     → HoldsFor (CanBeMade store text) found
@@ -75,13 +90,13 @@ can_holds store text None can = tt
 can_holds store text (Some response) can = can
 
 -- the edit can be made
-pub answer_can_be_made : (takes : Bool) (render : Renders) (settings : Settings) (store : StoreState) (asking : Asking)
+pub answer_can_be_made : (takes : Bool) (render : Renders) (settings : Settings) (media : Media) (store : StoreState) (asking : Asking)
     (request : Request)
     → CanBeMade store request.body
-    (answer_of settings render (view_of store.site (row_of asking)) asking (puts_taken takes store.puts) request).edit
-answer_can_be_made takes render settings store asking request =
+    (answer_of settings render (view_of store.site (row_of asking)) (beside_of media (row_of asking)) asking (puts_taken takes store.puts) request).edit
+answer_can_be_made takes render settings media store asking request =
     answer_holds (CanBeMade store request.body) tt render (view_of store.site (row_of asking)) asking (puts_taken takes store.puts) request
     (response_can takes render store (row_of asking) request)
     (λ browse. can_holds store request.body
     (edit_response render browse (view_of store.site (row_of asking)) asking (puts_taken takes store.puts) (is_for_people request) request)
-    (edit_response_can takes render browse store asking (is_for_people request) request)) settings
+    (edit_response_can takes render browse store asking (is_for_people request) request)) settings (beside_of media (row_of asking))

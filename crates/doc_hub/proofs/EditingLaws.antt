@@ -25,11 +25,16 @@ use Rattle.doc_hub_editing.specs.EditRequests.{asked_by, at_page, at_route, edit
 use Rattle.doc_hub_editing.specs.Laws.{path_of_edit}
 use Rattle.doc_hub_asking.specs.Asking.{Asking, row_of}
 use Rattle.doc_hub_asking.specs.Asking as asked
-use Rattle.doc_hub_replies.specs.Answers.{answer_by, answer_of, dress_for, edited_or, is_for_people, style_answer, asks_for_style, unedited}
+use Rattle.doc_media.specs.Media.{Beside, beside_of}
+use Rattle.doc_http_replies.specs.Heads.{Dress}
+use Rattle.doc_hub_media.specs.MediaAnswers.{MediaResponse, media_answer, media_response}
+use Rattle.doc_hub_answers.specs.declared.answer.Answer.{Answer}
+use Rattle.doc_hub_replies.specs.Answers.{answer_by, answer_of, dress_by, dress_for, edited_or, media_or, is_for_people, style_answer, asks_for_style, unedited}
 use Rattle.doc_hub.specs.EditingLaws.{IsEditedBy, NamesWhatStood, NoPageIsReplacedUnasked, NoUpdateIsLost, ReplacesNothing}
 use Rattle.doc_hub.specs.Runs.{Happened}
 use Rattle.doc_hub.specs.Worlds.{World, asking_of, reader_of}
 use Rattle.doc_hub.proofs.AnswerEdits.{not_editing}
+use Rattle.doc_hub_media.proofs.MediaLaws.{media_edit_nothing}
 
 absent : {X Y : Type 0} (x : X) → None ≡ Some x → Y
 absent {X = X} x is = absurd (unlike x is)
@@ -129,13 +134,25 @@ module _ (render : Renders) (browse : Browse) (view : View) (left : Bool) (reque
     by_style asking close true is = absent edit is
     by_style asking close false is = by_request asking close (edit_request_of browse request) refl is
 
-    edit_asked : (settings : Settings) (asking : Asking) → settings.browse ≡ Some browse
-        → (answer_of settings render view asking left request).edit ≡ Some edit → Asked asking
+    -- what media have a part in makes none
+    not_beside : (found : Option MediaResponse) (dress : Dress) (close : Bool) (other : Answer)
+        → ((response : MediaResponse) → found ≡ Some response → (media_answer dress response close request).edit ≡ None)
+        → (media_or found dress close request other).edit ≡ Some edit → other.edit ≡ Some edit
+    not_beside None dress close other none is = is
+    not_beside (Some response) dress close other none is = absent edit (sym (none response refl) ∙ is)
+
+    edit_asked : (settings : Settings) (beside : Beside) (asking : Asking) → settings.browse ≡ Some browse
+        → (answer_of settings render view beside asking left request).edit ≡ Some edit → Asked asking
     unfolding answer_of
-    edit_asked settings asking set is =
+    edit_asked settings beside asking set is =
         let close : Bool = request.close || not settings.keep_alive in
+        let found : Option MediaResponse = media_response settings.browse render view beside asking (is_for_people request) request in
+        let other : Answer = answer_by settings.browse render view asking left close request in
         by_style asking close (asks_for_style request)
-        (sym (ap (λ b. (answer_by b render view asking left close request).edit) set) ∙ is)
+        (sym (ap (λ b. (answer_by b render view asking left close request).edit) set)
+        ∙ not_beside found (dress_by settings.browse asking) close other
+        (media_edit_nothing settings.browse render view beside asking (is_for_people request) close request
+        (dress_by settings.browse asking)) is)
 
     -- and that is an owner's
     owner_asked : (guest : Bool) (row : Reader) (what : EditRequest)
@@ -158,7 +175,7 @@ module _ (render : Renders) (h : Happened) (request : Request) (edit : Edit) (ed
 
   found : Asked render edited.browse view (puts_taken w.takes_puts w.puts) request edit edited.editing (asking_of w request)
   found =
-      edit_asked render edited.browse view (puts_taken w.takes_puts w.puts) request edit edited.editing w.settings (asking_of w request) edited.settings
+      edit_asked render edited.browse view (puts_taken w.takes_puts w.puts) request edit edited.editing w.settings (beside_of w.media (reader_of w request)) (asking_of w request) edited.settings
       edited.made
 
   -- what stands for the owner who asked stands in the site

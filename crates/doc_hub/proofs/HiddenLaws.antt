@@ -1,6 +1,6 @@
--- What a reader sees of a site is the same without a page that they don't see.
+-- What a reader sees of a site and of its media is the same without a page or a medium that they don't see.
 use Rattle.std.proofs.Common.{◌≡◌, ℕ, List, Bool, true, false, bytes_eq, cond, not, refl, ap, sym, ◌∙◌}
-use Rattle.std.specs.Prelude.{Option, Some, None, option_and_then}
+use Rattle.std.specs.Prelude.{Option, Some, None, option_and_then, option_map}
 use Rattle.std.specs.FinMap as map
 use Rattle.std.proofs.lemmas.Cmp.{nat_list_cmp_total}
 use Rattle.std.proofs.lemmas.Map.Lookups.{exact_bytes}
@@ -8,6 +8,7 @@ use Rattle.doc_store_readers.proofs.KeySteps.{bytes_eq_is, get_taken, same_from,
 use Rattle.doc_store_readers.proofs.ViewLaw.{get-visible_aliases, get-visible_pages}
 use Rattle.doc_store_readers.specs.declared.reader.Reader.{Reader}
 use Rattle.doc_store_readers.specs.Sites.{Site, View, may_see_at, visible_to}
+use Rattle.doc_media.specs.Media.{Media, media_visible_to, site_of_media}
 use Rattle.doc_store.proofs.StoreSteps.{get-without_goal}
 use Rattle.doc_store.specs.Store.{is_goal}
 use Rattle.doc_shelf_pages.specs.Templates.{body_of}
@@ -15,7 +16,8 @@ use Rattle.doc_http.specs.declared.request.Request.{Request}
 use Rattle.doc_http.specs.declared.request.Next.TheVariants as nexts
 use Rattle.doc_hub_answers.specs.Replies.{link_shown}
 use Rattle.doc_hub.proofs.StepLaws.{answers_alike, steps_alike}
-use Rattle.doc_hub.specs.HiddenLaws.{HiddenAsNone, IsHidden, LinksToHiddenAsToNone, site_without, world_without}
+use Rattle.doc_hub.specs.HiddenLaws.{HiddenAsNone, HiddenMediumAsNone, IsHidden, IsHiddenMedium, LinksToHiddenAsToNone}
+use Rattle.doc_hub.specs.HiddenLaws.{site_without, world_without, world_without_medium}
 use Rattle.doc_hub.specs.StepLaws.{Agree}
 use Rattle.doc_hub.specs.Worlds.{World, reader_of}
 
@@ -76,6 +78,7 @@ agree w request path hidden = record {
   settings = refl;
   asking = refl;
   sites = seen_without w.site (reader_of w request) path hidden;
+  beside = refl;
   puts = λ _. refl;
 }
 
@@ -86,6 +89,37 @@ hidden_as_none = record {
       steps_alike render w (world_without w path) w' v' c c (nexts.Request used request) said told begins
       (record { unread = begins.unread; stands = begins.stands; begins = begins.begins })
       (agree w request path hidden)
+      here there;
+}
+
+-- ---- media
+
+media_seen_without : (media : Media) (reader : Option Reader) (path : List ℕ) → IsHiddenMedium media reader path
+    → media_visible_to media reader ≡ media_visible_to (option_map (λ held. map.remove held path) media) reader
+media_seen_without None reader path hidden = refl
+media_seen_without (Some held) reader path hidden =
+    ap (λ seen. Some seen) (pages_seen (site_of_media held) reader path hidden
+    ∙ map.same_map nat_list_cmp_total exact_bytes _ _ (λ q.
+    get-visible_pages (site_without (site_of_media held) path) reader q ∙ sym (get-visible_pages (site_of_media (map.remove held path)) reader q)))
+
+agree_beside : (w : World) (request : Request) (path : List ℕ) → IsHiddenMedium w.media (reader_of w request) path
+    → Agree w (world_without_medium w path) request
+agree_beside w request path hidden = record {
+  settings = refl;
+  asking = refl;
+  sites = refl;
+  beside = media_seen_without w.media (reader_of w request) path hidden;
+  puts = λ _. refl;
+}
+
+pub hidden_medium_as_none : HiddenMediumAsNone
+hidden_medium_as_none = record {
+  answers = λ render w request path hidden.
+      answers_alike render w (world_without_medium w path) request (agree_beside w request path hidden);
+  steps = λ render w w' v' c used request path said told hidden begins here there.
+      steps_alike render w (world_without_medium w path) w' v' c c (nexts.Request used request) said told begins
+      (record { unread = begins.unread; stands = begins.stands; begins = begins.begins })
+      (agree_beside w request path hidden)
       here there;
 }
 

@@ -17,6 +17,7 @@ use Rattle.doc_page_parts.specs.declared.rendered.Rendered.{Rendered}
 use Rattle.doc_store_readers.specs.Groups.{groups_of_names}
 use Rattle.doc_store_readers.specs.Pages.{Page}
 use Rattle.doc_store_readers.specs.Sites.{View, view_of}
+use Rattle.doc_media.specs.Media.{beside_of}
 use Rattle.doc_store.specs.Store.{text_limit, page_limit}
 use Rattle.doc_store_readers.specs.declared.reader.Reader.{Reader}
 use Rattle.doc_http_replies.specs.Replies.{reason_of, field_line, reply_head, reply_bytes}
@@ -34,6 +35,7 @@ use Rattle.doc_hub.specs.Connections.{pushed_onto, finished, backlog_limit}
 use Rattle.doc_hub_answers.specs.Edits.{puts_taken}
 use Rattle.doc_hub_answers.specs.Replies.{Renders, fault_bytes}
 use Rattle.doc_hub_asking.specs.Asking.{known_by}
+use Rattle.doc_hub_media.specs.MediaAnswers.{media_response}
 use Rattle.doc_hub_replies.specs.Answers.{answer_of}
 use Rattle.doc_http_replies.specs.Heads.{dressed_bytes, dressed_head}
 use Rattle.doc_hub.specs.StepEdits.{edit_of_step}
@@ -51,7 +53,7 @@ use Rattle.doc_hub_answers.specs.declared.edit.Edit.TheVariants as edits
 unfoldable computing : Unit {0}
 unfolding digits chars is_utf8 encode percent_decode percent_encode_byte encoded encoded_path kind_on target_path_written put_all reference
     resolve without_dots escaped lines without_ending stripped filled is_path paragraphs plain_html reason_of field_line reply_head
-    reply_bytes dressed_head dressed_bytes answer_of origin_form route_of path_written value_of raw_pairs split utf8_lossy utf8_valid_len
+    reply_bytes dressed_head dressed_bytes answer_of media_response origin_form route_of path_written value_of raw_pairs split utf8_lossy utf8_valid_len
     groups_of_names text_limit
     page_limit backlog_limit kinds backlinks broken contents backlinks_text entry_lines heading_line report_text
 computing = tt
@@ -98,7 +100,7 @@ asked method target = record {
 -- the answer to whom an entry names, without pages for people
 abbrev answer_by_entry : Renders → View → Option Reader → Bool → Bool → Request → Answer
 answer_by_entry render view reader left keep_alive request =
-    answer_of (plain_settings keep_alive) render view (known_by reader) left request
+    answer_of (plain_settings keep_alive) render view None (known_by reader) left request
 
 page_reply_bytes : (answer_by_entry plain_page staff_view ann true true (asked (codes "GET") (codes "/page/a.md"))).bytes
     ≡ codes "HTTP/1.1 200 OK\r\nContent-Type: text/html; charset=utf-8\r\n"
@@ -419,11 +421,11 @@ abbrev edit_seen : View → Option Reader → Bool → Request → Option Edit
 edit_seen view reader left request = (answer_by_entry plain_page view reader left true request).edit
 
 step_tells_what_is_seen : (w : World) (used : ℕ) (request : Request) (view : View) (reader : Option Reader) (left : Bool)
-    → view_of w.site (reader_of w request) ≡ view → asking_of w request ≡ known_by reader → puts_taken w.takes_puts w.puts ≡ left
+    → view_of w.site (reader_of w request) ≡ view → beside_of w.media (reader_of w request) ≡ None → asking_of w request ≡ known_by reader → puts_taken w.takes_puts w.puts ≡ left
     → w.settings ≡ plain_settings true
     → edit_of_step plain_page w (nexts.Request used request) ≡ edit_seen view reader left request
-step_tells_what_is_seen w used request view reader left sees is remains keeps =
-    λ i. (answer_of (keeps i) plain_page (sees i) (is i) (remains i) request).edit
+step_tells_what_is_seen w used request view reader left sees none is remains keeps =
+    λ i. (answer_of (keeps i) plain_page (sees i) (none i) (is i) (remains i) request).edit
 
 step_of_a_fault : (w : World) → edit_of_step plain_page w (nexts.Fault 400 false) ≡ None
 step_of_a_fault w = refl

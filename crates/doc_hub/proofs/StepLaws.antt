@@ -1,9 +1,12 @@
 -- Step noninterference, and what a step of an open connection answers.
 use Rattle.std.proofs.Common.{◌≡◌, ℕ, List, Bool, true, false, bytes_eq, codes, refl, ap, sym, ◌∙◌, subst}
-use Rattle.std.specs.Prelude.{not, ◌&&◌, ◌||◌, Option, Some, None, Result, Ok, if◌then◌else◌}
+use Rattle.std.specs.Prelude.{not, ◌&&◌, ◌||◌, Option, Some, None, option_map, Result, Ok, if◌then◌else◌}
 use Rattle.std.specs.FinMap as map
 use Rattle.doc_store_readers.specs.declared.reader.Reader.{Reader}
+use Rattle.doc_store_readers.specs.Maps.{TextMap}
+use Rattle.doc_store_readers.specs.Pages.{Page}
 use Rattle.doc_store_readers.specs.Sites.{View, view_of}
+use Rattle.doc_media.specs.Media.{Beside, Media, beside_of, media_visible_to}
 use Rattle.doc_http.specs.Requests.{IsNext}
 use Rattle.doc_http.specs.declared.request.Request.{Request}
 use Rattle.doc_http.specs.declared.request.Next.{Next}
@@ -24,11 +27,12 @@ use Rattle.doc_hub_answers.specs.Replies.{put_by, reads, refused, reply_at, resp
 use Rattle.doc_hub_asking.specs.Asking.{Asking, is_guest, row_of}
 use Rattle.doc_hub_editing.specs.EditAnswers.{edit_response}
 use Rattle.doc_hub_people.specs.PeopleAnswers.{people_reply}
-use Rattle.doc_hub_replies.specs.Answers.{answer_by, answer_of, asks_for_style, browsed, dress_for, edited_or, is_for_people, kept_from_guests}
-use Rattle.doc_hub_replies.specs.Answers.{people_answer, style_answer, unedited}
+use Rattle.doc_hub_media.specs.MediaAnswers.{MediaResponse, media_response}
+use Rattle.doc_hub_replies.specs.Answers.{answer_by, answer_of, asks_for_style, browsed, dress_by, dress_for, edited_or, is_for_people, kept_from_guests}
+use Rattle.doc_hub_replies.specs.Answers.{media_or, people_answer, style_answer, unedited}
 use Rattle.doc_people.specs.declared.settings.Browse.{Browse}
 use Rattle.doc_people.specs.declared.settings.Settings.{Settings}
-use Rattle.doc_hub.specs.StepLaws.{AgreeOn, AnswersAlike, StepsAlike, connection, is_owners_put, open_with}
+use Rattle.doc_hub.specs.StepLaws.{AgreeOn, AnswersAlike, StepsAlike, connection, is_owners_put, media_seen, open_with}
 use Rattle.doc_hub.specs.Worlds.{World, Steps, StepsAt, asking_of, reader_of, stepped_by, step_said}
 use Rattle.doc_hub.proofs.EditingAlike.{edit_response_alike}
 
@@ -141,20 +145,36 @@ module _ (render : Renders) (view : View) (left other : Bool) (request : Request
       ap (λ response. plain_answer undressed response close request) (same_response (row_of asking) same)
   same_by (Some browse) asking close same = same_browsed browse asking close same
 
-  asks_of_puts : (settings : Settings) (asking : Asking) → (is_owners_put (row_of asking) request ≡ true → left ≡ other)
-      → answer_of settings render view asking left request ≡ answer_of settings render view asking other request
+  asks_of_puts : (settings : Settings) (beside : Beside) (asking : Asking) → (is_owners_put (row_of asking) request ≡ true → left ≡ other)
+      → answer_of settings render view beside asking left request ≡ answer_of settings render view beside asking other request
   unfolding answer_of
-  asks_of_puts settings asking same = same_by settings.browse asking (request.close || not settings.keep_alive) same
+  asks_of_puts settings beside asking same =
+      let close : Bool = request.close || not settings.keep_alive in
+      let found : Option MediaResponse = media_response settings.browse render view beside asking (is_for_people request) request in
+      ap (media_or found (dress_by settings.browse asking) close request) (same_by settings.browse asking close same)
 
 -- ---- answers and steps
 
+-- the media beside a view are those that are seen
+seen_beside : (media : Media) (reader : Option Reader)
+    → beside_of media reader ≡ option_map (λ (held : TextMap Page). map.entries held) (media_visible_to media reader)
+seen_beside None reader = refl
+seen_beside (Some held) reader = refl
+
+same_beside : (w v : World) (request : Request) → media_seen w request ≡ media_seen v request
+    → beside_of w.media (reader_of w request) ≡ beside_of v.media (reader_of v request)
+same_beside w v request same =
+    seen_beside w.media (reader_of w request) ∙ ap (option_map (λ (held : TextMap Page). map.entries held)) same
+    ∙ sym (seen_beside v.media (reader_of v request))
+
 pub answers_alike : AnswersAlike
 answers_alike render w v request agree =
+    let beside = same_beside w v request agree.beside in
     asks_of_puts render (view_of w.site (reader_of w request)) (puts_taken w.takes_puts w.puts) (puts_taken v.takes_puts v.puts)
-    request w.settings (asking_of w request) agree.puts
+    request w.settings (beside_of w.media (reader_of w request)) (asking_of w request) agree.puts
     ∙ (λ i. answer_of (agree.settings i) render
     (record { pages = map.entries (agree.sites i).pages; aliases = map.entries (agree.sites i).aliases })
-    (agree.asking i) (puts_taken v.takes_puts v.puts) request)
+    (beside i) (agree.asking i) (puts_taken v.takes_puts v.puts) request)
 
 -- what a step answers, by what the unread bytes begin with
 pub said_alike : (render : Renders) (w v : World) (c d : ℕ) (one other : Connection) (next : Next) → AgreeOn w v next

@@ -9,6 +9,7 @@ use Rattle.doc_hub_answers.specs.Edits.{puts_taken}
 use Rattle.doc_hub_answers.specs.Replies.{Renders}
 use Rattle.doc_hub_answers.specs.declared.edit.Edit.{Edit}
 use Rattle.doc_hub_replies.specs.Answers.{is_for_people}
+use Rattle.doc_media.specs.Media.{beside_of}
 use Rattle.doc_hub.specs.StepEdits.{TellsAt, edit_of_step}
 use Rattle.doc_hub.specs.Worlds.{World, asking_of, reader_of}
 use Rattle.doc_hub.specs.declared.connection.Connection.{Connection}
@@ -24,7 +25,7 @@ module _ (render : Renders) (w : World) where
       answer_holds AtPaths tt render (view_of w.site (reader_of w request)) (asking_of w request) (puts_taken w.takes_puts w.puts) request
       (response_at_paths render (view_of w.site (reader_of w request)) (reader_of w request) (puts_taken w.takes_puts w.puts) request)
       (λ browse. edits_at_paths (view_of w.site (reader_of w request)) (puts_taken w.takes_puts w.puts) request render browse (is_for_people request)
-      (asking_of w request)) w.settings
+      (asking_of w request)) w.settings (beside_of w.media (reader_of w request))
 
   open_at_paths : (c : Connection) (told : Option Edit) (closed : Bool)
       → MatchBool closed (told ≡ None) ((next : Next) × IsNext c.unread next × (told ≡ edit_of_step render w next)) → AtPaths told

@@ -1,11 +1,12 @@
 -- Laws of answers.
-use Rattle.std.proofs.Common.{◌≡◌, Bool, true, false, refl, ap, sym, ◌∙◌}
+use Rattle.std.proofs.Common.{◌≡◌, Bool, true, false, refl, ap, sym, ◌∙◌, subst}
 use Rattle.std.specs.Prelude.{Option, Some, None, if◌then◌else◌}
 use Rattle.std.proofs.lemmas.Bool.{and_parts}
 use Rattle.doc_http.specs.declared.request.Request.{Request}
 use Rattle.doc_http_replies.specs.Heads.{undressed}
 use Rattle.doc_http_targets.specs.EditTargets.{edit_route_of}
 use Rattle.doc_http_targets.specs.Targets.{route_of}
+use Rattle.doc_media.specs.Media.{Beside, beside_of}
 use Rattle.doc_people.specs.declared.settings.Browse.{Browse}
 use Rattle.doc_store_readers.specs.Readers.{ReaderTable}
 use Rattle.doc_store_readers.specs.Sites.{Site, View, view_of}
@@ -13,6 +14,7 @@ use Rattle.doc_store_readers.specs.declared.reader.Reader.{Reader}
 use Rattle.doc_hub_answers.specs.AnswerSteps.{entry_of}
 use Rattle.doc_hub_answers.specs.Replies.{Renders, method_of, plain_answer, reads, response_to}
 use Rattle.doc_hub_answers.specs.declared.answer.Answer.{Answer}
+use Rattle.doc_hub_answers.specs.declared.edit.Edit.{Edit}
 use Rattle.doc_hub_people.proofs.AskingLaws.{bearers_alone_are_known, guests_own_nothing}
 use Rattle.doc_hub_asking.specs.Asking.{Asking, is_guest, known_by, reader_asking, row_of}
 use Rattle.doc_hub_asking.specs.Asking as asked
@@ -20,13 +22,54 @@ use Rattle.doc_hub_people.specs.PeopleAnswers.{people_reply}
 use Rattle.doc_hub_editing.specs.EditAnswers.{edit_response}
 use Rattle.doc_hub_editing.specs.EditRequests.{asked_by, edit_request_of}
 use Rattle.doc_hub_editing.specs.EditResponses.{EditingResponse, editing_answer}
+use Rattle.doc_hub_media.proofs.MediaLaws.{media_edit_nothing}
+use Rattle.doc_hub_media.specs.MediaAnswers.{MediaResponse, media_response}
 use Rattle.doc_hub_replies.proofs.EditLaws.{EditsNothing, guests_edit_nothing_so, nobody_edits, nothing_is_asked, who_reads_edits_nothing}
 use Rattle.doc_hub_replies.proofs.GuestSteps.{guest_edits_nothing}
-use Rattle.doc_hub_replies.specs.Answers.{answer_by, answer_of, asks_for_style, browsed, dress_for, edited_or, is_for_people}
-use Rattle.doc_hub_replies.specs.Answers.{kept_from_guests, people_answer, style_answer, unedited}
-use Rattle.doc_hub_replies.specs.Laws.{GuestsEditNothing, NothingChangesWithoutEditing, NothingChangesWithoutSettings}
+use Rattle.doc_hub_replies.specs.Answers.{answer_beside, answer_by, answer_of, asks_for_style, browsed, dress_by, dress_for, edited_or}
+use Rattle.doc_hub_replies.specs.Answers.{is_for_people, kept_from_guests, media_or, people_answer, style_answer, unedited}
+use Rattle.doc_hub_replies.specs.Laws.{GuestsEditNothing, NothingChangesWithoutEditing, NothingChangesWithoutMedia}
+use Rattle.doc_hub_replies.specs.Laws.{NothingChangesWithoutSettings}
 use Rattle.doc_hub_replies.specs.Laws.{OnlyPeopleAreShownPages, PeopleEditNothing, UnauthorizedIsAlike}
 use Rattle.doc_hub_replies.specs.ServingSteps.{closes_after}
+
+-- ---- media
+
+pub nothing_changes_without_media : NothingChangesWithoutMedia
+unfolding answer_of media_response
+nothing_changes_without_media settings render view asking left request = refl
+
+module _ (browse : Option Browse) (render : Renders) (view : View) (beside : Beside) (asking : Asking) (left close : Bool)
+    (request : Request) where
+  -- the response where media have a part in it
+  abbrev pub by_media : Option MediaResponse
+  by_media = media_response browse render view beside asking (is_for_people request) request
+
+  abbrev other : Answer
+  other = answer_by browse render view asking left close request
+
+  -- the answer by that response
+  abbrev pub with_response : Option MediaResponse → Answer
+  with_response response = media_or response (dress_by browse asking) close request other
+
+  pub by_pages_alone : by_media ≡ None → answer_beside browse render view beside asking left close request ≡ other
+  by_pages_alone none = ap with_response none
+
+  edit_by : (P : Option Edit → Type 0) (response : Option MediaResponse) → by_media ≡ response → P None → P other.edit
+      → P (with_response response).edit
+  edit_by P None is none alone = alone
+  edit_by P (Some response) is none alone =
+      subst P
+      (sym (media_edit_nothing browse render view beside asking (is_for_people request) close request (dress_by browse asking) response is))
+      none
+
+  -- with media beside the pages an answer makes the edit that it makes without them, or none
+  pub edit_beside : (P : Option Edit → Type 0) → P None → P other.edit
+      → P (answer_beside browse render view beside asking left close request).edit
+  edit_beside P none alone = edit_by P by_media refl none alone
+
+  pub edits_nothing_beside : other.edit ≡ None → (answer_beside browse render view beside asking left close request).edit ≡ None
+  edits_nothing_beside none = edit_beside (λ edit. edit ≡ None) refl none
 
 -- ---- without settings
 
@@ -54,8 +97,11 @@ module _ (render : Renders) (site : Site) (readers : ReaderTable) (left close : 
 
 pub nothing_changes_without_settings : NothingChangesWithoutSettings
 unfolding answer_of
-nothing_changes_without_settings settings render site readers left request none =
-    ap (answer_with render site readers left (closes_after settings request) request) none
+nothing_changes_without_settings settings render site media readers left request none without =
+    let asking = reader_asking settings.browse readers request in
+    by_pages_alone settings.browse render (view_of site (row_of asking)) (beside_of media (row_of asking)) asking left
+    (closes_after settings request) request without
+    ∙ ap (answer_with render site readers left (closes_after settings request) request) none
     ∙ answer_without render site readers left (closes_after settings request) request
 
 -- ---- with settings
@@ -119,8 +165,9 @@ module _ (browse : Browse) (render : Renders) (view : View) (asking : Asking) (l
 
 pub only_people_are_shown_pages : OnlyPeopleAreShownPages
 unfolding answer_of
-only_people_are_shown_pages settings browse render view asking left request set edits style people =
-    ap (λ b. answer_by b render view asking left (closes_after settings request) request) set
+only_people_are_shown_pages settings browse render view beside asking left request set without edits style people =
+    by_pages_alone settings.browse render view beside asking left (closes_after settings request) request without
+    ∙ ap (λ b. answer_by b render view asking left (closes_after settings request) request) set
     ∙ sym (is_plain browse render view asking left (closes_after settings request) request people
     ∙ is_unedited browse render view asking left (closes_after settings request) request style
     (nothing_is_asked render browse view left (is_for_people request) request asking edits))
@@ -133,20 +180,22 @@ not_asked browse request is =
 
 pub nothing_changes_without_editing : NothingChangesWithoutEditing
 unfolding answer_of
-nothing_changes_without_editing settings browse render view asking left request set off =
-    ap (λ b. answer_by b render view asking left (closes_after settings request) request) set
+nothing_changes_without_editing settings browse render view beside asking left request set without off =
+    by_pages_alone settings.browse render view beside asking left (closes_after settings request) request without
+    ∙ ap (λ b. answer_by b render view asking left (closes_after settings request) request) set
     ∙ ap (λ response. chosen browse render view asking left (closes_after settings request) request (asks_for_style request) response
     (is_for_people request))
     (nothing_is_asked render browse view left (is_for_people request) request asking (not_asked browse request off))
 
 pub people_edit_nothing : PeopleEditNothing
 unfolding answer_of
-people_edit_nothing settings browse render view asking left request set people =
-    ap (λ b. (answer_by b render view asking left (closes_after settings request) request).edit) set
+people_edit_nothing settings browse render view beside asking left request set people =
+    edits_nothing_beside settings.browse render view beside asking left (closes_after settings request) request
+    (ap (λ b. (answer_by b render view asking left (closes_after settings request) request).edit) set
     ∙ people_edit browse render view asking left (closes_after settings request) request (asks_for_style request) (is_for_people request)
     (edit_response render browse view asking left (is_for_people request) request) people
     (who_reads_edits_nothing render browse view left (is_for_people request) request asking
-    (and_parts (reads (method_of request.method)) request.html people).0)
+    (and_parts (reads (method_of request.method)) request.html people).0))
 
 known_is_no_guest : (row : Option Reader) → is_guest (known_by row) ≡ false
 known_is_no_guest None = refl
@@ -170,8 +219,11 @@ guest_edit_by (Some browse) render site readers left close request is =
 
 pub guests_edit_nothing : GuestsEditNothing
 unfolding answer_of
-guests_edit_nothing settings render site readers left request is =
-    guest_edit_by settings.browse render site readers left (closes_after settings request) request is
+guests_edit_nothing settings render site media readers left request is =
+    let asking = reader_asking settings.browse readers request in
+    edits_nothing_beside settings.browse render (view_of site (row_of asking)) (beside_of media (row_of asking)) asking left
+    (closes_after settings request) request
+    (guest_edit_by settings.browse render site readers left (closes_after settings request) request is)
 
 -- ---- nobody
 
@@ -197,7 +249,19 @@ alike_by (Some browse) render other view another left still close request =
     (unedited_alike browse render other view another left still close request)
     ∙ sym (nobody_is_unedited browse other another still close request)
 
+-- and media have no part in what nobody is answered
+nobody_sees_media : (browse : Option Browse) (render : Renders) (view : View) (beside : Beside) (for_people : Bool) (request : Request)
+    → media_response browse render view beside asked.Nobody for_people request ≡ None
+unfolding media_response
+nobody_sees_media browse render view None for_people request = refl
+nobody_sees_media browse render view (Some held) for_people request = refl
+
 pub unauthorized_is_alike : UnauthorizedIsAlike
 unfolding answer_of
-unauthorized_is_alike settings render other view another left still request =
-    alike_by settings.browse render other view another left still (closes_after settings request) request
+unauthorized_is_alike settings render other view another beside aside left still request =
+    let close = closes_after settings request in
+    by_pages_alone settings.browse render view beside asked.Nobody left close request
+    (nobody_sees_media settings.browse render view beside (is_for_people request) request)
+    ∙ alike_by settings.browse render other view another left still close request
+    ∙ sym (by_pages_alone settings.browse other another aside asked.Nobody still close request
+    (nobody_sees_media settings.browse other another aside (is_for_people request) request))

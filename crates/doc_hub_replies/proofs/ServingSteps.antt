@@ -32,7 +32,7 @@ use Rattle.doc_hub_editing.specs.EditResponses.{EditingResponse, editing_answer,
 use Rattle.doc_hub_editing.specs.EditSteps.{editing_sent}
 use Rattle.doc_hub_replies.proofs.AnswerLaws.{answer_with, answer_without, is_edited, is_plain, is_shown, is_style, is_unedited}
 use Rattle.doc_hub_replies.proofs.EditLaws.{with_entry}
-use Rattle.doc_hub_replies.specs.Answers.{answer_of, asks_for_style, browsed, dress_for, is_for_people, kept_from_guests}
+use Rattle.doc_hub_replies.specs.Answers.{asks_for_style, browsed, dress_for, is_for_people, kept_from_guests}
 use Rattle.doc_hub_replies.specs.Answers.{people_answer, style_answer, unedited}
 use Rattle.doc_hub_replies.specs.ServingSteps.{closes_after}
 
@@ -187,20 +187,13 @@ module _ (settings : Settings) (render : Renders) (readers : ReaderTable) (left 
   wants browse =
       AnsweredSo request.body old (answer_with render old.site readers left (closes_after settings request) request browse) new result
 
-  abbrev Wanted : Type 0
-  Wanted = AnsweredSo request.body old (answer_of settings render
-      (view_of old.site (row_of (reader_asking settings.browse readers request))) (reader_asking settings.browse readers request) left
-      request) new result
-
   pub answered_without : None ≡ settings.browse
       → AnsweredSo request.body old (plain_answer undressed (response_to render (view_of old.site (entry_of readers request))
-      (entry_of readers request) left request) (closes_after settings request) request) new result → Wanted
-  unfolding answer_of
+      (entry_of readers request) left request) (closes_after settings request) request) new result → wants settings.browse
   answered_without none answered =
       subst wants none
       (subst (λ answer. AnsweredSo request.body old answer new result)
       (sym (answer_without render old.site readers left (closes_after settings request) request)) answered)
 
-  pub answered_with : (browse : Browse) → Some browse ≡ settings.browse → wants (Some browse) → Wanted
-  unfolding answer_of
+  pub answered_with : (browse : Browse) → Some browse ≡ settings.browse → wants (Some browse) → wants settings.browse
   answered_with browse some answered = subst wants some answered

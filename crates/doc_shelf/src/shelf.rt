@@ -6,6 +6,7 @@ ghost use Rattle.doc_http_replies.specs.Heads.{dressed_bytes};
 ghost use Rattle.doc_http_replies.specs.Manners.{dress_of};
 ghost use Rattle.doc_http_replies.specs.ReplyForms.{reply_of};
 ghost use Rattle.doc_listings.specs.Listings.{contents_of_lines};
+ghost use Rattle.doc_media.specs.Media.{beside_of};
 ghost use Rattle.doc_page_parts.specs.Refusals.{Gives, IsAnswer};
 ghost use Rattle.doc_page_parts.specs.Pages.{filled};
 ghost use Rattle.doc_people.specs.Folders.{keys};
@@ -33,6 +34,7 @@ use doc_cache::failure::CacheError;
 use doc_http::manner::Manner;
 use doc_http::reply_form::ReplyForm;
 use doc_links_pages::answers::Broken;
+use doc_media::media::Media;
 use doc_page::renderer::Renderer;
 use doc_page_parts::bytes::Bytes;
 use doc_page_parts::failure::Memory;
@@ -293,17 +295,19 @@ impl<R: Renderer + Drop> Shelf<R> {
         self.renderer.render(self.heap, text)
     }
 
-    /// The reply that shows a reader the page at a path, where they see one. It renders nothing. A document that was made for a reader
-    /// for whom the page's links lead to the same pages is taken as it is.
+    /// The reply that shows a reader the page at a path, where they see one, beside the media that they see. It renders nothing. A document
+    /// that was made for a reader for whom the page's links lead to the same pages and media is taken as it is, but for one with a link
+    /// that names a place in a medium.
     pub fn page(
         &mut self,
         path: &Path,
         reader: &Reader,
+        media: &Option<Media>,
         manner: Manner,
     ) -> Result<Option<Bytes>, Memory>
         ensures reply { IfOk result (λ reply. reply ≡ page_shown (R.page self.old.0)
-            (seen_in self.old.1 reader.now) path.now (dress_of manner.entry)
-            manner.entry.head_only manner.entry.close) }
+            (seen_in self.old.1 reader.now) (beside_of media.now (Some reader.now)) path.now
+            (dress_of manner.entry) manner.entry.head_only manner.entry.close) }
         ensures same { self.new ≡ self.old }
     {
         let Some(page) = visible_page(&self.store, reader, path) else {
@@ -315,7 +319,16 @@ impl<R: Renderer + Drop> Shelf<R> {
             manner,
         };
         let sight = self.store.sight(reader);
-        reply_with_page(writing, &self.kept, &mut self.cache, path, stamp, &sight)
+        reply_with_page(
+            writing,
+            &self.kept,
+            &mut self.cache,
+            path,
+            stamp,
+            &sight,
+            media,
+            reader,
+        )
     }
 
     /// The lines of the pages that a reader sees, each with its headings: what the page of contents is made of.
@@ -346,12 +359,13 @@ impl<R: Renderer + Drop> Shelf<R> {
         search(self.heap, &self.store, &self.kept, words, reader)
     }
 
-    /// The lines of the links that are broken for a reader.
-    pub fn report(&self, reader: &Reader) -> Result<Text, Memory>
+    /// The lines of the links that are broken for a reader, beside the media that they see.
+    pub fn report(&self, reader: &Reader, media: &Option<Media>) -> Result<Text, Memory>
         ensures { IfOk result (λ text. text
-            ≡ report_body (R.page self.now.0) (seen_in self.now.1 reader.now)) }
+            ≡ report_body (R.page self.now.0) (seen_in self.now.1 reader.now)
+            (beside_of media.now (Some reader.now))) }
     {
-        report(self.heap, &self.store, &self.kept, reader)
+        report(self.heap, &self.store, &self.kept, media, reader)
     }
 
     /// The page for people that shows a reader the page at a path, as it was made for these settings and offers, where it is kept.

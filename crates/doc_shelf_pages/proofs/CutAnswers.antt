@@ -22,7 +22,7 @@ same_bodies render view other same = record {
   of_contents = ap (contents_body render) same;
   of_backlinks = λ path. ap (λ v. backlinks_body render v path) same;
   of_search = λ words. ap (λ v. search_body render v words) same;
-  of_report = ap (report_body render) same;
+  of_report = λ media. ap (λ v. report_body render v media) same;
 }
 
 -- the view of whoever sees the whole of a site

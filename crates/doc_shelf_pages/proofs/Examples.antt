@@ -120,19 +120,19 @@ links_to_v_for_ann : backlinks_body by_table (view_on three [] ann) (codes "v.md
 unfolding computing
 links_to_v_for_ann = refl
 
-report_computed_for_ann : report_body by_table (view_on three [] ann) ≡ []
+report_computed_for_ann : report_body by_table (view_on three [] ann) None ≡ []
 unfolding computing
 report_computed_for_ann = refl
 
-report_for_ann : report_body by_table (view_of (site_of three []) ann) ≡ []
-report_for_ann = ap (report_body by_table) three_for_ann ∙ report_computed_for_ann
+report_for_ann : report_body by_table (view_of (site_of three []) ann) None ≡ []
+report_for_ann = ap (λ v. report_body by_table v None) three_for_ann ∙ report_computed_for_ann
 
-report_computed_for_an_owner : report_body by_table (view_on three [] owner) ≡ codes "v.md\t1\tanchor\tt.md#q\n"
+report_computed_for_an_owner : report_body by_table (view_on three [] owner) None ≡ codes "v.md\t1\tanchor\tt.md#q\n"
 unfolding computing
 report_computed_for_an_owner = refl
 
-report_for_an_owner : report_body by_table (view_of (site_of three []) owner) ≡ codes "v.md\t1\tanchor\tt.md#q\n"
-report_for_an_owner = ap (report_body by_table) three_for_an_owner ∙ report_computed_for_an_owner
+report_for_an_owner : report_body by_table (view_of (site_of three []) owner) None ≡ codes "v.md\t1\tanchor\tt.md#q\n"
+report_for_an_owner = ap (λ v. report_body by_table v None) three_for_an_owner ∙ report_computed_for_an_owner
 
 contents_computed_for_ann : contents_body by_table (view_on three [] ann)
     ≡ codes "<!DOCTYPE html>\n<title>Contents</title>\n<ul>\n<li><a href=\"/page/t.md\">t.md</a></li>\n"
@@ -198,23 +198,23 @@ links_to_the_moved_page : backlinks_body by_table (view_of (site_of moved moved_
 links_to_the_moved_page = ap (λ v. backlinks_body by_table v (codes "e/c.md")) moved_for_an_owner ∙ alias_counts
 
 -- the links of the moved page are those from its new place
-moved_links_break : report_body by_table (view_on moved moved_from owner)
+moved_links_break : report_body by_table (view_on moved moved_from owner) None
     ≡ codes "b.md\t2\tpage\td.md\ne/c.md\t1\tpage\te/b.md\ne/c.md\t2\tpage\te/b.md\n"
 unfolding computing
 moved_links_break = refl
 
-report_after_the_move : report_body by_table (view_of (site_of moved moved_from) owner)
+report_after_the_move : report_body by_table (view_of (site_of moved moved_from) owner) None
     ≡ codes "b.md\t2\tpage\td.md\ne/c.md\t1\tpage\te/b.md\ne/c.md\t2\tpage\te/b.md\n"
-report_after_the_move = ap (report_body by_table) moved_for_an_owner ∙ moved_links_break
+report_after_the_move = ap (λ v. report_body by_table v None) moved_for_an_owner ∙ moved_links_break
 
 -- an alias of a hidden page leads nowhere
-hidden_alias : report_body by_table (view_on moved moved_from ann) ≡ codes "b.md\t1\tpage\tc.md\nb.md\t2\tpage\td.md\n"
+hidden_alias : report_body by_table (view_on moved moved_from ann) None ≡ codes "b.md\t1\tpage\tc.md\nb.md\t2\tpage\td.md\n"
 unfolding computing
 hidden_alias = refl
 
-report_after_the_move_for_ann : report_body by_table (view_of (site_of moved moved_from) ann)
+report_after_the_move_for_ann : report_body by_table (view_of (site_of moved moved_from) ann) None
     ≡ codes "b.md\t1\tpage\tc.md\nb.md\t2\tpage\td.md\n"
-report_after_the_move_for_ann = ap (report_body by_table) moved_for_ann ∙ hidden_alias
+report_after_the_move_for_ann = ap (λ v. report_body by_table v None) moved_for_ann ∙ hidden_alias
 
 -- moved back, its links are whole again, and e/c.md is the alias
 abbrev back : Entries Page
@@ -225,12 +225,12 @@ back =
 abbrev back_from : Entries (List ℕ)
 back_from = (codes "e/c.md", codes "c.md") ∷ []
 
-moved_back : report_body by_table (view_on back back_from owner) ≡ codes "b.md\t2\tpage\td.md\n"
+moved_back : report_body by_table (view_on back back_from owner) None ≡ codes "b.md\t2\tpage\td.md\n"
 unfolding computing
 moved_back = refl
 
-report_after_the_move_back : report_body by_table (view_of (site_of back back_from) owner) ≡ codes "b.md\t2\tpage\td.md\n"
-report_after_the_move_back = ap (report_body by_table) (view_is back back_from tt tt owner) ∙ moved_back
+report_after_the_move_back : report_body by_table (view_of (site_of back back_from) owner) None ≡ codes "b.md\t2\tpage\td.md\n"
+report_after_the_move_back = ap (λ v. report_body by_table v None) (view_is back back_from tt tt owner) ∙ moved_back
 
 -- ---- what is held: the moved page under its new path and its new stamp alone
 

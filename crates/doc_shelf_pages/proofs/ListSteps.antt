@@ -22,6 +22,8 @@ use Rattle.doc_shelf_pages.proofs.ViewAnswers.{backlinks_are_the_views, broken_a
 use Rattle.doc_shelf_pages.proofs.ViewAnswers.{links_are}
 use Rattle.doc_shelf_pages.specs.Held.{held_links, held_words}
 use Rattle.doc_shelf_pages.specs.ViewLaws.{links_seen, seen_in, words_seen}
+use Rattle.doc_media.specs.Media.{Beside}
+use Rattle.doc_media_links.specs.MediaLinks.{broken_beside}
 use Rattle.doc_shelf_pages.specs.Views.{Renders, backlinks_body, backlinks_in, broken_in, hits_in, links_in, report_body}
 use Rattle.doc_store.specs.Names.{AreNames, names_of}
 use Rattle.doc_store_readers.specs.Pages.{Page}
@@ -83,9 +85,9 @@ module _ (render : Renders) (store : StoreState) (kept : Kept) (reader : Reader)
     broken_are links are =
         are ∙ ap (λ v. broken (goal_in v) (linked_in v index)) sees ∙ broken_are_the_views render store reader index is held
 
-    pub report_is : (links : List Broken) → links ≡ broken (goal_in view) (linked_in view index)
-        → report_text links ≡ report_body render (seen_in store reader)
-    report_is links are = ap report_text (broken_are links are)
+    pub report_is : (media : Beside) (links told : List Broken) → links ≡ broken (goal_in view) (linked_in view index)
+        → told ≡ broken_beside media links → report_text told ≡ report_body render (seen_in store reader) media
+    report_is media links told are unbroken = ap report_text (unbroken ∙ ap (broken_beside media) (broken_are links are))
 
     pub sources_are : (path : List ℕ) (sources : List (List ℕ × ℕ)) → sources ≡ backlinks (goal_in view) (linked_in view index) path
         → sources ≡ backlinks_in render (seen_in store reader) path

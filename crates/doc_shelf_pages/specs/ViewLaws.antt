@@ -20,6 +20,7 @@ use Rattle.doc_store.specs.Store.{StoreState, IsStore}
 use Rattle.doc_words_search.specs.Searches.{search, pages_of as pages_with_words}
 use Rattle.doc_words_search.specs.Words.{word_counts}
 use Rattle.doc_shelf_pages.specs.Held.{HasOneStamp, by_path, held_links, held_of, held_words, rendered_under}
+use Rattle.doc_media.specs.Media.{Beside}
 use Rattle.doc_shelf_pages.specs.Views.{Renders, backlinks_body, backlinks_in, broken_in, contents_body, contents_in, hits_in}
 use Rattle.doc_shelf_pages.specs.Views.{links_in, rendered_pages, report_body, search_body}
 
@@ -125,7 +126,7 @@ pub record SameBodies (render : Renders) (view other : View) : Type 0 where
   pub of_contents : contents_body render view ≡ contents_body render other
   pub of_backlinks : (path : List ℕ) → backlinks_body render view path ≡ backlinks_body render other path
   pub of_search : (words : List (List ℕ)) → search_body render view words ≡ search_body render other words
-  pub of_report : report_body render view ≡ report_body render other
+  pub of_report : (media : Beside) → report_body render view media ≡ report_body render other media
 
 -- What a reader is answered of a site is what is answered of the cut of it, taken as a site: to that reader, and to an owner, who sees
 -- the whole of it.

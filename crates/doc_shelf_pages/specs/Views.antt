@@ -7,6 +7,8 @@ use Rattle.doc_links_pages.specs.PageLinks.{page_links}
 use Rattle.doc_links_pages.specs.declared.answers.Broken.{Broken}
 use Rattle.doc_links_pages.specs.declared.answers.Entry.{Entry}
 use Rattle.doc_links_pages.specs.declared.page_links.PageLinks.{PageLinks}
+use Rattle.doc_media.specs.Media.{Beside}
+use Rattle.doc_media_links.specs.MediaLinks.{broken_beside}
 use Rattle.doc_listings.specs.Listings.{backlinks_text, contents_text, hits_text, report_text}
 use Rattle.doc_page_parts.specs.declared.rendered.Rendered.{Rendered}
 use Rattle.doc_store_readers.specs.Sites.{View, goal_in}
@@ -50,7 +52,7 @@ backlinks_in render view path = backlinks (goal_in view) (linked_pages render vi
 abbrev pub hits_in : Renders → View → List (List ℕ) → List Hit
 hits_in render view words = search (counted_pages render view) words
 
--- the links that are broken
+-- the links that are broken among the pages
 abbrev pub broken_in : Renders → View → List Broken
 broken_in render view = broken (goal_in view) (linked_pages render view)
 
@@ -65,5 +67,6 @@ backlinks_body render view path = backlinks_text (backlinks_in render view path)
 abbrev pub search_body : Renders → View → List (List ℕ) → List ℕ
 search_body render view words = hits_text (hits_in render view words)
 
-abbrev pub report_body : Renders → View → List ℕ
-report_body render view = report_text (broken_in render view)
+-- of those that lead to no medium that is seen
+abbrev pub report_body : Renders → View → Beside → List ℕ
+report_body render view media = report_text (broken_beside media (broken_in render view))

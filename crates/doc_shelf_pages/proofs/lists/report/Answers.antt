@@ -1,4 +1,6 @@
 use Rattle.std.proofs.Common.{◌∙◌}
+use Rattle.std.specs.Prelude.{Some}
+use Rattle.doc_media.specs.Media.{beside_of}
 use Rattle.doc_shelf_pages.proofs.FlagSteps.{links_flagged}
 use Rattle.doc_shelf_pages.proofs.ListSteps.{is_once, made, report_is}
 use Rattle.doc_shelf_pages.proofs.lists.report.Goals as goal
@@ -21,4 +23,5 @@ pub returns : goal.returns
 returns c render k =
     made c.new.result _ _ _ c.new.ensures c.in_ok-push_report.ensures.ok c.new-out.ensures.bytes
     ∙ report_is render c.args.store.now c.args.kept.now c.args.reader.now c.requires.kept.1 k c.sight.result c.sight.ensures
-    c.links.result.now c.links.ensures _ (c.get.ensures ∙ c.in_ok-links.ensures)
+    c.links.result.now c.links.ensures (beside_of c.args.media.now (Some c.args.reader.now)) _ _ c.in_ok-links.ensures
+    (c.get.ensures ∙ c.in_ok-told.ensures)

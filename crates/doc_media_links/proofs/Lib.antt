@@ -1,0 +1,4 @@
+pub mod BrokenSteps
+mod Examples
+pub mod FillingLaws
+pub mod PlaceLaws

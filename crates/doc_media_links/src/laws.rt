@@ -1,0 +1,15 @@
+//! Laws of links to media. The functions do nothing: their contracts are the laws.
+
+ghost use Rattle.doc_media_links.specs.Laws.{PagesWithoutMedia, PagesWithoutPlaces};
+
+/// A page none of whose links leads to a medium that is seen is filled as among pages alone.
+#[tactic(auto, using(crate::proofs::FillingLaws::pages_without_media))]
+pub fn pages_without_media()
+    ensures { PagesWithoutMedia }
+{}
+
+/// A page none of whose links names a place in a medium that is seen is filled by what its links lead to alone.
+#[tactic(auto, using(crate::proofs::PlaceLaws::pages_without_places))]
+pub fn pages_without_places()
+    ensures { PagesWithoutPlaces }
+{}

@@ -1,0 +1,14 @@
+//! Links to media: a link that leads to no page that a reader sees, but to a medium that they see, is shown with the medium's address,
+//! and isn't broken.
+#![tactic(auto)]
+
+mod beside_linker;
+mod broken;
+mod goals;
+pub mod laws;
+mod leading;
+
+pub use beside_linker::BesideLinker;
+pub use broken::unbroken;
+pub use goals::goals_beside;
+pub use leading::{lead_to_media, name_places};
