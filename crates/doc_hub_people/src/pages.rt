@@ -36,7 +36,7 @@ pub fn front_answer<V: Viewed>(visit: Visit<'_>, view: &V) -> Result<Answer, Mem
 pub fn page_answer<V: Viewed>(visit: Visit<'_>, view: &V, rest: &str) -> Result<Answer, Memory>
     ensures { IfOk result (λ a. a ≡ people_sent visit.entry.exchange.now (page_under
         (V.render view.now) visit.entry.browse.now (offers_of visit.entry) (V.view view.now)
-        (path_written rest.now))) }
+        (V.media view.now) (path_written rest.now))) }
 {
     let Some(path) = written_path(visit.exchange.heap, rest)? else {
         return visit.not_found(view, None);

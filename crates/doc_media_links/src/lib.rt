@@ -7,6 +7,8 @@ mod broken;
 mod goals;
 pub mod laws;
 mod leading;
+#[cfg(test)]
+mod tests;
 
 pub use beside_linker::BesideLinker;
 pub use broken::unbroken;

@@ -7,6 +7,9 @@ use Rattle.std.specs.Ordering.{ordering_reverse}
 use Rattle.std.specs.declared.cmp.Ordering.TheVariants.{Less}
 use Rattle.std.proofs.lemmas.Bool.{cond_both, false_from_ne_true}
 use Rattle.std.proofs.lemmas.Cmp.{nat_list_cmp_total}
+use Rattle.std.proofs.lemmas.List.Elements.{filter-append}
+use Rattle.doc_media.specs.Media.{Beside}
+use Rattle.doc_media_links.specs.MediaLinks.{broken_beside, is_broken}
 use Rattle.doc_page_parts.proofs.Texts.{bytes_eq_itself, bytes_eq_true}
 use Rattle.doc_page_parts.specs.Pages.{is_empty}
 use Rattle.doc_links_pages.specs.Links.{broken, broken_by, broken_from as broken_on, fault_of}
@@ -102,10 +105,37 @@ same_paths : (render : Renders) (pages : List (List ℕ × Page))
 same_paths render [] = refl
 same_paths render (page ∷ pages) = ap (λ ps. page.0 ∷ ps) (same_paths render pages)
 
+filtered_each : (p : Broken → Bool) (P : Type 0) (links : P → List Broken) (pages : List P)
+    → filter p (flat_map links pages) ≡ flat_map (λ page. filter p (links page)) pages
+filtered_each p P links [] = refl
+filtered_each p P links (page ∷ pages) =
+    filter-append p (links page) (flat_map links pages) ∙ ap (λ rest. filter p (links page) ++ rest) (filtered_each p P links pages)
+
+-- those that lead to media leave page by page
+page_by_page : (media : Beside) (P : Type 0) (links : P → List Broken) (pages : List P)
+    → broken_beside media (flat_map links pages) ≡ flat_map (λ page. broken_beside media (links page)) pages
+page_by_page None P links pages = refl
+page_by_page (Some held) P links pages = filtered_each (is_broken (Some held)) P links pages
+
+own_filtered : (p : Broken → Bool) (source : List ℕ) (links : List Broken) → AllByRecursion (λ l. l.source ≡ source) links
+    → AllByRecursion (λ l. l.source ≡ source) (filter p links)
+own_filtered p source [] all = tt
+own_filtered p source (link ∷ links) all =
+    cond_both (p link) (link ∷ filter p links) (filter p links) (AllByRecursion (λ l. l.source ≡ source))
+    (λ _. (all.0, own_filtered p source links all.1)) (λ _. own_filtered p source links all.1)
+
+own_beside : (media : Beside) (source : List ℕ) (links : List Broken) → AllByRecursion (λ l. l.source ≡ source) links
+    → AllByRecursion (λ l. l.source ≡ source) (broken_beside media links)
+own_beside None source links all = all
+own_beside (Some held) source links all = own_filtered (is_broken (Some held)) source links all
+
 pub groups_are_pages : GroupsArePages
 unfolding broken
-groups_are_pages render view sorted =
-    grouped (List ℕ × PageLinks) (λ page. page.0)
-    (λ page. broken_on (goal_in view) (linked_pages render view) page.0 1 page.1.links)
-    (λ page. own_links (goal_in view) (linked_pages render view) page.0 1 page.1.links) (linked_pages render view)
+groups_are_pages render view media sorted =
+    ap by_source (page_by_page media (List ℕ × PageLinks)
+    (λ page. broken_on (goal_in view) (linked_pages render view) page.0 1 page.1.links) (linked_pages render view))
+    ∙ grouped (List ℕ × PageLinks) (λ page. page.0)
+    (λ page. broken_beside media (broken_on (goal_in view) (linked_pages render view) page.0 1 page.1.links))
+    (λ page. own_beside media page.0 _ (own_links (goal_in view) (linked_pages render view) page.0 1 page.1.links))
+    (linked_pages render view)
     (subst (IsStrictlySortedBy cmp) (sym (same_paths render view.pages)) sorted)

@@ -147,7 +147,7 @@ linking text = record {
 abbrev linked_pages : View
 linked_pages = view_of_paths (codes "b.md" ∷ [])
 
-reasons : broken_main linking no_offers linked_pages [] (by_source (broken_from [] (broken_links linking linked_pages)))
+reasons : broken_main linking no_offers linked_pages [] (by_source (broken_from [] (broken_links linking linked_pages None)))
     ≡ codes "<h1>Broken links</h1>\n<p>A page that you may not read counts as none.</p>\n<table class=\"broken\">\n<thead>\n"
     ++ codes "<tr><th scope=\"col\">Link</th><th scope=\"col\">Leads to</th><th scope=\"col\">What is wrong</th></tr>\n</thead>\n"
     ++ codes "<tbody>\n<tr><th colspan=\"3\" scope=\"rowgroup\"><a href=\"/page/b.md\">Top</a> <span class=\"path\">b.md</span></th></tr>\n"
@@ -157,7 +157,7 @@ reasons : broken_main linking no_offers linked_pages [] (by_source (broken_from 
 unfolding page_words
 reasons = refl
 
-no_broken_links : broken_main demo no_offers (view_of_paths []) [] (by_source (broken_from [] (broken_links demo (view_of_paths []))))
+no_broken_links : broken_main demo no_offers (view_of_paths []) [] (by_source (broken_from [] (broken_links demo (view_of_paths []) None)))
     ≡ codes "<h1>Broken links</h1>\n<p>A page that you may not read counts as none.</p>\n"
     ++ codes "<p>No link is broken on the pages that you may read.</p>\n"
 unfolding page_words

@@ -5,6 +5,7 @@ use Rattle.std.specs.List.{after_first, before_first, flat_map}
 use Rattle.doc_links_pages.specs.declared.answers.Broken.{Broken}
 use Rattle.doc_links_pages.specs.declared.answers.Reason.{Reason}
 use Rattle.doc_links_pages.specs.declared.answers.Reason.TheVariants as reasons
+use Rattle.doc_media.specs.Media.{Beside}
 use Rattle.doc_page_parts.specs.Escaping.{escaped}
 use Rattle.doc_page_parts.specs.Paths.{is_path}
 use Rattle.doc_resolve.specs.Links.{decoded_text}
@@ -130,8 +131,8 @@ broken_main render offers view from groups =
 abbrev pub broken_from : List ℕ → List Broken → List Broken
 broken_from from links = from_on (λ link. link.source) from links
 
--- the broken links of a view, from a source on
-unfoldable pub broken_body : Renders → Browse → Offers → View → List ℕ → List ℕ
-broken_body render settings offers view from =
+-- the broken links of a view beside these media, from a source on
+unfoldable pub broken_body : Renders → Browse → Offers → View → Beside → List ℕ → List ℕ
+broken_body render settings offers view media from =
     shell render settings offers view (codes "Broken links") None
-    (broken_main render offers view from (by_source (broken_from from (broken_links render view)))) []
+    (broken_main render offers view from (by_source (broken_from from (broken_links render view media)))) []

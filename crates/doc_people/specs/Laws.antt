@@ -1,11 +1,14 @@
 -- Laws of the definitions; the proofs are in proofs/.
-use Rattle.std.specs.Prelude.{◌≡◌, ℕ, List, [], ◌∷◌, ◌++◌, Bool, true, false, not, ◌||◌, filter, map as mapped, nat_lt, codes, Option, sum_by, if◌then◌else◌}
+use Rattle.std.specs.Prelude.{◌≡◌, ℕ, List, [], ◌∷◌, ◌++◌, Bool, true, false, not, ◌||◌, filter, map as mapped, nat_lt, codes, Option}
+use Rattle.std.specs.Prelude.{sum_by, if◌then◌else◌}
 use Rattle.std.specs.Cmp.Lexicographic.{slice_cmp}
 use Rattle.std.specs.FinMap as map
 use Rattle.std.specs.List.{list_all, list_any}
 use Rattle.std.specs.List.Sorted.{IsStrictlySortedBy}
 use Rattle.std.specs.Ordering.{nat_cmp}
 use Rattle.std.specs.Str.{is_utf8}
+use Rattle.doc_media.specs.Media.{Beside}
+use Rattle.doc_media_links.specs.MediaLinks.{broken_beside}
 use Rattle.doc_page_parts.specs.declared.rendered.Rendered.{Rendered}
 use Rattle.doc_page_encoding.specs.Encoding.{encoded}
 use Rattle.doc_page_parts.specs.Pages.{is_empty}
@@ -70,8 +73,9 @@ WrittenAnchorsAreRead =
     → written_anchor (path ++ codes "#" ++ encoded anchor) ≡ anchor
 
 -- a page with its broken links
-abbrev pub broken_in : Renders → View → List ℕ × PageLinks → Group
-broken_in render view page = (page.0, broken_on (goal_in view) (linked_pages render view) page.0 1 page.1.links)
+abbrev pub broken_in : Renders → View → Beside → List ℕ × PageLinks → Group
+broken_in render view media page =
+    (page.0, broken_beside media (broken_on (goal_in view) (linked_pages render view) page.0 1 page.1.links))
 
 abbrev pub has_links : Group → Bool
 has_links group = not (is_empty group.1)
@@ -79,5 +83,5 @@ has_links group = not (is_empty group.1)
 -- where the paths of a view rise, the pages with broken links are listed each once, with all of its broken links
 abbrev pub GroupsArePages : Type 0
 GroupsArePages =
-    (render : Renders) (view : View) → IsStrictlySortedBy (slice_cmp nat_cmp) (paths view)
-    → by_source (broken_links render view) ≡ filter has_links (mapped (broken_in render view) (linked_pages render view))
+    (render : Renders) (view : View) (media : Beside) → IsStrictlySortedBy (slice_cmp nat_cmp) (paths view)
+    → by_source (broken_links render view media) ≡ filter has_links (mapped (broken_in render view media) (linked_pages render view))

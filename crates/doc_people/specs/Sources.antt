@@ -4,6 +4,8 @@ use Rattle.doc_links_pages.specs.Links.{backlinks, broken}
 use Rattle.doc_links_pages.specs.PageLinks.{page_links}
 use Rattle.doc_links_pages.specs.declared.answers.Broken.{Broken}
 use Rattle.doc_links_pages.specs.declared.page_links.PageLinks.{PageLinks}
+use Rattle.doc_media.specs.Media.{Beside}
+use Rattle.doc_media_links.specs.MediaLinks.{broken_beside}
 use Rattle.doc_page_parts.specs.declared.rendered.Rendered.{Rendered}
 use Rattle.doc_store_readers.specs.Sites.{View, goal_in}
 use Rattle.doc_people.specs.Views.{Renders, rendered_pages}
@@ -21,6 +23,6 @@ abbrev pub sources_of : Renders → View → List ℕ → List (List ℕ × ℕ)
 sources_of render view path =
     filter (λ source. not (bytes_eq source.0 path)) (backlinks (goal_in view) (linked_pages render view) path)
 
--- the links that are broken, page by page
-abbrev pub broken_links : Renders → View → List Broken
-broken_links render view = broken (goal_in view) (linked_pages render view)
+-- the links that are broken where a reader sees these media, page by page
+abbrev pub broken_links : Renders → View → Beside → List Broken
+broken_links render view media = broken_beside media (broken (goal_in view) (linked_pages render view))

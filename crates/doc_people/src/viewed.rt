@@ -2,7 +2,8 @@
 
 ghost use Rattle.std.specs.Prelude.{◌≡◌, not, Some, IfOk, IfSome, filter, length, option_copied, option_map, take};
 ghost use Rattle.doc_page_parts.specs.Pages.{filled};
-ghost use Rattle.doc_resolve.specs.Hrefs.{shown};
+ghost use Rattle.doc_media.specs.Media.{Beside};
+ghost use Rattle.doc_media_links.specs.MediaLinks.{shown_beside};
 ghost use Rattle.doc_store_readers.specs.Pages.{Page};
 ghost use Rattle.doc_store_readers.specs.Sites.{View, goal_in, page_at};
 ghost use Rattle.doc_people.specs.Folders.{keys};
@@ -32,12 +33,14 @@ pub struct Found {
     pub best: List<Hit>,
 }
 
-/// What a reader sees of a site, asked part by part. Contracts see the reader's view, and what a renderer makes of each text: each
-/// answer is of these alone.
+/// What a reader sees of a site, asked part by part. Contracts see the reader's view, what a renderer makes of each text, and the media
+/// that the reader sees: each answer is of these alone.
 pub trait Viewed {
     ghost view: { Self → View };
 
     ghost render: { Self → Renders };
+
+    ghost media: { Self → Beside };
 
     /// Whether a page is seen at a path. A text that is no path has none.
     fn sees(&self, path: &str) -> Result<bool, Memory>
@@ -55,7 +58,7 @@ pub trait Viewed {
     /// The HTML of the page at a path, where one is seen there, with its links as the reader sees them.
     fn html(&self, path: &Path) -> Result<Option<Text>, Memory>
         ensures { IfOk result (λ html. html ≡ option_map
-            (filled (shown (goal_in (view self.now)) path.now))
+            (filled (shown_beside (goal_in (view self.now)) (media self.now) path.now))
             (rendered_at (render self.now) (view self.now) path.now)) };
 
     /// The plain texts of the blocks of the page at a path, where one is seen there.
@@ -88,7 +91,7 @@ pub trait Viewed {
     fn broken_from(&self, from: &str) -> Result<List<Broken>, Memory>
         ensures { IfOk result (λ found. found ≡ filter
             (λ link. not (is_before link.source from.now))
-            (broken_links (render self.now) (view self.now))) };
+            (broken_links (render self.now) (view self.now) (media self.now))) };
 
     /// What these terms find, and of that the first so many.
     fn hits(&self, terms: &[Term], most: usize) -> Result<Found, Memory>
@@ -101,6 +104,7 @@ pub trait Viewed {
     /// The page for people that shows the page at a path, as it was made for these settings and offers, where it is kept.
     fn kept_body(&self, browse: &Browse, offers: Offers, path: &Path) -> Option<&Text>
         ensures { IfSome result (λ text. option_map
-            (page_body (render self.now) browse.now offers (view self.now) path.now)
+            (page_body (render self.now) browse.now offers (view self.now) (media self.now)
+            path.now)
             (rendered_at (render self.now) (view self.now) path.now) ≡ Some text.now) };
 }

@@ -38,7 +38,7 @@ const ROW_ROOM: usize = 128;
 /// The page for people that lists the broken links of the pages from a text on.
 pub fn broken_body<V: Viewed>(frame: Frame<'_>, view: &V, from: &str) -> Result<Text, Memory>
     ensures { IfOk result (λ text. text ≡ broken_body (V.render view.now) frame.entry.browse.now
-        frame.entry.offers (V.view view.now) from.now) }
+        frame.entry.offers (V.view view.now) (V.media view.now) from.now) }
 {
     let links = view.broken_from(from)?;
     let rows = links.get().len().min(SOURCE_LIMIT * LINK_LIMIT);

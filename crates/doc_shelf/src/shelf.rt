@@ -1,6 +1,6 @@
 //! The shelf.
 
-ghost use Rattle.std.specs.Prelude.{◌≡◌, ◌+◌, not, IfOk, IfSome, Ok, OnErr, OnOk, Some, filter, length, option_copied, option_map, take};
+ghost use Rattle.std.specs.Prelude.{◌≡◌, ◌+◌, not, IfOk, IfSome, None, Ok, OnErr, OnOk, Some, filter, length, option_copied, option_map, take};
 ghost use Rattle.std.specs.FinMap as map;
 ghost use Rattle.doc_http_replies.specs.Heads.{dressed_bytes};
 ghost use Rattle.doc_http_replies.specs.Manners.{dress_of};
@@ -16,7 +16,7 @@ ghost use Rattle.doc_people.specs.Navigation.{is_before, last_ones};
 ghost use Rattle.doc_people.specs.Pages.{page_body};
 ghost use Rattle.doc_people.specs.Sources.{broken_links};
 ghost use Rattle.doc_people.specs.Views.{rendered_at, rendered_pages, sees};
-ghost use Rattle.doc_resolve.specs.Hrefs.{shown};
+ghost use Rattle.doc_media_links.specs.MediaLinks.{shown_beside};
 ghost use Rattle.doc_shelf.specs.Shelves.{rendered_for, shelf_made};
 ghost use Rattle.doc_shelf_documents.specs.Documents.{page_shown};
 ghost use Rattle.doc_shelf_pages.specs.RenderingSteps.{texts_of};
@@ -147,28 +147,37 @@ impl<R: Renderer + Drop> Shelf<R> {
         &self.store
     }
 
-    /// What a reader sees of the pages, for the pages for people.
-    pub fn view<'a>(&'a self, reader: &'a Reader) -> ReaderView<'a, R>
-        ensures { result ≡ record { shelf = self.entry; reader = reader.entry } }
+    /// What a reader sees of the pages and of the media, for the pages for people.
+    pub fn view<'a>(&'a self, reader: &'a Reader, media: &'a Option<Media>) -> ReaderView<'a, R>
+        ensures { result
+            ≡ record { shelf = self.entry; reader = reader.entry; media = media.entry } }
     {
         ReaderView {
             shelf: self,
             reader,
+            media,
         }
     }
 
-    /// Keeps the page for people that shows a reader the page at a path, where they see one, unless it is kept. Where memory is refused it
-    /// isn't kept. Each edit drops all of these.
-    pub fn keep_body(&mut self, frame: Frame<'_>, path: &Path, reader: &Reader)
+    /// Keeps the page for people that shows a reader the page at a path, where they see one, unless it is kept or has a link to a medium
+    /// that they see. Where memory is refused it isn't kept. Each edit drops all of these.
+    pub fn keep_body(
+        &mut self,
+        frame: Frame<'_>,
+        path: &Path,
+        reader: &Reader,
+        media: &Option<Media>,
+    )
         ensures same { self.new ≡ self.old }
     {
-        if self
-            .kept_body(frame.browse, frame.offers, path, reader)
-            .is_some()
+        if pages::leads_to_media(&self.store, &self.kept, path, reader, media)
+            || self
+                .body_among_pages(frame.browse, frame.offers, path, reader)
+                .is_some()
         {
             return;
         }
-        let Ok(Some(body)) = page_body(frame, &self.view(reader), path) else {
+        let Ok(Some(body)) = page_body(frame, &self.view(reader, &None), path) else {
             return;
         };
         self.bodies
@@ -368,8 +377,30 @@ impl<R: Renderer + Drop> Shelf<R> {
         report(self.heap, &self.store, &self.kept, media, reader)
     }
 
-    /// The page for people that shows a reader the page at a path, as it was made for these settings and offers, where it is kept.
+    /// The page for people that shows a reader the page at a path, as it was made for these settings and offers, where it is kept. One with
+    /// a link to a medium that they see never is.
     pub(crate) fn kept_body(
+        &self,
+        browse: &Browse,
+        offers: Offers,
+        path: &Path,
+        reader: &Reader,
+        media: &Option<Media>,
+    ) -> Option<&Text>
+        ensures { IfSome result (λ text. option_map
+            (page_body (R.page self.now.0) browse.now offers
+            (seen_in self.now.1 reader.now) (beside_of media.now (Some reader.now)) path.now)
+            (rendered_at (R.page self.now.0) (seen_in self.now.1 reader.now) path.now)
+            ≡ Some text.now) }
+    {
+        if pages::leads_to_media(&self.store, &self.kept, path, reader, media) {
+            return None;
+        }
+        self.body_among_pages(browse, offers, path, reader)
+    }
+
+    /// The same of a page none of whose links leads to a medium.
+    fn body_among_pages(
         &self,
         browse: &Browse,
         offers: Offers,
@@ -378,7 +409,7 @@ impl<R: Renderer + Drop> Shelf<R> {
     ) -> Option<&Text>
         ensures { IfSome result (λ text. option_map
             (page_body (R.page self.now.0) browse.now offers
-            (seen_in self.now.1 reader.now) path.now)
+            (seen_in self.now.1 reader.now) None path.now)
             (rendered_at (R.page self.now.0) (seen_in self.now.1 reader.now) path.now)
             ≡ Some text.now) }
     {
@@ -413,12 +444,18 @@ impl<R: Renderer + Drop> Shelf<R> {
     }
 
     /// The HTML of the page at a path, where a reader sees one there.
-    pub(crate) fn html(&self, path: &Path, reader: &Reader) -> Result<Option<Text>, Memory>
+    pub(crate) fn html(
+        &self,
+        path: &Path,
+        reader: &Reader,
+        media: &Option<Media>,
+    ) -> Result<Option<Text>, Memory>
         ensures { IfOk result (λ html. html ≡ option_map
-            (filled (shown (goal_in (seen_in self.now.1 reader.now)) path.now))
+            (filled (shown_beside (goal_in (seen_in self.now.1 reader.now))
+            (beside_of media.now (Some reader.now)) path.now))
             (rendered_at (R.page self.now.0) (seen_in self.now.1 reader.now) path.now)) }
     {
-        pages::html(self.heap, &self.store, &self.kept, path, reader)
+        pages::html(self.heap, &self.store, &self.kept, path, reader, media)
     }
 
     /// The texts of the page at a path, where a reader sees one there. Of a shelf that isn't for people no texts are kept, and it answers
@@ -497,16 +534,30 @@ impl<R: Renderer + Drop> Shelf<R> {
     }
 
     /// The links that are broken for a reader. Of a shelf that isn't for people it answers `Memory`.
-    pub(crate) fn broken_from(&self, reader: &Reader, from: &str) -> Result<List<Broken>, Memory>
+    pub(crate) fn broken_from(
+        &self,
+        reader: &Reader,
+        media: &Option<Media>,
+        from: &str,
+    ) -> Result<List<Broken>, Memory>
         ensures { IfOk result (λ found. found
             ≡ filter (λ link. not (is_before link.source from.now))
-            (broken_links (R.page self.now.0) (seen_in self.now.1 reader.now))) }
+            (broken_links (R.page self.now.0) (seen_in self.now.1 reader.now)
+            (beside_of media.now (Some reader.now)))) }
     {
         if !self.kept.keeps_texts() {
             return Err(Memory);
         }
         let rows = &self.rows.by_group;
-        links::broken_from(self.heap, &self.store, &self.kept, rows, reader, from)
+        links::broken_from(
+            self.heap,
+            &self.store,
+            &self.kept,
+            rows,
+            reader,
+            media,
+            from,
+        )
     }
 
     /// What these terms find for a reader, and of that the first so many. Of a shelf that isn't for people it answers `Memory`.
