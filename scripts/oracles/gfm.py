@@ -64,11 +64,11 @@ class Product:
 
 
 def cmark(extension, texts):
-    """The HTML of cmark-gfm, whose links into a site are shown as those that lead nowhere."""
+    """The HTML of cmark-gfm, whose links into a site are shown as those that lead nowhere, and apostrophes in addresses as they stand."""
     command = ["cmark-gfm", "--unsafe", *(["-e", extension] if extension else [])]
 
     def one(text):
-        html = subprocess.run(command, input=text.encode(), stdout=subprocess.PIPE, check=True).stdout.decode()
+        html = subprocess.run(command, input=text.encode(), stdout=subprocess.PIPE, check=True).stdout.decode().replace("&#x27;", "'")
         html = re.sub(r'<a href="(?![a-zA-Z][a-zA-Z0-9+.-]*:)[^"]*"', '<a class="missing"', html)
         return box_first(html) if extension == "tasklist" else html
 
@@ -155,9 +155,23 @@ class Sorted:
                 break
         return text
 
+    def possible(self, text):
+        """The kinds whose mends change a text, or what the others' mends make of it."""
+        names = set()
+        for _ in range(6):
+            before = text
+            for name, mend in self.kinds.items():
+                after = mend(text)
+                if after != text:
+                    names.add(name)
+                text = after
+            if text == before:
+                break
+        return [name for name in self.kinds if name in names]
+
     def sort(self, texts):
         """For each text the kinds without whose mends the two still read it otherwise; one of no kinds is unknown."""
-        left = [[name for name in self.kinds if self.mended(text, [name]) != text] for text in texts]
+        left = [self.possible(text) for text in texts]
         good = self.alike([self.mended(text, names) for text, names in zip(texts, left)])
         self.unknown = [text for text, is_good in zip(texts, good) if not is_good]
         texts, left = zip(*[pair for pair, is_good in zip(zip(texts, left), good) if is_good]) if any(good) else ([], [])

@@ -57,7 +57,7 @@ def lazy_rows(text):
 
 
 def rows_far_in(text):
-    return spoil(text, lambda lines, at, start: re.search(r"(\t| {4})[ \t]*$", lines[at][:start]) is not None)
+    return spoil(text, lambda lines, at, start: re.search(r"(\t| {4})[ \t]*(?:[-*+][ \t]+)?$", lines[at][:start]) is not None)
 
 
 def wide_rows(text):
@@ -79,11 +79,29 @@ def single_pipes(text):
     return re.sub(rf"(?m)^({PREFIX})\|[ \t\f\v]*$", r"\1||", text)
 
 
+def cells_in(line):
+    """How many cells a line has as a header."""
+    parts = re.split(r"(?<!\\)\|", re.sub(rf"^{PREFIX}\|?", "", line))
+    return len(parts) - (parts[-1].strip(" \t") == "")
+
+
 def pipes_before(text):
     """A text whose lines before the header of a table have no pipe behind a backslash."""
-    rows = {at for at, _ in delimiter_rows(text.split("\n"))}
+    lines = text.split("\n")
+    rows = {at for at, _ in delimiter_rows(lines)}
+    headers = {at - 1 for at in rows if at and cells_in(lines[at - 1]) == cells_in(lines[at])}
     last = max(rows, default=0)
-    return each_line(text, lambda lines, at, line: re.sub(r"\\+\|", "/", line) if at < last - 1 and at + 1 not in rows else line)
+    return each_line(text, lambda lines, at, line: re.sub(r"\\+\|", "/", line) if at < last - 1 and at not in headers else line)
+
+
+def rowless_tables(text):
+    """A text in which a row stands behind each delimiter row."""
+    lines = text.split("\n")
+    for at, start in reversed(list(delimiter_rows(lines))):
+        row = re.sub(r"[-*+.)\d]", " ", lines[at][:start]) + "|x"
+        if lines[at + 1:at + 2] != [row]:
+            lines.insert(at + 1, row)
+    return "\n".join(lines)
 
 
 def definitions_before(text):
@@ -122,6 +140,11 @@ def boxes_behind(text):
 def boxes_alone(text):
     """A text without markers that nothing stands behind, or definitions."""
     return re.sub(rf"(?m)^({PREFIX}){BOX}(?=[ \t]*$|[ \t]*\[[^\]\n]*\]:)", r"\1(x)", text)
+
+
+def boxes_of_headings(text):
+    """A text without markers on lines that an underline makes headings."""
+    return re.sub(rf"(?m)^({PREFIX}){BOX}(?=.*\n[ \t>]*(?:=+|-+)[ \t]*$)", r"\1(x)", text)
 
 
 def box_first(html):
@@ -164,6 +187,7 @@ EXTENSIONS = {
         "definitions before a table are text": definitions_before,
         "a delimiter row four columns in makes no table": rows_far_in,
         "a lazy header keeps its front spaces": lazy_headers,
+        "a list with a table of no rows is loose": rowless_tables,
         "form feeds and vertical tabs are spaces": other_spaces,
         "more than 100 columns": wide_rows,
     }),
@@ -175,6 +199,7 @@ EXTENSIONS = {
         "no marker in a quote, or behind another item's on its line": boxes_inside,
         "checked where a mark stands anywhere on the line": boxes_behind,
         "a marker with nothing behind is a task": boxes_alone,
+        "a heading's marker is a task": boxes_of_headings,
     }),
     "autolink": ("bare_links", {
         "www. without a host behind": bare_www,

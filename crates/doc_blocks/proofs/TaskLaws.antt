@@ -9,7 +9,7 @@ use Rattle.doc_rules.specs.Characters.{Text, is_space_or_tab, strip_front}
 use Rattle.doc_rules.specs.Rules.{Rules}
 use Rattle.doc_rules.specs.Forests.{none, ◌▹◌, node}
 use Rattle.doc_rules.specs.Tasks.{mark_of, behind_mark, task_in}
-use Rattle.doc_rules.specs.Blocks.{Leaf, Container, BlockQuote, ListBlock, ListItem, Blocks, first_leaf, item_blocks, with_tasks}
+use Rattle.doc_rules.specs.Blocks.{Leaf, Container, BlockQuote, ListBlock, ListItem, Blocks, item_blocks, with_tasks}
 use Rattle.doc_rules.specs.Blocks.{tasks_read}
 use Rattle.doc_blocks_starts.specs.Tags.{Tag, OneLeaf, Start, End, tags_of, tag_shown, tags_shown}
 use Rattle.doc_blocks_starts.specs.declared.tag.Tag as code

@@ -3,8 +3,8 @@ use Rattle.std.specs.Prelude.{ℕ, Bool, true, false, ◌&&◌, ◌==◌, List, 
 use denote.Ref.{Bor}
 use Rattle.doc_rules.specs.Characters.{Text, is_space_or_tab}
 use Rattle.doc_rules.specs.Rules.{Rules}
-use Rattle.doc_rules.specs.Blocks.{Leaf, Container, ListItem, first_leaf}
-use Rattle.doc_blocks_starts.specs.Tags.{Tag, OneLeaf, Start, End}
+use Rattle.doc_rules.specs.Blocks.{ListItem, first_leaf}
+use Rattle.doc_blocks_starts.specs.Tags.{Tag, OneLeaf, Start}
 use Rattle.doc_blocks.specs.declared.tasks.Marked.{Marked}
 
 -- what a marker says, and the text behind it

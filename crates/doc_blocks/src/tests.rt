@@ -1,6 +1,7 @@
 use crate::block::Block;
 use crate::document::blocks;
-use doc_lines::entities::{Entities, Options};
+use doc_lines::entities::Entities;
+use doc_lines::options::Options;
 use std::test::Fail;
 
 /// A paragraph before a table, and a row that would underline a heading (GitHub Flavored Markdown 0.29, section 4.10).

@@ -1,13 +1,11 @@
 -- No answer makes an edit that brings a page to the path of a medium: of owners, who see all media, such an edit is refused before.
 use Rattle.std.proofs.Common.{◌≡◌, ℕ, List, Bool, true, false, is_some, refl, ap, sym, subst, ◌∙◌}
-use Rattle.std.specs.Prelude.{⊤, ◌&&◌, ◌||◌, codes, not, Option, Some, None, IfSome, Result, Ok, Err, option_map, if◌then◌else◌}
-use Rattle.std.specs.FinMap as map
+use Rattle.std.specs.Prelude.{⊤, ◌||◌, codes, not, Option, Some, None, IfSome, Result, Ok, Err, option_map, if◌then◌else◌}
 use Rattle.std.specs.Str.{is_utf8}
 use Rattle.doc_page_parts.proofs.Bools.{or_first}
 use Rattle.doc_page_parts.specs.Paths.{path_of}
 use Rattle.doc_page_parts.specs.declared.path.PathError.{PathError}
 use Rattle.doc_store_readers.specs.Groups.{groups_of}
-use Rattle.doc_store_readers.specs.Maps.{TextMap}
 use Rattle.doc_store_readers.specs.Pages.{Page}
 use Rattle.doc_store_readers.specs.Sites.{View, goal_in, page_at, view_of}
 use Rattle.doc_store_readers.specs.declared.groups.GroupsError.{GroupsError}
@@ -20,7 +18,6 @@ use Rattle.doc_http_targets.specs.Targets as routes
 use Rattle.doc_http_targets.specs.WrittenPaths.{path_written}
 use Rattle.doc_people.specs.declared.settings.Browse.{Browse}
 use Rattle.doc_people.specs.declared.settings.Offers.{Offers}
-use Rattle.doc_people.specs.declared.settings.Settings.{Settings}
 use Rattle.doc_hub_answers.specs.Replies.{Renders, Response, status_reply}
 use Rattle.doc_hub_answers.specs.Replies as plain
 use Rattle.doc_hub_answers.specs.Replies.{method_of, reads, response_to}
@@ -39,9 +36,10 @@ use Rattle.doc_hub_editing.specs.EditResponses.{EditingReply, EditingResponse, P
 use Rattle.doc_hub_editing.specs.EditAnswers.{begins_path, by_entry, by_other, by_owner, edit_response, folder_begun, form_at, groups_put}
 use Rattle.doc_hub_editing.specs.EditAnswers.{move_done, move_named, move_page, new_form, no_alias_room, no_room, not_found, open_form}
 use Rattle.doc_hub_editing.specs.EditAnswers.{page_of, preview_at, put_at, put_done, put_page, put_text, read_source, regroup_done}
-use Rattle.doc_hub_editing.specs.EditAnswers.{regroup_named, regroup_page, remove_page, response_by, response_if, source_or_goal}
+use Rattle.doc_hub_editing.specs.EditAnswers.{regroup_named, regroup_page, remove_page, response_if, source_or_goal}
 use Rattle.doc_hub_answers.specs.Edits.{puts_taken}
-use Rattle.doc_hub_replies.specs.Answers.{answer_beside, answer_by, answer_of, asks_for_style, dress_by, dress_for, edited_or, is_for_people}
+use Rattle.doc_hub_replies.specs.Answers.{answer_beside, answer_by, answer_of, asks_for_style, dress_by, dress_for, edited_or}
+use Rattle.doc_hub_replies.specs.Answers.{is_for_people}
 use Rattle.doc_hub_replies.specs.Answers.{media_or, style_answer, unedited}
 use Rattle.doc_hub_media.specs.MediaAnswers.{MediaResponse, is_kept, media_answer, media_response, kept_at, move_to, read_alone, where_kept}
 use Rattle.doc_hub_media.specs.MediaAnswers as media_answers
@@ -157,7 +155,7 @@ module _ (media : Media) where
         MovesFree (page_of view (path_written rest)) (option_map path_of (optional_parameter request.target (codes "to")))
     IsFree what = ⊤
 
-    module _ (render : Renders) (browse : Browse) (offers : Offers) (for_people : Bool) where
+    module _ (beside : Beside) (render : Renders) (browse : Browse) (offers : Offers) (for_people : Bool) where
       none_fits : Fits (not_found render browse offers view for_people)
       none_fits = either for_people _ _ tt tt
 
@@ -173,7 +171,7 @@ module _ (media : Media) where
       open_fits rest = either (begins_path rest) (new_form render browse offers view for_people (folder_begun rest))
           (form_at render browse offers view for_people (path_written rest)) (new_fits (folder_begun rest)) (form_fits (path_written rest))
 
-      preview_fits : (path : Option (List ℕ)) → Fits (preview_at render browse view path request)
+      preview_fits : (path : Option (List ℕ)) → Fits (preview_at render browse view beside path request)
       preview_fits None = tt
       preview_fits (Some path) = either (not request.markdown) _ _ tt (either (is_utf8 request.body) _ _ tt tt)
 
@@ -183,7 +181,7 @@ module _ (media : Media) where
       other_fits false (requests.Open rest) = either for_people _ _ tt tt
       other_fits false what = tt
 
-      owner_fits : (what : EditRequest) → IsFree what → Fits (by_owner render browse offers view left for_people request what)
+      owner_fits : (what : EditRequest) → IsFree what → Fits (by_owner render browse offers view beside left for_people request what)
       owner_fits (requests.ReadSource rest) free = read_fits (path_written rest)
       owner_fits (requests.PutSource rest) free = put_fits true (path_written rest) free
       owner_fits (requests.PutPage rest) free = put_fits false (path_written rest) free
@@ -196,18 +194,18 @@ module _ (media : Media) where
       owner_fits (requests.Preview rest) free = preview_fits (path_written rest)
       owner_fits (requests.NotAllowed resource) free = tt
 
-    entry_fits : (render : Renders) (browse : Browse) (for_people guest : Bool) (reader : Reader) (what : EditRequest)
-        → (reader.owner ≡ true → IsFree what) → Fits (by_entry render browse view guest reader left for_people request what)
-    entry_fits render browse for_people guest reader what free = by reader.owner free
+    entry_fits : (beside : Beside) (render : Renders) (browse : Browse) (for_people guest : Bool) (reader : Reader) (what : EditRequest)
+        → (reader.owner ≡ true → IsFree what) → Fits (by_entry render browse view beside guest reader left for_people request what)
+    entry_fits beside render browse for_people guest reader what free = by reader.owner free
       where
         offers : Offers
         offers = offers_for browse guest reader.owner
 
         by : (owner : Bool) → (owner ≡ true → IsFree what)
-            → Fits (if owner then by_owner render browse offers view left for_people request what
+            → Fits (if owner then by_owner render browse offers view beside left for_people request what
             else by_other render browse offers view guest for_people what)
-        by true free = owner_fits render browse offers for_people what (free refl)
-        by false free = other_fits render browse offers for_people guest what
+        by true free = owner_fits beside render browse offers for_people what (free refl)
+        by false free = other_fits beside render browse offers for_people guest what
 
     -- ---- where media have no part in it, it is free
 
@@ -311,15 +309,15 @@ module _ (media : Media) where
       route_plain routes.Broken method none = tt
 
       found_plain : (route : Option Route) → NoPart route (method_of request.method)
-          → FitsPlain (plain.on_route render view reader.owner left route request)
+          → FitsPlain (plain.on_route render view (beside_of media (Some reader)) reader.owner left route request)
       found_plain None none = tt
       found_plain (Some route) none =
           let method : Method = method_of request.method in
-          either_plain (reads method) (plain.only_reply (plain.reply_at render view route request))
+          either_plain (reads method) (plain.only_reply (plain.reply_at render view (beside_of media (Some reader)) route request))
           (plain.edit_at view reader.owner left route request method) tt (route_plain route method none)
 
       pub row_plain : NoPart (route_of request.target) (method_of request.method)
-          → FitsPlain (response_to render view (Some reader) left request)
+          → FitsPlain (response_to render view (beside_of media (Some reader)) (Some reader) left request)
       row_plain none = found_plain (route_of request.target) none
 
 -- ---- answers
@@ -347,41 +345,45 @@ module _ (media : Media) (render : Renders) (view : View) (left : Bool) (request
   method = method_of request.method
 
   plain_free : (browse : Option Browse) (asking : Asking) → PartOf browse asking (media_requests.at_route route method) ≡ None
-      → StaysFree media (response_to render view (row_of asking) left request).edit
+      → StaysFree media (response_to render view (beside_of media (row_of asking)) (row_of asking) left request).edit
   plain_free browse asked.Nobody none = tt
   plain_free browse (asked.Guest row) none = row_plain media view left request browse render true for_people row none
   plain_free browse (asked.Known row) none = row_plain media view left request browse render false for_people row none
 
   unedited_free : (browse : Browse) (asking : Asking) (close : Bool)
-      → StaysFree media (response_to render view (row_of asking) left request).edit
-      → StaysFree media (unedited browse render view asking left close request).edit
-  unedited_free browse asking close free = not_editing (StaysFree media) tt render view asking left request free browse close
+      → StaysFree media (response_to render view (beside_of media (row_of asking)) (row_of asking) left request).edit
+      → StaysFree media (unedited browse render view (beside_of media (row_of asking)) asking left close request).edit
+  unedited_free browse asking close free =
+      not_editing (StaysFree media) tt render view (beside_of media (row_of asking)) asking left request free browse close
 
   asked_so : (browse : Browse) (asking : Asking) (close : Bool) (what : Option EditRequest)
       → PartOf (Some browse) asking (media_requests.asked_by what route method) ≡ None
-      → StaysFree media (edited_or (response_if render browse view asking left for_people request what) (dress_for browse asking) close request
-      (unedited browse render view asking left close request)).edit
+      → StaysFree media (edited_or (response_if render browse view (beside_of media (row_of asking)) asking left for_people request what)
+      (dress_for browse asking) close request
+      (unedited browse render view (beside_of media (row_of asking)) asking left close request)).edit
   asked_so browse asking close None none = unedited_free browse asking close (plain_free (Some browse) asking none)
   asked_so browse asked.Nobody close (Some what) none = unedited_free browse asked.Nobody close tt
   asked_so browse (asked.Guest row) close (Some what) none =
-      entry_fits media view left request render browse for_people true row what
+      entry_fits media view left request (beside_of media (Some row)) render browse for_people true row what
       (asked_free media view left request (Some browse) render true for_people row what none)
   asked_so browse (asked.Known row) close (Some what) none =
-      entry_fits media view left request render browse for_people false row what
+      entry_fits media view left request (beside_of media (Some row)) render browse for_people false row what
       (asked_free media view left request (Some browse) render false for_people row what none)
 
   styled : (browse : Browse) (asking : Asking) (close style : Bool)
       → PartOf (Some browse) asking (media_requests.media_request_of (Some browse) request) ≡ None
       → StaysFree media (if style then style_answer close request
-      else edited_or (response_if render browse view asking left for_people request (edit_request_of browse request))
-      (dress_for browse asking) close request (unedited browse render view asking left close request)).edit
+      else edited_or (response_if render browse view (beside_of media (row_of asking)) asking left for_people request
+      (edit_request_of browse request))
+      (dress_for browse asking) close request
+      (unedited browse render view (beside_of media (row_of asking)) asking left close request)).edit
   styled browse asking close true none = tt
   styled browse asking close false none = asked_so browse asking close (edit_request_of browse request) none
 
 module _ (media : Media) (render : Renders) (view : View) (left : Bool) (request : Request) where
   by_free : (browse : Option Browse) (asking : Asking) (close : Bool)
       → PartOf media render view left request (is_for_people request) browse asking (media_requests.media_request_of browse request) ≡ None
-      → StaysFree media (answer_by browse render view asking left close request).edit
+      → StaysFree media (answer_by browse render view (beside_of media (row_of asking)) asking left close request).edit
   unfolding edit_response
   by_free None asking close none = plain_free media render view left request (is_for_people request) None asking none
   by_free (Some browse) asking close none =
@@ -398,8 +400,9 @@ module _ (render : Renders) (view : View) (left : Bool) (request : Request) (bro
   or_free : (media : Media) (found : Option MediaResponse)
       → ((response : MediaResponse) → found ≡ Some response
       → (media_answer (dress_by browse asking) response close request).edit ≡ None)
-      → (found ≡ None → StaysFree media (answer_by browse render view asking left close request).edit)
-      → StaysFree media (media_or found (dress_by browse asking) close request (answer_by browse render view asking left close request)).edit
+      → (found ≡ None → StaysFree media (answer_by browse render view (beside_of media (row_of asking)) asking left close request).edit)
+      → StaysFree media (media_or found (dress_by browse asking) close request
+      (answer_by browse render view (beside_of media (row_of asking)) asking left close request)).edit
   or_free media None none other = other refl
   or_free media (Some response) none other = subst (StaysFree media) (sym (none response refl)) tt
 
@@ -418,5 +421,6 @@ module _ (render : Renders) (view : View) (left : Bool) (request : Request) (bro
 pub answer_stays_free : (render : Renders) (w : World) (request : Request) → StaysFree w.media (answer_in render w request).edit
 unfolding answer_of
 answer_stays_free render w request =
-    beside_free render (view_of w.site (reader_of w request)) (puts_taken w.takes_puts w.puts) request w.settings.browse (asking_of w request)
+    beside_free render (view_of w.site (reader_of w request)) (puts_taken w.takes_puts w.puts) request w.settings.browse
+    (asking_of w request)
     (request.close || not w.settings.keep_alive) w.media

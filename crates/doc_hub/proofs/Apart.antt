@@ -10,8 +10,8 @@ use Rattle.doc_store_readers.specs.declared.reader.Reader.{Reader}
 use Rattle.doc_store_readers.proofs.KeySteps.{contains_set, contains_taken, same_from, same_key}
 use Rattle.doc_store_readers.proofs.MapValues.{get-map_values}
 use Rattle.doc_store_readers.proofs.ViewLaw.{get-visible_aliases, get-visible_pages}
-use Rattle.doc_store.specs.Store.{StoreState, aliases_after, effect_of, fits_in, goal_after, is_goal, move_fits, move_page, moved_by, put_by}
-use Rattle.doc_store.specs.Store.{remove_page, set_page, with_key_at, without_goal, without_page}
+use Rattle.doc_store.specs.Store.{StoreState, aliases_after, effect_of, goal_after, is_goal, move_fits, move_page}
+use Rattle.doc_store.specs.Store.{remove_page, set_page, with_key_at}
 use Rattle.doc_store.specs.declared.moving.MoveError.{MoveError}
 use Rattle.doc_store.specs.declared.moving.MoveError.TheVariants as move_errors
 use Rattle.doc_store.specs.declared.store.EditError.{EditError}
@@ -137,7 +137,8 @@ module _ (media : Media) where
   removed_apart store path true apart = remove_apart store.site path apart
   removed_apart store path false apart = apart
 
-  regrouped_apart : (store : StoreState) (path : List ℕ) (groups : List (List ℕ)) (found : Option Page) → map.get store.site.pages path ≡ found
+  regrouped_apart : (store : StoreState) (path : List ℕ) (groups : List (List ℕ)) (found : Option Page)
+      → map.get store.site.pages path ≡ found
       → IsApart store.site media → IsApart (regrouped store path groups found).site media
   regrouped_apart store path groups None stood apart = apart
   regrouped_apart store path groups (Some page) stood apart =

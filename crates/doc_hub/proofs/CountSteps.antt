@@ -146,7 +146,8 @@ module _ (render : Renders) (rendered rendered' : ℕ) (w v : World) where
   site_counts : (edit : SiteEdit) (said : SaidSite edit) → HappensSite w edit v said → CountsSite rendered w rendered' edit
       → CountedHere (events.Site edit) (outcome_of_site edit said)
   site_counts (site_edits.Put path groups text) said h more =
-      put_counts path (record { groups = groups; text = text }) (map.contains_key w.site.pages path) (may_put w.media (store_of w) path text) said
+      put_counts path (record { groups = groups; text = text }) (map.contains_key w.site.pages path)
+      (may_put w.media (store_of w) path text) said
       h more
   site_counts (site_edits.Remove path) said h same = removal_counts path said h same
   site_counts (site_edits.Move from to) said h same = move_counts from to (may_move_beside w.media (store_of w) from to) said h same

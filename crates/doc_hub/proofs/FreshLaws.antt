@@ -78,9 +78,11 @@ asking_again guest login readers (Some value) =
 -- a world is alike for a request with its fresh server, where both take a put or no owner puts a page
 fresh_agrees : (puts : ℕ) (w : World) (request : Request) (unread : List ℕ)
     → (is_owners_put (reader_of w request) request ≡ true → puts_taken w.takes_puts w.puts ≡ true) → puts_left puts ≡ true
-    → Agree w (fresh puts (site_seen w request) (media_seen w request) (token_of w request) (known_of (asking_of w request)) w.settings unread) request
+    → Agree w
+    (fresh puts (site_seen w request) (media_seen w request) (token_of w request) (known_of (asking_of w request)) w.settings unread) request
 fresh_agrees puts w request unread room also =
-    let v : World = fresh puts (site_seen w request) (media_seen w request) (token_of w request) (known_of (asking_of w request)) w.settings unread in
+    let v : World =
+    fresh puts (site_seen w request) (media_seen w request) (token_of w request) (known_of (asking_of w request)) w.settings unread in
     let asking : asking_of w request ≡ asking_of v request =
     asking_again (guest_of w.settings.browse) (login_of w.settings.browse) w.readers request.authorization in
     record {

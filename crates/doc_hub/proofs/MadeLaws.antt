@@ -16,7 +16,8 @@ use Rattle.doc_store_readers.specs.Readers.{ReaderTable}
 use Rattle.doc_media.specs.Media.{Media}
 use Rattle.doc_people.specs.declared.settings.Settings.{Settings}
 use Rattle.doc_store_readers.specs.Sites.{Site, IsSite}
-use Rattle.doc_store.specs.Store.{alias_limit, aliases_after, effect_of, fits, goal_after, move_page, moved_by, page_limit, put_by, put_limit}
+use Rattle.doc_store.specs.Store.{alias_limit, aliases_after, effect_of, fits, goal_after, move_page, moved_by, page_limit, put_by}
+use Rattle.doc_store.specs.Store.{put_limit}
 use Rattle.doc_store.specs.Store.{set_page, text_limit}
 use Rattle.doc_store.specs.declared.moving.MoveError.{MoveError}
 use Rattle.doc_store.specs.declared.moving.MoveError.TheVariants as move_errors
@@ -123,7 +124,8 @@ module _ (render : Renders) (readers : ReaderTable) (settings : Settings) (media
         refl,
       ) so_far
 
-  move_more : (site : Site) (puts : ℕ) (from to : List ℕ) → may_move_beside media (store_of (at site puts)) from to ≡ Ok tt → Reached (at site puts)
+  move_more : (site : Site) (puts : ℕ) (from to : List ℕ) → may_move_beside media (store_of (at site puts)) from to ≡ Ok tt
+      → Reached (at site puts)
       → Reached (at (effect_of site (move_page from to)) (puts + 1))
   move_more site puts from to fine so_far =
       let w = at site puts in

@@ -1,25 +1,20 @@
 -- In any run the media stand, and no page comes to the path of one.
 use Rattle.std.proofs.Common.{◌≡◌, ℕ, List, Bool, true, false, is_some, refl, ap, sym, ◌∙◌, subst}
-use Rattle.std.specs.Prelude.{MatchBool, Option, Some, None, Result, Ok, Err, All, nat_lt, if◌then◌else◌}
+use Rattle.std.specs.Prelude.{MatchBool, Option, Some, None, Result, Ok, Err, All, nat_lt}
 use Rattle.std.specs.FinMap as map
 use Rattle.std.specs.Cmp.Lexicographic.{slice_cmp}
 use Rattle.std.specs.Ordering.{nat_cmp}
 use Rattle.std.proofs.lemmas.List.Elements.{All-nil, All-cons}
-use Rattle.doc_page_parts.specs.Refusals.{Gives}
 use Rattle.doc_store_readers.specs.Maps.{TextMap}
 use Rattle.doc_store_readers.specs.Pages.{Page}
-use Rattle.doc_store_readers.specs.Sites.{Site}
-use Rattle.doc_store.specs.Store.{StoreState, fits_in, moved_by, put_by}
+use Rattle.doc_store.specs.Store.{fits_in, moved_by, put_by}
 use Rattle.doc_store.specs.declared.moving.MoveError.{MoveError}
 use Rattle.doc_store.specs.declared.moving.MoveError.TheVariants as move_errors
 use Rattle.doc_store.specs.declared.site_edit.SiteEdit.{SiteEdit}
 use Rattle.doc_store.specs.declared.site_edit.SiteEdit.TheVariants as site_edits
 use Rattle.doc_store.specs.declared.store.EditError.{EditError}
 use Rattle.doc_store.specs.declared.store.EditError.TheVariants as edit_errors
-use Rattle.doc_store_readers.specs.Readers.{ReaderTable}
 use Rattle.doc_media.specs.Media.{Media}
-use Rattle.doc_people.specs.declared.settings.Settings.{Settings}
-use Rattle.doc_http.specs.declared.request.Request.{Request}
 use Rattle.doc_http.specs.declared.request.Next.{Next}
 use Rattle.doc_http.specs.declared.request.Next.TheVariants as nexts
 use Rattle.doc_hub_answers.specs.Edits.{CanBeMade}
@@ -27,25 +22,22 @@ use Rattle.doc_hub_answers.specs.Replies.{Renders}
 use Rattle.doc_hub_answers.specs.declared.edit.Edit.{Edit}
 use Rattle.doc_hub_answers.specs.declared.edit.Edit.TheVariants as edits
 use Rattle.doc_hub_events.specs.Events.{Said, SaidOn, SaidSite}
-use Rattle.doc_hub_events.specs.declared.event.ConnId.{ConnId}
 use Rattle.doc_hub_events.specs.declared.event.ConnectionEvent.{ConnectionEvent}
 use Rattle.doc_hub_events.specs.declared.event.ConnectionEvent.TheVariants as calls
 use Rattle.doc_hub_events.specs.declared.event.Event.{Event}
 use Rattle.doc_hub_events.specs.declared.event.Event.TheVariants as events
 use Rattle.doc_hub_events.specs.declared.event.Step.{Step}
 use Rattle.doc_hub_events.specs.declared.event.Step.TheVariants as steps
-use Rattle.doc_hub_events.specs.declared.outcome.Outcome.{Outcome}
-use Rattle.doc_hub_events.specs.declared.refusal.ConnectError.{ConnectError}
 use Rattle.doc_hub_events.specs.declared.refusal.ConnectError.TheVariants as connect_errors
 use Rattle.doc_hub_events.specs.declared.refusal.PushError.TheVariants as push_errors
 use Rattle.doc_hub_events.specs.declared.refusal.StepError.{StepError}
 use Rattle.doc_hub_events.specs.declared.refusal.StepError.TheVariants as step_errors
-use Rattle.doc_hub.specs.Connections.{new_connection}
 use Rattle.doc_hub.specs.MediaLaws.{MediaStandApart}
-use Rattle.doc_hub.specs.Runs.{Happened, Happens, HappensOn, HappensSite, Leaves, Runs, nothing, first}
-use Rattle.doc_hub.specs.Worlds.{Answers, IsApart, Stays, StepsAt, World, answer_in, asking_of, connected, disconnected, has_medium, last_id}
+use Rattle.doc_hub.specs.Runs.{Happened, Happens, HappensOn, HappensSite, Runs, nothing, first}
+use Rattle.doc_hub.specs.Worlds.{Answers, IsApart, Stays, StepsAt, World, answer_in, asking_of, connected, disconnected, has_medium}
+use Rattle.doc_hub.specs.Worlds.{last_id}
 use Rattle.doc_hub.specs.Worlds.{may_move_beside, may_put, new_world, stepped_by, store_of, world_moved, world_pushed, world_put}
-use Rattle.doc_hub.specs.Worlds.{world_reader_removed, world_reader_set, world_removed}
+use Rattle.doc_hub.specs.Worlds.{world_removed}
 use Rattle.doc_hub.specs.declared.connection.Connection.{Connection}
 use Rattle.doc_hub.proofs.AnswerEdits.{answer_can_be_made}
 use Rattle.doc_hub.proofs.AnswersFree.{answer_stays_free}
@@ -59,12 +51,14 @@ record HasMedia (start w : World) : Type 0 where
   apart : IsApart start.site start.media → IsApart w.site w.media
 
 put_keeps : (w : World) (path : List ℕ) (page : Page) (stands : Bool) (said : Result (Unit {0}) EditError)
-    → may_put w.media (store_of w) path page.text ≡ said → IsApart w.site w.media → IsApart (put_by (store_of w) path page stands said).0.site w.media
+    → may_put w.media (store_of w) path page.text ≡ said → IsApart w.site w.media
+    → IsApart (put_by (store_of w) path page stands said).0.site w.media
 put_keeps w path page stands (Ok fine) is apart =
     put_apart w.media w.site path page (put_is_free (has_medium w.media path) (fits_in (store_of w) path page.text) is).0 apart
 put_keeps w path page stands (Err e) is apart = apart
 
-move_keeps : (w : World) (from to : List ℕ) (said : Result (Unit {0}) MoveError) → may_move_beside w.media (store_of w) from to ≡ said → IsApart w.site w.media
+move_keeps : (w : World) (from to : List ℕ) (said : Result (Unit {0}) MoveError) → may_move_beside w.media (store_of w) from to ≡ said
+    → IsApart w.site w.media
     → IsApart (moved_by (store_of w) from to said).0.site w.media
 move_keeps w from to (Ok fine) is apart =
     let free = move_is_free (map.contains_key w.site.pages from) (map.contains_key w.site.pages to) (has_medium w.media to) _ w.puts is in

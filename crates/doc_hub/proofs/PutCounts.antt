@@ -137,7 +137,8 @@ module _ (render : Renders) where
   site_counts w v (site_edits.Remove path) said h =
       by_equation _ w v said (removed_counts (store_of w) path (map.contains_key w.site.pages path)) h
   site_counts w v (site_edits.Move from to) said h =
-      by_gives move_errors.Memory (world_moved w from to) w v said (move_counts (store_of w) from to (may_move_beside w.media (store_of w) from to)) h
+      by_gives move_errors.Memory (world_moved w from to) w v said
+      (move_counts (store_of w) from to (may_move_beside w.media (store_of w) from to)) h
 
   event_counts : (w v : World) (event : Event) (said : Said event) → Happens render w event v said → Counts w v
   event_counts w v events.Connect said h =

@@ -29,7 +29,8 @@ use Rattle.doc_hub.specs.MadeLaws.{IsWithin, MadeReplies, SendsAsMade, makings}
 use Rattle.doc_hub_answers.specs.Replies.{Renders}
 use Rattle.doc_hub.specs.Runs.{Happens, HappensOn, HappensSite, Happened, Runs, nothing, first}
 use Rattle.doc_hub.specs.StepLaws.{media_seen, open_with, site_seen}
-use Rattle.doc_hub.specs.Worlds.{IsApart, World, Answers, Stays, StepsAt, answer_in, asking_of, connected, disconnected, has_medium, last_id, new_world}
+use Rattle.doc_hub.specs.Worlds.{IsApart, World, Answers, Stays, StepsAt, answer_in, asking_of, connected, disconnected, has_medium}
+use Rattle.doc_hub.specs.Worlds.{last_id, new_world}
 use Rattle.doc_hub.specs.Worlds.{may_move_beside, may_put, reader_of, stepped_by, store_of, token_of, world_moved, world_pushed, world_put}
 use Rattle.doc_hub.proofs.KindSteps.{stand_beside}
 use Rattle.doc_hub.specs.declared.connection.Connection.{Connection}

@@ -53,7 +53,8 @@ use Rattle.doc_hub_answers.specs.declared.edit.Edit.TheVariants as edits
 unfoldable computing : Unit {0}
 unfolding digits chars is_utf8 encode percent_decode percent_encode_byte encoded encoded_path kind_on target_path_written put_all reference
     resolve without_dots escaped lines without_ending stripped filled is_path paragraphs plain_html reason_of field_line reply_head
-    reply_bytes dressed_head dressed_bytes answer_of media_response origin_form route_of path_written value_of raw_pairs split utf8_lossy utf8_valid_len
+    reply_bytes dressed_head dressed_bytes answer_of media_response origin_form route_of path_written value_of raw_pairs split utf8_lossy
+    utf8_valid_len
     groups_of_names text_limit
     page_limit backlog_limit kinds backlinks broken contents backlinks_text entry_lines heading_line report_text
 computing = tt
@@ -421,7 +422,8 @@ abbrev edit_seen : View → Option Reader → Bool → Request → Option Edit
 edit_seen view reader left request = (answer_by_entry plain_page view reader left true request).edit
 
 step_tells_what_is_seen : (w : World) (used : ℕ) (request : Request) (view : View) (reader : Option Reader) (left : Bool)
-    → view_of w.site (reader_of w request) ≡ view → beside_of w.media (reader_of w request) ≡ None → asking_of w request ≡ known_by reader → puts_taken w.takes_puts w.puts ≡ left
+    → view_of w.site (reader_of w request) ≡ view → beside_of w.media (reader_of w request) ≡ None → asking_of w request ≡ known_by reader
+    → puts_taken w.takes_puts w.puts ≡ left
     → w.settings ≡ plain_settings true
     → edit_of_step plain_page w (nexts.Request used request) ≡ edit_seen view reader left request
 step_tells_what_is_seen w used request view reader left sees none is remains keeps =

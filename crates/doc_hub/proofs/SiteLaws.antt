@@ -177,7 +177,8 @@ module _ (render : Renders) where
     Some (move_page from to),
     refl,
     sym (ap (λ (q : World × Result (Unit {0}) MoveError). q.0.site) gives)
-        ∙ moved_site (store_of w) from to (may_move_beside w.media (store_of w) from to) (ap (λ (q : World × Result (Unit {0}) MoveError). q.1) gives),
+        ∙ moved_site (store_of w) from to (may_move_beside w.media (store_of w) from to)
+        (ap (λ (q : World × Result (Unit {0}) MoveError). q.1) gives),
   )
   move_edits w v from to (Err e) gives = (None, refl, ap (λ (x : World). x.site) gives.1)
 

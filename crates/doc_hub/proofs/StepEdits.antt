@@ -59,7 +59,8 @@ module _ (render : Renders) (w v : World) where
     apart = apart;
     site = site;
   }
-  edit_changes text (Some (edits.Regroup path groups)) can apart site = regroup_changes path groups (map.get w.site.pages path) refl can site
+  edit_changes text (Some (edits.Regroup path groups)) can apart site =
+      regroup_changes path groups (map.get w.site.pages path) refl can site
   edit_changes text (Some (edits.Move from to)) can apart site =
       record { stood = can.stands; free = can.free; apart = apart; site = site }
   edit_changes text (Some (edits.Remove path)) can apart site =

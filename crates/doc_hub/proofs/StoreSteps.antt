@@ -4,8 +4,8 @@ use Rattle.std.specs.Prelude.{◌&&◌, ◌||◌, MatchBool, Option, Some, None,
 use Rattle.std.specs.FinMap as map
 use Rattle.doc_page_parts.specs.Refusals.{Gives, IsAnswer}
 use Rattle.doc_store_readers.specs.Pages.{Page}
-use Rattle.doc_store_readers.specs.Sites.{view_of}
-use Rattle.doc_store.specs.Store.{StoreState, aliases_after, fits_in, may_move, move_fits, moved_by, moved_in, put_by, put_into, without_page}
+use Rattle.doc_store.specs.Store.{StoreState, aliases_after, fits_in, may_move, move_fits, moved_by, moved_in, put_by, put_into}
+use Rattle.doc_store.specs.Store.{without_page}
 use Rattle.doc_store.specs.declared.moving.MoveError.{MoveError}
 use Rattle.doc_store.specs.declared.moving.MoveError.TheVariants as move_errors
 use Rattle.doc_store.specs.declared.store.EditError.{EditError}
@@ -13,16 +13,16 @@ use Rattle.doc_store.specs.declared.store.EditError.TheVariants as edit_errors
 use Rattle.doc_store.specs.declared.store.Put.{Put}
 use Rattle.doc_store.proofs.StoreSteps.{taken_out}
 use Rattle.doc_store_readers.specs.Readers.{ReaderTable}
-use Rattle.doc_media.specs.Media.{Media, beside_of}
+use Rattle.doc_media.specs.Media.{Media}
 use Rattle.doc_people.specs.declared.settings.Settings.{Settings}
 use Rattle.doc_http.specs.Requests.{IsNext}
 use Rattle.doc_http.specs.declared.request.Request.{Request}
 use Rattle.doc_http.specs.declared.request.Next.TheVariants as nexts
 use Rattle.doc_hub.specs.Connections.{Connections, finished}
-use Rattle.doc_hub_answers.specs.Edits.{puts_taken, regrouped, store_after}
+use Rattle.doc_hub_answers.specs.Edits.{regrouped, store_after}
 use Rattle.doc_hub_answers.specs.Replies.{Renders}
-use Rattle.doc_hub_replies.specs.Answers.{answer_of}
-use Rattle.doc_hub.specs.Worlds.{Answers, Stays, Steps, StepsAt, World, answer_in, asking_of, has_medium, reader_of, step_said, stepped_by, with_finished, with_store}
+use Rattle.doc_hub.specs.Worlds.{Answers, Stays, Steps, StepsAt, World, answer_in, has_medium, step_said, stepped_by, with_finished}
+use Rattle.doc_hub.specs.Worlds.{with_store}
 use Rattle.doc_hub.specs.Worlds.{world_after, world_moved, world_put, world_removed}
 use Rattle.doc_hub_answers.specs.declared.answer.Answer.{Answer}
 use Rattle.doc_hub.specs.declared.connection.Connection.{Connection}
@@ -102,19 +102,6 @@ unless_taken true true false aliases puts e = refl
 unless_taken true false false aliases puts e = refl
 unless_taken false taken medium aliases puts e = refl
 
-where_taken : (stands taken medium : Bool) (aliases puts : ℕ) → (stands && medium) ≡ true
-    → move_fits stands (taken || medium) aliases puts ≡ Err move_errors.Taken
-where_taken true true true aliases puts e = refl
-where_taken true false true aliases puts e = refl
-where_taken true taken false aliases puts e = absurd (unlike e)
-  where
-    unlike : false ≡ true → ⊥
-    unlike h = cc
-where_taken false taken medium aliases puts e = absurd (unlike e)
-  where
-    unlike : false ≡ true → ⊥
-    unlike h = cc
-
 -- the world of a hub with this store and these media
 abbrev pub world_of : StoreState → Media → Bool → ReaderTable → Settings → ℕ → Connections → World
 world_of store media takes readers settings given connections = record {
@@ -128,7 +115,8 @@ world_of store media takes readers settings given connections = record {
   connections = connections;
 }
 
-module _ (media : Media) (takes : Bool) (readers : ReaderTable) (settings : Settings) (given : ℕ) (connections : Connections) (store new : StoreState)
+module _ (media : Media) (takes : Bool) (readers : ReaderTable) (settings : Settings) (given : ℕ) (connections : Connections)
+    (store new : StoreState)
     (w : World) (view_is : world_of store media takes readers settings given connections ≡ w) where
   abbrev before : World
   before = world_of store media takes readers settings given connections
@@ -137,58 +125,37 @@ module _ (media : Media) (takes : Bool) (readers : ReaderTable) (settings : Sett
   after = world_of new media takes readers settings given connections
 
   -- a put where no medium stands is the store's
-  pub put_so : (path : List ℕ) (groups : List (List ℕ)) (text : List ℕ) (r : Result Put EditError) → has_medium w.media path ≡ false
+  pub put_so : (path : List ℕ) (groups : List (List ℕ)) (text : List ℕ) (r : Result Put EditError) (medium : Bool)
+      → medium ≡ has_medium w.media path → medium ≡ false
       → Gives edit_errors.Memory (put_into store path groups text) store new r
       → Gives edit_errors.Memory (world_put w path groups text) w after r
-  put_so path groups text r free gives =
+  put_so path groups text r medium is none gives =
       let page : Page = record { groups = groups; text = text } in
       let stands = map.contains_key store.site.pages path in
       let said = fits_in store path text in
       let By : Bool → Type 0 = λ t. Gives edit_errors.Memory
-      (let q = put_by (bare store) path page stands (if t then Err edit_errors.Taken else said) in (with_store before q.0, q.1)) before after r in
+      (let q = put_by (bare store) path page stands (if t then Err edit_errors.Taken else said) in (with_store before q.0, q.1))
+      before after r in
       subst (λ v. Gives edit_errors.Memory (world_put v path groups text) v after r) view_is
-      (subst By (sym (ap (λ (v : World). has_medium v.media path) view_is ∙ free))
+      (subst By (sym (ap (λ (v : World). has_medium v.media path) view_is ∙ sym is ∙ none))
       (gives_so edit_errors.Memory before (put_into store path groups text) (put_into (bare store) path groups text) store new r
       (put_alike store path page stands said) (put_answer store path page stands said) gives))
 
-  -- one where a medium stands is refused
-  pub put_refused : (path : List ℕ) (groups : List (List ℕ)) (text : List ℕ) → has_medium w.media path ≡ true
-      → Gives edit_errors.Memory (world_put w path groups text) w before (Err edit_errors.Taken)
-  put_refused path groups text stands =
-      let page : Page = record { groups = groups; text = text } in
-      let there = map.contains_key store.site.pages path in
-      let said = fits_in store path text in
-      let By : Bool → Type 0 = λ t. Gives edit_errors.Memory
-      (let q = put_by (bare store) path page there (if t then Err edit_errors.Taken else said) in (with_store before q.0, q.1)) before before
-      (Err edit_errors.Taken) in
-      subst (λ v. Gives edit_errors.Memory (world_put v path groups text) v before (Err edit_errors.Taken)) view_is
-      (subst By (sym (ap (λ (v : World). has_medium v.media path) view_is ∙ stands)) (refl, refl))
-
   -- a move is the store's, unless a page stands at the old path and a medium at the new one
-  pub move_so : (from to : List ℕ) (r : Result (Unit {0}) MoveError)
-      → (map.contains_key w.site.pages from && has_medium w.media to) ≡ false
+  pub move_so : (from to : List ℕ) (r : Result (Unit {0}) MoveError) (onto : Bool)
+      → onto ≡ (map.contains_key w.site.pages from && has_medium w.media to) → onto ≡ false
       → Gives move_errors.Memory (moved_in store from to) store new r
       → Gives move_errors.Memory (world_moved w from to) w after r
-  move_so from to r free gives =
+  move_so from to r onto is none gives =
       let said = may_move store from to in
       let By : Result (Unit {0}) MoveError → Type 0 = λ may. Gives move_errors.Memory
       (let q = moved_by (bare store) from to may in (with_store before q.0, q.1)) before after r in
       subst (λ v. Gives move_errors.Memory (world_moved v from to) v after r) view_is
       (subst By (sym (unless_taken (map.contains_key store.site.pages from) (map.contains_key store.site.pages to) (has_medium media to)
       (map.len (aliases_after store.site.aliases from to)) store.puts
-      (ap (λ (v : World). map.contains_key v.site.pages from && has_medium v.media to) view_is ∙ free)))
+      (ap (λ (v : World). map.contains_key v.site.pages from && has_medium v.media to) view_is ∙ sym is ∙ none)))
       (gives_so move_errors.Memory before (moved_in store from to) (moved_in (bare store) from to) store new r
       (move_alike store from to said) (move_answer store from to said) gives))
-
-  pub move_refused : (from to : List ℕ) → (map.contains_key w.site.pages from && has_medium w.media to) ≡ true
-      → Gives move_errors.Memory (world_moved w from to) w before (Err move_errors.Taken)
-  move_refused from to taken =
-      let By : Result (Unit {0}) MoveError → Type 0 = λ may. Gives move_errors.Memory
-      (let q = moved_by (bare store) from to may in (with_store before q.0, q.1)) before before (Err move_errors.Taken) in
-      subst (λ v. Gives move_errors.Memory (world_moved v from to) v before (Err move_errors.Taken)) view_is
-      (subst By (sym (where_taken (map.contains_key store.site.pages from) (map.contains_key store.site.pages to) (has_medium media to)
-      (map.len (aliases_after store.site.aliases from to)) store.puts
-      (ap (λ (v : World). map.contains_key v.site.pages from && has_medium v.media to) view_is ∙ taken))) (refl, refl))
 
   pub remove_so : (path : List ℕ) (r : Bool) → r ≡ map.contains_key store.site.pages path → new ≡ without_page store path
       → ◌≡◌ {A = World × Bool} (world_removed w path) (after, r)
@@ -198,16 +165,8 @@ module _ (media : Media) (takes : Bool) (readers : ReaderTable) (settings : Sett
 
 -- ---- a step that answers a request
 
--- the answer beside the media that a hub has
-pub beside_so : (render : Renders) (w : World) (request : Request) (media : Media) (answer : Answer) → media ≡ w.media
-    → answer ≡ answer_of w.settings render (view_of w.site (reader_of w request)) (beside_of media (reader_of w request)) (asking_of w request)
-    (puts_taken w.takes_puts w.puts) request
-    → answer ≡ answer_in render w request
-beside_so render w request media answer same is =
-    is ∙ ap (λ m. answer_of w.settings render (view_of w.site (reader_of w request)) (beside_of m (reader_of w request)) (asking_of w request)
-    (puts_taken w.takes_puts w.puts) request) same
-
-module _ (render : Renders) (media : Media) (takes : Bool) (readers : ReaderTable) (settings : Settings) (given : ℕ) (connections after : Connections)
+module _ (render : Renders) (media : Media) (takes : Bool) (readers : ReaderTable) (settings : Settings) (given : ℕ)
+    (connections after : Connections)
     (store new : StoreState)
     (w : World) (view_is : world_of store media takes readers settings given connections ≡ w) (id : ℕ) (c : Connection)
     (found : Some c ≡ map.get connections id) (is_open : c.closed ≡ false) (used : ℕ) (request : Request)

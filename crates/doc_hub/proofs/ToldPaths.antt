@@ -22,10 +22,13 @@ module _ (render : Renders) (w : World) where
   next_at_paths nexts.More = tt
   next_at_paths (nexts.Fault code bare) = tt
   next_at_paths (nexts.Request used request) =
-      answer_holds AtPaths tt render (view_of w.site (reader_of w request)) (asking_of w request) (puts_taken w.takes_puts w.puts) request
-      (response_at_paths render (view_of w.site (reader_of w request)) (reader_of w request) (puts_taken w.takes_puts w.puts) request)
-      (λ browse. edits_at_paths (view_of w.site (reader_of w request)) (puts_taken w.takes_puts w.puts) request render browse (is_for_people request)
-      (asking_of w request)) w.settings (beside_of w.media (reader_of w request))
+      answer_holds AtPaths tt render (view_of w.site (reader_of w request)) (beside_of w.media (reader_of w request)) (asking_of w request)
+      (puts_taken w.takes_puts w.puts) request
+      (response_at_paths render (view_of w.site (reader_of w request)) (beside_of w.media (reader_of w request)) (reader_of w request)
+      (puts_taken w.takes_puts w.puts) request)
+      (λ browse. edits_at_paths (view_of w.site (reader_of w request)) (puts_taken w.takes_puts w.puts) request
+      (beside_of w.media (reader_of w request)) render browse (is_for_people request)
+      (asking_of w request)) w.settings
 
   open_at_paths : (c : Connection) (told : Option Edit) (closed : Bool)
       → MatchBool closed (told ≡ None) ((next : Next) × IsNext c.unread next × (told ≡ edit_of_step render w next)) → AtPaths told

@@ -1,5 +1,5 @@
 -- Media stand, and no page comes to the path of one.
-use Rattle.std.specs.Prelude.{◌≡◌, List, Option}
+use Rattle.std.specs.Prelude.{◌≡◌, List}
 use Rattle.doc_store_readers.specs.Readers.{ReaderTable}
 use Rattle.doc_media.specs.Media.{Media}
 use Rattle.doc_people.specs.declared.settings.Settings.{Settings}

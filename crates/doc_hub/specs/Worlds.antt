@@ -1,6 +1,6 @@
 -- The world that a hub stands for, and one function of it for each call.
-use Rattle.std.specs.Prelude.{◌≡◌, ℕ, List, ◌+◌, ◌^◌, ◌-◌, Bool, true, nat_lt, nat_le, ◌&&◌, ◌||◌, false, MatchBool, Option, Some, None, option_map}
-use Rattle.std.specs.Prelude.{Result, Ok, Err, if◌then◌else◌, refl}
+use Rattle.std.specs.Prelude.{◌≡◌, ℕ, List, ◌+◌, ◌^◌, ◌-◌, Bool, true, nat_lt, nat_le, ◌&&◌, ◌||◌, false, MatchBool, Option, Some, None}
+use Rattle.std.specs.Prelude.{option_map, Result, Ok, Err, if◌then◌else◌, refl}
 use Rattle.std.specs.Coded.{Coded, code_by, coded×, coded_bool, coded_list, coded_option, coded_ℕ}
 use Rattle.std.specs.FinMap as map
 use Rattle.doc_store_readers.specs.declared.reader.Reader.{Reader}
@@ -245,4 +245,5 @@ world_taking w takes = record w { takes_puts = takes }
 
 -- the broken links of what the reader of a token sees, where there is such a reader: as lines of text
 abbrev pub report_in : Renders → World → List ℕ → Option (List ℕ)
-report_in render w token = option_map (λ reader. report_body render (view_of w.site (Some reader))) (map.get w.readers token)
+report_in render w token =
+    option_map (λ reader. report_body render (view_of w.site (Some reader)) (beside_of w.media (Some reader))) (map.get w.readers token)

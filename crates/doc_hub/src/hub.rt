@@ -254,7 +254,7 @@ impl<R: Renderer + Drop> Hub<R> {
                     routes: &self.routes,
                     readers: &self.readers,
                     settings: &self.settings,
-                    media: self.media.as_ref(),
+                    media: &self.media,
                     takes_puts: self.takes_puts,
                 };
                 let answer = serving.answer(&mut self.shelf, &request)?;
@@ -409,7 +409,7 @@ impl<R: Renderer + Drop> Hub<R> {
         let Some(reader) = self.readers.find(token) else {
             return Ok(None);
         };
-        Ok(Some(self.shelf.report(reader)?))
+        Ok(Some(self.shelf.report(reader, &self.media)?))
     }
 
     /// Makes these events happen in their order, each in what those before it left, and answers what

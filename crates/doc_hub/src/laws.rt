@@ -7,7 +7,7 @@ ghost use Rattle.doc_hub.specs.EditLaws.{SiteIsOfEdits};
 ghost use Rattle.doc_hub.specs.EditingLaws.{NoPageIsReplacedUnasked, NoUpdateIsLost};
 ghost use Rattle.doc_hub.specs.FreshLaws.{NewRepliesAsFresh, PutsAreCounted, PutsAreLeft};
 ghost use Rattle.doc_hub.specs.FreshLaws.{RepliesAsFresh, TakingStands};
-ghost use Rattle.doc_hub.specs.HiddenLaws.{HiddenAsNone, HiddenMediumAsNone, LinksToHiddenAsToNone};
+ghost use Rattle.doc_hub.specs.HiddenLaws.{HiddenAsNone, HiddenMediumAsNone, LinksToHiddenAsToNone, LinksToHiddenMediaAsToNone};
 ghost use Rattle.doc_hub.specs.MadeLaws.{FreshIsMade, MadeReplies};
 ghost use Rattle.doc_hub.specs.MediaLaws.{MediaStandApart};
 ghost use Rattle.doc_hub.specs.RunLaws.{RunsAlike};
@@ -42,6 +42,12 @@ pub fn a_hidden_medium_is_answered_as_none()
 #[tactic(auto, using(crate::proofs::HiddenLaws::links_to_hidden_as_to_none))]
 pub fn a_link_to_a_hidden_page_is_shown_as_one_to_none()
     ensures { LinksToHiddenAsToNone }
+{}
+
+/// A link to a hidden medium is shown like a link to none, too, and so is each page with its links.
+#[tactic(auto, using(crate::proofs::HiddenLaws::links_to_hidden_media_as_to_none))]
+pub fn a_link_to_a_hidden_medium_is_shown_as_one_to_none()
+    ensures { LinksToHiddenMediaAsToNone }
 {}
 
 /// Step noninterference. Two steps send equal bytes and do the same where their connections are open,

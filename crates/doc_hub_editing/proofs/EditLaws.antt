@@ -412,7 +412,7 @@ module _ (view : View) (request : Request) where
     entry_both_by guest left what false = other_both guest what
 
   entry_both : (media : Beside) (render : Renders) (browse : Browse) (guest : Bool) (reader : Reader) (left for_people : Bool)
-  (what : EditRequest)
+      (what : EditRequest)
       → Both (by_entry render browse view media guest reader left for_people request what)
   entry_both media render browse guest reader left for_people what =
       entry_both_by media render browse (offers_for browse guest reader.owner) for_people guest left what reader.owner

@@ -40,7 +40,7 @@ refusal_of guest what = status_reply (if guest then 401 else 403)
 -- answered alike whatever there is to be seen, and readers by their own view.
 pub record OwnersAlone : Type 0 where
   pub edit_nothing : (render : Renders) (browse : Browse) (view : View) (media : Beside) (guest : Bool) (reader : Reader)
-  (puts_left for_people : Bool)
+      (puts_left for_people : Bool)
       (request : Request) (what : EditRequest)
       → reader.owner ≡ false → (by_entry render browse view media guest reader puts_left for_people request what).edit ≡ None
   pub plainly : (render : Renders) (browse : Browse) (view : View) (media : Beside) (guest : Bool) (reader : Reader) (puts_left : Bool)
@@ -48,7 +48,7 @@ pub record OwnersAlone : Type 0 where
       → reader.owner ≡ false
       → by_entry render browse view media guest reader puts_left false request what ≡ only_reply (Plain (refusal_of guest what))
   pub guests : (render other : Renders) (browse : Browse) (view another : View) (media others : Beside) (reader : Reader)
-  (puts_left still_left for_people : Bool)
+      (puts_left still_left for_people : Bool)
       (request elsewhere : Request) (what : EditRequest)
       → reader.owner ≡ false
       → by_entry render browse view media true reader puts_left for_people request what

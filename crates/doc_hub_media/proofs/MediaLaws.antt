@@ -1,5 +1,5 @@
 -- Laws of what is answered by media.
-use Rattle.std.proofs.Common.{◌≡◌, Bool, true, false, List, ℕ, refl, ap, sym, ◌∙◌, subst}
+use Rattle.std.proofs.Common.{◌≡◌, Bool, true, false, List, ℕ, refl, sym, ◌∙◌, subst}
 use Rattle.std.specs.Prelude.{Option, Some, None, ⊤, Result, Ok, Err, codes, is_some, option_map, if◌then◌else◌}
 use Rattle.doc_http.specs.declared.request.Request.{Request}
 use Rattle.doc_http_replies.specs.Heads.{Dress}

@@ -2,7 +2,7 @@
 -- people, of what a renderer makes of each text, of the view of who asks, of the media that they see, of who asks, and of the request, and
 -- never of the whole site. Media are read alone, by whoever sees them. Where there are none, none of this is. All of this is this project's
 -- choice.
-use Rattle.std.specs.Prelude.{ℕ, List, Bool, true, false, not, ◌&&◌, ◌||◌, ◌==◌, bytes_eq, is_some, codes, Option, Some, None}
+use Rattle.std.specs.Prelude.{ℕ, List, Bool, true, false, not, ◌&&◌, ◌||◌, is_some, codes, Option, Some, None}
 use Rattle.std.specs.Prelude.{option_map, Result, Ok, Err, if◌then◌else◌}
 use Rattle.doc_http.specs.Requests.{is_bare}
 use Rattle.doc_http.specs.declared.request.Request.{Request}

@@ -1,6 +1,5 @@
 -- What is said of requests that media may have a part in as they are answered.
 use Rattle.std.specs.Prelude.{Option, Some, None, option_map}
-use Rattle.doc_http_replies.specs.Manners.{dress_of}
 use Rattle.doc_media.specs.Media.{Beside, beside_of}
 use Rattle.doc_store_readers.specs.Sites.{View}
 use Rattle.doc_hub_answers.specs.declared.answer.Answer.{Answer}

@@ -160,7 +160,7 @@ impl<R: Renderer + Drop> MediaVisit<'_, R> {
             (seen_in self.now.shelf.now.1 self.now.reader.now) self.now.for_people)) }
     {
         if self.for_people {
-            let view = self.shelf.view(self.reader);
+            let view = self.shelf.view(self.reader, &None);
             self.visit(browse).not_found(&view, None)
         } else {
             self.exchange.status(Status::NotFound)

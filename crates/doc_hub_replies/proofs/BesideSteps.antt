@@ -224,7 +224,7 @@ module _ (settings : Settings) (render : Renders) (readers : ReaderTable) (media
   none_by (Some given) none = some_is_not_none _ (sym none)
 
   pub pages_so : (new : StoreState) (result : Result Answer Memory) → None ≡ answered_beside settings readers request response
-      → AnsweredSo request.body old (answer_by settings.browse render view asking left (closes_after settings request) request) new result
+      → AnsweredSo request.body old (answer_by settings.browse render view beside asking left (closes_after settings request) request) new result
       → AnsweredSo request.body old wanted new result
   unfolding answer_of
   pages_so new result none answered =

@@ -2,6 +2,7 @@
 use Rattle.std.proofs.Common.{◌≡◌, ℕ, List, [], ◌∷◌, ◌++◌, Bool, true, false, codes, refl}
 use Rattle.std.specs.Prelude.{Option, Some, None}
 use Rattle.std.specs.Fmt.{digits}
+use Rattle.std.specs.Path.{rsplit_once}
 use Rattle.std.specs.Str.{chars, is_utf8}
 use Rattle.std.specs.Str.Lossy.{utf8_lossy, utf8_valid_len}
 use lib.Utf8.{encode}
@@ -44,7 +45,7 @@ unfoldable computing : Unit {0}
 unfolding digits chars is_utf8 utf8_lossy utf8_valid_len encode raw_pairs split percent_decode percent_encode_byte is_path groups_of_names
     encoded encoded_path put_all without_dots target_path_written box_line medium_bytes saved_line edit_bytes cache_line dressed_bytes
     dressed_head nosniff_line vary_line typed_lines field_line reason_of reply_bytes reply_head target_path value_of origin_form route_of
-    path_written kind_of text_limit page_limit verdict_of edit_response media_response answer_of
+    path_written rsplit_once kind_of text_limit page_limit verdict_of edit_response media_response answer_of
 computing = tt
 
 abbrev for_staff : List ℕ → Page

@@ -56,11 +56,11 @@ abbrev pub style_answer : Bool → Request → Answer
 style_answer close request = sent (style_sheet_bytes STYLE_SHEET.now (is_bare request.method) close) close
 
 -- to a request that doesn't edit by these settings: to one for people, or as without them
-abbrev pub unedited : Browse → Renders → View → Asking → Bool → Bool → Request → Answer
-unedited browse render view asking puts_left close request =
-    if is_for_people request then people_answer (people_reply render browse view asking request) close request
+abbrev pub unedited : Browse → Renders → View → Beside → Asking → Bool → Bool → Request → Answer
+unedited browse render view beside asking puts_left close request =
+    if is_for_people request then people_answer (people_reply render browse view beside asking request) close request
     else plain_answer (dress_for browse asking)
-    (kept_from_guests (is_guest asking) (response_to render view (row_of asking) puts_left request)) close request
+    (kept_from_guests (is_guest asking) (response_to render view beside (row_of asking) puts_left request)) close request
 
 -- by the response to a request that edits, where it is one
 abbrev pub edited_or : Option EditingResponse → Dress → Bool → Request → Answer → Answer
@@ -68,17 +68,18 @@ edited_or None dress close request other = other
 edited_or (Some response) dress close request other = editing_answer dress response close request
 
 -- with settings for people
-abbrev pub browsed : Browse → Renders → View → Asking → Bool → Bool → Request → Answer
-browsed browse render view asking puts_left close request =
+abbrev pub browsed : Browse → Renders → View → Beside → Asking → Bool → Bool → Request → Answer
+browsed browse render view beside asking puts_left close request =
     if asks_for_style request then style_answer close request
-    else edited_or (edit_response render browse view asking puts_left (is_for_people request) request) (dress_for browse asking) close
-    request (unedited browse render view asking puts_left close request)
+    else edited_or (edit_response render browse view beside asking puts_left (is_for_people request) request) (dress_for browse asking)
+    close request (unedited browse render view beside asking puts_left close request)
 
 -- by the settings for people, where there are some
-abbrev pub answer_by : Option Browse → Renders → View → Asking → Bool → Bool → Request → Answer
-answer_by None render view asking puts_left close request =
-    plain_answer undressed (response_to render view (row_of asking) puts_left request) close request
-answer_by (Some browse) render view asking puts_left close request = browsed browse render view asking puts_left close request
+abbrev pub answer_by : Option Browse → Renders → View → Beside → Asking → Bool → Bool → Request → Answer
+answer_by None render view beside asking puts_left close request =
+    plain_answer undressed (response_to render view beside (row_of asking) puts_left request) close request
+answer_by (Some browse) render view beside asking puts_left close request =
+    browsed browse render view beside asking puts_left close request
 
 -- what the heads have beside, by the settings for people, where there are some
 abbrev pub dress_by : Option Browse → Asking → Dress
@@ -93,7 +94,7 @@ media_or (Some response) dress close request other = media_answer dress response
 abbrev pub answer_beside : Option Browse → Renders → View → Beside → Asking → Bool → Bool → Request → Answer
 answer_beside browse render view beside asking puts_left close request =
     media_or (media_response browse render view beside asking (is_for_people request) request) (dress_by browse asking) close request
-    (answer_by browse render view asking puts_left close request)
+    (answer_by browse render view beside asking puts_left close request)
 
 -- The bytes that are sent, whether the connection closes after them, and the edit that is made.
 unfoldable pub answer_of : Settings → Renders → View → Beside → Asking → Bool → Request → Answer

@@ -35,7 +35,7 @@ abbrev pub NothingChangesWithoutMedia : Type 0
 NothingChangesWithoutMedia =
     (settings : Settings) (render : Renders) (view : View) (asking : Asking) (puts_left : Bool) (request : Request)
     → answer_of settings render view None asking puts_left request
-    ≡ answer_by settings.browse render view asking puts_left (closes_after settings request) request
+    ≡ answer_by settings.browse render view None asking puts_left (closes_after settings request) request
 
 -- without settings for people each answer in which media have no part is the response's to the entry of the bearer's token, and nothing is
 -- added to its head
@@ -46,8 +46,8 @@ NothingChangesWithoutSettings =
     → WithoutMedia settings render (view_of site (row_of (reader_asking settings.browse readers request)))
     (beside_of media (row_of (reader_asking settings.browse readers request))) (reader_asking settings.browse readers request) request
     → answer_in settings render site media readers puts_left request
-    ≡ plain_answer undressed (response_to render (view_of site (entry_of readers request)) (entry_of readers request) puts_left request)
-    (closes_after settings request) request
+    ≡ plain_answer undressed (response_to render (view_of site (entry_of readers request)) (beside_of media (entry_of readers request))
+    (entry_of readers request) puts_left request) (closes_after settings request) request
 
 -- with settings, who asks neither for people nor for their style sheet, nor for what media have a part in, and doesn't edit by these
 -- settings, is answered by the same response, but that guests are told to sign in where readers are forbidden
@@ -59,7 +59,7 @@ OnlyPeopleAreShownPages =
     → asks_for_style request ≡ false → is_for_people request ≡ false
     → answer_of settings render view beside asking puts_left request
     ≡ plain_answer (dress_for browse asking) (kept_from_guests (is_guest asking)
-    (response_to render view (row_of asking) puts_left request))
+    (response_to render view beside (row_of asking) puts_left request))
     (closes_after settings request) request
 
 -- where pages aren't edited by these settings, each answer in which media have no part is that to a request that doesn't edit so
@@ -70,7 +70,7 @@ NothingChangesWithoutEditing =
     → settings.browse ≡ Some browse → WithoutMedia settings render view beside asking request → browse.editing ≡ false
     → answer_of settings render view beside asking puts_left request
     ≡ (if asks_for_style request then style_answer (closes_after settings request) request
-    else unedited browse render view asking puts_left (closes_after settings request) request)
+    else unedited browse render view beside asking puts_left (closes_after settings request) request)
 
 -- the answer to a request for people has no edit
 abbrev pub PeopleEditNothing : Type 0

@@ -34,7 +34,7 @@ impl Serving<'_> {
         ensures { IfOk result (λ a. a
             ≡ answered_beside self.now.settings.now self.now.readers.now request.now
             (response_beside self.now.settings.now self.now.readers.now (R.page shelf.now.0)
-            shelf.now.1.site (option_copied self.now.media) request.now)) }
+            shelf.now.1.site self.now.media.now request.now)) }
     {
         let Some(media) = self.media else {
             return Ok(None);

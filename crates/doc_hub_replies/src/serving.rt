@@ -59,7 +59,7 @@ pub struct Serving<'a> {
     pub readers: &'a Readers,
     pub settings: &'a Settings,
     /// The media that stand beside the pages, where the configuration asks for some.
-    pub media: Option<&'a Media>,
+    pub media: &'a Option<Media>,
     /// Whether puts are taken.
     pub takes_puts: bool,
 }
@@ -79,7 +79,7 @@ impl Serving<'_> {
             AnsweredSo request.now.body shelf.old.1
             (answer_of self.now.settings.now (R.page shelf.old.0)
             (view_of shelf.old.1.site (row_of asking))
-            (beside_of (option_copied self.now.media) (row_of asking)) asking
+            (beside_of self.now.media.now (row_of asking)) asking
             (puts_taken self.now.takes_puts shelf.old.1.puts) request.now) shelf.new.1 result }
         ensures same { R.page shelf.new.0 ≡ R.page shelf.old.0 }
         ensures counted { let asking = reader_asking self.now.settings.now.browse
@@ -88,7 +88,7 @@ impl Serving<'_> {
             (R.count shelf.new.0) shelf.new.1.puts (moves_of a.edit)
             (previews_of (shows_preview self.now.settings.now.browse
             (view_of shelf.old.1.site (row_of asking))
-            (beside_of (option_copied self.now.media) (row_of asking)) asking request.now))) }
+            (beside_of self.now.media.now (row_of asking)) asking request.now))) }
     {
         match self.by_media(shelf, request)? {
             Some(answer) => Ok(answer),
@@ -96,7 +96,7 @@ impl Serving<'_> {
         }
     }
 
-    /// The answer to a request in which media have no part.
+    /// The answer to a request in which media have no part, but for the links to them.
     fn by_pages<R: Renderer + Drop>(
         &self,
         shelf: &mut Shelf<R>,
@@ -106,7 +106,8 @@ impl Serving<'_> {
             self.now.readers.now request.now in
             AnsweredSo request.now.body shelf.old.1
             (answer_by self.now.settings.now.browse (R.page shelf.old.0)
-            (view_of shelf.old.1.site (row_of asking)) asking
+            (view_of shelf.old.1.site (row_of asking))
+            (beside_of self.now.media.now (row_of asking)) asking
             (puts_taken self.now.takes_puts shelf.old.1.puts)
             (closes_after self.now.settings.now request.now) request.now) shelf.new.1 result }
         ensures same { R.page shelf.new.0 ≡ R.page shelf.old.0 }
@@ -131,7 +132,7 @@ impl Serving<'_> {
         ensures answer { let entry = entry_of self.now.readers.now request.now in
             AnsweredSo request.now.body shelf.old.1
             (plain_answer undressed (response_to (R.page shelf.old.0)
-            (view_of shelf.old.1.site entry) entry
+            (view_of shelf.old.1.site entry) (beside_of self.now.media.now entry) entry
             (puts_taken self.now.takes_puts shelf.old.1.puts) request.now)
             (closes_after self.now.settings.now request.now) request.now) shelf.new.1 result }
         ensures same { R.page shelf.new.0 ≡ R.page shelf.old.0 }
@@ -156,7 +157,7 @@ impl Serving<'_> {
         ensures answer { let asking = reader_asking (Some browse.now) self.now.readers.now
             request.now in AnsweredSo request.now.body shelf.old.1
             (browsed browse.now (R.page shelf.old.0) (view_of shelf.old.1.site (row_of asking))
-            asking (puts_taken self.now.takes_puts shelf.old.1.puts)
+            (beside_of self.now.media.now (row_of asking)) asking (puts_taken self.now.takes_puts shelf.old.1.puts)
             (closes_after self.now.settings.now request.now) request.now) shelf.new.1 result }
         ensures same { R.page shelf.new.0 ≡ R.page shelf.old.0 }
         ensures counted { IfOk result (λ a. RendersPuts (R.count shelf.old.0) shelf.old.1.puts
@@ -190,7 +191,7 @@ impl Serving<'_> {
         ensures answer { AnsweredSo request.now.body shelf.old.1
             (editing_answer (dress_for browse.now (asking_shown asking.now))
             (by_entry (R.page shelf.old.0) browse.now (view_of shelf.old.1.site (Some row.now))
-            (is_guest (asking_shown asking.now)) row.now
+            (beside_of self.now.media.now (Some row.now)) (is_guest (asking_shown asking.now)) row.now
             (puts_taken self.now.takes_puts shelf.old.1.puts)
             (is_for_people request.now) request.now (edit_request_shown asked.entry))
             (closes_after self.now.settings.now request.now) request.now) shelf.new.1 result }
@@ -205,6 +206,7 @@ impl Serving<'_> {
             exchange: &exchange,
             browse,
             reader: row,
+            media: self.media,
             guest: asking.is_guest(),
             for_people: is_for_people(request),
         };
@@ -223,7 +225,8 @@ impl Serving<'_> {
             ≡ reader_asking (Some browse.now) self.now.readers.now request.now }
         ensures answer { let asking = asking_shown asking.now in
             AnsweredSo request.now.body shelf.old.1 (unedited browse.now (R.page shelf.old.0)
-            (view_of shelf.old.1.site (row_of asking)) asking
+            (view_of shelf.old.1.site (row_of asking))
+            (beside_of self.now.media.now (row_of asking)) asking
             (puts_taken self.now.takes_puts shelf.old.1.puts)
             (closes_after self.now.settings.now request.now) request.now) shelf.new.1 result }
         ensures same { R.page shelf.new.0 ≡ R.page shelf.old.0 }
@@ -261,8 +264,9 @@ impl Serving<'_> {
     ) -> Result<Answer, Memory>
         ensures answer { IfOk result (λ a. a
             ≡ people_answer (people_reply (R.page shelf.old.0) browse.now
-            (view_of shelf.old.1.site (row_of (asking_shown asking.now))) (asking_shown asking.now)
-            request.now) (closes_after self.now.settings.now request.now) request.now) }
+            (view_of shelf.old.1.site (row_of (asking_shown asking.now)))
+            (beside_of self.now.media.now (row_of (asking_shown asking.now)))
+            (asking_shown asking.now) request.now) (closes_after self.now.settings.now request.now) request.now) }
         ensures same { shelf.new ≡ shelf.old }
     {
         let manner = self.manner(request, browse, asking);
@@ -288,13 +292,14 @@ impl Serving<'_> {
     ) -> Result<Answer, Memory>
         ensures answer { IfOk result (λ a. a ≡ people_sent visit.entry.exchange.now (on_route
             (R.page shelf.old.0) visit.entry.browse.now (offers_of visit.entry)
-            (view_of shelf.old.1.site (Some row.now)) visit.entry.guest
+            (view_of shelf.old.1.site (Some row.now))
+            (beside_of self.now.media.now (Some row.now)) visit.entry.guest
             visit.entry.exchange.now.request.now.target
             (people_route_of visit.entry.exchange.now.request.now.target))) }
         ensures same { shelf.new ≡ shelf.old }
     {
         self.keep_page(visit, shelf, row);
-        people_answer(visit, self.routes, &shelf.view(row))
+        people_answer(visit, self.routes, &shelf.view(row, self.media))
     }
 
     /// Before a request for people is answered: the page that it asks for is made and kept, unless it is kept.
@@ -304,7 +309,7 @@ impl Serving<'_> {
         let Ok(Some(path)) = page_asked(visit, self.routes) else {
             return;
         };
-        shelf.keep_body(visit.frame(), &path, row);
+        shelf.keep_body(visit.frame(), &path, row, self.media);
     }
 
     /// The answer to another request, where there are settings for people. A guest edits nothing: they are asked to sign in.
@@ -320,7 +325,8 @@ impl Serving<'_> {
         ensures answer { let asking = asking_shown asking.now in
             AnsweredSo request.now.body shelf.old.1 (plain_answer (dress_for browse.now asking)
             (kept_from_guests (is_guest asking) (response_to (R.page shelf.old.0)
-            (view_of shelf.old.1.site (row_of asking)) (row_of asking)
+            (view_of shelf.old.1.site (row_of asking))
+            (beside_of self.now.media.now (row_of asking)) (row_of asking)
             (puts_taken self.now.takes_puts shelf.old.1.puts) request.now))
             (closes_after self.now.settings.now request.now) request.now) shelf.new.1 result }
         ensures same { R.page shelf.new.0 ≡ R.page shelf.old.0 }
@@ -352,7 +358,8 @@ impl Serving<'_> {
     ) -> Result<Answer, Memory>
         requires { exchange.now.method ≡ method_of exchange.now.request.now.method }
         ensures answer { let entry = option_copied reader.entry in Answered exchange.now shelf.old.1
-            (response_to (R.page shelf.old.0) (view_of shelf.old.1.site entry) entry
+            (response_to (R.page shelf.old.0) (view_of shelf.old.1.site entry)
+            (beside_of self.now.media.now entry) entry
             (puts_taken exchange.now.takes_puts shelf.old.1.puts) exchange.now.request.now)
             shelf.new.1 result }
         ensures same { R.page shelf.new.0 ≡ R.page shelf.old.0 }
@@ -365,7 +372,7 @@ impl Serving<'_> {
         let Some(route) = self.routes.route(exchange.request.target.get()) else {
             return exchange.status(Status::NotFound);
         };
-        at_route(exchange, shelf, reader, route)
+        at_route(exchange, shelf, reader, self.media, route)
     }
 
     /// Whether the request of an exchange edits a page.

@@ -1,18 +1,17 @@
 -- Letters with which an address may begin.
-use Rattle.std.proofs.Common.{◌≡◌, Bool, true, false, not, ◌&&◌, ◌||◌, ◌==◌, ℕ, suc, ◌+◌, ◌-◌, ◌<◌, ◌≤◌, List, [], ◌∷◌, ◌++◌, length, reverse}
-use Rattle.std.proofs.Common.{refl, ap, ap₂, sym, ◌∙◌, subst, Some, None, codes, arith, length-append, append_assoc}
+use Rattle.std.proofs.Common.{◌≡◌, Bool, true, false, not, ◌||◌, ◌==◌, ℕ, ◌+◌, ◌-◌, ◌<◌, List, [], ◌∷◌, ◌++◌, length}
+use Rattle.std.proofs.Common.{refl, ap, sym, ◌∙◌, subst, Some, None, codes, arith, length-append}
 use Rattle.std.specs.Prelude.{if◌then◌else◌}
 use Rattle.std.proofs.lemmas.Bool.{eqb-true}
-use Rattle.doc_rules.specs.Characters.{Text, one_of, first_or, last_or}
+use Rattle.doc_rules.specs.Characters.{Text, one_of, first_or}
 use Rattle.doc_rules.specs.Parsers.{before}
 use Rattle.doc_rules.specs.Rules.{Rules}
 use Rattle.doc_rules.specs.Definitions.{Definition}
-use Rattle.doc_rules.specs.Inlines.{Inline, Literal, literals, onto}
+use Rattle.doc_rules.specs.Inlines.{Inline, Literal, literals}
 use Rattle.doc_rules.specs.Rests.{IsRest}
 use Rattle.doc_rules.specs.BareLinks.{bare_address}
 use Rattle.doc_rules.specs.Reading.{as_literal, autolink, has_live_bracket, bare_step, bare_link, item_of_kind, read_item}
 use Rattle.doc_inlines_marks.specs.PlaceSteps.{StandsBefore}
-use Rattle.doc_inlines_addresses.specs.Fronts.{StandsInFront, IsFound}
 use Rattle.doc_inlines.specs.ReadingSteps.{begins_always, begins_by, is_plain}
 use Rattle.doc_inlines.specs.ReaderSteps.{is_uncut, made_before}
 use Rattle.doc_inlines.proofs.PlainLaws.{letter_kind}
@@ -115,7 +114,7 @@ in_bracket_reads rules refs last made c rest e f g = letter_reads rules refs las
 pub no_address_reads : (rules : Rules) (refs : List Definition) (last : ℕ) (made : List Inline) (c : ℕ) (rest text : Text)
     → is_letter c ≡ true → rules.bare_links ≡ true → has_live_bracket made ≡ false → text ≡ c ∷ rest → bare_address last text ≡ None
     → read_item rules refs last made c rest ≡ (Literal c ∷ made, 0)
-unfolding bracket_case bare_step
+unfolding bracket_case
 no_address_reads rules refs last made c rest text e f g h k =
     letter_reads rules refs last made c rest e f
     ∙ (bracketed last made c rest false g ∙ ap (bare_step made c) (ap (bare_address last) (sym h) ∙ k))
@@ -124,7 +123,7 @@ pub address_reads : (rules : Rules) (refs : List Definition) (last : ℕ) (made 
     → is_letter c ≡ true → rules.bare_links ≡ true → has_live_bracket made ≡ false → text ≡ c ∷ rest
     → bare_address last text ≡ Some (scheme ++ address, address) → (n : ℕ) → length address - 1 ≡ n
     → read_item rules refs last made c rest ≡ (autolink (scheme ++ address) address made, n)
-unfolding bracket_case bare_step
+unfolding bracket_case
 address_reads rules refs last made c rest text scheme address e f g h k n m =
     letter_reads rules refs last made c rest e f
     ∙ (bracketed last made c rest false g

@@ -1,11 +1,10 @@
 -- Whether a bracket is open that may begin a link or an image.
-use Rattle.std.proofs.Common.{◌≡◌, ℕ, suc, ◌+◌, ◌<◌, ◌≤◌, Bool, true, false, ◌||◌, List, [], ◌∷◌, ◌++◌, length, take, drop, map, reverse}
+use Rattle.std.proofs.Common.{◌≡◌, ℕ, suc, ◌<◌, ◌≤◌, Bool, true, false, ◌||◌, List, [], ◌∷◌, ◌++◌, length, take, drop, map, reverse}
 use Rattle.std.proofs.Common.{refl, ap, ap₂, sym, ◌∙◌, subst, arith, append-nil}
 use Rattle.std.specs.Prelude.{nat_le, nat_lt}
 use Rattle.std.proofs.lemmas.List.{reverse-append, length-reverse, length-map}
-use Rattle.std.proofs.lemmas.Bool.{le-ltb, leb-true, ltb-true, le-leb}
-use Rattle.std.proofs.Math.Bool.{or-true, or-false}
-use Rattle.doc_rules.specs.Inlines.{Inline, Delimiters, Open, onto}
+use Rattle.std.proofs.lemmas.Bool.{lt-ltb, le-ltb, leb-true, leb-false, ltb-true, le-leb}
+use Rattle.doc_rules.specs.Inlines.{Inline, Open, onto}
 use Rattle.doc_rules.specs.Reading.{has_live_bracket}
 use Rattle.doc_inlines_emphasis.specs.Marks.{Marks, Placed, seen}
 use Rattle.doc_inlines_emphasis.specs.Views.{marks_shown}
@@ -15,11 +14,11 @@ use Rattle.doc_inlines.specs.declared.bracket.Bracket.{Bracket}
 use Rattle.doc_inlines.specs.MadeSteps.{OpenBracket, bracket_shown, made_below}
 use Rattle.doc_inlines.specs.DraftSteps.{bracket_in, brackets_shown, made_by, holds_image, TellImages}
 use Rattle.doc_inlines.proofs.LinkLaws.{NoBracket, no_bracket_seen, onto_first}
-use Rattle.doc_inlines.proofs.ClosingLaws.{items_final}
+use Rattle.doc_inlines.proofs.DraftLaws.{items_final}
 
 -- ---- inlines that are no brackets
 
-passed_over : (xs made : List Inline) → NoBracket xs → has_live_bracket (onto xs made) ≡ has_live_bracket made
+pub passed_over : (xs made : List Inline) → NoBracket xs → has_live_bracket (onto xs made) ≡ has_live_bracket made
 unfolding has_live_bracket
 passed_over [] made h = refl
 passed_over (Open k ∷ xs) made h = absurd h
@@ -67,7 +66,12 @@ live_is dead (bracket ∷ more) =
     below e = let l : dead < length more = ltb-true dead (length more) e in le-leb dead (length more) (omega arith)
 
     same : (b : Bool) → nat_le dead (length more) ≡ b → b ≡ nat_lt dead (suc (length more))
-    same b e = sym e
+    same true e =
+        let l : dead ≤ length more = leb-true dead (length more) e in
+        sym (lt-ltb dead (suc (length more)) (omega arith))
+    same false e =
+        let l : length more < dead = leb-false dead (length more) e in
+        sym (le-ltb dead (suc (length more)) (omega arith))
 
 -- ---- by the brackets of the code
 
@@ -115,6 +119,9 @@ pub images_left : (old new : List Bracket) (b : Bracket) → old ≡ new ++ (b �
 images_left old new b e h =
     let all : TellImages (b ∷ reverse new) = subst TellImages (ap reverse e ∙ reverse-append new (b ∷ [])) h in
     all.1
+
+pub none_tell : (brackets : List Bracket) → brackets ≡ [] → TellImages (reverse brackets)
+none_tell brackets e = subst (λ bs. TellImages (reverse bs)) (sym e) tt
 
 pub no_image : (brackets : List Bracket) → brackets ≡ [] → false ≡ holds_image (reverse brackets)
 no_image brackets e = sym (ap (λ bs. holds_image (reverse bs)) e)

@@ -1,5 +1,5 @@
 -- Runs of delimiters: what they take of a text, and what a reader makes of them.
-use Rattle.std.proofs.Common.{◌≡◌, Bool, true, false, ◌||◌, ◌==◌, ℕ, suc, ◌+◌, ◌-◌, List, [], ◌∷◌, ◌++◌, replicate, length, drop, map, refl}
+use Rattle.std.proofs.Common.{◌≡◌, Bool, true, false, ◌==◌, ℕ, suc, ◌+◌, ◌-◌, List, [], ◌∷◌, ◌++◌, replicate, length, drop, map, refl}
 use Rattle.std.proofs.Common.{ap, ap₂, sym, ◌∙◌, subst, Some, arith, eqb-true, length-append}
 use Rattle.std.proofs.lemmas.List.{length-replicate}
 use Rattle.doc_rules.specs.Characters.{Text, first_or, last_or}
@@ -8,7 +8,7 @@ use Rattle.doc_rules.specs.Rules.{Rules}
 use Rattle.doc_rules.specs.Definitions.{Definition}
 use Rattle.doc_rules.specs.Inlines.{Inline, Run, Delimiters}
 use Rattle.doc_rules.specs.Emphasis.{run_between}
-use Rattle.doc_rules.specs.Reading.{Step, delimiters, tildes, kinds, kind_in, item_of_kind, read_item}
+use Rattle.doc_rules.specs.Reading.{Step, delimiters, kinds, kind_in, item_of_kind, read_item}
 use Rattle.doc_rules.specs.Rests.{IsRest}
 use Rattle.doc_rules.proofs.ParserLaws.{is_rest_again}
 use Rattle.doc_inlines_marks.specs.declared.mark_ref.MarkRef.{MarkRef}
@@ -16,7 +16,7 @@ use Rattle.doc_inlines_marks.specs.Slices.{StandIn, AreSlices, AreCut}
 use Rattle.doc_inlines_emphasis.specs.Texts.{IsRunText, AddsEach}
 use Rattle.doc_inlines_emphasis.proofs.MarkLaws.{each_slices, each_cut}
 use Rattle.doc_inlines_emphasis.specs.declared.delimiter.Delimiter.{Delimiter}
-use Rattle.doc_inlines_emphasis.specs.declared.delimiter.Delimiter.TheVariants.{Star, Underscore, Tilde, TwoTildes}
+use Rattle.doc_inlines_emphasis.specs.declared.delimiter.Delimiter.TheVariants.{Star, Underscore}
 use Rattle.doc_inlines.specs.DraftSteps.{IsRunOf}
 use Rattle.doc_inlines.specs.TildeSteps.{BeginsRun, IsRead}
 use Rattle.doc_inlines.specs.ReaderSteps.{made_before}

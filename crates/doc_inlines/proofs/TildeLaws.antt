@@ -1,9 +1,9 @@
 -- Runs of '~': one or two are read as delimiters, more as text.
-use Rattle.std.proofs.Common.{◌≡◌, Bool, true, false, ◌==◌, ℕ, suc, ◌+◌, ◌-◌, ◌≤◌, ◌<◌, List, [], ◌∷◌, ◌++◌, replicate, length, refl, ap}
-use Rattle.std.proofs.Common.{sym, ◌∙◌, subst, Option, Some, None, arith}
+use Rattle.std.proofs.Common.{◌≡◌, Bool, true, false, ◌==◌, ℕ, zero, suc, ◌-◌, ◌<◌, List, [], ◌∷◌, ◌++◌, replicate, length, refl, ap}
+use Rattle.std.proofs.Common.{sym, ◌∙◌, Option, Some, None, ◌⊎◌, inl, inr, arith}
 use Rattle.std.specs.Prelude.{nat_le, if◌then◌else◌}
 use Rattle.std.specs.List.{list_all}
-use Rattle.std.proofs.lemmas.Bool.{eqb-true, eq-eqb, ne_eqb, lt-leb}
+use Rattle.std.proofs.lemmas.Bool.{lt-leb}
 use Rattle.std.proofs.lemmas.Bool.Decides.{eqb_tells}
 use Rattle.doc_rules.specs.Characters.{Text}
 use Rattle.doc_rules.specs.Parsers.{is, many, before, run_length}
@@ -13,12 +13,10 @@ use Rattle.doc_rules.specs.Inlines.{Inline, Literal, literals, onto}
 use Rattle.doc_rules.specs.Rests.{IsRest}
 use Rattle.doc_rules.specs.Reading.{as_literal, delimiters, tildes, kinds, kind_in, item_of_kind, read_item}
 use Rattle.doc_inlines_emphasis.specs.declared.delimiter.Delimiter.TheVariants.{Tilde, TwoTildes}
-use Rattle.doc_inlines_emphasis.specs.RunSteps.{length_by}
 use Rattle.doc_inlines.specs.ReaderSteps.{is_uncut}
 use Rattle.doc_inlines.specs.TildeSteps.{BeginsRun, IsRead}
 use Rattle.doc_inlines.proofs.ReadingLaws.{before_is}
-use Rattle.doc_inlines.proofs.RunLaws.{behind_first, split_at_run, taken_by}
-use Rattle.doc_inlines.proofs.ItemLaws.{first_behind}
+use Rattle.doc_inlines.proofs.RunLaws.{split_at_run, taken_by}
 use Rattle.doc_inlines.proofs.GapLaws.{is_first}
 use Rattle.doc_inlines.proofs.EnclosedLaws.{run_onto}
 
@@ -108,7 +106,7 @@ many_before whole rest second third next e m =
     ∙ before_is (replicate (suc (run_length 126 rest)) 126) next
 
 uncut_tildes : (n : ℕ) → list_all is_uncut (replicate n 126) ≡ true
-uncut_tildes 0 = refl
+uncut_tildes zero = refl
 uncut_tildes (suc n) = uncut_tildes n
 
 pub many_uncut : (whole rest second third next : Text) → whole ≡ 126 ∷ rest → AreMany rest second third next

@@ -96,7 +96,7 @@ impl<'t, 'r> Reader<'t, 'r> {
     }
 
     /// A link over an address, which stands in front of this rest. Its destination is the address behind this scheme.
-    fn put_autolink(
+    pub(crate) fn put_autolink(
         &mut self,
         scheme: &'static str,
         address: &'t str,

@@ -1,17 +1,17 @@
 -- The end of an address: what goes from it, and how many parentheses are left.
-use Rattle.std.proofs.Common.{◌≡◌, ◌≢◌, Bool, true, false, not, ◌&&◌, ◌||◌, ◌==◌, ℕ, zero, suc, ◌+◌, ◌-◌, ◌<◌, ◌≤◌, List, [], ◌∷◌, ◌++◌}
-use Rattle.std.proofs.Common.{length, reverse, drop, refl, ap, ap₂, sym, ◌∙◌, subst, Option, Some, None, codes, arith, length-append, append_assoc}
-use Rattle.std.specs.Prelude.{nat_lt, nat_le, filter, option_and_then}
+use Rattle.std.proofs.Common.{◌≡◌, ◌≢◌, Bool, true, false, not, ◌&&◌, ◌||◌, ◌==◌, ℕ, zero, suc, ◌+◌, ◌-◌, ◌<◌, ◌≤◌, [], ◌∷◌, ◌++◌}
+use Rattle.std.proofs.Common.{length, reverse, drop, refl, ap, ap₂, sym, ◌∙◌, Option, Some, None, codes, arith, length-append, append_assoc}
+use Rattle.std.specs.Prelude.{nat_lt, filter, option_and_then}
 use Rattle.std.specs.Char.{is_ascii_alphabetic}
-use Rattle.std.proofs.lemmas.List.{reverse-append, reverse-reverse, length-reverse, append_cancel_right}
+use Rattle.std.proofs.lemmas.List.{reverse-append, reverse-reverse, append_cancel_right}
 use Rattle.std.proofs.lemmas.List.Elements.{filter-append}
 use Rattle.std.proofs.Math.Bool.{cond}
 use Rattle.std.proofs.lemmas.Bool.{ne_eqb, eqb-true, and_parts}
 use Rattle.doc_rules.specs.Characters.{Text, one_of, is_white}
-use Rattle.doc_rules.specs.Parsers.{one, is, many, some, ◌then◌}
+use Rattle.doc_rules.specs.Parsers.{is, many, some, ◌then◌}
 use Rattle.doc_rules.specs.BareLinks.{count_of, reference_before, end_goes, without_end, address_run, address_of}
 use Rattle.doc_inlines_addresses.specs.Fronts.{StandsInFront}
-use Rattle.doc_inlines_addresses.specs.EndSteps.{is_inside, IsEnd, Leaves, Goes, IsBeforeReference, IsBeforeLetters}
+use Rattle.doc_inlines_addresses.specs.EndSteps.{is_inside, IsEnd, Leaves, Goes, IsBeforeReference}
 use Rattle.doc_inlines_addresses.proofs.HostLaws.{turned}
 
 -- ---- fronts
@@ -93,11 +93,11 @@ leaves_again text front left n h g =
 -- ---- letters
 
 letter_is_no : (k c : ℕ) → is_ascii_alphabetic k ≡ false → is_ascii_alphabetic c ≡ true → (c == k) ≡ false
-letter_is_no k c no e = at (c == k) refl
+letter_is_no k c off e = at (c == k) refl
   where
     at : (b : Bool) → (c == k) ≡ b → b ≡ false
     at true f =
-        let here : is_ascii_alphabetic c ≡ false = ap is_ascii_alphabetic (eqb-true c k f) ∙ no in
+        let here : is_ascii_alphabetic c ≡ false = ap is_ascii_alphabetic (eqb-true c k f) ∙ off in
         absurd cc
     at false f = refl
 
@@ -133,16 +133,15 @@ letters_are_all whole text h e =
 
 -- ---- a reference
 
-reference_case : Text → Option Text → ℕ
+abbrev pub reference_case : Text → Option Text → ℕ
 reference_case text found = elim found [ Some more ↦ length text - length more | None ↦ 0 ]
 
-reference_is : (text : Text) (found : Option Text) → (some is_ascii_alphabetic then is 38) text ≡ found
+pub reference_is : (text : Text) (found : Option Text) → (some is_ascii_alphabetic then is 38) text ≡ found
     → reference_before text ≡ reference_case text found
-unfolding reference_before reference_case
+unfolding reference_before
 reference_is text found e = ap (reference_case text) e
 
 none_before : (text : Text) → (some is_ascii_alphabetic then is 38) text ≡ None → text ≡ drop (reference_before text) text
-unfolding reference_case
 none_before text e = sym (ap (λ n. drop n text) (reference_is text None e))
 
 one_at : Text → Bool → Option Text
@@ -197,7 +196,7 @@ drop_front xs ys =
 pub reference_goes : (text front letters before : Text) (c d : ℕ) → text ≡ front ++ (c ∷ []) → is_ascii_alphabetic c ≡ true
     → many is_ascii_alphabetic (reverse text) ≡ Some (reverse letters) → letters ≡ before ++ (d ∷ []) → d ≡ 38
     → StandsInFront before text → reverse before ≡ drop (reference_before (reverse text)) (reverse text)
-unfolding one_at reference_case
+unfolding one_at
 reference_goes text front letters before c d e f m g h s =
     let found : (some is_ascii_alphabetic then is 38) (reverse text) ≡ Some (reverse before) =
     letters_taken text front (reverse letters) c e f m
@@ -249,10 +248,10 @@ unfolding end_goes mark_case semicolon_case closing_case
 goes_is c text b e = ap (mark_case text c) e
 
 mark_is_no : (k c : ℕ) → one_of marks k ≡ false → one_of marks c ≡ true → (c == k) ≡ false
-mark_is_no k c no e = at (c == k) refl
+mark_is_no k c off e = at (c == k) refl
   where
     at : (b : Bool) → (c == k) ≡ b → b ≡ false
-    at true f = let here : one_of marks c ≡ false = ap (one_of marks) (eqb-true c k f) ∙ no in absurd cc
+    at true f = let here : one_of marks c ≡ false = ap (one_of marks) (eqb-true c k f) ∙ off in absurd cc
     at false f = refl
 
 pub mark_goes : (text front : Text) (c : ℕ) → text ≡ front ++ (c ∷ []) → one_of marks c ≡ true → Goes text front 0
@@ -336,13 +335,13 @@ inside_at c rest b = elim b [ true ↦ [] | false ↦ c ∷ address_run rest ]
 run_split : (text rest : Text) → Some rest ≡ many is_inside text → text ≡ address_run text ++ rest
 unfolding many address_run inside_at
 run_split [] rest e = let same : rest ≡ [] = cc in sym same
-run_split (c ∷ text) rest e = at (is_white c || (c == 60)) refl e
+run_split (c ∷ text) rest e = at (λ g. run_split text rest g) (is_white c || (c == 60)) refl e
   where
-    at : (b : Bool) → (is_white c || (c == 60)) ≡ b
+    at : (Some rest ≡ many is_inside text → text ≡ address_run text ++ rest) → (b : Bool) → (is_white c || (c == 60)) ≡ b
         → Some rest ≡ (elim (not b) as (λ _. Option Text) [ true ↦ many is_inside text | false ↦ Some (c ∷ text) ])
         → (c ∷ text) ≡ inside_at c text b ++ rest
-    at true f g = let same : rest ≡ c ∷ text = cc in sym same
-    at false f g = ap (λ t. c ∷ t) (run_split text rest g)
+    at again true f g = let same : rest ≡ c ∷ text = cc in sym same
+    at again false f g = ap (λ t. c ∷ t) (again g)
 
 pub run_is : (text rest run : Text) → Some rest ≡ many is_inside text → text ≡ run ++ rest → run ≡ address_run text
 run_is text rest run e f = append_cancel_right run (address_run text) rest (sym f ∙ run_split text rest e)

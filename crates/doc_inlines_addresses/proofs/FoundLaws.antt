@@ -1,5 +1,5 @@
 -- An address that is found has a character at least: its first one is a letter, which never goes.
-use Rattle.std.proofs.Common.{◌≡◌, ◌≢◌, Bool, true, false, ◌||◌, ◌&&◌, ◌==◌, ℕ, zero, suc, ◌+◌, ◌-◌, ◌<◌, ◌≤◌, List, [], ◌∷◌, ◌++◌, length}
+use Rattle.std.proofs.Common.{◌≡◌, ◌≢◌, Bool, true, false, ◌||◌, ◌&&◌, ◌==◌, ℕ, zero, suc, ◌+◌, ◌-◌, ◌<◌, ◌≤◌, [], ◌∷◌, ◌++◌, length}
 use Rattle.std.proofs.Common.{reverse, refl, ap, ap₂, sym, ◌∙◌, subst, Option, Some, None, codes, arith, length-append}
 use Rattle.std.specs.Prelude.{not, nat_lt}
 use Rattle.std.specs.Char.{is_ascii_alphabetic}
@@ -80,7 +80,7 @@ unfolding without_end step_of end_goes
 keeps_last d zero [] h l = subst (λ t. 0 < length t) (sym (step_is d [] None (h.stays []))) (omega arith)
 keeps_last d (suc n) [] h l = absurd (omega arith)
 keeps_last d (suc n) (y ∷ ys) h l = keeps_last d n ys h (omega arith)
-keeps_last d zero (y ∷ ys) h l = at (end_goes y (ys ++ (d ∷ []))) refl
+keeps_last d zero (y ∷ ys) h l = at (λ n g. keeps_last d n ys h g) (end_goes y (ys ++ (d ∷ []))) refl
   where
     goes : (n : ℕ) → end_goes y (ys ++ (d ∷ [])) ≡ Some n → n ≤ length ys
     goes n e = by (one_of (codes "?!.,:*_~'\"") y) (y == 59)
@@ -100,10 +100,11 @@ keeps_last d zero (y ∷ ys) h l = at (end_goes y (ys ++ (d ∷ []))) refl
         by false false true f = let same : 0 ≡ n = cc in subst (λ k. k ≤ length ys) same (omega arith)
         by false false false f = absurd cc
 
-    at : (found : Option ℕ) → end_goes y (ys ++ (d ∷ [])) ≡ found → 0 < length (without_end 0 (y ∷ (ys ++ (d ∷ []))))
-    at None e = subst (λ t. 0 < length t) (sym (step_is y (ys ++ (d ∷ [])) None e)) (omega arith)
-    at (Some n) e =
-        subst (λ t. 0 < length t) (sym (step_is y (ys ++ (d ∷ [])) (Some n) e)) (keeps_last d n ys h (goes n e))
+    at : ((n : ℕ) → n ≤ length ys → 0 < length (without_end n (ys ++ (d ∷ [])))) → (found : Option ℕ)
+        → end_goes y (ys ++ (d ∷ [])) ≡ found → 0 < length (without_end 0 (y ∷ (ys ++ (d ∷ []))))
+    at again None e = subst (λ t. 0 < length t) (sym (step_is y (ys ++ (d ∷ [])) None e)) (omega arith)
+    at again (Some n) e =
+        subst (λ t. 0 < length t) (sym (step_is y (ys ++ (d ∷ [])) (Some n) e)) (again n (goes n e))
 
 -- ---- the letters with which an address may begin
 

@@ -1,14 +1,13 @@
 -- Hosts: their characters from the end on, and how many there are.
-use Rattle.std.proofs.Common.{◌≡◌, ◌≢◌, Bool, true, false, not, ◌&&◌, ◌||◌, ◌==◌, ℕ, zero, suc, ◌+◌, ◌<◌, ◌≤◌, List, [], ◌∷◌, ◌++◌, length}
+use Rattle.std.proofs.Common.{◌≡◌, ◌≢◌, Bool, true, false, not, ◌&&◌, ◌||◌, ◌==◌, ℕ, zero, suc, ◌+◌, ◌<◌, ◌≤◌, [], ◌∷◌, ◌++◌, length}
 use Rattle.std.proofs.Common.{reverse, refl, ap, ap₂, sym, ◌∙◌, subst, Option, Some, None, codes, arith, length-append}
-use Rattle.std.specs.Prelude.{nat_lt, nat_le}
 use Rattle.std.specs.List.{list_all}
 use Rattle.std.proofs.lemmas.List.{reverse-append, append_cancel_right}
 use Rattle.std.proofs.lemmas.List.Folds.{list_all-append}
 use Rattle.std.proofs.lemmas.Bool.{ne_eqb, lt-ltb, lt-leb, le-leb}
 use Rattle.std.proofs.Math.Bool.{and-false}
 use Rattle.doc_rules.specs.Characters.{Text, one_of, first_or, strip_end}
-use Rattle.doc_rules.specs.Parsers.{one, at_most, word, before}
+use Rattle.doc_rules.specs.Parsers.{one, at_most, word}
 use Rattle.doc_rules.specs.BareLinks.{is_host_char, host_run, dotted, is_host, holds_host, web_scheme, begins_host, is_www, is_web}
 
 -- ---- from the end
@@ -211,12 +210,9 @@ pub is_run : (text rest run : Text) → Some rest ≡ at_most 253 (one is_host_c
 unfolding holds_host
 is_run text rest run e f split =
     let short : IsShort 253 text rest = host_short 253 text rest e f in
-    let same : run ≡ host_run text = append_cancel run (host_run text) rest (sym split ∙ short.split) in
+    let same : run ≡ host_run text = append_cancel_right run (host_run text) rest (sym split ∙ short.split) in
     ap (λ t. is_host (bare t)) same
     ∙ ap (λ b. b && is_host (bare (host_run text))) (sym (le-leb (length (host_run text)) 253 short.few))
-  where
-    append_cancel : (xs ys zs : Text) → xs ++ zs ≡ ys ++ zs → xs ≡ ys
-    append_cancel xs ys zs g = append_cancel_right xs ys zs g
 
 -- ---- whether a run is a host
 

@@ -1,5 +1,5 @@
 -- Laws of broken links, page by page.
-use Rattle.std.proofs.Common.{◌≡◌, ℕ, suc, List, [], ◌∷◌, ◌++◌, Bool, true, false, not, cond, refl, ap, sym, subst, ◌∙◌}
+use Rattle.std.proofs.Common.{◌≡◌, ℕ, suc, List, [], ◌∷◌, ◌++◌, Bool, false, not, cond, refl, ap, sym, subst, ◌∙◌}
 use Rattle.std.specs.Prelude.{Option, Some, None, bytes_eq, filter, map as mapped}
 use Rattle.std.specs.List.{AllByRecursion, flat_map}
 use Rattle.std.specs.List.Sorted.{IsStrictlySortedBy}
@@ -16,15 +16,14 @@ use Rattle.doc_links_pages.specs.Links.{broken, broken_by, broken_from as broken
 use Rattle.doc_links_pages.specs.declared.answers.Broken.{Broken}
 use Rattle.doc_links_pages.specs.declared.answers.Reason.{Reason}
 use Rattle.doc_links_pages.specs.declared.page_links.PageLinks.{PageLinks}
-use Rattle.doc_page_parts.specs.declared.rendered.Rendered.{Rendered}
 use Rattle.doc_resolve.specs.declared.link_kind.LinkKind.{LinkKind}
 use Rattle.doc_store_readers.specs.Pages.{Page}
-use Rattle.doc_store_readers.specs.Sites.{View, goal_in}
+use Rattle.doc_store_readers.specs.Sites.{goal_in}
 use Rattle.doc_people.proofs.KeyLaws.{cmp, not_greater}
 use Rattle.doc_people.specs.BrokenLinks.{Group, by_source, onto_group}
-use Rattle.doc_people.specs.Laws.{GroupsArePages, broken_in, has_links}
+use Rattle.doc_people.specs.Laws.{GroupsArePages, has_links}
 use Rattle.doc_people.specs.Sources.{links_in, linked_pages}
-use Rattle.doc_people.specs.Views.{Renders, paths}
+use Rattle.doc_people.specs.Views.{Renders}
 
 -- ---- links of one page before those of others
 

@@ -1,5 +1,6 @@
 -- Examples: contents, backlinks and broken links.
 use Rattle.std.proofs.Common.{◌≡◌, [], ◌++◌, codes, refl}
+use Rattle.std.specs.Prelude.{None}
 use Rattle.doc_people.specs.BrokenLinks.{broken_body}
 use Rattle.doc_people.specs.Lists.{backlinks_body, contents_body}
 use Rattle.doc_people.proofs.Bodies.{bar, front}

@@ -1,5 +1,6 @@
 -- Examples: pages for people that show a page of the site.
 use Rattle.std.proofs.Common.{◌≡◌, ◌++◌, codes, refl}
+use Rattle.std.specs.Prelude.{None}
 use Rattle.doc_people.specs.Pages.{page_body}
 use Rattle.doc_people.proofs.Bodies.{bar, front}
 use Rattle.doc_people.proofs.Computing.{page_words}

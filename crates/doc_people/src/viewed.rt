@@ -8,6 +8,7 @@ ghost use Rattle.doc_store_readers.specs.Pages.{Page};
 ghost use Rattle.doc_store_readers.specs.Sites.{View, goal_in, page_at};
 ghost use Rattle.doc_people.specs.Folders.{keys};
 ghost use Rattle.doc_people.specs.Hits.{hits};
+ghost use Rattle.doc_people.specs.KeptPaths.{is_kept};
 ghost use Rattle.doc_people.specs.Lists.{contents_from, sources_from};
 ghost use Rattle.doc_people.specs.Navigation.{is_before, last_ones};
 ghost use Rattle.doc_people.specs.Pages.{page_body};
@@ -54,6 +55,10 @@ pub trait Viewed {
     fn headings(&self, path: &str) -> Result<Option<&[Heading]>, Memory>
         ensures { IfOk result (λ headings. option_copied headings ≡ option_map
             (λ page. page.headings) (rendered_at (render self.now) (view self.now) path.now)) };
+
+    /// Whether a path is kept for media: no page begins there.
+    fn is_kept(&self, path: &Path) -> bool
+        ensures { result ≡ is_kept (view self.now) (media self.now) path.now };
 
     /// The HTML of the page at a path, where one is seen there, with its links as the reader sees them.
     fn html(&self, path: &Path) -> Result<Option<Text>, Memory>

@@ -83,10 +83,10 @@ module _ (render : Renders) (view : View) where
         (main_is ∙ ap (backlinks_main render view path from) sources_are ∙ backlinks_shown path from (sources_from render view path from))
 
     pub broken_made : (media : Beside) (from main : List ℕ) (links : List Broken)
-    → links ≡ broken_from from (broken_links render view media)
-        → main ≡ broken_main render offers view from (by_source links)
+        → links ≡ broken_from from (broken_links render view media)
+        → main ≡ broken_main render offers view media from (by_source links)
         → shell render settings offers view (codes "Broken links") None main [] ≡ broken_body render settings offers view media from
     unfolding broken_body
     broken_made media from main links links_are main_is =
         ap (λ t. shell render settings offers view (codes "Broken links") None t [])
-        (main_is ∙ ap (λ ls. broken_main render offers view from (by_source ls)) links_are)
+        (main_is ∙ ap (λ ls. broken_main render offers view media from (by_source ls)) links_are)

@@ -87,7 +87,6 @@ pub fn read_folder<R: AllocGlobal + Files + Clone + Drop>(
 }
 
 /// Adds a file, where it isn't passed over.
-#[tactic(auto, using(crate::proofs::FolderPageSteps::all_more))]
 fn add_file<R: AllocGlobal + Files + Clone + Drop>(
     rt: &R,
     heap: Heap,

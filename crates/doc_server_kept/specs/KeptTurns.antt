@@ -28,8 +28,8 @@ pub record IsOfCalls (site : Site) : Type 0 where
   pub is_site : IsSite site
   pub pages : (path : List ℕ) (page : Page) → map.get site.pages path ≡ Some page → IsGroups page.groups × IsText page.text
 
--- The records give the site of a world beside its media. Its puts are a bound: a hub may have spent some that no record tells, and what it accepts after
--- more of them is accepted after fewer, with the same effect.
+-- The records give the site of a world beside its media. Its puts are a bound: a hub may have spent some that no record tells, and what it
+-- accepts after more of them is accepted after fewer, with the same effect.
 pub record IsRestored (config : StoreState) (texts : List (List ℕ)) (w : World) : Type 0 where
   pub store : StoreState
   pub gives : restored w.media (unstamped config) texts ≡ Ok store

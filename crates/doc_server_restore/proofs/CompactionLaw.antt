@@ -22,7 +22,7 @@ use Rattle.doc_server_restore.proofs.RecordSteps.{as_onto, record_restored}
 made_unstamped : (store : StoreState) (edit : SiteEdit) → made None (unstamped store) edit ≡ made None store edit
 made_unstamped store (site_edits.Put path groups text) = store_put store path (record { groups = groups; text = text })
 made_unstamped store (site_edits.Remove path) = store_removed store (without_page store path) path refl
-made_unstamped store (site_edits.Move from to) = store_moved store from to
+made_unstamped store (site_edits.Move from to) = store_moved store from to ∙ sym (move_alone store from to)
 
 -- ---- edits one after the other
 

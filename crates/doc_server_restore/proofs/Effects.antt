@@ -6,11 +6,12 @@ use Rattle.std.specs.Option.{ok_or}
 use Rattle.doc_store_readers.specs.Pages.{Page}
 use Rattle.doc_store_readers.specs.Sites.{Site}
 use Rattle.doc_media.specs.Media.{Media}
-use Rattle.doc_store.specs.Store.{set_page, remove_page, move_page, StoreState, effect_of, put_by, fits_in, moved_by, may_move}
+use Rattle.doc_store.specs.Store.{set_page, remove_page, move_page, StoreState, effect_of, put_by, moved_by}
 use Rattle.doc_store.specs.declared.site_edit.SiteEdit.{SiteEdit}
 use Rattle.doc_store.specs.declared.site_edit.SiteEdit.TheVariants as site_edits
 use Rattle.doc_store.specs.declared.moving.MoveError.{MoveError}
 use Rattle.doc_store.specs.declared.store.EditError.{EditError}
+use Rattle.doc_hub.specs.Worlds.{may_move_beside, may_put}
 use Rattle.doc_hub_events.specs.declared.event.Event.{Event}
 use Rattle.doc_server_script.specs.Replays.{unless_refused}
 use Rattle.doc_server_restore.specs.declared.fault.RestoreFault.{RestoreFault}
@@ -68,9 +69,9 @@ module _ (media : Media) where
   one_site : (store next : StoreState) (edit : SiteEdit) → made media store edit ≡ Some next → next.site ≡ effect_made store.site edit
   one_site store next (site_edits.Put path groups text) is =
       put_site store next path (record { groups = groups; text = text }) (map.contains_key store.site.pages path)
-      (fits_in store path text) is
+      (may_put media store path text) is
   one_site store next (site_edits.Remove path) is = removed_site store next path (map.contains_key store.site.pages path) is
-  one_site store next (site_edits.Move from to) is = moved_site store next from to (may_move store from to) is
+  one_site store next (site_edits.Move from to) is = moved_site store next from to (may_move_beside media store from to) is
 
   -- ---- many edits
 

@@ -48,6 +48,10 @@ impl<R: Renderer + Drop> Viewed for ReaderView<'_, R> {
         self.shelf.headings(path, self.reader)
     }
 
+    fn is_kept(&self, path: &Path) -> bool {
+        self.shelf.is_kept(path, self.reader, self.media)
+    }
+
     fn html(&self, path: &Path) -> Result<Option<Text>, Memory> {
         self.shelf.html(path, self.reader, self.media)
     }

@@ -11,6 +11,7 @@ ghost use Rattle.doc_page_parts.specs.Refusals.{Gives, IsAnswer};
 ghost use Rattle.doc_page_parts.specs.Pages.{filled};
 ghost use Rattle.doc_people.specs.Folders.{keys};
 ghost use Rattle.doc_people.specs.Hits.{hits};
+ghost use Rattle.doc_people.specs.KeptPaths.{is_kept};
 ghost use Rattle.doc_people.specs.Lists.{contents_from, sources_from};
 ghost use Rattle.doc_people.specs.Navigation.{is_before, last_ones};
 ghost use Rattle.doc_people.specs.Pages.{page_body};
@@ -441,6 +442,14 @@ impl<R: Renderer + Drop> Shelf<R> {
             (rendered_at (R.page self.now.0) (seen_in self.now.1 reader.now) path.now)) }
     {
         pages::headings(self.heap, &self.store, &self.kept, path, reader)
+    }
+
+    /// Whether a path is kept for media, as a reader sees pages and media.
+    pub(crate) fn is_kept(&self, path: &Path, reader: &Reader, media: &Option<Media>) -> bool
+        ensures { result ≡ is_kept (seen_in self.now.1 reader.now)
+            (beside_of media.now (Some reader.now)) path.now }
+    {
+        pages::is_kept(&self.store, path, reader, media)
     }
 
     /// The HTML of the page at a path, where a reader sees one there.

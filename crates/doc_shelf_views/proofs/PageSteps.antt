@@ -1,21 +1,20 @@
 -- Renderings that are kept of the pages of a view.
 use Rattle.std.proofs.Common.{◌≡◌, ℕ, List, Bool, true, false, refl, ap, ap₂, ◌∙◌}
+use Rattle.std.specs.Prelude.{Option, Some, None, option_map}
 use Rattle.std.specs.FinMap as map
+use Rattle.doc_page_parts.specs.Pages.{filled}
+use Rattle.doc_page_parts.specs.declared.linker.Shown.{Shown}
+use Rattle.doc_page_parts.specs.declared.rendered.Rendered.{Rendered}
 use Rattle.doc_index_tables.specs.Maps.{PairMap}
 use Rattle.doc_links_pages.specs.declared.page_links.PageLinks.{PageLinks}
 use Rattle.doc_resolve.specs.Links.{kinds}
 use Rattle.doc_shelf_pages.proofs.KeptEdits.{what_is_kept_is_held}
 use Rattle.doc_shelf_pages.specs.EditLaws.{Stands}
-use Rattle.doc_shelf_pages.specs.KeptPages.{Kept}
+use Rattle.doc_shelf_pages.specs.KeptPages.{Kept, kept_of}
 use Rattle.doc_shelf_pages.specs.Shelves.{IsKept}
 use Rattle.doc_shelf_pages.specs.Views.{Renders}
 use Rattle.doc_store.specs.Store.{StoreState}
 use Rattle.doc_store_readers.specs.Pages.{Page}
-use Rattle.std.specs.Prelude.{Option, Some, None, option_map}
-use Rattle.doc_page_parts.specs.Pages.{filled}
-use Rattle.doc_page_parts.specs.declared.linker.Shown.{Shown}
-use Rattle.doc_page_parts.specs.declared.rendered.Rendered.{Rendered}
-use Rattle.doc_shelf_pages.specs.KeptPages.{kept_of}
 
 -- a page has nothing of its texts
 filled_is : (how : List ℕ → Shown) (with_texts : Bool) (page : Rendered) → filled how (kept_of with_texts page) ≡ filled how page

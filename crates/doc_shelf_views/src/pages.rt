@@ -1,10 +1,11 @@
 //! Single pages, as a reader sees them.
 
-ghost use Rattle.std.specs.Prelude.{◌≡◌, true, IfOk, Some, option_copied, option_map};
+ghost use Rattle.std.specs.Prelude.{◌≡◌, true, IfOk, Some, is_some, option_copied, option_map};
 ghost use Rattle.doc_page_parts.specs.Pages.{filled};
 ghost use Rattle.doc_page_parts.specs.declared.rendered.Rendered.{Rendered};
+ghost use Rattle.doc_people.specs.KeptPaths.{is_kept};
 ghost use Rattle.doc_people.specs.Views.{rendered_at, sees};
-ghost use Rattle.doc_media.specs.Media.{beside_of};
+ghost use Rattle.doc_media.specs.Media.{beside_of, medium_in};
 ghost use Rattle.doc_media_links.specs.MediaLinks.{lead_to_media as leading, shown_beside};
 ghost use Rattle.doc_resolve.specs.Links.{kinds};
 ghost use Rattle.doc_shelf_pages.specs.KeptPages.{kept_of};
@@ -13,6 +14,7 @@ ghost use Rattle.doc_shelf_pages.specs.ViewLaws.{seen_in};
 ghost use Rattle.doc_shelf_pages.specs.Views.{Renders};
 ghost use Rattle.doc_store_readers.specs.Sites.{goal_in};
 
+use doc_media::kind::MediaKind;
 use doc_media::media::Media;
 use doc_media_links::{BesideLinker, lead_to_media};
 use doc_page_parts::failure::Memory;
@@ -35,7 +37,7 @@ pub fn sees(heap: Heap, store: &Store, path: &str, reader: &Reader) -> Result<bo
     let Some(path) = path_named(heap, store, path)? else {
         return Ok(false);
     };
-    Ok(visible_page(store, reader, &path).is_some())
+    Ok(has_page(store, &path, reader))
 }
 
 /// The headings of the page at a path, where the reader sees one there. A text that is no path has none.
@@ -120,6 +122,34 @@ pub fn leads_to_media(
         return false;
     };
     lead_to_media(links, media, reader)
+}
+
+/// Whether a path is kept for media: a medium that the reader sees stands there, or no page that they see does and the path's name is a
+/// medium's. It takes no memory.
+pub fn is_kept(store: &Store, path: &Path, reader: &Reader, media: &Option<Media>) -> bool
+    ensures { result ≡ is_kept (seen_in store.now reader.now)
+        (beside_of media.now (Some reader.now)) path.now }
+{
+    let Some(held) = media else {
+        return false;
+    };
+    has_medium(held, path, reader)
+        || (MediaKind::of(path).is_some() && !has_page(store, path, reader))
+}
+
+/// Whether a medium that the reader sees stands under a path.
+fn has_medium(media: &Media, path: &Path, reader: &Reader) -> bool
+    ensures { result
+        ≡ is_some (medium_in (beside_of (Some media.now) (Some reader.now)) path.now) }
+{
+    media.seen(reader, path).is_some()
+}
+
+/// Whether a page that the reader sees does.
+fn has_page(store: &Store, path: &Path, reader: &Reader) -> bool
+    ensures { result ≡ sees (seen_in store.now reader.now) path.now }
+{
+    visible_page(store, reader, path).is_some()
 }
 
 /// What the links of the page at a path lead to, where the reader sees one there.

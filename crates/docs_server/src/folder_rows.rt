@@ -27,8 +27,8 @@ pub struct FolderRows {
     pub bad: Vec<BadFile>,
 }
 
-/// The pages and the media of folders, beside the pages of the configuration's rows. The media have so many bytes together at most. `Bad` is the first bad file of a folder that doesn't pass over such,
-/// unless all are asked for.
+/// The pages and the media of folders, beside the pages of the configuration's rows. The media have so many bytes together at most.
+/// `Bad` is the first bad file of a folder that doesn't pass over such, unless all are asked for.
 pub fn read_folders<R: AllocGlobal + Files + Clone + Drop>(
     rt: &R,
     heap: Heap,

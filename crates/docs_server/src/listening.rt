@@ -22,7 +22,7 @@ use doc_hub::hub::Hub;
 use doc_media::media::Media;
 use doc_page::renderer::Renderer;
 use doc_page_parts::heap::Heap;
-use doc_server::site::site_hub;
+use doc_server::site::site_hub_beside;
 use doc_server_config::bounds::Bounds;
 use doc_server_config::readme::Move;
 use doc_server_journal::device::Device;
@@ -93,13 +93,14 @@ fn listen_with<
     rt: &P,
     renderer: R,
     pages: Pages,
-    _media: Option<Media>,
+    media: Option<Media>,
     moves: &[Move],
     bounds: Bounds,
     command: &Listen<'_>,
 ) -> Result<u8, ListenFault> {
     let heap = rt.alloc();
-    let mut hub = site_hub(heap, renderer, pages.config, pages.texts.get())?;
+    let Pages { config, texts } = pages;
+    let mut hub = site_hub_beside(heap, renderer, config, texts.get(), media)?;
     make_moves(&mut hub, moves)?;
     listen_on(rt, heap, &mut hub, &bounds, command)
 }

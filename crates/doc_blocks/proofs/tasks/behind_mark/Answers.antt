@@ -6,7 +6,8 @@ use Rattle.doc_blocks.proofs.tasks.behind_mark.Goals as goal
 
 pub returns-in_err-c : goal.returns-in_err-c
 returns-in_err-c c =
-    nothing_behind _ _ (front_goes is_space_or_tab _ _ (c.many-rest.ensures.value is_space_or_tab (λ d b h. h))) c.in_err-c.ensures.characters
+    rw c.from_residual.ensures (nothing_behind _ _ (front_goes is_space_or_tab _ _ (c.many-rest.ensures.value is_space_or_tab (λ d b h. h)))
+    c.in_err-c.ensures.characters)
 
 pub returns-then-c-eq10 : goal.returns-then-c-eq10
 returns-then-c-eq10 c =

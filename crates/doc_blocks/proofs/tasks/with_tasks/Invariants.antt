@@ -1,4 +1,4 @@
-use Rattle.std.proofs.Common.{◌≡◌, ◌-◌, true, length}
+use Rattle.std.proofs.Common.{◌-◌, length}
 use Rattle.doc_blocks.proofs.TaskLaws.{AreRead}
 use Rattle.doc_blocks.proofs.tasks.with_tasks.Given as goal
 

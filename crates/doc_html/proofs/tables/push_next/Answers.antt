@@ -1,4 +1,4 @@
-use Rattle.std.proofs.Common.{chars, subst, ap, sym}
+use Rattle.std.proofs.Common.{subst}
 use Rattle.doc_html.specs.ProgressSteps.{Goes}
 use Rattle.doc_html.specs.TableSteps.{cell_told}
 use Rattle.doc_html.proofs.TableSteps.{cell_step, empty_step}

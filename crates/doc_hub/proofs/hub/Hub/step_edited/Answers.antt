@@ -1,5 +1,4 @@
 use Rattle.std.proofs.Common.{true, refl, ap, sym, subst, ◌∙◌}
-use Rattle.std.specs.Prelude.{option_copied}
 use Rattle.std.specs.FinMap as map
 use Rattle.doc_hub.proofs.CountSteps.{counted_by}
 use Rattle.doc_hub.proofs.FrontSteps.{has_fault_code}
@@ -10,7 +9,7 @@ use Rattle.doc_hub.specs.Connections.{finished}
 use Rattle.doc_hub_events.specs.Events.{step_on}
 use Rattle.doc_hub.proofs.StepCounts.{no_request_counts, request_counts}
 use Rattle.doc_hub.proofs.StepEdits.{step_tells}
-use Rattle.doc_hub.proofs.StoreSteps.{beside_so, request_answered, world_of}
+use Rattle.doc_hub.proofs.StoreSteps.{request_answered, world_of}
 use Rattle.doc_hub.proofs.hub.Hub.step_edited.Goals as goal
 
 pub answer_to_fault-requires : goal.answer_to_fault-requires
@@ -43,13 +42,11 @@ returns-in_ok-answer-in-Request-clause-world g c =
     let begins = subst (IsNext connection.unread) c.in-Request.is (c.in_ok-next_request.ensures.found connection (sym c.in-Some.ensures)) in
     let set = c.finish-in-Request.ensures.finished connection (sym (c.in-Some.ensures ∙ ap (λ m. map.get m c.args.id.0) (sym same)))
     ∙ ap (λ m. map.insert m c.args.id.0 (finished connection c.in-Request.used answer.closes)) same in
-    request_answered (g.R.Renderer.page hub.shelf.0) hub.media hub.takes_puts hub.readers hub.settings hub.given hub.connections c.finish-in-Request.new.self
+    request_answered (g.R.Renderer.page hub.shelf.0) hub.media hub.takes_puts hub.readers hub.settings hub.given hub.connections
+    c.finish-in-Request.new.self
     hub.shelf.1 c.answer.new.shelf.1 c.args.self.now.1 (λ i. (c.self.view_is i).1) c.args.id.0 connection c.in-Some.ensures
     c.if-connection.false c.in-Request.used c.in-Request.request begins answer
-    (beside_so (g.R.Renderer.page hub.shelf.0)
-    (world_of hub.shelf.1 hub.media hub.takes_puts hub.readers hub.settings hub.given hub.connections) c.in-Request.request
-    (option_copied c.as_ref.result) answer c.as_ref.ensures.value c.in_ok-answer-in-Request.ensures.answer.0)
-    c.in_ok-answer-in-Request.ensures.answer.1 set
+    c.in_ok-answer-in-Request.ensures.answer.0 c.in_ok-answer-in-Request.ensures.answer.1 set
     (g.R.Renderer.page c.args.self.now.0) (λ i. g.R.Renderer.page (c.self.view_is i).0) c.step_of.result.0 c.step_of.ensures.step
 
 pub returns-in_ok-answer-in-Request-clause-edit : goal.returns-in_ok-answer-in-Request-clause-edit
@@ -61,11 +58,7 @@ returns-in_ok-answer-in-Request-clause-edit g c =
     (λ i. g.R.Renderer.page (c.self.view_is i).0) (λ i. (c.self.view_is i).1) c.args.id.0 connection c.in-Some.ensures
     c.if-connection.false c.in-Request.used c.in-Request.request
     (subst (IsNext connection.unread) c.in-Request.is (c.in_ok-next_request.ensures.found connection (sym c.in-Some.ensures)))
-    c.in_ok-answer-in-Request.answer
-    (beside_so (g.R.Renderer.page hub.shelf.0)
-    (world_of hub.shelf.1 hub.media hub.takes_puts hub.readers hub.settings hub.given hub.connections) c.in-Request.request
-    (option_copied c.as_ref.result) c.in_ok-answer-in-Request.answer c.as_ref.ensures.value c.in_ok-answer-in-Request.ensures.answer.0)
-    c.step_of.result.1 c.step_of.ensures.edit
+    c.in_ok-answer-in-Request.answer c.in_ok-answer-in-Request.ensures.answer.0 c.step_of.result.1 c.step_of.ensures.edit
 
 -- ---- how often texts are rendered
 
@@ -109,7 +102,5 @@ returns-in_ok-answer-in-Request-clause-counted g c =
     (request_counts (g.R.Renderer.page hub.shelf.0) (g.R.Renderer.count hub.shelf.0) (g.R.Renderer.count c.answer.new.shelf.0) before after
     c.args.id connection c.in-Some.ensures c.if-connection.false c.in-Request.used c.in-Request.request
     (subst (IsNext connection.unread) c.in-Request.is (c.in_ok-next_request.ensures.found connection (sym c.in-Some.ensures)))
-    c.in_ok-answer-in-Request.answer
-    (beside_so (g.R.Renderer.page hub.shelf.0) before c.in-Request.request (option_copied c.as_ref.result)
-    c.in_ok-answer-in-Request.answer c.as_ref.ensures.value c.in_ok-answer-in-Request.ensures.answer.0)
-    c.step_of.result.0 (option_copied c.as_ref.result) c.as_ref.ensures.value c.in_ok-answer-in-Request.ensures.counted)
+    c.in_ok-answer-in-Request.answer c.in_ok-answer-in-Request.ensures.answer.0 c.step_of.result.0
+    c.in_ok-answer-in-Request.ensures.counted)

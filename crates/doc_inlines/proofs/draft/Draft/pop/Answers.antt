@@ -1,5 +1,6 @@
 use Rattle.std.proofs.Common.{refl, ap, ◌∙◌, length, min, ◌||◌, nat_le}
 use Rattle.doc_inlines.proofs.ClosingLaws.{popped_live, popped_text, popped_stood, popped_open, popped_dead}
+use Rattle.doc_inlines.proofs.LiveLaws.{images_left}
 use Rattle.doc_inlines.proofs.draft.Draft.pop.Goals as goal
 
 pub returns : goal.returns

@@ -58,3 +58,6 @@ delimiters-requires-in-95-clause-delimiter c = underscore_begins (chars c.args.b
 
 pub returns-in-126 : goal.returns-in-126
 returns-in-126 c = all_on_ok c.tilde.result (λ all. all c.args.refs.now) c.tilde.ensures
+
+pub returns-in-w : goal.returns-in-w
+returns-in-w c = all_on_ok c.letter.result (λ all. all c.args.refs.now) c.letter.ensures

@@ -1,4 +1,4 @@
-use Rattle.std.proofs.Common.{ap, chars, suc, replicate, ◌∷◌, ◌++◌}
+use Rattle.std.proofs.Common.{ap, chars, suc, replicate, ◌++◌}
 use Rattle.doc_rules.specs.Parsers.{run_length}
 use Rattle.doc_rules.specs.Inlines.{Literal}
 use Rattle.doc_inlines.specs.ReaderSteps.{state_made}
@@ -14,21 +14,21 @@ pub returns-in_default : goal.returns-in_default
 returns-in_default c = λ rules targets strikes.
     c.in_ok-delimiters.ensures rules targets (one_is_read rules (chars c.args.behind.now) strikes c.in_default.ensures)
 
-pub delimiters-requires-in_default-2-clause-delimiter : goal.delimiters-requires-in_default-2-clause-delimiter
-delimiters-requires-in_default-2-clause-delimiter c =
-    two_begin (chars c.args.behind.now) (chars c.in-Some.second.now) c.in-Some.ensures c.in_default-2.ensures
+pub delimiters-requires-in_default-is-clause-delimiter : goal.delimiters-requires-in_default-is-clause-delimiter
+delimiters-requires-in_default-is-clause-delimiter c =
+    two_begin (chars c.args.behind.now) (chars c.in-Some.second.now) c.in-Some.ensures c.in_default-is.ensures
 
-pub returns-in_default-2 : goal.returns-in_default-2
-returns-in_default-2 c = λ rules targets strikes.
+pub returns-in_default-is : goal.returns-in_default-is
+returns-in_default-is c = λ rules targets strikes.
     c.in_ok-delimiters-2.ensures rules targets
-    (two_are_read rules (chars c.args.behind.now) (chars c.in-Some.second.now) strikes c.in-Some.ensures c.in_default-2.ensures)
+    (two_are_read rules (chars c.args.behind.now) (chars c.in-Some.second.now) strikes c.in-Some.ensures c.in_default-is.ensures)
 
 pub pass-requires-clause-rest : goal.pass-requires-clause-rest
 pass-requires-clause-rest c =
-    let m : AreMany (chars c.args.behind.now) (chars c.in-Some.second.now) (chars c.in-Some-2.third.now) (chars c.behind_run.result.now) =
+    let m : AreMany (chars c.args.behind.now) (chars c.in-Some.second.now) (chars c.in-Some-is.third.now) (chars c.behind_run.result.now) =
     record {
       first = c.in-Some.ensures;
-      more = c.in-Some-2.ensures;
+      more = c.in-Some-is.ensures;
       run = c.behind_run.ensures.value;
       behind = c.behind_run.ensures.end;
     } in
@@ -36,10 +36,10 @@ pass-requires-clause-rest c =
 
 pub pass-requires-clause-uncut : goal.pass-requires-clause-uncut
 pass-requires-clause-uncut c =
-    let m : AreMany (chars c.args.behind.now) (chars c.in-Some.second.now) (chars c.in-Some-2.third.now) (chars c.behind_run.result.now) =
+    let m : AreMany (chars c.args.behind.now) (chars c.in-Some.second.now) (chars c.in-Some-is.third.now) (chars c.behind_run.result.now) =
     record {
       first = c.in-Some.ensures;
-      more = c.in-Some-2.ensures;
+      more = c.in-Some-is.ensures;
       run = c.behind_run.ensures.value;
       behind = c.behind_run.ensures.end;
     } in
@@ -47,10 +47,10 @@ pass-requires-clause-uncut c =
 
 pub returns : goal.returns
 returns c = λ rules targets strikes.
-    let m : AreMany (chars c.args.behind.now) (chars c.in-Some.second.now) (chars c.in-Some-2.third.now) (chars c.behind_run.result.now) =
+    let m : AreMany (chars c.args.behind.now) (chars c.in-Some.second.now) (chars c.in-Some-is.third.now) (chars c.behind_run.result.now) =
     record {
       first = c.in-Some.ensures;
-      more = c.in-Some-2.ensures;
+      more = c.in-Some-is.ensures;
       run = c.behind_run.ensures.value;
       behind = c.behind_run.ensures.end;
     } in

@@ -15,8 +15,8 @@ returns g c =
     let media = beside_of c.args.media.now (Some reader) in
     let path = c.args.path.now in
     let render = g.R.Renderer.page c.self.inside.renderer in
-    body_beside (g.R.Renderer.page c.self.now.0) c.args.browse.now c.args.offers (seen_in c.self.now.1 reader) media path
-    c.body_among_pages.result (rendered_at (g.R.Renderer.page c.self.now.0) (seen_in c.self.now.1 reader) path)
+    body_beside (g.R.Renderer.page c.args.self.now.0) c.args.browse.now c.args.offers (seen_in c.args.self.now.1 reader) media path
+    c.body_among_pages.result (rendered_at (g.R.Renderer.page c.args.self.now.0) (seen_in c.args.self.now.1 reader) path)
     (subst (λ s. (page : Rendered) → rendered_at (g.R.Renderer.page s.0) (seen_in s.1 reader) path ≡ Some page
     → lead_to_media media (kinds path page.pieces) ≡ false) c.self.view_is
     (λ page at. sym (c.leads_to_media.ensures render page c.self.invariant.shelf.pages at) ∙ c.if-leads_to_media.false))

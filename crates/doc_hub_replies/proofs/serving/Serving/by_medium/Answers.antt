@@ -3,7 +3,7 @@ use Rattle.std.specs.Prelude.{option_copied}
 use Rattle.doc_hub_asking.specs.AskingSteps.{asking_shown}
 use Rattle.doc_hub_media.specs.MediaSteps.{media_request_shown}
 use Rattle.doc_hub_replies.proofs.BesideSteps.{medium_so, nobody_asks}
-use Rattle.doc_hub_replies.proofs.beside.Serving.by_medium.Goals as goal
+use Rattle.doc_hub_replies.proofs.serving.Serving.by_medium.Goals as goal
 
 pub returns-in_default : goal.returns-in_default
 returns-in_default g c =
